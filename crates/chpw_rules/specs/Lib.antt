@@ -1,0 +1,5 @@
+pub mod Fitting
+pub mod Limits
+pub mod Names
+pub mod Passwords
+pub mod Rules

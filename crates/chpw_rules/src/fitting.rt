@@ -1,0 +1,179 @@
+//! Whether a configuration is within the limits.
+ghost use Rattle.std.specs.Prelude.{Bool, ◌≡◌};
+ghost use Rattle.std.specs.List.{list_any};
+ghost use Rattle.chpw_rules.specs.Fitting.{are_distinct, config_fits, descend_from, is_aes_key, is_same_principal, is_same_service_key, key_fits, kvnos_descend, policy_fits, principal_fits, principals_fit, rule_fits, rules_fit, service_fits, service_key_fits, target_fits};
+
+use crate::config::{Config, KeyBytes, PrincipalRow, ServiceRow};
+use crate::limits::{
+    DEPTHS, ENTRY_COUNTS, ETYPES, ITERATION_COUNTS, KEY_COUNTS, KVNOS, Limited,
+    MIN_CLASS_COUNTS, MIN_LENGTHS, PRINCIPAL_COUNTS, REALM_LENGTHS, RULE_COUNTS,
+    SERVICE_KEY_COUNTS, all_fit, key_length,
+};
+use crate::name::Name;
+use crate::policy::Policy;
+use crate::rules::Rule;
+
+impl Config {
+    /// Whether every value is within its limits, no service key and no name stands twice, and each
+    /// principal's version numbers go down by one. An empty list of service keys fits.
+    ///
+    /// Each name is compared with those before it: some 50 million comparisons at 10,000.
+    pub fn fits(&self) -> bool
+        ensures value { result ≡ config_fits self.now }
+    {
+        REALM_LENGTHS.allow(self.realm.as_slice().len())
+            && ENTRY_COUNTS.allow(self.max_entries as usize)
+            && service_fits(self.service.as_slice())
+            && policy_fits(&self.policy)
+            && rules_fit(self.rules.list.as_slice())
+            && principals_fit(self.principals.as_slice())
+    }
+}
+
+fn policy_fits(policy: &Policy) -> bool
+    ensures value { result ≡ policy_fits policy.now }
+{
+    MIN_LENGTHS.allow(policy.min_length as usize)
+        && MIN_CLASS_COUNTS.allow(policy.min_classes as usize)
+        && DEPTHS.allow(policy.depth as usize)
+        && ITERATION_COUNTS.allow(policy.iterations as usize)
+}
+
+fn service_fits(keys: &[ServiceRow]) -> bool
+    ensures value { result ≡ service_fits keys.now }
+{
+    keys.len() <= SERVICE_KEY_COUNTS.high
+        && all_fit(keys)
+        && are_distinct(keys)
+}
+
+impl Limited for ServiceRow {
+    ghost fits = { service_key_fits };
+
+    fn fits(&self) -> bool {
+        KVNOS.allow(self.kvno as usize) && is_aes_key(self.etype, self.key.as_slice())
+    }
+}
+
+fn is_aes_key(etype: i32, key: &[u8]) -> bool
+    ensures value { result ≡ is_aes_key etype key.now }
+{
+    match usize::try_from(etype) {
+        Ok(etype) => ETYPES.allow(etype) && key.len() == key_length(etype),
+        Err(_) => false,
+    }
+}
+
+fn rules_fit(rules: &[Rule]) -> bool
+    ensures value { result ≡ rules_fit rules.now }
+{
+    RULE_COUNTS.allow(rules.len()) && all_fit(rules)
+}
+
+impl Limited for Rule {
+    ghost fits = { rule_fits };
+
+    fn fits(&self) -> bool {
+        self.actor.fits() && target_fits(&self.target)
+    }
+}
+
+fn target_fits(target: &Option<Name>) -> bool
+    ensures value { result ≡ target_fits target.now }
+{
+    match target {
+        None => true,
+        Some(name) => name.fits(),
+    }
+}
+
+fn principals_fit(principals: &[PrincipalRow]) -> bool
+    ensures value { result ≡ principals_fit principals.now }
+{
+    PRINCIPAL_COUNTS.allow(principals.len())
+        && all_fit(principals)
+        && are_distinct(principals)
+}
+
+impl Limited for PrincipalRow {
+    ghost fits = { principal_fits };
+
+    fn fits(&self) -> bool {
+        let keys = self.keys.as_slice();
+        self.name.fits()
+            && KEY_COUNTS.allow(keys.len())
+            && all_fit(keys)
+            && kvnos_descend(keys)
+    }
+}
+
+impl Limited for KeyBytes {
+    ghost fits = { key_fits };
+
+    fn fits(&self) -> bool {
+        KVNOS.allow(self.kvno as usize) && ITERATION_COUNTS.allow(self.iterations as usize)
+    }
+}
+
+fn kvnos_descend(keys: &[KeyBytes]) -> bool
+    ensures value { result ≡ kvnos_descend keys.now }
+{
+    match keys {
+        [] => true,
+        [first, rest @ ..] => descend_from(first.kvno, rest),
+    }
+}
+
+fn descend_from(mut newer: u32, keys: &[KeyBytes]) -> bool
+    ensures value { result ≡ descend_from newer keys.now }
+{
+    for key in keys {
+        if key.kvno as u64 + 1 != newer as u64 {
+            return false;
+        }
+        newer = key.kvno;
+    }
+    true
+}
+
+/// What stands at most once in its list.
+trait Identified {
+    ghost same: { Self → Self → Bool };
+
+    /// Whether the two may not stand in one list.
+    fn is_same(&self, other: &Self) -> bool
+        ensures { result ≡ same self.now other.now };
+}
+
+impl Identified for ServiceRow {
+    ghost same = { is_same_service_key };
+
+    fn is_same(&self, other: &Self) -> bool {
+        self.etype == other.etype && self.kvno == other.kvno
+    }
+}
+
+impl Identified for PrincipalRow {
+    ghost same = { is_same_principal };
+
+    fn is_same(&self, other: &Self) -> bool {
+        self.name.is_same(&other.name)
+    }
+}
+
+fn stands_in<T: Identified>(item: &T, list: &[T]) -> bool
+    ensures value { result ≡ list_any (T.same item.now) list.now }
+{
+    list.iter().any(|other| item.is_same(other))
+}
+
+fn are_distinct<T: Identified>(list: &[T]) -> bool
+    ensures value { result ≡ are_distinct T.same list.now }
+{
+    for (place, item) in list.iter().enumerate() {
+        if stands_in(item, &list[..place]) {
+            return false;
+        }
+    }
+    true
+}

@@ -1,0 +1,31 @@
+-- What is shown of a table's own state holds of each state that it agrees with.
+use Rattle.std.proofs.Common.{◌≡◌, ℕ, List, [], ◌++◌, Bool, if◌then◌else◌, Option, sym, ◌∙◌, ap, subst}
+use Rattle.std.specs.Prelude.{option_map}
+use Rattle.chpw_table.specs.declared.decision.Moment.{Moment}
+use Rattle.chpw_table.specs.declared.decision.Opened.{Opened}
+use Rattle.chpw_table.specs.declared.verdict.Verdict.{Verdict}
+use Rattle.chpw_table.specs.declared.table.KeyRow.{KeyRow}
+use Rattle.chpw_table.specs.Requests.{target_of}
+use Rattle.chpw_table.specs.State.{State}
+use Rattle.chpw_table.specs.Verdicts.{is_done}
+use Rattle.chpw_table.specs.Step.{step}
+use Rattle.chpw_table.specs.History.{IsDecided}
+use Rattle.chpw_table.specs.Journal.{appended, record_bytes}
+use Rattle.chpw_table.specs.Agreement.{Agrees}
+use Rattle.chpw_table.proofs.AgreementLemmas.{same_verdict, same_missing, same_new_key, agrees_step}
+
+pub decided_for_all : (t s : State) (now : Moment) (o : Opened) (io : Bool) (v : Verdict) → IsDecided t now o io v → Agrees t s → IsDecided s now o io v
+decided_for_all t s now o io v d a = record {
+  verdict_is = d.verdict_is ∙ same_verdict t s now o io a;
+  derived = sym (same_missing t s now o a) ∙ d.derived;
+  append = λ h. ((d.append h).0, sym a.broken ∙ (d.append h).1);
+}
+
+pub stepped_for_all : (t u s : State) (now : Moment) (o : Opened) (io : Bool) → u ≡ step t now o io → Agrees t s → Agrees u (step s now o io)
+stepped_for_all t u s now o io e a = subst (λ (w : State). Agrees w (step s now o io)) (sym e) (agrees_step t s now o io a)
+
+pub same_appended : (t s : State) (o : Opened) (v : Verdict) → Agrees t s → appended t o v ≡ appended s o v
+same_appended t s o v a = ap (λ (k : KeyRow). if is_done v then record_bytes (target_of o).name k else []) (same_new_key t s o a.fixed (a.principals (target_of o).name))
+
+pub told_for_all : (t s : State) (o : Opened) (v : Verdict) (before after : Option (List ℕ)) → after ≡ option_map (λ xs. xs ++ appended t o v) before → Agrees t s → after ≡ option_map (λ xs. xs ++ appended s o v) before
+told_for_all t s o v before after h a = h ∙ ap (λ (ys : List ℕ). option_map (λ (xs : List ℕ). xs ++ ys) before) (same_appended t s o v a)

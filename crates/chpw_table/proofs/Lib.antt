@@ -1,0 +1,15 @@
+pub mod HoldingLemmas
+pub mod BoolLemmas
+pub mod JournalLemmas
+pub mod Worked
+pub mod WorkedScripts
+pub mod WorkedHistories
+pub mod DigestLemmas
+pub mod NameLemmas
+pub mod StepLemmas
+pub mod KeyLemmas
+pub mod AgreementLemmas
+pub mod VersionLemmas
+pub mod AppendLemmas
+pub mod DecideLemmas
+pub mod WorkedEdges

@@ -1,0 +1,17 @@
+pub mod Digests
+pub mod Requests
+pub mod State
+pub mod Verdicts
+pub mod Wanted
+pub mod Times
+pub mod Decision
+pub mod Step
+pub mod History
+pub mod Versions
+pub mod Journal
+pub mod Agreement
+pub mod Laws
+pub mod Refusals
+pub mod Lookups
+pub mod Replies
+pub mod Holding
