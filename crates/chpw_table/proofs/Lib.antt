@@ -1,3 +1,7 @@
+pub mod DoneLemmas
+pub mod PlaceLemmas
+pub mod WantedLemmas
+pub mod EnteringLemmas
 pub mod HoldingLemmas
 pub mod BoolLemmas
 pub mod JournalLemmas

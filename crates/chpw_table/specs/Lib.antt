@@ -15,3 +15,4 @@ pub mod Refusals
 pub mod Lookups
 pub mod Replies
 pub mod Holding
+pub mod Entering

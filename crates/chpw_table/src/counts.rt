@@ -1,5 +1,5 @@
 //! Short lists of iteration counts.
-ghost use Rattle.std.specs.Prelude.{◌≡◌, ◌++◌, ◌∷◌, [], ◌+◌, ◌≤◌, ◌<◌, length, nat_lt, if◌then◌else◌};
+ghost use Rattle.std.specs.Prelude.{◌≡◌, ◌++◌, ◌∷◌, [], ◌+◌, ◌≤◌, ◌<◌, length, nat_lt, IsTrue, ◌↔◌, if◌then◌else◌};
 ghost use Rattle.chpw_table.specs.Wanted.{with_count, behind_count};
 
 use std::marker::Model;
@@ -54,6 +54,13 @@ impl Counts {
         ensures bound { length result.now ≤ 17 }
     {
         &self.list[..self.used]
+    }
+
+    /// Whether no count is there.
+    pub fn is_empty(&self) -> bool
+        ensures value { IsTrue result ↔ (self.now ≡ []) }
+    {
+        self.as_slice().is_empty()
     }
 
     /// Puts counts at the end.

@@ -6,6 +6,7 @@ ghost use Rattle.chpw_table.specs.State.{opening_of, opening_principal, key_row_
 ghost use Rattle.chpw_table.specs.Decision.{newest_kvno};
 ghost use Rattle.chpw_table.specs.Lookups.{lookup_of};
 
+mod changing;
 mod deciding;
 mod judging;
 

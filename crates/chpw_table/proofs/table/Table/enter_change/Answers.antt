@@ -1,0 +1,13 @@
+use Rattle.chpw_table.proofs.DoneLemmas.{done_key_row, done_whole, done_derived}
+use Rattle.chpw_table.proofs.table.Table.enter_change.Goals as goal
+
+pub change-requires : goal.change-requires
+change-requires g c = record {
+  done = done_key_row c.args.self.now.state c.args.now c.args.opened.now c.requires.row;
+  derived = done_derived c.args.self.now.state c.args.now c.args.opened.now c.requires.row c.requires.derived;
+}
+
+pub append-requires : goal.append-requires
+append-requires g c = record {
+  count = c.requires.sink (done_whole c.args.self.now.state c.args.opened.now (done_key_row c.args.self.now.state c.args.now c.args.opened.now c.requires.row));
+}

@@ -1,0 +1,50 @@
+-- What a table becomes at an event, part by part.
+use Rattle.std.specs.Prelude.{◌≡◌, ℕ, zero, suc, ◌+◌, List, [], ◌∷◌, ◌++◌, ◌<◌, length, map, take, Option, Some, Bool, true, if◌then◌else◌}
+use Rattle.chpw_rules.specs.declared.name.Name.{Name}
+use Rattle.chpw_rules.specs.Names.{is_name}
+use Rattle.chpw_table.specs.declared.decision.Moment.{Moment}
+use Rattle.chpw_table.specs.declared.decision.Opened.{Opened}
+use Rattle.chpw_table.specs.declared.verdict.Verdict.{Verdict}
+use Rattle.chpw_table.specs.declared.verdict.Verdict.TheVariants.{Done}
+use Rattle.chpw_table.specs.declared.table.KeyRow.{KeyRow}
+use Rattle.chpw_table.specs.declared.table.Principal.{Principal}
+use Rattle.chpw_table.specs.Requests.{id_of}
+use Rattle.chpw_table.specs.State.{State, keys_held}
+use Rattle.chpw_table.specs.Verdicts.{adds_id, is_done, with_append}
+use Rattle.chpw_table.specs.Times.{clock_at}
+use Rattle.chpw_table.specs.Step.{after, with_key}
+use Rattle.chpw_table.specs.Agreement.{Held}
+
+-- the id is used, where the row uses it
+abbrev pub with_used : Verdict → Opened → Held → Held
+with_used v o t = record t { state = record t.state { used = if adds_id v then t.state.used ++ id_of o ∷ [] else t.state.used } }
+
+-- these keys stand for those of the principal at a place
+abbrev pub with_keys_at : ℕ → List KeyRow → List Principal → List Principal
+with_keys_at n keys [] = []
+with_keys_at zero keys (p ∷ ps) = record { name = p.name; keys = keys } ∷ ps
+with_keys_at (suc n) keys (p ∷ ps) = p ∷ with_keys_at n keys ps
+
+-- that, and one change more
+abbrev pub with_change_at : ℕ → List KeyRow → Held → Held
+with_change_at n keys t = record t { state = record t.state { principals = with_keys_at n keys t.state.principals }; seen = t.seen + 1 }
+
+-- the principal of a name stands at a place, where a new key for the name goes
+pub record IsAt (s : State) (name : Name) (n : ℕ) (p : Principal) : Type 0 where
+  pub within : n < length s.principals
+  pub held : keys_held s name ≡ Some p.keys
+  pub fits : is_name name ≡ true
+  pub change : (kept : ℕ) (key : KeyRow) → map (with_key kept name key) s.principals ≡ with_keys_at n (take kept (key ∷ p.keys)) s.principals
+
+-- one event more, and the clock moved on
+abbrev pub with_event : Moment → Held → Held
+with_event now t = record t { state = record t.state { clock = clock_at t.state now }; events = t.events + 1 }
+
+-- what a row does, whose append may fail
+pub record IsEntered (before later : Held) (now : Moment) (o : Opened) (row v : Verdict) (io : Bool) : Type 0 where
+  pub verdict_is : v ≡ with_append io row
+  pub append : io ≡ true → row ≡ Done
+  pub state : later.state ≡ after v before.state now o io
+  pub events : later.events ≡ before.events + 1
+  pub seen : later.seen ≡ (if is_done v then before.seen + 1 else before.seen)
+  pub max_entries : later.max_entries ≡ before.max_entries

@@ -1,0 +1,122 @@
+//! A change of one principal's keys.
+ghost use Rattle.std.specs.Prelude.{[], ◌∷◌, ◌≡◌, ◌≢◌, ℕ, ◌+◌, ◌<◌, ◌≤◌, IfOk, IfSome, IfNone, if◌then◌else◌, true, false, length, map, take, position, is_none, unwrap_or, Some};
+ghost use Rattle.chpw_rules.specs.Names.{is_same_name};
+ghost use Rattle.chpw_table.specs.State.{keys_held, new_count, kept_count};
+ghost use Rattle.chpw_table.specs.Requests.{target_of, digest_of};
+ghost use Rattle.chpw_table.specs.Digests.{has_count};
+ghost use Rattle.chpw_table.specs.Decision.{key_row, newest_kvno};
+ghost use Rattle.chpw_table.specs.Verdicts.{is_done};
+ghost use Rattle.chpw_table.specs.Step.{new_key, with_key};
+ghost use Rattle.chpw_table.specs.Holding.{are_holders};
+ghost use Rattle.chpw_table.specs.Entering.{with_keys_at, IsAt};
+ghost use Rattle.chpw_table.specs.Journal.{record_bytes as record_bytes_spec};
+
+use super::{KeyRow, Principal, Table, kept_by, kvno_of, newest};
+use crate::decision::Opened;
+use crate::journal::record_bytes;
+use chpw_rules::{Items, Name};
+use std::alloc::{AllocError, Global};
+
+// A change with all its memory at hand.
+#[derive(Drop)]
+pub(super) struct Change {
+    // The principal's place.
+    pub(super) place: usize,
+    // Its keys from then on.
+    pub(super) keys: Items<KeyRow>,
+    // What the journal gets.
+    pub(super) record: Vec<u8>,
+}
+
+impl Table {
+    // The change that a request makes which no row refuses.
+    pub(super) fn change(&self, opened: &Opened) -> Result<Change, AllocError>
+        requires done { is_done (key_row self.now.state opened.now false) ≡ true }
+        requires derived { has_count (digest_of opened.now).derived (new_count self.now.state) ≡ true }
+        ensures place { IfOk result (λ c. c.place < length self.now.state.principals) }
+        ensures keys { IfOk result (λ c.
+            map (with_key (kept_count self.now.state) (target_of opened.now).name (new_key self.now.state opened.now)) self.now.state.principals
+            ≡ with_keys_at c.place c.keys self.now.state.principals) }
+        ensures holders { IfOk result (λ c. are_holders (with_keys_at c.place c.keys self.now.state.principals) ≡ true) }
+        ensures record_of { IfOk result (λ c. c.record.items ≡ record_bytes_spec (target_of opened.now).name (new_key self.now.state opened.now)) }
+    {
+        let name = opened.target_name();
+        let Some((place, principal)) = self.find(name) else {
+            unreachable!()
+        };
+        let held = principal.keys.as_slice();
+        let key = self.new_key(held, opened);
+        let alloc = *self.principals.allocator();
+        let keys = with_front(alloc, key, held, kept_by(self.policy))?;
+        let record = record_bytes(alloc, name, &key)?;
+        Ok(Change {
+            place,
+            keys,
+            record,
+        })
+    }
+
+    // The key that the request makes, in front of these.
+    fn new_key(&self, held: &[KeyRow], opened: &Opened) -> KeyRow
+        requires held { unwrap_or (keys_held self.now.state (target_of opened.now).name) [] ≡ held.now }
+        requires version { newest_kvno held.now ≢ 4294967295 }
+        requires derived { has_count (digest_of opened.now).derived (new_count self.now.state) ≡ true }
+        ensures value { result ≡ new_key self.now.state opened.now }
+    {
+        let Some(digest) = opened.digest() else {
+            unreachable!()
+        };
+        let count = self.policy.iterations;
+        let Some(keys) = digest.derived.keys_under(count) else {
+            unreachable!()
+        };
+        let aes128 = keys.0;
+        let aes256 = keys.1;
+        KeyRow {
+            kvno: kvno_of(held) + 1,
+            count,
+            aes128,
+            aes256,
+        }
+    }
+
+    // A name's principal and its place.
+    fn find(&self, name: &Name) -> Option<(usize, &Principal)>
+        ensures at { IfSome result (λ r. IsAt self.now.state name.now r.0 r.1.now) }
+        ensures none { IfNone result (is_none (keys_held self.now.state name.now) ≡ true) }
+    {
+        match self.place_of(name) {
+            None => None,
+            Some(place) => Some((place, &self.principals[place])),
+        }
+    }
+
+    fn place_of(&self, name: &Name) -> Option<usize>
+        ensures value { result ≡ position (λ p. is_same_name p.name name.now) self.now.state.principals }
+    {
+        self.principals.iter().position(|p| p.name.is_same(name))
+    }
+}
+
+// The key in front of these, of which the newest are kept.
+fn with_front(
+    alloc: Global,
+    key: KeyRow,
+    held: &[KeyRow],
+    kept: usize,
+) -> Result<Items<KeyRow>, AllocError>
+    requires kept { 1 ≤ kept }
+    ensures value { IfOk result (λ keys. keys ≡ take kept (key ∷ held.now)) }
+{
+    let mut keys = Vec::from_slice(alloc, &[key])?;
+    keys.extend_from_slice(newest(held, kept - 1))?;
+    Ok(Items::of(keys))
+}
+
+// Puts keys in the place of a principal's.
+pub(super) fn put_keys(principals: &mut [Principal], place: usize, keys: Items<KeyRow>)
+    requires place { place < length principals.old }
+    ensures value { principals.new ≡ with_keys_at place keys principals.old }
+{
+    principals[place].keys = keys;
+}
