@@ -160,12 +160,16 @@ impl Table {
         let change = self.change(opened)?;
         self.use_id(Verdict::Done, opened)?;
         self.tick(now);
-        if sink.append(change.record.as_slice()).is_err() {
-            self.broken = true;
-            return Ok((Verdict::Broken, true));
+        match sink.append(change.record.as_slice()) {
+            Err(_) => {
+                self.broken = true;
+                Ok((Verdict::Broken, true))
+            }
+            Ok(()) => {
+                self.put(change);
+                Ok((Verdict::Done, false))
+            }
         }
-        self.put(change);
-        Ok((Verdict::Done, false))
     }
 
     // Puts the id among the used ones, where this row does.
