@@ -1,0 +1,17 @@
+pub mod FieldSums
+pub mod FieldTables
+pub mod SubstitutionTables
+pub mod BytesLemmas
+pub mod ScheduleLemmas
+pub mod StateLemmas
+pub mod AesLemmas
+pub mod CtsBlocks
+pub mod CtsEncipher
+pub mod MatrixTables
+pub mod MatrixLemmas
+pub mod InverseSteps
+pub mod InverseCipher
+pub mod CtsInverse
+pub mod AesInverses
+pub mod CtsDecipher
+pub mod InverseTable

@@ -1,0 +1,49 @@
+-- n-fold (RFC 3961 section 5.1), by whole numbers.
+use Rattle.std.specs.Prelude.{ℕ, zero, suc, ◌+◌, ◌-◌, ◌*◌, ◌/◌, ◌%◌, ◌^◌, ◌==◌, find, sum, map, List, [], ◌∷◌, ◌++◌, length, take, drop}
+use Rattle.std.specs.List.{flat_map, range_with_len}
+use Rattle.std.specs.Option.{unwrap_or}
+
+-- the number that bytes spell, the highest first
+unfoldable pub value : List ℕ → ℕ
+value [] = 0
+value (byte ∷ bytes) = byte * 256 ^ length bytes + value bytes
+
+-- the n bytes of a number
+unfoldable pub bytes_of : ℕ → ℕ → List ℕ
+bytes_of zero number = []
+bytes_of (suc n) number = bytes_of n (number / 256) ++ number % 256 ∷ []
+
+-- a number of w bits, turned right by r of them
+unfoldable pub turned : ℕ → ℕ → ℕ → ℕ
+turned w r number = number / 2 ^ r + number % 2 ^ r * 2 ^ (w - r)
+
+-- copy i of the input, from 0: each is turned right by 13 bits from the one before
+unfoldable pub copy : List ℕ → ℕ → List ℕ
+copy input i =
+    let w : ℕ = 8 * length input in
+    bytes_of (length input) (turned w (13 * i % w) (value input))
+
+-- the fewest copies of m bytes that make up whole parts of n bytes: m times their number is the
+-- least common multiple of m and n
+unfoldable pub copy_count : ℕ → ℕ → ℕ
+copy_count m n = unwrap_or (find (λ k. k * m % n == 0) (range_with_len 1 n)) n
+
+-- that many copies, joined
+unfoldable pub joined : List ℕ → ℕ → List ℕ
+joined input n = flat_map (copy input) (range_with_len 0 (copy_count (length input) n))
+
+-- the sum of the first k parts of n bytes
+unfoldable pub sum_of_parts : ℕ → List ℕ → ℕ → ℕ
+sum_of_parts n bytes k = sum (map (λ p. value (take n (drop (n * p) bytes))) (range_with_len 0 k))
+
+-- what ones' complement addition makes of a sum s, where m is the number of all ones: 0 for 0,
+-- else the number from 1 to m that equals s modulo m
+unfoldable pub residue : ℕ → ℕ → ℕ
+residue m zero = 0
+residue m (suc s) = s % m + 1
+
+-- n-fold to n bytes
+unfoldable pub nfold : List ℕ → ℕ → List ℕ
+nfold input n =
+    let text : List ℕ = joined input n in
+    bytes_of n (residue (256 ^ n - 1) (sum_of_parts n text (length text / n)))

@@ -1,0 +1,44 @@
+-- Sealed texts of the encryption types 17 and 18 (RFC 3961 section 5.3, RFC 3962 section 6).
+use Rattle.std.specs.Prelude.{◌≡◌, ℕ, ◌<◌, List, [], ◌∷◌, ◌++◌, length, take}
+use Rattle.std.specs.Int.{w32, to_be_bytes}
+use Rattle.krb_aes.specs.Bytes.{AreBytes}
+use Rattle.krb_aes.specs.KeyExpansion.{IsKey}
+use Rattle.krb_aes.specs.Aes.{aes, unaes}
+use Rattle.krb_aes.specs.Cts.{cts, uncts}
+use Rattle.krb_keys.specs.Hmac.{hmac}
+use Rattle.krb_keys.specs.Keys.{bytes_of, dk}
+use Rattle.krb_keys.specs.declared.key.Key.{Key}
+
+-- Ke, which enciphers, of a key and a key usage
+unfoldable pub encryption_key : Key → ℕ → Key
+encryption_key key usage = dk key (to_be_bytes w32 usage ++ 0xaa ∷ [])
+
+-- Ki, which guards
+unfoldable pub integrity_key : Key → ℕ → Key
+integrity_key key usage = dk key (to_be_bytes w32 usage ++ 0x55 ∷ [])
+
+-- a confounder and a plain text, enciphered with ciphertext stealing under Ke
+unfoldable pub enciphered : Key → ℕ → List ℕ → List ℕ
+enciphered key usage text = cts (aes (bytes_of (encryption_key key usage))) text
+
+-- their code: 96 bits of the HMAC under Ki
+unfoldable pub code_of : Key → ℕ → List ℕ → List ℕ
+code_of key usage text = take 12 (hmac (bytes_of (integrity_key key usage)) text)
+
+-- the sealed text
+unfoldable pub sealed : Key → ℕ → List ℕ → List ℕ → List ℕ
+sealed key usage confounder plain =
+    enciphered key usage (confounder ++ plain) ++ code_of key usage (confounder ++ plain)
+
+-- a text is the sealed text of a plain text that isn't empty, with some confounder of 16 bytes
+abbrev pub IsSealed : Key → ℕ → List ℕ → List ℕ → Type 0
+IsSealed key usage text plain =
+    (confounder : List ℕ) × (length confounder ≡ 16) × (0 < length plain)
+    × AreBytes confounder × AreBytes plain × (text ≡ sealed key usage confounder plain)
+
+-- a text of which a body was enciphered under Ke, as it is got back from the body
+unfoldable pub IsDeciphered : Key → ℕ → List ℕ → List ℕ → Type 0
+IsDeciphered key usage body text =
+    let ke : List ℕ = bytes_of (encryption_key key usage) in
+    IsKey ke × (length text ≡ length body)
+    × (text ≡ uncts (unaes ke) body) × (enciphered key usage text ≡ body)
