@@ -27,9 +27,10 @@ entered_verdict t u now o row v io e r = e.verdict_is ∙ (ap (with_append io) r
 
 entered_append : (t u : Held) (now : Moment) (o : Opened) (row v : Verdict) (io : Bool) → IsEntered t u now o row v io → row ≡ verdict t.state now o false → io ≡ true → (v ≡ Broken) × (t.state.broken ≡ false)
 entered_append t u now o row v io e r h =
-    let done : row ≡ Done = e.append h in
-    (e.verdict_is ∙ (ap (λ (w : Verdict). with_append io w) done ∙ ap (λ (b : Bool). with_append b Done) h),
-    done_whole t.state o (done_key_row t.state now o (sym r ∙ done)))
+    let done : row ≡ Done = e.append h in (
+      e.verdict_is ∙ (ap (λ (w : Verdict). with_append io w) done ∙ ap (λ (b : Bool). with_append b Done) h),
+      done_whole t.state o (done_key_row t.state now o (sym r ∙ done)),
+    )
 
 pub entered_decided : (t u : Held) (now : Moment) (o : Opened) (row v : Verdict) (io : Bool) → IsEntered t u now o row v io → row ≡ verdict t.state now o false → missing t.state now o ≡ [] → IsDecided t.state now o io v
 entered_decided t u now o row v io e r m = record {

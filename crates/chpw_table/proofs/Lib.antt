@@ -1,3 +1,4 @@
+pub mod DerivationLemmas
 pub mod DoneLemmas
 pub mod PlaceLemmas
 pub mod WantedLemmas

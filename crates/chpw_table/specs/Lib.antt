@@ -1,4 +1,5 @@
 pub mod Digests
+pub mod Derivations
 pub mod Requests
 pub mod State
 pub mod Verdicts

@@ -1,11 +1,15 @@
 //! What is kept of a new password.
-ghost use Rattle.std.specs.Prelude.{◌≡◌, ℕ, List, [], ◌∷◌, true, false, if◌then◌else◌, find, ◌==◌, not, ◌&&◌, Some, None, IfSome, IfNone, option_copied, bytes_eq};
+ghost use Rattle.std.specs.Prelude.{◌≡◌, ℕ, List, [], ◌∷◌, true, false, if◌then◌else◌, find, ◌==◌, not, ◌&&◌, Some, None, IfSome, IfNone, option_copied, bytes_eq, ◌+◌, ◌≤◌, ◌<◌, length, IfOk, OnOk, OnErr, All, vec_len, vec_capacity};
 ghost use Rattle.std.specs.List.{list_any};
 ghost use Rattle.krb_keys.specs.declared.key.Key.{Key};
 ghost use Rattle.krb_keys.specs.Keys.{bytes_of};
+ghost use Rattle.chpw_table.specs.Derivations.{with_counts, digest_from};
 ghost use Rattle.chpw_table.specs.Digests.{aes128_under, aes256_under, has_count, is_both_etypes, is_derivation};
 
-use krb_keys::Key;
+use crate::counts::Counts;
+use chpw_rules::password_facts;
+use krb_keys::{Etype, Key, string_to_key};
+use std::alloc::{AllocError, Global};
 use std::marker::Model;
 
 /// The keys of a password under some iteration counts, each count once: the count, the key of etype 17
@@ -57,7 +61,51 @@ impl Digest {
     }
 }
 
+impl Digest {
+    /// The digest of a password under these counts, each at least 1; a repeated one is derived once.
+    pub fn derive(
+        alloc: Global,
+        password: &[u8],
+        salt: &[u8],
+        counts: &Counts,
+    ) -> Result<Digest, AllocError>
+        requires positive { All (λ n. 1 ≤ n) counts.now }
+        ensures value { IfOk result (λ d. d ≡ digest_from password.now salt.now counts.now) }
+    {
+        let facts = password_facts(password);
+        let mut digest = Digest {
+            length: facts.length,
+            classes: facts.classes,
+            derived: Derived {
+                vec: Vec::new(alloc),
+            },
+        };
+        digest.add(password, salt, counts)?;
+        Ok(digest)
+    }
+
+    /// Derives the keys under those of these counts, each at least 1, that are not there yet; all else
+    /// in the digest stays. After `AllocError` it is as before.
+    pub fn add(&mut self, password: &[u8], salt: &[u8], counts: &Counts) -> Result<(), AllocError>
+        requires positive { All (λ n. 1 ≤ n) counts.now }
+        ensures value { OnOk result (self.new ≡ record self.old { derived = with_counts password.now salt.now self.old.derived counts.now }) }
+        ensures unchanged { OnErr result (self.new ≡ self.old) }
+    {
+        self.derived.add(password, salt, counts.as_slice())
+    }
+}
+
 impl Derived {
+    fn add(&mut self, password: &[u8], salt: &[u8], counts: &[u32]) -> Result<(), AllocError>
+        requires positive { All (λ n. 1 ≤ n) counts.now }
+        ensures value { OnOk result (self.new ≡ with_counts password.now salt.now self.old counts.now) }
+        ensures unchanged { OnErr result (self.new ≡ self.old) }
+    {
+        self.vec.reserve(counts.len())?;
+        put_keys(&mut self.vec, password, salt, counts);
+        Ok(())
+    }
+
     /// Whether the count is there.
     pub fn has(&self, count: u32) -> bool
         ensures value { result ≡ has_count self.now count }
@@ -103,6 +151,42 @@ fn bytes_of_both(first: &Key, second: &Key) -> ([u8; 16], [u8; 32])
     match (first, second) {
         (Key::Aes128(aes128), Key::Aes256(aes256)) => (*aes128, *aes256),
         _ => unreachable!(),
+    }
+}
+
+// Derives the keys under those counts that are not there, where there is room for all.
+fn put_keys(derived: &mut Vec<(u32, Key, Key)>, password: &[u8], salt: &[u8], counts: &[u32])
+    requires positive { All (λ n. 1 ≤ n) counts.now }
+    requires room { vec_len derived.old + length counts.now ≤ vec_capacity derived.old }
+    requires derived { is_derivation derived.old.items ≡ true }
+    ensures value { derived.new.items ≡ with_counts password.now salt.now derived.old.items counts.now }
+    ensures derived { is_derivation derived.new.items ≡ true }
+{
+    let mut others = counts;
+    while let [count, rest @ ..] = others {
+        put_key(derived, password, salt, *count);
+        others = rest;
+    }
+}
+
+// Derives the keys under this count, unless they are there.
+fn put_key(derived: &mut Vec<(u32, Key, Key)>, password: &[u8], salt: &[u8], count: u32)
+    requires positive { 1 ≤ count }
+    requires room { vec_len derived.old < vec_capacity derived.old }
+    requires derived { is_derivation derived.old.items ≡ true }
+    ensures value { (ns : List ℕ) → with_counts password.now salt.now derived.old.items (count ∷ ns) ≡ with_counts password.now salt.now derived.new.items ns }
+    ensures room { vec_len derived.new ≤ vec_len derived.old + 1 }
+    ensures capacity { vec_capacity derived.old ≤ vec_capacity derived.new }
+    ensures derived { is_derivation derived.new.items ≡ true }
+{
+    if stands_in(derived.as_slice(), count) {
+        return;
+    }
+    let aes128 = string_to_key(Etype::Aes128, password, salt, count);
+    let aes256 = string_to_key(Etype::Aes256, password, salt, count);
+    match derived.push((count, aes128, aes256)) {
+        Ok(()) => {}
+        Err(_) => unreachable!(),
     }
 }
 
