@@ -1,47 +1,44 @@
 -- The limits of a configuration, each a range of numbers.
-use Rattle.std.specs.Prelude.{ℕ, Bool, ◌&&◌, nat_le, ◌==◌, if◌then◌else◌}
+use Rattle.std.specs.Prelude.{ℕ, Bool, ◌&&◌, ◌==◌, nat_le, if◌then◌else◌}
+use Rattle.chpw_rules.specs.declared.limits.Limits.{Limits}
 
 -- the numbers from `low` to `high`, both among them
-pub record Range : Type 0 where
-  pub low : ℕ
-  pub high : ℕ
-
-abbrev pub range : ℕ → ℕ → Range
+abbrev pub range : ℕ → ℕ → Limits
 range low high = record { low = low; high = high }
 
-abbrev pub is_in : Range → ℕ → Bool
-is_in r n = nat_le r.low n && nat_le n r.high
+abbrev pub is_in : Limits → ℕ → Bool
+is_in limits number = nat_le limits.low number && nat_le number limits.high
 
 -- the bytes of a realm
-abbrev pub realm_lengths : Range
+abbrev pub realm_lengths : Limits
 realm_lengths = range 1 255
 
 -- the events that a history may have
-abbrev pub entry_counts : Range
+abbrev pub entry_counts : Limits
 entry_counts = range 1 1048576
 
 -- key version numbers (UInt32 of RFC 4120 section 5.2.4, from 1)
-abbrev pub kvnos : Range
+abbrev pub kvnos : Limits
 kvnos = range 1 4294967295
 
 -- iteration counts of string-to-key (RFC 3962 section 4)
-abbrev pub iteration_counts : Range
+abbrev pub iteration_counts : Limits
 iteration_counts = range 1 16777216
 
 -- the bytes that a policy may ask of a password
-abbrev pub min_lengths : Range
+abbrev pub min_lengths : Limits
 min_lengths = range 0 1024
 
 -- the character classes that a policy may ask of a password
-abbrev pub min_class_counts : Range
+abbrev pub min_class_counts : Limits
 min_class_counts = range 0 5
 
 -- the old keys that a policy compares a new password with
-abbrev pub depths : Range
+abbrev pub depths : Limits
 depths = range 0 16
 
 -- the encryption types of RFC 3962: 17 is aes128-cts-hmac-sha1-96, 18 aes256-cts-hmac-sha1-96
-abbrev pub etypes : Range
+abbrev pub etypes : Limits
 etypes = range 17 18
 
 -- the bytes of a key of encryption type 17 or 18
@@ -49,23 +46,23 @@ abbrev pub key_length : ℕ → ℕ
 key_length etype = if etype == 17 then 16 else 32
 
 -- how many service keys a file has
-abbrev pub service_key_counts : Range
+abbrev pub service_key_counts : Limits
 service_key_counts = range 1 16
 
 -- how many keys a principal has
-abbrev pub key_counts : Range
+abbrev pub key_counts : Limits
 key_counts = range 1 16
 
 -- how many rules, and how many principals
-abbrev pub rule_counts : Range
+abbrev pub rule_counts : Limits
 rule_counts = range 0 10000
 
-abbrev pub principal_counts : Range
+abbrev pub principal_counts : Limits
 principal_counts = range 0 10000
 
 -- the components of a name, and the bytes of each
-abbrev pub component_counts : Range
+abbrev pub component_counts : Limits
 component_counts = range 1 8
 
-abbrev pub component_lengths : Range
+abbrev pub component_lengths : Limits
 component_lengths = range 1 128

@@ -1,10 +1,9 @@
 //! Copies of bytes and names.
 ghost use Rattle.std.specs.Prelude.{◌≡◌, IfOk};
 
-use std::alloc::AllocError;
-
 use crate::items::Items;
 use crate::name::Name;
+use std::alloc::AllocError;
 
 impl Items<u8> {
     /// The same bytes once more, on the same allocator.

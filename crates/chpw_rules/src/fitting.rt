@@ -5,9 +5,9 @@ ghost use Rattle.chpw_rules.specs.Fitting.{are_distinct, config_fits, descend_fr
 
 use crate::config::{Config, KeyBytes, PrincipalRow, ServiceRow};
 use crate::limits::{
-    DEPTHS, ENTRY_COUNTS, ETYPES, ITERATION_COUNTS, KEY_COUNTS, KVNOS, Limited,
-    MIN_CLASS_COUNTS, MIN_LENGTHS, PRINCIPAL_COUNTS, REALM_LENGTHS, RULE_COUNTS,
-    SERVICE_KEY_COUNTS, all_fit, key_length,
+    DEPTHS, ENTRY_COUNTS, ETYPES, ITERATION_COUNTS, KEY_COUNTS, KVNOS, Limited, MIN_CLASS_COUNTS,
+    MIN_LENGTHS, PRINCIPAL_COUNTS, REALM_LENGTHS, RULE_COUNTS, SERVICE_KEY_COUNTS, all_fit,
+    key_length,
 };
 use crate::name::Name;
 use crate::policy::Policy;
@@ -42,9 +42,7 @@ fn policy_fits(policy: &Policy) -> bool
 fn service_fits(keys: &[ServiceRow]) -> bool
     ensures value { result ≡ service_fits keys.now }
 {
-    keys.len() <= SERVICE_KEY_COUNTS.high
-        && all_fit(keys)
-        && are_distinct(keys)
+    keys.len() <= SERVICE_KEY_COUNTS.high && all_fit(keys) && are_distinct(keys)
 }
 
 impl Limited for ServiceRow {
@@ -90,9 +88,7 @@ fn target_fits(target: &Option<Name>) -> bool
 fn principals_fit(principals: &[PrincipalRow]) -> bool
     ensures value { result ≡ principals_fit principals.now }
 {
-    PRINCIPAL_COUNTS.allow(principals.len())
-        && all_fit(principals)
-        && are_distinct(principals)
+    PRINCIPAL_COUNTS.allow(principals.len()) && all_fit(principals) && are_distinct(principals)
 }
 
 impl Limited for PrincipalRow {
@@ -100,10 +96,7 @@ impl Limited for PrincipalRow {
 
     fn fits(&self) -> bool {
         let keys = self.keys.as_slice();
-        self.name.fits()
-            && KEY_COUNTS.allow(keys.len())
-            && all_fit(keys)
-            && kvnos_descend(keys)
+        self.name.fits() && KEY_COUNTS.allow(keys.len()) && all_fit(keys) && kvnos_descend(keys)
     }
 }
 
@@ -137,7 +130,7 @@ fn descend_from(mut newer: u32, keys: &[KeyBytes]) -> bool
 }
 
 /// What stands at most once in its list.
-trait Identified {
+pub(crate) trait Identified {
     ghost same: { Self → Self → Bool };
 
     /// Whether the two may not stand in one list.
@@ -161,7 +154,7 @@ impl Identified for PrincipalRow {
     }
 }
 
-fn stands_in<T: Identified>(item: &T, list: &[T]) -> bool
+pub(crate) fn stands_in<T: Identified>(item: &T, list: &[T]) -> bool
     ensures value { result ≡ list_any (T.same item.now) list.now }
 {
     list.iter().any(|other| item.is_same(other))

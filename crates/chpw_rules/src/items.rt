@@ -39,7 +39,8 @@ impl<T> Items<T> {
     pub fn into_vec(self) -> Vec<T>
         ensures value { result.items ≡ self }
     {
-        self.vec
+        let Items { vec: items } = self;
+        items
     }
 }
 

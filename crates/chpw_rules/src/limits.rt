@@ -1,7 +1,7 @@
 //! The limits of a configuration.
 ghost use Rattle.std.specs.Prelude.{Bool, ◌≡◌};
 ghost use Rattle.std.specs.List.{list_all};
-ghost use Rattle.chpw_rules.specs.Limits.{is_in, range, key_length as key_length_of};
+ghost use Rattle.chpw_rules.specs.Limits.{is_in, key_length as key_length_of};
 
 /// The numbers from `low` to `high`, both among them.
 #[derive(Clone, Copy, Drop)]
@@ -13,11 +13,20 @@ pub struct Limits {
 /// The bytes of a realm.
 pub const REALM_LENGTHS: Limits = Limits { low: 1, high: 255 };
 /// The events that a history may have.
-pub const ENTRY_COUNTS: Limits = Limits { low: 1, high: 1_048_576 };
+pub const ENTRY_COUNTS: Limits = Limits {
+    low: 1,
+    high: 1_048_576,
+};
 /// Key version numbers (UInt32 of RFC 4120 section 5.2.4, from 1).
-pub const KVNOS: Limits = Limits { low: 1, high: 4_294_967_295 };
+pub const KVNOS: Limits = Limits {
+    low: 1,
+    high: 4_294_967_295,
+};
 /// Iteration counts of string-to-key (RFC 3962 section 4).
-pub const ITERATION_COUNTS: Limits = Limits { low: 1, high: 16_777_216 };
+pub const ITERATION_COUNTS: Limits = Limits {
+    low: 1,
+    high: 16_777_216,
+};
 /// The bytes that a policy may ask of a password.
 pub const MIN_LENGTHS: Limits = Limits { low: 0, high: 1024 };
 /// The character classes that a policy may ask of a password.
@@ -31,18 +40,26 @@ pub const SERVICE_KEY_COUNTS: Limits = Limits { low: 1, high: 16 };
 /// The keys of a principal.
 pub const KEY_COUNTS: Limits = Limits { low: 1, high: 16 };
 /// The rules of a file.
-pub const RULE_COUNTS: Limits = Limits { low: 0, high: 10_000 };
+pub const RULE_COUNTS: Limits = Limits {
+    low: 0,
+    high: 10_000,
+};
 /// The principals of a file.
-pub const PRINCIPAL_COUNTS: Limits = Limits { low: 0, high: 10_000 };
+pub const PRINCIPAL_COUNTS: Limits = Limits {
+    low: 0,
+    high: 10_000,
+};
 /// The components of a name.
 pub const COMPONENT_COUNTS: Limits = Limits { low: 1, high: 8 };
 /// The bytes of a component.
 pub const COMPONENT_LENGTHS: Limits = Limits { low: 1, high: 128 };
 
 impl Limits {
+    ghost use Rattle.chpw_rules.specs.Limits.{is_in};
+
     /// Whether the number is within these limits.
     pub fn allow(self, number: usize) -> bool
-        ensures value { result ≡ is_in (range self.low self.high) number }
+        ensures value { result ≡ is_in self number }
     {
         self.low <= number && number <= self.high
     }

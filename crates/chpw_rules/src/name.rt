@@ -3,10 +3,9 @@ ghost use Rattle.std.specs.Prelude.{◌≡◌, map, IfOk, IfSome};
 ghost use Rattle.std.specs.List.{join_with_byte};
 ghost use Rattle.chpw_rules.specs.Names.{is_component, is_name, is_same_name, name_of, parts_of};
 
-use std::alloc::{AllocError, Global};
-
 use crate::items::Items;
 use crate::limits::{COMPONENT_COUNTS, COMPONENT_LENGTHS, Limited, all_fit};
+use std::alloc::{AllocError, Global};
 
 /// A principal's name: its components (RFC 4120 section 6.2); the name-type is no part of it.
 #[derive(PartialEq, Drop)]

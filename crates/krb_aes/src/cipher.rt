@@ -110,7 +110,7 @@ fn decipher(words: &[u8; SCHEDULE_LEN], rounds: usize, block: &mut State)
     add_key(words, 0, block);
 }
 
-/// AES under a key of 16 or 32 bytes. Contracts see it as the key.
+/// AES under a key of 16 or 32 bytes. Contracts see it as the key's bytes.
 #[derive(Drop)]
 pub struct Aes {
     // The key schedule. It begins with the key.
@@ -132,7 +132,8 @@ impl Model for Aes {
 }
 
 impl Aes {
-    /// The cipher under `key`; None unless that has 16 or 32 bytes.
+    /// The cipher under `key`, with its key schedule (FIPS 197 section 5.2). None unless the key
+    /// has 16 or 32 bytes.
     pub fn new(key: &[u8]) -> Option<Aes>
         ensures value { result ≡ (if is_key_length (length key.now) then Some key.now else None) }
     {

@@ -4,4 +4,3 @@ pub mod NumberLemmas
 pub mod Pbkdf2Lemmas
 pub mod PiecesLemmas
 pub mod SealingLemmas
-pub mod Vectors

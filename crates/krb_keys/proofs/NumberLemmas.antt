@@ -7,7 +7,7 @@ use Rattle.std.proofs.lemmas.Nat.{mod-mul-add, div-mul-add, div-add-mod', mod_be
 use Rattle.std.proofs.lemmas.List.{drop-set-lt, drop_all, get_or_append_left, get_or_push, get_or-drop, take-append-drop, drop_more}
 use Rattle.std.proofs.lemmas.Grind.{same_number_lists}
 use Rattle.std.proofs.Common.{inl, inr}
-use Rattle.krb_keys.specs.Nfold.{value, bytes_of, residue}
+use Rattle.krb_keys.specs.Nfold.{value, number_bytes, residue}
 
 pub pow_of_256 : (k : ℕ) → 256 ^ k ≡ 2 ^ (8 * k)
 pow_of_256 zero = refl
@@ -35,27 +35,27 @@ value_below (x ∷ xs) small =
     let all : x * 256 ^ length xs + value xs < 256 ^ length xs * 256 = mul-add-lt x (256 ^ length xs) (value xs) 256 first rest in
     omega arith
 
-pub length-bytes_of : (n v : ℕ) → length (bytes_of n v) ≡ n
-unfolding bytes_of
-length-bytes_of zero v = refl
-length-bytes_of (suc n) v = length-append (bytes_of n (v / 256)) (v % 256 ∷ []) ∙ omega (arith, length-bytes_of n (v / 256))
+pub length-number_bytes : (n v : ℕ) → length (number_bytes n v) ≡ n
+unfolding number_bytes
+length-number_bytes zero v = refl
+length-number_bytes (suc n) v = length-append (number_bytes n (v / 256)) (v % 256 ∷ []) ∙ omega (arith, length-number_bytes n (v / 256))
 
 -- byte j of a number
-pub get_or-bytes_of : (n v j : ℕ) → j < n → get_or (bytes_of n v) j 0 ≡ v / 2 ^ (8 * (n - 1 - j)) % 256
-unfolding bytes_of
-get_or-bytes_of zero v j h = absurd (omega arith)
-get_or-bytes_of (suc n) v j h =
-    let len : length (bytes_of n (v / 256)) ≡ n = length-bytes_of n (v / 256) in
+pub get_or-number_bytes : (n v j : ℕ) → j < n → get_or (number_bytes n v) j 0 ≡ v / 2 ^ (8 * (n - 1 - j)) % 256
+unfolding number_bytes
+get_or-number_bytes zero v j h = absurd (omega arith)
+get_or-number_bytes (suc n) v j h =
+    let len : length (number_bytes n (v / 256)) ≡ n = length-number_bytes n (v / 256) in
     elim (cases_lt j n) [
       | inl lt ↦
           let e : 8 + 8 * (n - 1 - j) ≡ 8 * (suc n - 1 - j) = omega arith in
-          let low : j < length (bytes_of n (v / 256)) = omega arith in
-          get_or_append_left (bytes_of n (v / 256)) (v % 256 ∷ []) 0 j low ∙ get_or-bytes_of n (v / 256) j lt
+          let low : j < length (number_bytes n (v / 256)) = omega arith in
+          get_or_append_left (number_bytes n (v / 256)) (v % 256 ∷ []) 0 j low ∙ get_or-number_bytes n (v / 256) j lt
           ∙ ap (λ (x : ℕ). x % 256) (shr-shr v 8 (8 * (n - 1 - j)) ∙ ap (λ (k : ℕ). v / 2 ^ k) e)
       | inr le ↦
-          let same : length (bytes_of n (v / 256)) ≡ j = omega arith in
+          let same : length (number_bytes n (v / 256)) ≡ j = omega arith in
           let e : 8 * (suc n - 1 - j) ≡ 0 = omega arith in
-          get_or_push (bytes_of n (v / 256)) (v % 256) 0 j same ∙ rw e (omega arith)
+          get_or_push (number_bytes n (v / 256)) (v % 256) 0 j same ∙ rw e (omega arith)
     ]
 
 -- the byte of a text with k bytes after it
@@ -93,13 +93,13 @@ two_bytes xs k small fits =
     mod-pow-add (value xs / 2 ^ (8 * k)) 8 8 ∙ rw (first, second) refl
 
 -- the bytes of the number that bytes spell
-pub bytes_of-value : (xs : List ℕ) (n : ℕ) → length xs ≡ n → ((k : ℕ) → get_or xs k 0 < 256) → bytes_of n (value xs) ≡ xs
-bytes_of-value xs n len small =
-    let whole = length-bytes_of n (value xs) in
+pub number_bytes-value : (xs : List ℕ) (n : ℕ) → length xs ≡ n → ((k : ℕ) → get_or xs k 0 < 256) → number_bytes n (value xs) ≡ xs
+number_bytes-value xs n len small =
+    let whole = length-number_bytes n (value xs) in
     same_number_lists _ _ (whole ∙ sym len)
     (λ j h.
     let back : length xs - 1 - (n - 1 - j) ≡ j = omega arith in
-    get_or-bytes_of n (value xs) j (omega arith) ∙ byte_of xs (n - 1 - j) small (omega arith) ∙ ap (λ (i : ℕ). get_or xs i 0) back)
+    get_or-number_bytes n (value xs) j (omega arith) ∙ byte_of xs (n - 1 - j) small (omega arith) ∙ ap (λ (i : ℕ). get_or xs i 0) back)
 
 -- the number of the bytes from place n on
 pub value_none : (xs : List ℕ) (n : ℕ) → length xs ≡ n → value (drop n xs) ≡ 0

@@ -9,9 +9,9 @@ value [] = 0
 value (byte ∷ bytes) = byte * 256 ^ length bytes + value bytes
 
 -- the n bytes of a number
-unfoldable pub bytes_of : ℕ → ℕ → List ℕ
-bytes_of zero number = []
-bytes_of (suc n) number = bytes_of n (number / 256) ++ number % 256 ∷ []
+unfoldable pub number_bytes : ℕ → ℕ → List ℕ
+number_bytes zero number = []
+number_bytes (suc n) number = number_bytes n (number / 256) ++ number % 256 ∷ []
 
 -- a number of w bits, turned right by r of them
 unfoldable pub turned : ℕ → ℕ → ℕ → ℕ
@@ -21,7 +21,7 @@ turned w r number = number / 2 ^ r + number % 2 ^ r * 2 ^ (w - r)
 unfoldable pub copy : List ℕ → ℕ → List ℕ
 copy input i =
     let w : ℕ = 8 * length input in
-    bytes_of (length input) (turned w (13 * i % w) (value input))
+    number_bytes (length input) (turned w (13 * i % w) (value input))
 
 -- the fewest copies of m bytes that make up whole parts of n bytes: m times their number is the
 -- least common multiple of m and n
@@ -46,4 +46,4 @@ residue m (suc s) = s % m + 1
 unfoldable pub nfold : List ℕ → ℕ → List ℕ
 nfold input n =
     let text : List ℕ = joined input n in
-    bytes_of n (residue (256 ^ n - 1) (sum_of_parts n text (length text / n)))
+    number_bytes n (residue (256 ^ n - 1) (sum_of_parts n text (length text / n)))

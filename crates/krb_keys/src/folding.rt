@@ -60,7 +60,8 @@ fn take_part(input: &[u8], start: usize, part: &mut [u8])
 fn add_bytes(sum: &mut [u8], part: &[u8]) -> u16
     requires { length sum.old ≡ length part.now }
     ensures small { result ≤ 1 }
-    ensures total { value sum.new + result * 256 ^ length part.now ≡ value sum.old + value part.now }
+    ensures total { value sum.new + result * 256 ^ length part.now
+        ≡ value sum.old + value part.now }
 {
     let mut carry = 0;
     for k in (0..part.len()).rev() {

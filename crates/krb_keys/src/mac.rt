@@ -94,8 +94,8 @@ impl Mac {
 
     // The outer hash of what `inner` holds.
     fn outer_code(&self, inner: Sha1) -> [u8; MAC_LEN]
-        ensures { (key text : List ℕ) → IsKeyed self.now key → Holds inner (padded_key 0x36 key ++ text)
-            → result ≡ hmac key text }
+        ensures { (key text : List ℕ) → IsKeyed self.now key
+            → Holds inner (padded_key 0x36 key ++ text) → result ≡ hmac key text }
     {
         let middle = inner.finalize();
         let mut outer = copy_of(&self.outer);

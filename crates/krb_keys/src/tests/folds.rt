@@ -40,12 +40,18 @@ fn fold_vectors(rt: HostRuntime) {
     }
 }
 
-// Zeros, the largest lengths (the sum of 1024 turns of one byte), and lengths with no common part.
+// Zeros stay zeros and ones stay ones; the longest texts. Long texts' values were computed apart.
 #[test]
 fn fold_edges(rt: HostRuntime) {
     check_fold(&rt, &[0; 5], "00000000000000");
     check_fold(&rt, &[0xff; 1024], "ff");
-    let mut long = [0; 1024];
-    nfold(&[0xff; 1024], &mut long);
-    assert!(rt; long == [0xff; 1024]);
+    let mut most = [0; 1024];
+    nfold(&[0xff; 1024], &mut most);
+    assert!(rt; most == [0xff; 1024]);
+    let mut long = [0; 1023];
+    for k in 0..1023 {
+        long[k] = ((7 * k + 3) % 256) as u8;
+    }
+    check_fold(&rt, &long, "f9c82fa37c");
+    check_fold(&rt, &long, "d1676ad5ec0039");
 }

@@ -1,5 +1,7 @@
 use super::is_hex;
-use crate::{Key, USAGE_AP_REP_ENC_PART, USAGE_KRB_PRIV, USAGE_TICKET, UnsealFault, seal, unseal};
+use crate::{
+    BadKey, Key, USAGE_AP_REP_ENC_PART, USAGE_KRB_PRIV, USAGE_TICKET, UnsealFault, seal, unseal,
+};
 use std::alloc::AllocError;
 
 // The values were computed apart, from the equations of RFC 3961 and RFC 3962.
@@ -16,7 +18,7 @@ fn sealed_texts(rt: HostRuntime) -> Result<(), AllocError> {
     )?;
     let want = "728f29e766c42c0debdba4025e432174e0d1eea8b0c33e797397a39ee2eeba";
     assert!(rt; is_hex(&private, want));
-    let plain = b"I would like the General Gau";
+    let plain = b"I would like the G";
     let ticket = seal(
         alloc,
         &Key::Aes128([0x33; 16]),
@@ -25,7 +27,7 @@ fn sealed_texts(rt: HostRuntime) -> Result<(), AllocError> {
         plain,
     )?;
     let want =
-        "420f8c7a203b922af393c49c148c2a62448e6f5402ea068b20ae36bdf4d20fed15341ccbefb56681bee64c5041808d9abe5c2964d798fc60";
+        "420f8c7a203b922af393c49c148c2a621d896eeeb1b9d2289b7cf47bd399efe915349508f6b2620de7ceb9a0fc89";
     assert!(rt; is_hex(&ticket, want));
     Ok(())
 }
@@ -46,5 +48,21 @@ fn unsealed_texts(rt: HostRuntime) -> Result<(), AllocError> {
     text.truncate(28);
     let short = unseal(alloc, &key, USAGE_KRB_PRIV, &text);
     assert!(rt; short.is_err_and(|fault| fault == UnsealFault::TooShort));
+    Ok(())
+}
+
+#[test]
+fn fault_texts(rt: HostRuntime) -> Result<(), AllocError> {
+    let alloc = rt.alloc();
+    let table = [
+        (UnsealFault::TooShort, "too short for a sealed text"),
+        (UnsealFault::BadMac, "not sealed under this key and usage"),
+        (UnsealFault::Memory, "out of memory"),
+    ];
+    for (fault, want) in table {
+        assert!(rt; format!(in alloc; "{fault}")?.as_str() == want);
+    }
+    let bad_key = format!(in alloc; "{}", BadKey)?;
+    assert!(rt; bad_key.as_str() == "not a key of encryption type 17 or 18");
     Ok(())
 }

@@ -7,5 +7,5 @@ use Rattle.chpw_rules.proofs.name.pieces.Goals as goal
 pub returns : goal.returns
 returns c = record {
   value = map_from_collect _ c.collect.ensures.ran
-    (YieldsList-from_str_split 47 c.args.text.now (lit< tt) c.split.ensures.text c.split.ensures.has_more c.split.ensures.pattern);
+      (YieldsList-from_str_split 47 c.args.text.now (lit< tt) c.split.ensures.text c.split.ensures.has_more c.split.ensures.pattern);
 }

@@ -1,8 +1,8 @@
 use Rattle.std.proofs.Common.{rules, ◌≡◌, ℕ, ◌+◌, ◌-◌, ◌*◌, ◌/◌, ◌^◌, List, length, sym, ap, ◌∙◌, arith}
 use Rattle.std.proofs.Math.Nat.{mul_comm}
 use Rattle.std.proofs.lemmas.Nat.{mul-le}
-use Rattle.krb_keys.specs.Nfold.{value, residue, bytes_of, joined, copy_count, sum_of_parts, nfold}
-use Rattle.krb_keys.proofs.NumberLemmas.{bytes_of-value, value_zeros}
+use Rattle.krb_keys.specs.Nfold.{value, residue, number_bytes, joined, copy_count, sum_of_parts, nfold}
+use Rattle.krb_keys.proofs.NumberLemmas.{number_bytes-value, value_zeros}
 use Rattle.krb_keys.proofs.CopyLemmas.{length-joined, sum_more, parts_fit}
 use Rattle.krb_keys.proofs.folding.nfold.Goals as goal
 
@@ -54,7 +54,7 @@ returns c =
     length-joined c.args.input.now n ∙ mul_comm m (copy_count m n) ∙ ap (λ (k : ℕ). k * m) (sym c.copy_count.ensures.value) in
     record {
       value =
-          sym (bytes_of-value c.loop-p.out n (omega arith) c.loop-p.invariant.1)
-          ∙ ap (bytes_of n) (c.loop-p.invariant.2
+          sym (number_bytes-value c.loop-p.out n (omega arith) c.loop-p.invariant.1)
+          ∙ ap (number_bytes n) (c.loop-p.invariant.2
           ∙ ap (λ (k : ℕ). residue (256 ^ n - 1) (sum_of_parts n text k)) (end ∙ ap (λ (k : ℕ). k / n) (sym long)));
     }

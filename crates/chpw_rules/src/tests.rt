@@ -1,0 +1,4 @@
+mod faults;
+mod names;
+mod passwords;
+mod settings;

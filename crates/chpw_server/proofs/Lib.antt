@@ -1,0 +1,10 @@
+pub mod NumberLemmas
+pub mod SplitLemmas
+pub mod EachLemmas
+pub mod TextLemmas
+pub mod SetupLemmas
+pub mod AppendLemmas
+pub mod MomentLemmas
+pub mod AgreeLemmas
+pub mod RespondLemmas
+pub mod RunLemmas
