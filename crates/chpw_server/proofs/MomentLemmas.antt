@@ -9,7 +9,8 @@ use Rattle.chpw_rules.specs.declared.policy.Policy.{Policy}
 use Rattle.chpw_rules.specs.declared.rules.Rule.{Rule}
 use Rattle.chpw_rules.specs.declared.config.PrincipalRow.{PrincipalRow}
 use Rattle.chpw_rules.specs.Names.{name_of}
-use Rattle.chpw_rules.specs.Limits.{Range, is_in, entry_counts}
+use Rattle.chpw_rules.specs.declared.limits.Limits.{Limits}
+use Rattle.chpw_rules.specs.Limits.{is_in, entry_counts}
 use Rattle.chpw_server.specs.declared.asking.Asked.{Asked}
 use Rattle.chpw_server.specs.declared.line.Line.{Line}
 use Rattle.chpw_server.specs.declared.line.Line.TheVariants as line
@@ -52,7 +53,7 @@ kept_below false c d n high h = tt
 test_le : (n high : ℕ) → nat_le n high ≡ true → n ≤ high
 test_le n high h = grind (arith, nat_tests)
 
-number_fits : (range : Range) (word : List ℕ) → IfSome (number_in range word) (λ n. n ≤ range.high)
+number_fits : (range : Limits) (word : List ℕ) → IfSome (number_in range word) (λ n. n ≤ range.high)
 number_fits range word = kept_below (is_number word) (nat_le range.low (value_from 0 word)) (nat_le (value_from 0 word) range.high) (value_from 0 word) range.high (test_le (value_from 0 word) range.high)
 
 abbrev AskedFits : Asked → Type 0

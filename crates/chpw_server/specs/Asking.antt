@@ -2,7 +2,8 @@
 use Rattle.std.specs.Prelude.{ℕ, Bool, true, false, ◌&&◌, nat_le, if◌then◌else◌, List, [], ◌∷◌, length, map, replicate, Option, Some, None, option_map, ℤ, pos, negsuc, ◌≤ℤ◌, bytes_eq, codes}
 use Rattle.krb_keys.specs.declared.key.Key.{Key}
 use Rattle.krb_keys.specs.declared.key.Key.TheVariants.{Aes128, Aes256}
-use Rattle.chpw_rules.specs.Limits.{Range, range, min_class_counts}
+use Rattle.chpw_rules.specs.declared.limits.Limits.{Limits}
+use Rattle.chpw_rules.specs.Limits.{range, min_class_counts}
 use Rattle.chpw_table.specs.declared.decision.Body.{Body}
 use Rattle.chpw_table.specs.declared.decision.Body.TheVariants.{Ask, BadPrivate, BadData}
 use Rattle.chpw_table.specs.declared.decision.Target.{Target}
@@ -17,14 +18,14 @@ use Rattle.chpw_server.specs.declared.asking.Times.{Times}
 use Rattle.chpw_server.specs.Words.{◌>>=◌, keep_if, split_first, number_in, counted_key, named_in, each_of}
 
 -- seconds from 1970-01-01T00:00:00Z to the end of the year 9999
-abbrev pub seconds : Range
+abbrev pub seconds : Limits
 seconds = range 0 253402300799
 
-abbrev pub microseconds : Range
+abbrev pub microseconds : Limits
 microseconds = range 0 999999
 
 -- the bytes of a password
-abbrev pub password_lengths : Range
+abbrev pub password_lengths : Limits
 password_lengths = range 0 65535
 
 -- CTIME.CUSEC STARTS ENDS

@@ -2,7 +2,8 @@
 use Rattle.std.specs.Prelude.{ℕ, ◌+◌, ◌-◌, ◌*◌, Bool, true, false, not, ◌&&◌, ◌==◌, nat_lt, nat_le, if◌then◌else◌, List, [], ◌∷◌, length, Option, Some, None, option_and_then, unwrap_or, bytes_eq, codes}
 use Rattle.std.specs.Char.{is_ascii_digit}
 use Rattle.std.specs.List.{slice_split, list_all, position_or_len, before_first, after_first}
-use Rattle.chpw_rules.specs.Limits.{Range, is_in, iteration_counts, realm_lengths}
+use Rattle.chpw_rules.specs.declared.limits.Limits.{Limits}
+use Rattle.chpw_rules.specs.Limits.{is_in, iteration_counts, realm_lengths}
 use Rattle.chpw_rules.specs.Names.{name_of}
 use Rattle.chpw_table.specs.declared.decision.Target.{Target}
 use Rattle.chpw_server.specs.declared.words.CountedKey.{CountedKey}
@@ -47,7 +48,7 @@ is_number (d ∷ []) = is_ascii_digit d
 is_number (d ∷ e ∷ ds) = not (d == 48) && list_all is_ascii_digit (d ∷ e ∷ ds)
 
 -- a decimal number within a range
-abbrev pub number_in : Range → List ℕ → Option ℕ
+abbrev pub number_in : Limits → List ℕ → Option ℕ
 number_in range word =
     keep_if (is_number word && is_in range (value_from 0 word)) (value_from 0 word)
 

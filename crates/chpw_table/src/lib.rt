@@ -20,3 +20,6 @@ pub use journal::record_bytes;
 pub use sink::{JournalSink, SinkFault};
 pub use table::{Fault, KeyRow, Lookup, Outcome, Principal, Refused, Table};
 pub use verdict::Verdict;
+
+#[cfg(test)]
+mod tests;

@@ -1,0 +1,12 @@
+pub mod LengthLemmas
+pub mod IntegerLemmas
+pub mod BitStringLemmas
+pub mod CivilTimeLemmas
+pub mod TimeLemmas
+pub mod RecordLemmas
+pub mod SoundLemmas
+pub mod CompleteLemmas
+pub mod ListLemmas
+pub mod SinkLemmas
+pub mod TextLemmas
+pub mod OneTextLemmas

@@ -1,0 +1,15 @@
+pub mod Faults
+pub mod Integers
+pub mod BitStrings
+pub mod CivilTimes
+pub mod Times
+pub mod Shapes
+pub mod Types
+pub mod Values
+pub mod Texts
+pub mod Grammar
+pub mod Reading
+pub mod Sinks
+pub mod Records
+pub mod Laws
+pub mod PrimitiveLaws

@@ -1,0 +1,155 @@
+//! AP-REP and its sealed part (RFC 4120 section 5.5.2).
+
+ghost use Rattle.std.specs.Prelude.{◌≡◌, refl, true, IfOk, Ok};
+ghost use Rattle.krb_der.specs.Shapes.{Shape, Value};
+ghost use Rattle.krb_der.specs.Types.{ap_rep, enc_ap_rep_part};
+ghost use Rattle.krb_der.specs.Values.{ap_rep_value, enc_ap_rep_part_value};
+ghost use Rattle.krb_der.specs.Grammar.{Spells};
+ghost use Rattle.krb_der.specs.Reading.{Gives, reads_all};
+ghost use Rattle.krb_der.specs.Records.{reads_record, puts_record};
+ghost use Rattle.krb_der.specs.Texts.{text, fits};
+ghost use Rattle.krb_der.specs.Sinks.{Puts};
+
+use crate::element::Element;
+use crate::encrypted_data::{EncryptedData, EncryptionKey};
+use crate::fault::ReadError;
+use crate::kerberos_time::KerberosTime;
+use crate::numbers::{Microseconds, SeqNumber};
+use crate::reading::{APPLICATION, Read, SEQUENCE, optional, read_all, required};
+use crate::region::Region;
+use crate::sink::Sink;
+use crate::writing::{Write, put_optional, put_required, write_all};
+use std::alloc::{AllocError, Global};
+
+/// The reply to an AP-REQ (RFC 4120 section 5.5.2).
+#[derive(Debug, PartialEq, Drop)]
+pub struct ApRep {
+    /// 5.
+    pub pvno: i32,
+    /// 15.
+    pub msg_type: i32,
+    /// An [`EncApRepPart`](crate::EncApRepPart) under the session key.
+    pub enc_part: EncryptedData,
+}
+
+impl Element for ApRep {
+    ghost shape = { ap_rep };
+
+    ghost value = { ap_rep_value };
+
+    ghost legal = { refl };
+}
+
+impl Read for ApRep {
+    #[tactic(auto, unfolding(crate::specs::Records::reads_record))]
+    fn read(alloc: Global, region: &mut Region<'_>) -> Result<ApRep, ReadError> {
+        let mut outer = region.element(APPLICATION + 15)?;
+        let mut fields = outer.element(SEQUENCE)?;
+        let reply = ApRep {
+            pvno: required(alloc, &mut fields, 0)?,
+            msg_type: required(alloc, &mut fields, 1)?,
+            enc_part: required(alloc, &mut fields, 2)?,
+        };
+        fields.finish()?;
+        outer.finish()?;
+        Ok(reply)
+    }
+}
+
+impl Write for ApRep {
+    #[tactic(auto, unfolding(crate::specs::Records::puts_record))]
+    fn write<S: Sink>(&self, sink: &mut S) -> Result<(), AllocError> {
+        let start = sink.place();
+        put_required(sink, 0, &self.pvno)?;
+        put_required(sink, 1, &self.msg_type)?;
+        put_required(sink, 2, &self.enc_part)?;
+        sink.enclose(start, SEQUENCE)?;
+        sink.enclose(start, APPLICATION + 15)
+    }
+}
+
+/// The ApRep that a whole text spells (RFC 4120 section 5.5.2), or the first fault.
+pub fn read_ap_rep(alloc: Global, text: &[u8]) -> Result<ApRep, ReadError>
+    ensures value { IfOk result (λ x. Spells ap_rep text.now (ap_rep_value x)) }
+    ensures found { (v : Value ap_rep) → Spells ap_rep text.now v
+        → Gives ap_rep_value result (Ok v) }
+    ensures first { Gives ap_rep_value result (reads_all ap_rep text.now) }
+{
+    read_all(alloc, text)
+}
+
+/// The text of an ApRep, which fits.
+pub fn write_ap_rep(alloc: Global, value: &ApRep) -> Result<Vec<u8>, AllocError>
+    requires fits { fits ap_rep (ap_rep_value value.now) ≡ true }
+    ensures text { IfOk result (λ v. v.items ≡ text ap_rep (ap_rep_value value.now)) }
+{
+    write_all(alloc, value)
+}
+
+/// The sealed part of an AP-REP (RFC 4120 section 5.5.2).
+#[derive(Debug, PartialEq, Drop)]
+pub struct EncApRepPart {
+    /// That of the authenticator.
+    pub ctime: KerberosTime,
+    /// That of the authenticator.
+    pub cusec: Microseconds,
+    pub subkey: Option<EncryptionKey>,
+    pub seq_number: Option<SeqNumber>,
+}
+
+impl Element for EncApRepPart {
+    ghost shape = { enc_ap_rep_part };
+
+    ghost value = { enc_ap_rep_part_value };
+
+    ghost legal = { refl };
+}
+
+impl Read for EncApRepPart {
+    #[tactic(auto, unfolding(crate::specs::Records::reads_record))]
+    fn read(alloc: Global, region: &mut Region<'_>) -> Result<EncApRepPart, ReadError> {
+        let mut outer = region.element(APPLICATION + 27)?;
+        let mut fields = outer.element(SEQUENCE)?;
+        let part = EncApRepPart {
+            ctime: required(alloc, &mut fields, 0)?,
+            cusec: required(alloc, &mut fields, 1)?,
+            subkey: optional(alloc, &mut fields, 2)?,
+            seq_number: optional(alloc, &mut fields, 3)?,
+        };
+        fields.finish()?;
+        outer.finish()?;
+        Ok(part)
+    }
+}
+
+impl Write for EncApRepPart {
+    #[tactic(auto, unfolding(crate::specs::Records::puts_record))]
+    fn write<S: Sink>(&self, sink: &mut S) -> Result<(), AllocError> {
+        let start = sink.place();
+        put_required(sink, 0, &self.ctime)?;
+        put_required(sink, 1, &self.cusec)?;
+        put_optional(sink, 2, &self.subkey)?;
+        put_optional(sink, 3, &self.seq_number)?;
+        sink.enclose(start, SEQUENCE)?;
+        sink.enclose(start, APPLICATION + 27)
+    }
+}
+
+/// The EncApRepPart that a whole text spells (RFC 4120 section 5.5.2), or the first fault.
+pub fn read_enc_ap_rep_part(alloc: Global, text: &[u8]) -> Result<EncApRepPart, ReadError>
+    ensures value { IfOk result (λ x. Spells enc_ap_rep_part text.now (enc_ap_rep_part_value x)) }
+    ensures found { (v : Value enc_ap_rep_part) → Spells enc_ap_rep_part text.now v
+        → Gives enc_ap_rep_part_value result (Ok v) }
+    ensures first { Gives enc_ap_rep_part_value result (reads_all enc_ap_rep_part text.now) }
+{
+    read_all(alloc, text)
+}
+
+/// The text of an EncApRepPart, which fits.
+pub fn write_enc_ap_rep_part(alloc: Global, value: &EncApRepPart) -> Result<Vec<u8>, AllocError>
+    requires fits { fits enc_ap_rep_part (enc_ap_rep_part_value value.now) ≡ true }
+    ensures text { IfOk result (λ v. v.items
+        ≡ text enc_ap_rep_part (enc_ap_rep_part_value value.now)) }
+{
+    write_all(alloc, value)
+}

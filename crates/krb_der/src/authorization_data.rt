@@ -1,0 +1,85 @@
+//! Authorization data (RFC 4120 section 5.2.6).
+
+ghost use Rattle.std.specs.Prelude.{◌≡◌, refl, true, IfOk, Ok};
+ghost use Rattle.krb_der.specs.Shapes.{Shape, Value};
+ghost use Rattle.krb_der.specs.Types.{authorization_data, authorization_entry};
+ghost use Rattle.krb_der.specs.Values.{authorization_data_value, authorization_entry_value};
+ghost use Rattle.krb_der.specs.Grammar.{Spells};
+ghost use Rattle.krb_der.specs.Reading.{Gives, reads_all};
+ghost use Rattle.krb_der.specs.Records.{reads_record, puts_record};
+ghost use Rattle.krb_der.specs.Texts.{text, fits};
+ghost use Rattle.krb_der.specs.Sinks.{Puts};
+
+use crate::element::Element;
+use crate::fault::ReadError;
+use crate::list::SequenceOf;
+use crate::octets::OctetString;
+use crate::reading::{Read, SEQUENCE, read_all, required};
+use crate::region::Region;
+use crate::sink::Sink;
+use crate::writing::{Write, put_required, write_all};
+use std::alloc::{AllocError, Global};
+
+/// An element of authorization data (RFC 4120 section 5.2.6).
+#[derive(Debug, PartialEq, Drop)]
+pub struct AuthorizationEntry {
+    pub ad_type: i32,
+    pub ad_data: OctetString,
+}
+
+/// Authorization data (RFC 4120 section 5.2.6).
+pub type AuthorizationData = SequenceOf<AuthorizationEntry>;
+
+impl Element for AuthorizationEntry {
+    ghost shape = { authorization_entry };
+
+    ghost value = { authorization_entry_value };
+
+    ghost legal = { refl };
+}
+
+impl Read for AuthorizationEntry {
+    #[tactic(auto, unfolding(crate::specs::Records::reads_record))]
+    fn read(alloc: Global, region: &mut Region<'_>) -> Result<AuthorizationEntry, ReadError> {
+        let mut fields = region.element(SEQUENCE)?;
+        let entry = AuthorizationEntry {
+            ad_type: required(alloc, &mut fields, 0)?,
+            ad_data: required(alloc, &mut fields, 1)?,
+        };
+        fields.finish()?;
+        Ok(entry)
+    }
+}
+
+impl Write for AuthorizationEntry {
+    #[tactic(auto, unfolding(crate::specs::Records::puts_record))]
+    fn write<S: Sink>(&self, sink: &mut S) -> Result<(), AllocError> {
+        let start = sink.place();
+        put_required(sink, 0, &self.ad_type)?;
+        put_required(sink, 1, &self.ad_data)?;
+        sink.enclose(start, SEQUENCE)
+    }
+}
+
+/// The AuthorizationData that a whole text spells (RFC 4120 section 5.2.6), or the first fault.
+pub fn read_authorization_data(alloc: Global, text: &[u8]) -> Result<AuthorizationData, ReadError>
+    ensures value { IfOk result (λ x. Spells authorization_data
+        text.now (authorization_data_value x)) }
+    ensures found { (v : Value authorization_data) → Spells authorization_data text.now v
+        → Gives authorization_data_value result (Ok v) }
+    ensures first { Gives authorization_data_value result (reads_all authorization_data text.now) }
+{
+    read_all(alloc, text)
+}
+
+/// The text of an AuthorizationData, which fits.
+pub fn write_authorization_data(
+    alloc: Global,
+    value: &AuthorizationData,
+) -> Result<Vec<u8>, AllocError>
+    requires fits { fits authorization_data (authorization_data_value value.now) ≡ true }
+    ensures text { IfOk result (λ v. v.items
+        ≡ text authorization_data (authorization_data_value value.now)) }
+{
+    write_all(alloc, value)
+}

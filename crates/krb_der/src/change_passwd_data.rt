@@ -1,0 +1,93 @@
+//! ChangePasswdData (RFC 3244 section 2).
+
+ghost use Rattle.std.specs.Prelude.{◌≡◌, refl, true, IfOk, Ok};
+ghost use Rattle.krb_der.specs.Shapes.{Shape, Value};
+ghost use Rattle.krb_der.specs.Types.{change_passwd_data};
+ghost use Rattle.krb_der.specs.Values.{change_passwd_data_value};
+ghost use Rattle.krb_der.specs.Grammar.{Spells};
+ghost use Rattle.krb_der.specs.Reading.{Gives, reads_all};
+ghost use Rattle.krb_der.specs.Records.{reads_record, puts_record};
+ghost use Rattle.krb_der.specs.Texts.{text, fits};
+ghost use Rattle.krb_der.specs.Sinks.{Puts};
+
+use crate::element::Element;
+use crate::fault::ReadError;
+use crate::octets::{GeneralString, OctetString};
+use crate::principal_name::PrincipalName;
+use crate::reading::{Read, SEQUENCE, further, optional, read_all, required};
+use crate::region::Region;
+use crate::sink::Sink;
+use crate::writing::{Write, put_optional, put_required, write_all};
+use std::alloc::{AllocError, Global};
+
+/// The tags of fields that later versions may add.
+const FIRST_FURTHER: u8 = 0xa3;
+
+const LAST_FURTHER: u8 = 0xbe;
+
+/// The new password, and whose it is (RFC 3244 section 2).
+/// Further fields, which later versions may add, are let pass and not kept.
+#[derive(Debug, PartialEq, Drop)]
+pub struct ChangePasswdData {
+    pub newpasswd: OctetString,
+    /// Absent: the client.
+    pub targname: Option<PrincipalName>,
+    pub targrealm: Option<GeneralString>,
+}
+
+impl Element for ChangePasswdData {
+    ghost shape = { change_passwd_data };
+
+    ghost value = { change_passwd_data_value };
+
+    ghost legal = { refl };
+}
+
+impl Read for ChangePasswdData {
+    #[tactic(auto, unfolding(crate::specs::Records::reads_record))]
+    fn read(alloc: Global, region: &mut Region<'_>) -> Result<ChangePasswdData, ReadError> {
+        let mut fields = region.element(SEQUENCE)?;
+        let data = ChangePasswdData {
+            newpasswd: required(alloc, &mut fields, 0)?,
+            targname: optional(alloc, &mut fields, 1)?,
+            targrealm: optional(alloc, &mut fields, 2)?,
+        };
+        further(&mut fields, FIRST_FURTHER, LAST_FURTHER)?;
+        fields.finish()?;
+        Ok(data)
+    }
+}
+
+impl Write for ChangePasswdData {
+    #[tactic(auto, unfolding(crate::specs::Records::puts_record))]
+    fn write<S: Sink>(&self, sink: &mut S) -> Result<(), AllocError> {
+        let start = sink.place();
+        put_required(sink, 0, &self.newpasswd)?;
+        put_optional(sink, 1, &self.targname)?;
+        put_optional(sink, 2, &self.targrealm)?;
+        sink.enclose(start, SEQUENCE)
+    }
+}
+
+/// The ChangePasswdData that a whole text spells (RFC 3244 section 2), or the first fault.
+pub fn read_change_passwd_data(alloc: Global, text: &[u8]) -> Result<ChangePasswdData, ReadError>
+    ensures value { IfOk result (λ x. Spells change_passwd_data
+        text.now (change_passwd_data_value x)) }
+    ensures found { (v : Value change_passwd_data) → Spells change_passwd_data text.now v
+        → Gives change_passwd_data_value result (Ok v) }
+    ensures first { Gives change_passwd_data_value result (reads_all change_passwd_data text.now) }
+{
+    read_all(alloc, text)
+}
+
+/// The text of a ChangePasswdData, which fits.
+pub fn write_change_passwd_data(
+    alloc: Global,
+    value: &ChangePasswdData,
+) -> Result<Vec<u8>, AllocError>
+    requires fits { fits change_passwd_data (change_passwd_data_value value.now) ≡ true }
+    ensures text { IfOk result (λ v. v.items
+        ≡ text change_passwd_data (change_passwd_data_value value.now)) }
+{
+    write_all(alloc, value)
+}

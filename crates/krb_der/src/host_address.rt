@@ -1,0 +1,78 @@
+//! Addresses of hosts (RFC 4120 section 5.2.5).
+
+ghost use Rattle.std.specs.Prelude.{◌≡◌, refl, true, IfOk, Ok};
+ghost use Rattle.krb_der.specs.Shapes.{Shape, Value};
+ghost use Rattle.krb_der.specs.Types.{host_address};
+ghost use Rattle.krb_der.specs.Values.{host_address_value};
+ghost use Rattle.krb_der.specs.Grammar.{Spells};
+ghost use Rattle.krb_der.specs.Reading.{Gives, reads_all};
+ghost use Rattle.krb_der.specs.Records.{reads_record, puts_record};
+ghost use Rattle.krb_der.specs.Texts.{text, fits};
+ghost use Rattle.krb_der.specs.Sinks.{Puts};
+
+use crate::element::Element;
+use crate::fault::ReadError;
+use crate::octets::OctetString;
+use crate::reading::{Read, SEQUENCE, read_all, required};
+use crate::region::Region;
+use crate::sink::Sink;
+use crate::writing::{Write, put_required, write_all};
+use std::alloc::{AllocError, Global};
+
+/// An address of a host (RFC 4120 section 5.2.5).
+#[derive(Debug, PartialEq, Drop)]
+pub struct HostAddress {
+    /// 2 for IPv4.
+    pub addr_type: i32,
+    /// High byte first.
+    pub address: OctetString,
+}
+
+impl Element for HostAddress {
+    ghost shape = { host_address };
+
+    ghost value = { host_address_value };
+
+    ghost legal = { refl };
+}
+
+impl Read for HostAddress {
+    #[tactic(auto, unfolding(crate::specs::Records::reads_record))]
+    fn read(alloc: Global, region: &mut Region<'_>) -> Result<HostAddress, ReadError> {
+        let mut fields = region.element(SEQUENCE)?;
+        let address = HostAddress {
+            addr_type: required(alloc, &mut fields, 0)?,
+            address: required(alloc, &mut fields, 1)?,
+        };
+        fields.finish()?;
+        Ok(address)
+    }
+}
+
+impl Write for HostAddress {
+    #[tactic(auto, unfolding(crate::specs::Records::puts_record))]
+    fn write<S: Sink>(&self, sink: &mut S) -> Result<(), AllocError> {
+        let start = sink.place();
+        put_required(sink, 0, &self.addr_type)?;
+        put_required(sink, 1, &self.address)?;
+        sink.enclose(start, SEQUENCE)
+    }
+}
+
+/// The HostAddress that a whole text spells (RFC 4120 section 5.2.5), or the first fault.
+pub fn read_host_address(alloc: Global, text: &[u8]) -> Result<HostAddress, ReadError>
+    ensures value { IfOk result (λ x. Spells host_address text.now (host_address_value x)) }
+    ensures found { (v : Value host_address) → Spells host_address text.now v
+        → Gives host_address_value result (Ok v) }
+    ensures first { Gives host_address_value result (reads_all host_address text.now) }
+{
+    read_all(alloc, text)
+}
+
+/// The text of a HostAddress, which fits.
+pub fn write_host_address(alloc: Global, value: &HostAddress) -> Result<Vec<u8>, AllocError>
+    requires fits { fits host_address (host_address_value value.now) ≡ true }
+    ensures text { IfOk result (λ v. v.items ≡ text host_address (host_address_value value.now)) }
+{
+    write_all(alloc, value)
+}

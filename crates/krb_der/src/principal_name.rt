@@ -1,0 +1,80 @@
+//! Names of principals (RFC 4120 section 5.2.2).
+
+ghost use Rattle.std.specs.Prelude.{◌≡◌, refl, true, IfOk, Ok};
+ghost use Rattle.krb_der.specs.Shapes.{Shape, Value};
+ghost use Rattle.krb_der.specs.Types.{principal_name};
+ghost use Rattle.krb_der.specs.Values.{principal_name_value};
+ghost use Rattle.krb_der.specs.Grammar.{Spells};
+ghost use Rattle.krb_der.specs.Reading.{Gives, reads_all};
+ghost use Rattle.krb_der.specs.Records.{reads_record, puts_record};
+ghost use Rattle.krb_der.specs.Texts.{text, fits};
+ghost use Rattle.krb_der.specs.Sinks.{Puts};
+
+use crate::element::Element;
+use crate::fault::ReadError;
+use crate::list::SequenceOf;
+use crate::octets::GeneralString;
+use crate::reading::{Read, SEQUENCE, read_all, required};
+use crate::region::Region;
+use crate::sink::Sink;
+use crate::writing::{Write, put_required, write_all};
+use std::alloc::{AllocError, Global};
+
+/// A name of a principal, without its realm (RFC 4120 section 5.2.2).
+#[derive(Debug, PartialEq, Drop)]
+pub struct PrincipalName {
+    /// What kind of name it is; no part of its identity.
+    pub name_type: i32,
+    /// Its components.
+    pub name_string: SequenceOf<GeneralString>,
+}
+
+impl Element for PrincipalName {
+    ghost shape = { principal_name };
+
+    ghost value = { principal_name_value };
+
+    ghost legal = { refl };
+}
+
+impl Read for PrincipalName {
+    #[tactic(auto, unfolding(crate::specs::Records::reads_record))]
+    fn read(alloc: Global, region: &mut Region<'_>) -> Result<PrincipalName, ReadError> {
+        let mut fields = region.element(SEQUENCE)?;
+        let name = PrincipalName {
+            name_type: required(alloc, &mut fields, 0)?,
+            name_string: required(alloc, &mut fields, 1)?,
+        };
+        fields.finish()?;
+        Ok(name)
+    }
+}
+
+impl Write for PrincipalName {
+    #[tactic(auto, unfolding(crate::specs::Records::puts_record))]
+    fn write<S: Sink>(&self, sink: &mut S) -> Result<(), AllocError> {
+        let start = sink.place();
+        put_required(sink, 0, &self.name_type)?;
+        put_required(sink, 1, &self.name_string)?;
+        sink.enclose(start, SEQUENCE)
+    }
+}
+
+/// The PrincipalName that a whole text spells (RFC 4120 section 5.2.2), or the first fault.
+pub fn read_principal_name(alloc: Global, text: &[u8]) -> Result<PrincipalName, ReadError>
+    ensures value { IfOk result (λ x. Spells principal_name text.now (principal_name_value x)) }
+    ensures found { (v : Value principal_name) → Spells principal_name text.now v
+        → Gives principal_name_value result (Ok v) }
+    ensures first { Gives principal_name_value result (reads_all principal_name text.now) }
+{
+    read_all(alloc, text)
+}
+
+/// The text of a PrincipalName, which fits.
+pub fn write_principal_name(alloc: Global, value: &PrincipalName) -> Result<Vec<u8>, AllocError>
+    requires fits { fits principal_name (principal_name_value value.now) ≡ true }
+    ensures text { IfOk result (λ v. v.items
+        ≡ text principal_name (principal_name_value value.now)) }
+{
+    write_all(alloc, value)
+}
