@@ -1,6 +1,7 @@
-//! Tests of the drill.
+//! Tests of the drill and of the check.
 
 mod bad_lines;
+mod checks;
 mod streams;
 mod worked;
 

@@ -100,7 +100,6 @@ const FIFTH: [&str; 32] = [
     "ask 10 alice 10.0 0 100 i - 0 0 1:00 2:00 3:00 4:00 5:00 6:00 7:00 8:00 9:00 10:00 11:00 12:00 13:00 14:00 15:00 16:00 17:00 18:00",
     "ask -1 alice 10.0 0 100 i bad-private",
     "Ask 10 alice 10.0 0 100 i bad-private",
-    "show alice\r",
 ];
 
 fn ending(alloc: Global, before: &str, line: &str) -> Result<Result<(), DrillFault>, AllocError> {
