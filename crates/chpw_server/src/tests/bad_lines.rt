@@ -68,7 +68,7 @@ const FOURTH: [&str; 26] = [
 ];
 
 /// Bad as the fifth, behind `open` too.
-const FIFTH: [&str; 32] = [
+const FIFTH: [&str; 31] = [
     "realm EXAMPLE.COM",
     "rule admin bob",
     "principal bob 1 4096:a1",
