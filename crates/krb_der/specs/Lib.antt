@@ -1,4 +1,5 @@
 pub mod Faults
+pub mod Fields
 pub mod Integers
 pub mod BitStrings
 pub mod CivilTimes

@@ -5,17 +5,18 @@ ghost use Rattle.krb_der.specs.Shapes.{Shape, Value};
 ghost use Rattle.krb_der.specs.Types.{ap_rep, enc_ap_rep_part};
 ghost use Rattle.krb_der.specs.Values.{ap_rep_value, enc_ap_rep_part_value};
 ghost use Rattle.krb_der.specs.Grammar.{Spells};
-ghost use Rattle.krb_der.specs.Reading.{Gives, reads_all};
-ghost use Rattle.krb_der.specs.Records.{reads_record, puts_record};
+ghost use Rattle.krb_der.specs.Reading.{Gives, reads_all, reads};
+ghost use Rattle.krb_der.specs.Records.{puts_record};
 ghost use Rattle.krb_der.specs.Texts.{text, fits};
 ghost use Rattle.krb_der.specs.Sinks.{Puts};
 
 use crate::element::Element;
 use crate::encrypted_data::{EncryptedData, EncryptionKey};
 use crate::fault::ReadError;
+use crate::fields::{Optional, Required, application};
 use crate::kerberos_time::KerberosTime;
 use crate::numbers::{Microseconds, SeqNumber};
-use crate::reading::{APPLICATION, Read, SEQUENCE, optional, read_all, required};
+use crate::reading::{APPLICATION, Read, SEQUENCE, read_all};
 use crate::region::Region;
 use crate::sink::Sink;
 use crate::writing::{Write, put_optional, put_required, write_all};
@@ -40,19 +41,22 @@ impl Element for ApRep {
     ghost legal = { refl };
 }
 
+/// The fields in turn.
+type ReplyFields = (
+    Required<0, i32>,
+    Required<1, i32>,
+    Required<2, EncryptedData>,
+);
+
 impl Read for ApRep {
-    #[tactic(auto, unfolding(crate::specs::Records::reads_record))]
+    #[tactic(auto, unfolding(crate::specs::Reading::reads))]
     fn read(alloc: Global, region: &mut Region<'_>) -> Result<ApRep, ReadError> {
-        let mut outer = region.element(APPLICATION + 15)?;
-        let mut fields = outer.element(SEQUENCE)?;
-        let reply = ApRep {
-            pvno: required(alloc, &mut fields, 0)?,
-            msg_type: required(alloc, &mut fields, 1)?,
-            enc_part: required(alloc, &mut fields, 2)?,
-        };
-        fields.finish()?;
-        outer.finish()?;
-        Ok(reply)
+        let (pvno, msg_type, enc_part) = application::<ReplyFields>(alloc, region, 15)?;
+        Ok(ApRep {
+            pvno,
+            msg_type,
+            enc_part,
+        })
     }
 }
 
@@ -105,20 +109,24 @@ impl Element for EncApRepPart {
     ghost legal = { refl };
 }
 
+/// The fields in turn.
+type PartFields = (
+    Required<0, KerberosTime>,
+    Required<1, Microseconds>,
+    Optional<2, EncryptionKey>,
+    Optional<3, SeqNumber>,
+);
+
 impl Read for EncApRepPart {
-    #[tactic(auto, unfolding(crate::specs::Records::reads_record))]
+    #[tactic(auto, unfolding(crate::specs::Reading::reads))]
     fn read(alloc: Global, region: &mut Region<'_>) -> Result<EncApRepPart, ReadError> {
-        let mut outer = region.element(APPLICATION + 27)?;
-        let mut fields = outer.element(SEQUENCE)?;
-        let part = EncApRepPart {
-            ctime: required(alloc, &mut fields, 0)?,
-            cusec: required(alloc, &mut fields, 1)?,
-            subkey: optional(alloc, &mut fields, 2)?,
-            seq_number: optional(alloc, &mut fields, 3)?,
-        };
-        fields.finish()?;
-        outer.finish()?;
-        Ok(part)
+        let (ctime, cusec, subkey, seq_number) = application::<PartFields>(alloc, region, 27)?;
+        Ok(EncApRepPart {
+            ctime,
+            cusec,
+            subkey,
+            seq_number,
+        })
     }
 }
 

@@ -5,16 +5,17 @@ ghost use Rattle.krb_der.specs.Shapes.{Shape, Value};
 ghost use Rattle.krb_der.specs.Types.{ap_req};
 ghost use Rattle.krb_der.specs.Values.{ap_req_value};
 ghost use Rattle.krb_der.specs.Grammar.{Spells};
-ghost use Rattle.krb_der.specs.Reading.{Gives, reads_all};
-ghost use Rattle.krb_der.specs.Records.{reads_record, puts_record};
+ghost use Rattle.krb_der.specs.Reading.{Gives, reads_all, reads};
+ghost use Rattle.krb_der.specs.Records.{puts_record};
 ghost use Rattle.krb_der.specs.Texts.{text, fits};
 ghost use Rattle.krb_der.specs.Sinks.{Puts};
 
 use crate::element::Element;
 use crate::encrypted_data::EncryptedData;
 use crate::fault::ReadError;
+use crate::fields::{Required, application};
 use crate::flags::KerberosFlags;
-use crate::reading::{APPLICATION, Read, SEQUENCE, read_all, required};
+use crate::reading::{APPLICATION, Read, SEQUENCE, read_all};
 use crate::region::Region;
 use crate::sink::Sink;
 use crate::ticket::Ticket;
@@ -43,21 +44,26 @@ impl Element for ApReq {
     ghost legal = { refl };
 }
 
+/// The fields in turn.
+type Fields = (
+    Required<0, i32>,
+    Required<1, i32>,
+    Required<2, KerberosFlags>,
+    (Required<3, Ticket>, Required<4, EncryptedData>),
+);
+
 impl Read for ApReq {
-    #[tactic(auto, unfolding(crate::specs::Records::reads_record))]
+    #[tactic(auto, unfolding(crate::specs::Reading::reads))]
     fn read(alloc: Global, region: &mut Region<'_>) -> Result<ApReq, ReadError> {
-        let mut outer = region.element(APPLICATION + 14)?;
-        let mut fields = outer.element(SEQUENCE)?;
-        let request = ApReq {
-            pvno: required(alloc, &mut fields, 0)?,
-            msg_type: required(alloc, &mut fields, 1)?,
-            ap_options: required(alloc, &mut fields, 2)?,
-            ticket: required(alloc, &mut fields, 3)?,
-            authenticator: required(alloc, &mut fields, 4)?,
-        };
-        fields.finish()?;
-        outer.finish()?;
-        Ok(request)
+        let fields = application::<Fields>(alloc, region, 14)?;
+        let (pvno, msg_type, ap_options, (ticket, authenticator)) = fields;
+        Ok(ApReq {
+            pvno,
+            msg_type,
+            ap_options,
+            ticket,
+            authenticator,
+        })
     }
 }
 

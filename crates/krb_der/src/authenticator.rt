@@ -5,8 +5,8 @@ ghost use Rattle.krb_der.specs.Shapes.{Shape, Value};
 ghost use Rattle.krb_der.specs.Types.{authenticator};
 ghost use Rattle.krb_der.specs.Values.{authenticator_value};
 ghost use Rattle.krb_der.specs.Grammar.{Spells};
-ghost use Rattle.krb_der.specs.Reading.{Gives, reads_all};
-ghost use Rattle.krb_der.specs.Records.{reads_record, puts_record};
+ghost use Rattle.krb_der.specs.Reading.{Gives, reads_all, reads};
+ghost use Rattle.krb_der.specs.Records.{puts_record};
 ghost use Rattle.krb_der.specs.Texts.{text, fits};
 ghost use Rattle.krb_der.specs.Sinks.{Puts};
 
@@ -14,11 +14,12 @@ use crate::authorization_data::AuthorizationData;
 use crate::element::Element;
 use crate::encrypted_data::{Checksum, EncryptionKey};
 use crate::fault::ReadError;
+use crate::fields::{Optional, Required, application};
 use crate::kerberos_time::KerberosTime;
 use crate::numbers::{Microseconds, SeqNumber};
 use crate::octets::GeneralString;
 use crate::principal_name::PrincipalName;
-use crate::reading::{APPLICATION, Read, SEQUENCE, optional, read_all, required};
+use crate::reading::{APPLICATION, Read, SEQUENCE, read_all};
 use crate::region::Region;
 use crate::sink::Sink;
 use crate::writing::{Write, put_optional, put_required, write_all};
@@ -51,25 +52,42 @@ impl Element for Authenticator {
     ghost legal = { refl };
 }
 
+/// The fields in turn.
+type Fields = (
+    Required<0, i32>,
+    (
+        Required<1, GeneralString>,
+        Required<2, PrincipalName>,
+        Optional<3, Checksum>,
+    ),
+    (Required<4, Microseconds>, Required<5, KerberosTime>),
+    (
+        Optional<6, EncryptionKey>,
+        Optional<7, SeqNumber>,
+        Optional<8, AuthorizationData>,
+    ),
+);
+
 impl Read for Authenticator {
-    #[tactic(auto, unfolding(crate::specs::Records::reads_record, crate::specs::Reading::reads))]
+    #[tactic(auto, unfolding(crate::specs::Reading::reads))]
     fn read(alloc: Global, region: &mut Region<'_>) -> Result<Authenticator, ReadError> {
-        let mut outer = region.element(APPLICATION + 2)?;
-        let mut fields = outer.element(SEQUENCE)?;
-        let authenticator = Authenticator {
-            authenticator_vno: required(alloc, &mut fields, 0)?,
-            crealm: required(alloc, &mut fields, 1)?,
-            cname: required(alloc, &mut fields, 2)?,
-            cksum: optional(alloc, &mut fields, 3)?,
-            cusec: required(alloc, &mut fields, 4)?,
-            ctime: required(alloc, &mut fields, 5)?,
-            subkey: optional(alloc, &mut fields, 6)?,
-            seq_number: optional(alloc, &mut fields, 7)?,
-            authorization_data: optional(alloc, &mut fields, 8)?,
-        };
-        fields.finish()?;
-        outer.finish()?;
-        Ok(authenticator)
+        let (
+            authenticator_vno,
+            (crealm, cname, cksum),
+            (cusec, ctime),
+            (subkey, seq_number, authorization_data),
+        ) = application::<Fields>(alloc, region, 2)?;
+        Ok(Authenticator {
+            authenticator_vno,
+            crealm,
+            cname,
+            cksum,
+            cusec,
+            ctime,
+            subkey,
+            seq_number,
+            authorization_data,
+        })
     }
 }
 

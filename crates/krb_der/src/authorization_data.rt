@@ -5,16 +5,17 @@ ghost use Rattle.krb_der.specs.Shapes.{Shape, Value};
 ghost use Rattle.krb_der.specs.Types.{authorization_data, authorization_entry};
 ghost use Rattle.krb_der.specs.Values.{authorization_data_value, authorization_entry_value};
 ghost use Rattle.krb_der.specs.Grammar.{Spells};
-ghost use Rattle.krb_der.specs.Reading.{Gives, reads_all};
-ghost use Rattle.krb_der.specs.Records.{reads_record, puts_record};
+ghost use Rattle.krb_der.specs.Reading.{Gives, reads_all, reads};
+ghost use Rattle.krb_der.specs.Records.{puts_record};
 ghost use Rattle.krb_der.specs.Texts.{text, fits};
 ghost use Rattle.krb_der.specs.Sinks.{Puts};
 
 use crate::element::Element;
 use crate::fault::ReadError;
+use crate::fields::sequence;
 use crate::list::SequenceOf;
-use crate::octets::OctetString;
-use crate::reading::{Read, SEQUENCE, read_all, required};
+use crate::octets::{OctetString, TypedOctets};
+use crate::reading::{Read, SEQUENCE, read_all};
 use crate::region::Region;
 use crate::sink::Sink;
 use crate::writing::{Write, put_required, write_all};
@@ -39,15 +40,10 @@ impl Element for AuthorizationEntry {
 }
 
 impl Read for AuthorizationEntry {
-    #[tactic(auto, unfolding(crate::specs::Records::reads_record))]
+    #[tactic(auto, unfolding(crate::specs::Reading::reads))]
     fn read(alloc: Global, region: &mut Region<'_>) -> Result<AuthorizationEntry, ReadError> {
-        let mut fields = region.element(SEQUENCE)?;
-        let entry = AuthorizationEntry {
-            ad_type: required(alloc, &mut fields, 0)?,
-            ad_data: required(alloc, &mut fields, 1)?,
-        };
-        fields.finish()?;
-        Ok(entry)
+        let (ad_type, ad_data) = sequence::<TypedOctets>(alloc, region)?;
+        Ok(AuthorizationEntry { ad_type, ad_data })
     }
 }
 

@@ -5,16 +5,17 @@ ghost use Rattle.krb_der.specs.Shapes.{Shape, Value};
 ghost use Rattle.krb_der.specs.Types.{change_passwd_data};
 ghost use Rattle.krb_der.specs.Values.{change_passwd_data_value};
 ghost use Rattle.krb_der.specs.Grammar.{Spells};
-ghost use Rattle.krb_der.specs.Reading.{Gives, reads_all};
-ghost use Rattle.krb_der.specs.Records.{reads_record, puts_record};
+ghost use Rattle.krb_der.specs.Reading.{Gives, reads_all, reads};
+ghost use Rattle.krb_der.specs.Records.{puts_record};
 ghost use Rattle.krb_der.specs.Texts.{text, fits};
 ghost use Rattle.krb_der.specs.Sinks.{Puts};
 
 use crate::element::Element;
 use crate::fault::ReadError;
+use crate::fields::{Optional, Required, extensible_sequence};
 use crate::octets::{GeneralString, OctetString};
 use crate::principal_name::PrincipalName;
-use crate::reading::{Read, SEQUENCE, further, optional, read_all, required};
+use crate::reading::{Read, SEQUENCE, read_all};
 use crate::region::Region;
 use crate::sink::Sink;
 use crate::writing::{Write, put_optional, put_required, write_all};
@@ -43,18 +44,23 @@ impl Element for ChangePasswdData {
     ghost legal = { refl };
 }
 
+/// The fields in turn.
+type Fields = (
+    Required<0, OctetString>,
+    Optional<1, PrincipalName>,
+    Optional<2, GeneralString>,
+);
+
 impl Read for ChangePasswdData {
-    #[tactic(auto, unfolding(crate::specs::Records::reads_record))]
+    #[tactic(auto, unfolding(crate::specs::Reading::reads))]
     fn read(alloc: Global, region: &mut Region<'_>) -> Result<ChangePasswdData, ReadError> {
-        let mut fields = region.element(SEQUENCE)?;
-        let data = ChangePasswdData {
-            newpasswd: required(alloc, &mut fields, 0)?,
-            targname: optional(alloc, &mut fields, 1)?,
-            targrealm: optional(alloc, &mut fields, 2)?,
-        };
-        further(&mut fields, FIRST_FURTHER, LAST_FURTHER)?;
-        fields.finish()?;
-        Ok(data)
+        let fields = extensible_sequence::<Fields>(alloc, region, FIRST_FURTHER, LAST_FURTHER)?;
+        let (newpasswd, targname, targrealm) = fields;
+        Ok(ChangePasswdData {
+            newpasswd,
+            targname,
+            targrealm,
+        })
     }
 }
 

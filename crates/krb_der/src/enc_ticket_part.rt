@@ -5,8 +5,8 @@ ghost use Rattle.krb_der.specs.Shapes.{Shape, Value};
 ghost use Rattle.krb_der.specs.Types.{enc_ticket_part, transited_encoding};
 ghost use Rattle.krb_der.specs.Values.{enc_ticket_part_value, transited_encoding_value};
 ghost use Rattle.krb_der.specs.Grammar.{Spells};
-ghost use Rattle.krb_der.specs.Reading.{Gives, reads_all};
-ghost use Rattle.krb_der.specs.Records.{reads_record, puts_record};
+ghost use Rattle.krb_der.specs.Reading.{Gives, reads_all, reads};
+ghost use Rattle.krb_der.specs.Records.{puts_record};
 ghost use Rattle.krb_der.specs.Texts.{text, fits};
 ghost use Rattle.krb_der.specs.Sinks.{Puts};
 
@@ -14,13 +14,14 @@ use crate::authorization_data::AuthorizationData;
 use crate::element::Element;
 use crate::encrypted_data::EncryptionKey;
 use crate::fault::ReadError;
+use crate::fields::{Optional, Required, application, sequence};
 use crate::flags::KerberosFlags;
 use crate::host_address::HostAddress;
 use crate::kerberos_time::KerberosTime;
 use crate::list::SequenceOf;
-use crate::octets::{GeneralString, OctetString};
+use crate::octets::{GeneralString, OctetString, TypedOctets};
 use crate::principal_name::PrincipalName;
-use crate::reading::{APPLICATION, Read, SEQUENCE, optional, read_all, required};
+use crate::reading::{APPLICATION, Read, SEQUENCE, read_all};
 use crate::region::Region;
 use crate::sink::Sink;
 use crate::writing::{Write, put_optional, put_required, write_all};
@@ -42,15 +43,10 @@ impl Element for TransitedEncoding {
 }
 
 impl Read for TransitedEncoding {
-    #[tactic(auto, unfolding(crate::specs::Records::reads_record))]
+    #[tactic(auto, unfolding(crate::specs::Reading::reads))]
     fn read(alloc: Global, region: &mut Region<'_>) -> Result<TransitedEncoding, ReadError> {
-        let mut fields = region.element(SEQUENCE)?;
-        let transited = TransitedEncoding {
-            tr_type: required(alloc, &mut fields, 0)?,
-            contents: required(alloc, &mut fields, 1)?,
-        };
-        fields.finish()?;
-        Ok(transited)
+        let (tr_type, contents) = sequence::<TypedOctets>(alloc, region)?;
+        Ok(TransitedEncoding { tr_type, contents })
     }
 }
 
@@ -117,27 +113,48 @@ impl Element for EncTicketPart {
     ghost legal = { refl };
 }
 
+/// The fields in turn.
+type PartFields = (
+    (
+        Required<0, KerberosFlags>,
+        Required<1, EncryptionKey>,
+        Required<2, GeneralString>,
+        Required<3, PrincipalName>,
+    ),
+    (
+        Required<4, TransitedEncoding>,
+        Required<5, KerberosTime>,
+        Optional<6, KerberosTime>,
+    ),
+    (Required<7, KerberosTime>, Optional<8, KerberosTime>),
+    (
+        Optional<9, SequenceOf<HostAddress>>,
+        Optional<10, AuthorizationData>,
+    ),
+);
+
 impl Read for EncTicketPart {
-    #[tactic(auto, unfolding(crate::specs::Records::reads_record))]
+    #[tactic(auto, unfolding(crate::specs::Reading::reads))]
     fn read(alloc: Global, region: &mut Region<'_>) -> Result<EncTicketPart, ReadError> {
-        let mut outer = region.element(APPLICATION + 3)?;
-        let mut fields = outer.element(SEQUENCE)?;
-        let part = EncTicketPart {
-            flags: required(alloc, &mut fields, 0)?,
-            key: required(alloc, &mut fields, 1)?,
-            crealm: required(alloc, &mut fields, 2)?,
-            cname: required(alloc, &mut fields, 3)?,
-            transited: required(alloc, &mut fields, 4)?,
-            authtime: required(alloc, &mut fields, 5)?,
-            starttime: optional(alloc, &mut fields, 6)?,
-            endtime: required(alloc, &mut fields, 7)?,
-            renew_till: optional(alloc, &mut fields, 8)?,
-            caddr: optional(alloc, &mut fields, 9)?,
-            authorization_data: optional(alloc, &mut fields, 10)?,
-        };
-        fields.finish()?;
-        outer.finish()?;
-        Ok(part)
+        let (
+            (flags, key, crealm, cname),
+            (transited, authtime, starttime),
+            (endtime, renew_till),
+            (caddr, authorization_data),
+        ) = application::<PartFields>(alloc, region, 3)?;
+        Ok(EncTicketPart {
+            flags,
+            key,
+            crealm,
+            cname,
+            transited,
+            authtime,
+            starttime,
+            endtime,
+            renew_till,
+            caddr,
+            authorization_data,
+        })
     }
 }
 

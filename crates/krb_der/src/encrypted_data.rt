@@ -5,15 +5,16 @@ ghost use Rattle.krb_der.specs.Shapes.{Shape, Value};
 ghost use Rattle.krb_der.specs.Types.{checksum, encrypted_data, encryption_key};
 ghost use Rattle.krb_der.specs.Values.{checksum_value, encrypted_data_value, encryption_key_value};
 ghost use Rattle.krb_der.specs.Grammar.{Spells};
-ghost use Rattle.krb_der.specs.Reading.{Gives, reads_all};
-ghost use Rattle.krb_der.specs.Records.{reads_record, puts_record};
+ghost use Rattle.krb_der.specs.Reading.{Gives, reads_all, reads};
+ghost use Rattle.krb_der.specs.Records.{puts_record};
 ghost use Rattle.krb_der.specs.Texts.{text, fits};
 ghost use Rattle.krb_der.specs.Sinks.{Puts};
 
 use crate::element::Element;
 use crate::fault::ReadError;
-use crate::octets::OctetString;
-use crate::reading::{Read, SEQUENCE, optional, read_all, required};
+use crate::fields::{Optional, Required, sequence};
+use crate::octets::{OctetString, TypedOctets};
+use crate::reading::{Read, SEQUENCE, read_all};
 use crate::region::Region;
 use crate::sink::Sink;
 use crate::writing::{Write, put_optional, put_required, write_all};
@@ -37,17 +38,18 @@ impl Element for EncryptedData {
     ghost legal = { refl };
 }
 
+/// The fields in turn.
+type SealedFields = (Required<0, i32>, Optional<1, u32>, Required<2, OctetString>);
+
 impl Read for EncryptedData {
-    #[tactic(auto, unfolding(crate::specs::Records::reads_record))]
+    #[tactic(auto, unfolding(crate::specs::Reading::reads))]
     fn read(alloc: Global, region: &mut Region<'_>) -> Result<EncryptedData, ReadError> {
-        let mut fields = region.element(SEQUENCE)?;
-        let sealed = EncryptedData {
-            etype: required(alloc, &mut fields, 0)?,
-            kvno: optional(alloc, &mut fields, 1)?,
-            cipher: required(alloc, &mut fields, 2)?,
-        };
-        fields.finish()?;
-        Ok(sealed)
+        let (etype, kvno, cipher) = sequence::<SealedFields>(alloc, region)?;
+        Ok(EncryptedData {
+            etype,
+            kvno,
+            cipher,
+        })
     }
 }
 
@@ -98,15 +100,10 @@ impl Element for EncryptionKey {
 }
 
 impl Read for EncryptionKey {
-    #[tactic(auto, unfolding(crate::specs::Records::reads_record))]
+    #[tactic(auto, unfolding(crate::specs::Reading::reads))]
     fn read(alloc: Global, region: &mut Region<'_>) -> Result<EncryptionKey, ReadError> {
-        let mut fields = region.element(SEQUENCE)?;
-        let key = EncryptionKey {
-            keytype: required(alloc, &mut fields, 0)?,
-            keyvalue: required(alloc, &mut fields, 1)?,
-        };
-        fields.finish()?;
-        Ok(key)
+        let (keytype, keyvalue) = sequence::<TypedOctets>(alloc, region)?;
+        Ok(EncryptionKey { keytype, keyvalue })
     }
 }
 
@@ -155,15 +152,13 @@ impl Element for Checksum {
 }
 
 impl Read for Checksum {
-    #[tactic(auto, unfolding(crate::specs::Records::reads_record))]
+    #[tactic(auto, unfolding(crate::specs::Reading::reads))]
     fn read(alloc: Global, region: &mut Region<'_>) -> Result<Checksum, ReadError> {
-        let mut fields = region.element(SEQUENCE)?;
-        let checksum = Checksum {
-            cksumtype: required(alloc, &mut fields, 0)?,
-            checksum: required(alloc, &mut fields, 1)?,
-        };
-        fields.finish()?;
-        Ok(checksum)
+        let (cksumtype, checksum) = sequence::<TypedOctets>(alloc, region)?;
+        Ok(Checksum {
+            cksumtype,
+            checksum,
+        })
     }
 }
 

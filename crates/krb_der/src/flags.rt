@@ -2,8 +2,8 @@
 
 ghost use Rattle.std.specs.Prelude.{◌≡◌, refl};
 ghost use Rattle.krb_der.specs.Shapes.{Shape, Value, flags};
-ghost use Rattle.krb_der.specs.Reading.{Gives};
-ghost use Rattle.krb_der.specs.Records.{reads_record, puts_record};
+ghost use Rattle.krb_der.specs.Reading.{Gives, reads};
+ghost use Rattle.krb_der.specs.Records.{puts_record};
 ghost use Rattle.krb_der.specs.Sinks.{Puts};
 
 use crate::bits::{bits_in, bits_octets};
@@ -31,7 +31,7 @@ impl Element for KerberosFlags {
 }
 
 impl Read for KerberosFlags {
-    #[tactic(auto, unfolding(crate::specs::Records::reads_record))]
+    #[tactic(auto, unfolding(crate::specs::Reading::reads))]
     fn read(_alloc: Global, region: &mut Region<'_>) -> Result<KerberosFlags, ReadError> {
         let place = region.place();
         let content = region.element(BIT_STRING)?;

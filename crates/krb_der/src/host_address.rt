@@ -5,15 +5,16 @@ ghost use Rattle.krb_der.specs.Shapes.{Shape, Value};
 ghost use Rattle.krb_der.specs.Types.{host_address};
 ghost use Rattle.krb_der.specs.Values.{host_address_value};
 ghost use Rattle.krb_der.specs.Grammar.{Spells};
-ghost use Rattle.krb_der.specs.Reading.{Gives, reads_all};
-ghost use Rattle.krb_der.specs.Records.{reads_record, puts_record};
+ghost use Rattle.krb_der.specs.Reading.{Gives, reads_all, reads};
+ghost use Rattle.krb_der.specs.Records.{puts_record};
 ghost use Rattle.krb_der.specs.Texts.{text, fits};
 ghost use Rattle.krb_der.specs.Sinks.{Puts};
 
 use crate::element::Element;
 use crate::fault::ReadError;
-use crate::octets::OctetString;
-use crate::reading::{Read, SEQUENCE, read_all, required};
+use crate::fields::sequence;
+use crate::octets::{OctetString, TypedOctets};
+use crate::reading::{Read, SEQUENCE, read_all};
 use crate::region::Region;
 use crate::sink::Sink;
 use crate::writing::{Write, put_required, write_all};
@@ -37,15 +38,10 @@ impl Element for HostAddress {
 }
 
 impl Read for HostAddress {
-    #[tactic(auto, unfolding(crate::specs::Records::reads_record))]
+    #[tactic(auto, unfolding(crate::specs::Reading::reads))]
     fn read(alloc: Global, region: &mut Region<'_>) -> Result<HostAddress, ReadError> {
-        let mut fields = region.element(SEQUENCE)?;
-        let address = HostAddress {
-            addr_type: required(alloc, &mut fields, 0)?,
-            address: required(alloc, &mut fields, 1)?,
-        };
-        fields.finish()?;
-        Ok(address)
+        let (addr_type, address) = sequence::<TypedOctets>(alloc, region)?;
+        Ok(HostAddress { addr_type, address })
     }
 }
 

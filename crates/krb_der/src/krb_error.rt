@@ -5,18 +5,19 @@ ghost use Rattle.krb_der.specs.Shapes.{Shape, Value};
 ghost use Rattle.krb_der.specs.Types.{krb_error};
 ghost use Rattle.krb_der.specs.Values.{krb_error_value};
 ghost use Rattle.krb_der.specs.Grammar.{Spells};
-ghost use Rattle.krb_der.specs.Reading.{Gives, reads_all};
-ghost use Rattle.krb_der.specs.Records.{reads_record, puts_record};
+ghost use Rattle.krb_der.specs.Reading.{Gives, reads_all, reads};
+ghost use Rattle.krb_der.specs.Records.{puts_record};
 ghost use Rattle.krb_der.specs.Texts.{text, fits};
 ghost use Rattle.krb_der.specs.Sinks.{Puts};
 
 use crate::element::Element;
 use crate::fault::ReadError;
+use crate::fields::{Optional, Required, application};
 use crate::kerberos_time::KerberosTime;
 use crate::numbers::Microseconds;
 use crate::octets::{GeneralString, OctetString};
 use crate::principal_name::PrincipalName;
-use crate::reading::{APPLICATION, Read, SEQUENCE, optional, read_all, required};
+use crate::reading::{APPLICATION, Read, SEQUENCE, read_all};
 use crate::region::Region;
 use crate::sink::Sink;
 use crate::writing::{Write, put_optional, put_required, write_all};
@@ -56,29 +57,52 @@ impl Element for KrbError {
     ghost legal = { refl };
 }
 
+/// The fields in turn.
+type Fields = (
+    (
+        Required<0, i32>,
+        Required<1, i32>,
+        Optional<2, KerberosTime>,
+        Optional<3, Microseconds>,
+    ),
+    (
+        Required<4, KerberosTime>,
+        Required<5, Microseconds>,
+        Required<6, i32>,
+    ),
+    (
+        Optional<7, GeneralString>,
+        Optional<8, PrincipalName>,
+        Required<9, GeneralString>,
+        Required<10, PrincipalName>,
+    ),
+    (Optional<11, GeneralString>, Optional<12, OctetString>),
+);
+
 impl Read for KrbError {
-    #[tactic(auto, unfolding(crate::specs::Records::reads_record, crate::specs::Reading::reads))]
+    #[tactic(auto, unfolding(crate::specs::Reading::reads))]
     fn read(alloc: Global, region: &mut Region<'_>) -> Result<KrbError, ReadError> {
-        let mut outer = region.element(APPLICATION + 30)?;
-        let mut fields = outer.element(SEQUENCE)?;
-        let error = KrbError {
-            pvno: required(alloc, &mut fields, 0)?,
-            msg_type: required(alloc, &mut fields, 1)?,
-            ctime: optional(alloc, &mut fields, 2)?,
-            cusec: optional(alloc, &mut fields, 3)?,
-            stime: required(alloc, &mut fields, 4)?,
-            susec: required(alloc, &mut fields, 5)?,
-            error_code: required(alloc, &mut fields, 6)?,
-            crealm: optional(alloc, &mut fields, 7)?,
-            cname: optional(alloc, &mut fields, 8)?,
-            realm: required(alloc, &mut fields, 9)?,
-            sname: required(alloc, &mut fields, 10)?,
-            e_text: optional(alloc, &mut fields, 11)?,
-            e_data: optional(alloc, &mut fields, 12)?,
-        };
-        fields.finish()?;
-        outer.finish()?;
-        Ok(error)
+        let (
+            (pvno, msg_type, ctime, cusec),
+            (stime, susec, error_code),
+            (crealm, cname, realm, sname),
+            (e_text, e_data),
+        ) = application::<Fields>(alloc, region, 30)?;
+        Ok(KrbError {
+            pvno,
+            msg_type,
+            ctime,
+            cusec,
+            stime,
+            susec,
+            error_code,
+            crealm,
+            cname,
+            realm,
+            sname,
+            e_text,
+            e_data,
+        })
     }
 }
 

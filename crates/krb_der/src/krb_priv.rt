@@ -5,19 +5,20 @@ ghost use Rattle.krb_der.specs.Shapes.{Shape, Value};
 ghost use Rattle.krb_der.specs.Types.{enc_krb_priv_part, krb_priv};
 ghost use Rattle.krb_der.specs.Values.{enc_krb_priv_part_value, krb_priv_value};
 ghost use Rattle.krb_der.specs.Grammar.{Spells};
-ghost use Rattle.krb_der.specs.Reading.{Gives, reads_all};
-ghost use Rattle.krb_der.specs.Records.{reads_record, puts_record};
+ghost use Rattle.krb_der.specs.Reading.{Gives, reads_all, reads};
+ghost use Rattle.krb_der.specs.Records.{puts_record};
 ghost use Rattle.krb_der.specs.Texts.{text, fits};
 ghost use Rattle.krb_der.specs.Sinks.{Puts};
 
 use crate::element::Element;
 use crate::encrypted_data::EncryptedData;
 use crate::fault::ReadError;
+use crate::fields::{Optional, Required, application};
 use crate::host_address::HostAddress;
 use crate::kerberos_time::KerberosTime;
 use crate::numbers::{Microseconds, SeqNumber};
 use crate::octets::OctetString;
-use crate::reading::{APPLICATION, Read, SEQUENCE, optional, read_all, required};
+use crate::reading::{APPLICATION, Read, SEQUENCE, read_all};
 use crate::region::Region;
 use crate::sink::Sink;
 use crate::writing::{Write, put_optional, put_required, write_all};
@@ -42,19 +43,22 @@ impl Element for KrbPriv {
     ghost legal = { refl };
 }
 
+/// The fields in turn.
+type MessageFields = (
+    Required<0, i32>,
+    Required<1, i32>,
+    Required<3, EncryptedData>,
+);
+
 impl Read for KrbPriv {
-    #[tactic(auto, unfolding(crate::specs::Records::reads_record))]
+    #[tactic(auto, unfolding(crate::specs::Reading::reads))]
     fn read(alloc: Global, region: &mut Region<'_>) -> Result<KrbPriv, ReadError> {
-        let mut outer = region.element(APPLICATION + 21)?;
-        let mut fields = outer.element(SEQUENCE)?;
-        let message = KrbPriv {
-            pvno: required(alloc, &mut fields, 0)?,
-            msg_type: required(alloc, &mut fields, 1)?,
-            enc_part: required(alloc, &mut fields, 3)?,
-        };
-        fields.finish()?;
-        outer.finish()?;
-        Ok(message)
+        let (pvno, msg_type, enc_part) = application::<MessageFields>(alloc, region, 21)?;
+        Ok(KrbPriv {
+            pvno,
+            msg_type,
+            enc_part,
+        })
     }
 }
 
@@ -110,22 +114,30 @@ impl Element for EncKrbPrivPart {
     ghost legal = { refl };
 }
 
+/// The fields in turn.
+type PartFields = (
+    Required<0, OctetString>,
+    (
+        Optional<1, KerberosTime>,
+        Optional<2, Microseconds>,
+        Optional<3, SeqNumber>,
+    ),
+    (Required<4, HostAddress>, Optional<5, HostAddress>),
+);
+
 impl Read for EncKrbPrivPart {
-    #[tactic(auto, unfolding(crate::specs::Records::reads_record))]
+    #[tactic(auto, unfolding(crate::specs::Reading::reads))]
     fn read(alloc: Global, region: &mut Region<'_>) -> Result<EncKrbPrivPart, ReadError> {
-        let mut outer = region.element(APPLICATION + 28)?;
-        let mut fields = outer.element(SEQUENCE)?;
-        let part = EncKrbPrivPart {
-            user_data: required(alloc, &mut fields, 0)?,
-            timestamp: optional(alloc, &mut fields, 1)?,
-            usec: optional(alloc, &mut fields, 2)?,
-            seq_number: optional(alloc, &mut fields, 3)?,
-            s_address: required(alloc, &mut fields, 4)?,
-            r_address: optional(alloc, &mut fields, 5)?,
-        };
-        fields.finish()?;
-        outer.finish()?;
-        Ok(part)
+        let fields = application::<PartFields>(alloc, region, 28)?;
+        let (user_data, (timestamp, usec, seq_number), (s_address, r_address)) = fields;
+        Ok(EncKrbPrivPart {
+            user_data,
+            timestamp,
+            usec,
+            seq_number,
+            s_address,
+            r_address,
+        })
     }
 }
 

@@ -4,7 +4,7 @@ ghost use Rattle.std.specs.Prelude.{◌≡◌, map};
 ghost use Rattle.std.specs.Cmp.Lexicographic.{pointwise, lists_per};
 ghost use Rattle.krb_der.specs.Shapes.{Shape, Value, many, sequence_of};
 ghost use Rattle.krb_der.specs.Reading.{Gives, reads};
-ghost use Rattle.krb_der.specs.Records.{reads_record, puts_record};
+ghost use Rattle.krb_der.specs.Records.{puts_record};
 ghost use Rattle.krb_der.specs.Sinks.{Puts, puts};
 
 use crate::element::Element;
@@ -82,7 +82,7 @@ impl<T: Element> Element for SequenceOf<T> {
 }
 
 impl<T: Read> Read for SequenceOf<T> {
-    #[tactic(auto, unfolding(crate::specs::Records::reads_record))]
+    #[tactic(auto, unfolding(crate::specs::Reading::reads))]
     fn read(alloc: Global, region: &mut Region<'_>) -> Result<SequenceOf<T>, ReadError> {
         let mut content = region.element(SEQUENCE)?;
         let items = each(alloc, &mut content)?;

@@ -2,8 +2,8 @@
 
 ghost use Rattle.std.specs.Prelude.{◌≡◌, refl, pos};
 ghost use Rattle.krb_der.specs.Shapes.{Shape, Value, int32, uint32, microseconds, seq_number};
-ghost use Rattle.krb_der.specs.Reading.{Gives};
-ghost use Rattle.krb_der.specs.Records.{reads_record, puts_record};
+ghost use Rattle.krb_der.specs.Reading.{Gives, reads};
+ghost use Rattle.krb_der.specs.Records.{puts_record};
 ghost use Rattle.krb_der.specs.Sinks.{Puts};
 
 use crate::element::Element;
@@ -38,7 +38,7 @@ impl Element for i32 {
 }
 
 impl Read for i32 {
-    #[tactic(auto, unfolding(crate::specs::Records::reads_record))]
+    #[tactic(auto, unfolding(crate::specs::Reading::reads))]
     fn read(_alloc: Global, region: &mut Region<'_>) -> Result<i32, ReadError> {
         let place = region.place();
         let content = region.element(INTEGER)?;
@@ -68,7 +68,7 @@ impl Element for u32 {
 }
 
 impl Read for u32 {
-    #[tactic(auto, unfolding(crate::specs::Records::reads_record))]
+    #[tactic(auto, unfolding(crate::specs::Reading::reads))]
     fn read(_alloc: Global, region: &mut Region<'_>) -> Result<u32, ReadError> {
         let place = region.place();
         let content = region.element(INTEGER)?;
@@ -93,7 +93,7 @@ impl Element for Microseconds {
 }
 
 impl Read for Microseconds {
-    #[tactic(auto, unfolding(crate::specs::Records::reads_record))]
+    #[tactic(auto, unfolding(crate::specs::Reading::reads))]
     fn read(_alloc: Global, region: &mut Region<'_>) -> Result<Microseconds, ReadError> {
         let place = region.place();
         let content = region.element(INTEGER)?;
@@ -119,7 +119,7 @@ impl Element for SeqNumber {
 }
 
 impl Read for SeqNumber {
-    #[tactic(auto, unfolding(crate::specs::Records::reads_record))]
+    #[tactic(auto, unfolding(crate::specs::Reading::reads))]
     fn read(_alloc: Global, region: &mut Region<'_>) -> Result<SeqNumber, ReadError> {
         let place = region.place();
         let content = region.element(INTEGER)?;

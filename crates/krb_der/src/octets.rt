@@ -4,12 +4,13 @@ ghost use Rattle.std.specs.Prelude.{◌≡◌, ◌==◌, refl};
 ghost use Rattle.std.specs.Cmp.Lexicographic.{pointwise};
 ghost use Rattle.std.specs.Cmp.Rules.{comparing};
 ghost use Rattle.krb_der.specs.Shapes.{Shape, Value, primitive, octets};
-ghost use Rattle.krb_der.specs.Reading.{Gives};
-ghost use Rattle.krb_der.specs.Records.{reads_record, puts_record};
+ghost use Rattle.krb_der.specs.Reading.{Gives, reads};
+ghost use Rattle.krb_der.specs.Records.{puts_record};
 ghost use Rattle.krb_der.specs.Sinks.{Puts};
 
 use crate::element::Element;
 use crate::fault::ReadError;
+use crate::fields::Required;
 use crate::reading::Read;
 use crate::region::Region;
 use crate::sink::Sink;
@@ -33,6 +34,9 @@ impl<const TAG: u8> Model for Bytes<TAG> {
 
 /// An OCTET STRING.
 pub type OctetString = Bytes<0x04>;
+
+/// The fields of records that hold bytes of some type, and the type's number.
+pub type TypedOctets = (Required<0, i32>, Required<1, OctetString>);
 
 /// A GeneralString: a realm, a component of a name or a text. Its bytes may be any.
 pub type GeneralString = Bytes<0x1b>;
@@ -76,7 +80,7 @@ impl<const TAG: u8> Element for Bytes<TAG> {
 }
 
 impl<const TAG: u8> Read for Bytes<TAG> {
-    #[tactic(auto, unfolding(crate::specs::Records::reads_record))]
+    #[tactic(auto, unfolding(crate::specs::Reading::reads))]
     fn read(alloc: Global, region: &mut Region<'_>) -> Result<Bytes<TAG>, ReadError> {
         let content = region.element(TAG)?;
         Ok(Bytes::of(Vec::from_slice(alloc, content.rest())?))

@@ -5,16 +5,17 @@ ghost use Rattle.krb_der.specs.Shapes.{Shape, Value};
 ghost use Rattle.krb_der.specs.Types.{principal_name};
 ghost use Rattle.krb_der.specs.Values.{principal_name_value};
 ghost use Rattle.krb_der.specs.Grammar.{Spells};
-ghost use Rattle.krb_der.specs.Reading.{Gives, reads_all};
-ghost use Rattle.krb_der.specs.Records.{reads_record, puts_record};
+ghost use Rattle.krb_der.specs.Reading.{Gives, reads_all, reads};
+ghost use Rattle.krb_der.specs.Records.{puts_record};
 ghost use Rattle.krb_der.specs.Texts.{text, fits};
 ghost use Rattle.krb_der.specs.Sinks.{Puts};
 
 use crate::element::Element;
 use crate::fault::ReadError;
+use crate::fields::{Required, sequence};
 use crate::list::SequenceOf;
 use crate::octets::GeneralString;
-use crate::reading::{Read, SEQUENCE, read_all, required};
+use crate::reading::{Read, SEQUENCE, read_all};
 use crate::region::Region;
 use crate::sink::Sink;
 use crate::writing::{Write, put_required, write_all};
@@ -37,16 +38,17 @@ impl Element for PrincipalName {
     ghost legal = { refl };
 }
 
+/// The fields in turn.
+type Fields = (Required<0, i32>, Required<1, SequenceOf<GeneralString>>);
+
 impl Read for PrincipalName {
-    #[tactic(auto, unfolding(crate::specs::Records::reads_record))]
+    #[tactic(auto, unfolding(crate::specs::Reading::reads))]
     fn read(alloc: Global, region: &mut Region<'_>) -> Result<PrincipalName, ReadError> {
-        let mut fields = region.element(SEQUENCE)?;
-        let name = PrincipalName {
-            name_type: required(alloc, &mut fields, 0)?,
-            name_string: required(alloc, &mut fields, 1)?,
-        };
-        fields.finish()?;
-        Ok(name)
+        let (name_type, name_string) = sequence::<Fields>(alloc, region)?;
+        Ok(PrincipalName {
+            name_type,
+            name_string,
+        })
     }
 }
 

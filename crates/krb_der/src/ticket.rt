@@ -5,17 +5,18 @@ ghost use Rattle.krb_der.specs.Shapes.{Shape, Value};
 ghost use Rattle.krb_der.specs.Types.{ticket};
 ghost use Rattle.krb_der.specs.Values.{ticket_value};
 ghost use Rattle.krb_der.specs.Grammar.{Spells};
-ghost use Rattle.krb_der.specs.Reading.{Gives, reads_all};
-ghost use Rattle.krb_der.specs.Records.{reads_record, puts_record};
+ghost use Rattle.krb_der.specs.Reading.{Gives, reads_all, reads};
+ghost use Rattle.krb_der.specs.Records.{puts_record};
 ghost use Rattle.krb_der.specs.Texts.{text, fits};
 ghost use Rattle.krb_der.specs.Sinks.{Puts};
 
 use crate::element::Element;
 use crate::encrypted_data::EncryptedData;
 use crate::fault::ReadError;
+use crate::fields::{Required, application};
 use crate::octets::GeneralString;
 use crate::principal_name::PrincipalName;
-use crate::reading::{APPLICATION, Read, SEQUENCE, read_all, required};
+use crate::reading::{APPLICATION, Read, SEQUENCE, read_all};
 use crate::region::Region;
 use crate::sink::Sink;
 use crate::writing::{Write, put_required, write_all};
@@ -42,20 +43,24 @@ impl Element for Ticket {
     ghost legal = { refl };
 }
 
+/// The fields in turn.
+type Fields = (
+    Required<0, i32>,
+    Required<1, GeneralString>,
+    Required<2, PrincipalName>,
+    Required<3, EncryptedData>,
+);
+
 impl Read for Ticket {
-    #[tactic(auto, unfolding(crate::specs::Records::reads_record))]
+    #[tactic(auto, unfolding(crate::specs::Reading::reads))]
     fn read(alloc: Global, region: &mut Region<'_>) -> Result<Ticket, ReadError> {
-        let mut outer = region.element(APPLICATION + 1)?;
-        let mut fields = outer.element(SEQUENCE)?;
-        let ticket = Ticket {
-            tkt_vno: required(alloc, &mut fields, 0)?,
-            realm: required(alloc, &mut fields, 1)?,
-            sname: required(alloc, &mut fields, 2)?,
-            enc_part: required(alloc, &mut fields, 3)?,
-        };
-        fields.finish()?;
-        outer.finish()?;
-        Ok(ticket)
+        let (tkt_vno, realm, sname, enc_part) = application::<Fields>(alloc, region, 1)?;
+        Ok(Ticket {
+            tkt_vno,
+            realm,
+            sname,
+            enc_part,
+        })
     }
 }
 
