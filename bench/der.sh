@@ -4,27 +4,16 @@
 # two counts. The last line is `read R written W`.
 set -euo pipefail
 cd "$(dirname "$0")/../crates/der_bench"
+export PYTHONPATH=../../bench PYTHONDONTWRITEBYTECODE=1
 [ -x out/der_bench ] || rt run >/dev/null
 exec python3 - out/der_bench "${1:-7}" <<'END'
-import os
 import subprocess
 import sys
 
+from timing import spent
+
 program, rounds = sys.argv[1], int(sys.argv[2])
 LOW, HIGH = 10_000, 210_000
-
-
-def spent(what, count):
-    """Processor seconds of one run of the program."""
-    child = os.posix_spawn(
-        program,
-        [program, what, str(count)],
-        os.environ,
-        file_actions=[(os.POSIX_SPAWN_OPEN, 1, "/dev/null", os.O_WRONLY, 0)],
-    )
-    _, status, used = os.wait4(child, 0)
-    assert status == 0
-    return used.ru_utime + used.ru_stime
 
 
 size = int(subprocess.run([program], capture_output=True, text=True, check=True).stdout.split()[0])
@@ -32,7 +21,7 @@ size = int(subprocess.run([program], capture_output=True, text=True, check=True)
 
 def megabytes(what):
     """Megabytes a second in the best round."""
-    best = min(spent(what, HIGH) - spent(what, LOW) for _ in range(rounds))
+    best = min(spent(program, what, HIGH) - spent(program, what, LOW) for _ in range(rounds))
     return size * (HIGH - LOW) / best / 1e6
 
 

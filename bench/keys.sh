@@ -8,13 +8,15 @@
 # program is taken off.
 set -euo pipefail
 cd "$(dirname "$0")/../crates/keys_bench"
+export PYTHONPATH=../../bench PYTHONDONTWRITEBYTECODE=1
 [ -x out/keys_bench ] || rt run >/dev/null
 exec python3 - out/keys_bench "${1:-25}" <<'END'
 import hashlib
 import math
-import os
 import sys
 import time
+
+from timing import spent
 
 program, rounds = sys.argv[1], int(sys.argv[2])
 password, salt = b"Old-pass1", b"EXAMPLE.COMalice"
@@ -22,27 +24,17 @@ password, salt = b"Old-pass1", b"EXAMPLE.COMalice"
 
 def ours(what):
     """Processor seconds of a run of the program, by its count."""
-    def spent(count):
-        child = os.posix_spawn(
-            program,
-            [program, what, str(count)],
-            os.environ,
-            file_actions=[(os.POSIX_SPAWN_OPEN, 1, "/dev/null", os.O_WRONLY, 0)],
-        )
-        _, status, used = os.wait4(child, 0)
-        assert status == 0
-        return used.ru_utime + used.ru_stime
-    return spent
+    return lambda count: spent(program, what, count)
 
 
 def openssl(lengths, iterations):
     """Processor seconds of OpenSSL's PBKDF2 over each of the lengths, by the count."""
-    def spent(count):
+    def seconds(count):
         start = time.process_time()
         for length in lengths:
             hashlib.pbkdf2_hmac("sha1", password, salt, count * iterations, length)
         return time.process_time() - start
-    return spent
+    return seconds
 
 
 # What is measured, its low count and its high count.
@@ -55,9 +47,9 @@ measures = {
 }
 least = {(name, count): math.inf for name, (_, *counts) in measures.items() for count in counts}
 for _ in range(rounds):
-    for name, (spent, *counts) in measures.items():
+    for name, (seconds, *counts) in measures.items():
         for count in counts:
-            least[name, count] = min(least[name, count], spent(count))
+            least[name, count] = min(least[name, count], seconds(count))
 nanos = {
     name: (least[name, high] - least[name, low]) / (high - low) * 1e9
     for name, (_, low, high) in measures.items()
