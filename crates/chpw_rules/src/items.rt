@@ -32,7 +32,7 @@ impl<T> Items<T> {
     }
 
     /// What its memory comes from.
-    pub fn allocator(&self) -> &Global {
+    pub(crate) fn allocator(&self) -> &Global {
         self.vec.allocator()
     }
 
