@@ -1,6 +1,5 @@
 -- Fields that are read one after the other, whatever follows them.
 use Rattle.std.specs.Prelude.{◌≡◌, Result, Ok, Err}
-use Rattle.krb_der.specs.declared.fault.DerFault.{DerFault}
 use Rattle.krb_der.specs.declared.fault.ReadError.{ReadError}
 use Rattle.krb_der.specs.Faults.{◌>>=◌}
 use Rattle.krb_der.specs.Shapes.{Shape, Value}
