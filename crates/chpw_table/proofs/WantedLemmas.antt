@@ -1,11 +1,12 @@
 -- Counts in their order.
-use Rattle.std.proofs.Common.{◌≡◌, ℕ, ◌+◌, ◌≤◌, List, [], ◌∷◌, length, Bool, true, false, if◌then◌else◌, not, refl, sym, ◌∙◌, ap, arith}
+use Rattle.std.proofs.Common.{◌≡◌, ℕ, ◌+◌, ◌≤◌, List, [], ◌∷◌, length, Bool, true, false, ◌||◌, ◌&&◌, if◌then◌else◌, not, refl, sym, ◌∙◌, ap, arith}
 use Rattle.std.specs.Prelude.{nat_lt, ◌==◌, filter}
-use Rattle.std.specs.List.{list_any}
+use Rattle.std.specs.List.{list_all, list_any}
 use Rattle.std.proofs.lemmas.Bool.Decides.{nat_tests}
 use Rattle.krb_keys.specs.declared.key.Key.{Key}
 use Rattle.chpw_table.specs.Digests.{Derivation, has_count}
-use Rattle.chpw_table.specs.Wanted.{with_count, lacking}
+use Rattle.chpw_table.specs.Wanted.{with_count, ascending, lacking, ascends, is_one_of, AscendsOnce}
+use Rattle.chpw_table.proofs.BoolLemmas.{and_left, and_right, both}
 
 few_at : (n x : ℕ) (xs : List ℕ) (b c : Bool) → length (with_count n xs) ≤ length xs + 1 → length (if b then n ∷ x ∷ xs else if c then x ∷ xs else x ∷ with_count n xs) ≤ length (x ∷ xs) + 1
 few_at n x xs true c h = omega arith
@@ -51,3 +52,60 @@ there_put derived n (x ∷ xs) h = there_at derived n x xs (nat_lt n x) (n == x)
 pub lacking_all : (xs : List ℕ) → lacking [] xs ≡ xs
 lacking_all [] = refl
 lacking_all (x ∷ xs) = ap (λ ys. x ∷ ys) (lacking_all xs)
+
+-- ---- ascending counts
+
+less_behind : (m n : ℕ) (xs : List ℕ) → nat_lt m n ≡ true → list_all (nat_lt n) xs ≡ true → list_all (nat_lt m) xs ≡ true
+less_behind m n [] h k = refl
+less_behind m n (x ∷ xs) h k = both (less m n x h (and_left _ _ k)) (less_behind m n xs h (and_right _ _ k))
+  where
+    less : (m n x : ℕ) → nat_lt m n ≡ true → nat_lt n x ≡ true → nat_lt m x ≡ true
+    less m n x a b = grind (arith, nat_tests)
+
+-- a count that is less than these and than the one put in is less than all
+less_put : (m n : ℕ) (xs : List ℕ) → nat_lt m n ≡ true → list_all (nat_lt m) xs ≡ true → list_all (nat_lt m) (with_count n xs) ≡ true
+less_put m n [] h k = both h refl
+less_put m n (x ∷ xs) h k = at (nat_lt n x) (n == x) (less_put m n xs h (and_right _ _ k))
+  where
+    at : (b c : Bool) → list_all (nat_lt m) (with_count n xs) ≡ true → list_all (nat_lt m) (if b then n ∷ x ∷ xs else if c then x ∷ xs else x ∷ with_count n xs) ≡ true
+    at true c j = both h k
+    at false true j = k
+    at false false j = both (and_left _ _ k) j
+
+ascends_put : (n : ℕ) (xs : List ℕ) → ascends xs ≡ true → ascends (with_count n xs) ≡ true
+ascends_put n [] h = refl
+ascends_put n (x ∷ xs) h = at (nat_lt n x) refl (n == x) refl (ascends_put n xs (and_right _ _ h))
+  where
+    greater : (n x : ℕ) → nat_lt n x ≡ false → (n == x) ≡ false → nat_lt x n ≡ true
+    greater n x a b = grind (arith, nat_tests)
+
+    at : (b : Bool) → nat_lt n x ≡ b → (c : Bool) → (n == x) ≡ c → ascends (with_count n xs) ≡ true → ascends (if b then n ∷ x ∷ xs else if c then x ∷ xs else x ∷ with_count n xs) ≡ true
+    at true e c f k = both (both e (less_behind n x xs e (and_left _ _ h))) h
+    at false e true f k = h
+    at false e false f k = both (less_put x n xs (greater n x e f) (and_left _ _ h)) k
+
+one_of_put : (k n : ℕ) (xs : List ℕ) → is_one_of k (with_count n xs) ≡ ((n == k) || is_one_of k xs)
+one_of_put k n [] = refl
+one_of_put k n (x ∷ xs) = at (nat_lt n x) (n == x) refl (one_of_put k n xs)
+  where
+    twice : (a b : Bool) → (a || b) ≡ (a || (a || b))
+    twice true b = refl
+    twice false b = refl
+
+    swapped : (a b c : Bool) → (a || (b || c)) ≡ (b || (a || c))
+    swapped true true c = refl
+    swapped true false c = refl
+    swapped false true c = refl
+    swapped false false c = refl
+
+    at : (b c : Bool) → (n == x) ≡ c → is_one_of k (with_count n xs) ≡ ((n == k) || is_one_of k xs)
+        → is_one_of k (if b then n ∷ x ∷ xs else if c then x ∷ xs else x ∷ with_count n xs) ≡ ((n == k) || is_one_of k (x ∷ xs))
+    at true c e ih = refl
+    at false true e ih =
+        let same : n ≡ x = grind (arith, nat_tests) in
+        twice (x == k) (is_one_of k xs) ∙ ap (λ (m : ℕ). (m == k) || ((x == k) || is_one_of k xs)) (sym same)
+    at false false e ih = ap (λ (b : Bool). (x == k) || b) ih ∙ swapped (x == k) (n == k) (is_one_of k xs)
+
+pub ascends_once : AscendsOnce
+ascends_once [] = (refl, λ k. refl)
+ascends_once (n ∷ ns) = (ascends_put n (ascending ns) (ascends_once ns).0, λ k. one_of_put k n (ascending ns) ∙ ap (λ (b : Bool). (n == k) || b) ((ascends_once ns).1 k))

@@ -1,6 +1,7 @@
 //! Short lists of iteration counts.
 ghost use Rattle.std.specs.Prelude.{◌≡◌, ◌++◌, ◌∷◌, [], ◌+◌, ◌≤◌, ◌<◌, length, nat_lt, IsTrue, ◌↔◌, if◌then◌else◌};
-ghost use Rattle.chpw_table.specs.Wanted.{with_count, behind_count};
+ghost use Rattle.chpw_table.specs.Wanted.{with_count};
+ghost use Rattle.chpw_table.specs.Inserting.{behind_count};
 
 use std::marker::Model;
 

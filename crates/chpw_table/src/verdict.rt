@@ -1,6 +1,13 @@
 //! The verdicts and what each answers.
 ghost use Rattle.std.specs.Prelude.{◌≡◌};
 
+use crate::replies::{
+    KRB_AP_ERR_REPEAT, KRB_AP_ERR_SKEW, KRB_AP_ERR_TKT_EXPIRED, KRB_AP_ERR_TKT_NYV,
+    KRB5_KPASSWD_ACCESSDENIED, KRB5_KPASSWD_AUTHERROR, KRB5_KPASSWD_HARDERROR,
+    KRB5_KPASSWD_INITIAL_FLAG_NEEDED, KRB5_KPASSWD_MALFORMED, KRB5_KPASSWD_SOFTERROR,
+    KRB5_KPASSWD_SUCCESS,
+};
+
 /// The rows of the decision, in their order.
 #[derive(Clone, Copy, PartialEq, Eq, Debug, Drop)]
 pub enum Verdict {
@@ -36,30 +43,6 @@ pub enum Verdict {
     Done,
 }
 
-/// Results of RFC 3244 section 2.
-pub const SUCCESS: u16 = 0;
-
-pub const MALFORMED: u16 = 1;
-
-pub const HARD_ERROR: u16 = 2;
-
-pub const AUTHENTICATION_ERROR: u16 = 3;
-
-pub const SOFT_ERROR: u16 = 4;
-
-pub const ACCESS_DENIED: u16 = 5;
-
-pub const INITIAL_FLAG_NEEDED: u16 = 7;
-
-/// Errors of RFC 4120 section 7.5.9.
-pub const TKT_EXPIRED: i32 = 32;
-
-pub const TKT_NYV: i32 = 33;
-
-pub const REPEAT: i32 = 34;
-
-pub const SKEW: i32 = 37;
-
 impl Verdict {
     ghost use Rattle.chpw_table.specs.Replies.{answer_of};
     ghost use Rattle.chpw_table.specs.Verdicts.{adds_id, reads_keys};
@@ -73,13 +56,13 @@ impl Verdict {
             | Verdict::Replay
             | Verdict::NotYet
             | Verdict::Expired
-            | Verdict::BadPrivate => AUTHENTICATION_ERROR,
-            Verdict::BadBody => MALFORMED,
-            Verdict::Denied => ACCESS_DENIED,
-            Verdict::NeedInitial => INITIAL_FLAG_NEEDED,
-            Verdict::Unknown | Verdict::LastVersion | Verdict::Broken => HARD_ERROR,
-            Verdict::Short | Verdict::Classes | Verdict::Reused => SOFT_ERROR,
-            Verdict::Done => SUCCESS,
+            | Verdict::BadPrivate => KRB5_KPASSWD_AUTHERROR,
+            Verdict::BadBody => KRB5_KPASSWD_MALFORMED,
+            Verdict::Denied => KRB5_KPASSWD_ACCESSDENIED,
+            Verdict::NeedInitial => KRB5_KPASSWD_INITIAL_FLAG_NEEDED,
+            Verdict::Unknown | Verdict::LastVersion | Verdict::Broken => KRB5_KPASSWD_HARDERROR,
+            Verdict::Short | Verdict::Classes | Verdict::Reused => KRB5_KPASSWD_SOFTERROR,
+            Verdict::Done => KRB5_KPASSWD_SUCCESS,
         }
     }
 
@@ -89,15 +72,15 @@ impl Verdict {
         ensures value { result ≡ (answer_of self).error }
     {
         match self {
-            Verdict::Skew => Some(SKEW),
-            Verdict::Replay => Some(REPEAT),
-            Verdict::NotYet => Some(TKT_NYV),
-            Verdict::Expired => Some(TKT_EXPIRED),
+            Verdict::Skew => Some(KRB_AP_ERR_SKEW),
+            Verdict::Replay => Some(KRB_AP_ERR_REPEAT),
+            Verdict::NotYet => Some(KRB_AP_ERR_TKT_NYV),
+            Verdict::Expired => Some(KRB_AP_ERR_TKT_EXPIRED),
             _ => None,
         }
     }
 
-    /// The text of the reply.
+    /// The text of the reply, ASCII.
     pub fn text(self) -> &'static str
         ensures value { result.now ≡ (answer_of self).text }
     {
