@@ -3,12 +3,11 @@
 #![tactic(auto)]
 
 mod cipher;
+mod column;
 mod cts;
 mod field;
 mod key_schedule;
 pub mod laws;
-#[cfg(test)]
-mod tests;
 mod xor;
 
 pub use cipher::Aes;
