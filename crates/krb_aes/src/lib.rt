@@ -12,6 +12,7 @@ mod xor;
 
 pub use cipher::Aes;
 pub use cts::{cts_decrypt, cts_encrypt};
+pub use xor::xor_into;
 
 /// The bytes of a block.
 pub const BLOCK_LEN: usize = 16;
