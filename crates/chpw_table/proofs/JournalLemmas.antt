@@ -14,10 +14,7 @@ component_short part h = grind (arith, nat_tests)
 parts_short : (parts : List (List ℕ)) → list_all is_component parts ≡ true → length (flat_map part_bytes parts) ≤ 129 * length parts
 parts_short [] h = omega arith
 parts_short (part ∷ parts) h =
-    let one : length part ≤ 128 = component_short part (and_left _ _ h) in
-    let others : length (flat_map part_bytes parts) ≤ 129 * length parts = parts_short parts (and_right _ _ h) in
-    let joined : length (part ++ flat_map part_bytes parts) ≡ length part + length (flat_map part_bytes parts) = length-append part (flat_map part_bytes parts) in
-    omega (arith, one, others, joined)
+    omega (arith, length-append part (flat_map part_bytes parts), component_short part (and_left _ _ h), parts_short parts (and_right _ _ h))
 
 counts_few : (n : ℕ) → (nat_le 1 n && nat_le n 8) ≡ true → n ≤ 8
 counts_few n h = grind (arith, nat_tests)
@@ -25,6 +22,4 @@ counts_few n h = grind (arith, nat_tests)
 -- the bytes of a name
 pub name_short : (name : Name) → is_name name ≡ true → length (name_bytes name) ≤ 1033
 name_short name h =
-    let all : length (flat_map part_bytes name.parts) ≤ 129 * length name.parts = parts_short name.parts (and_right _ _ h) in
-    let few : length name.parts ≤ 8 = counts_few (length name.parts) (and_left _ _ h) in
-    omega (arith, all, few)
+    omega (arith, parts_short name.parts (and_right _ _ h), counts_few (length name.parts) (and_left _ _ h))

@@ -4,7 +4,7 @@ ghost use Rattle.krb_keys.specs.Keys.{bytes_of};
 ghost use Rattle.chpw_table.specs.Derivations.{with_counts};
 ghost use Rattle.chpw_table.specs.Digests.{aes128_under, aes256_under, has_count, is_both_etypes, is_derivation};
 
-use krb_keys::{Etype, Key, string_to_key};
+use krb_keys::{Key, string_to_keys};
 use std::alloc::{AllocError, Global};
 use std::marker::Model;
 
@@ -177,9 +177,8 @@ fn put_key(derived: &mut Vec<(u32, Key, Key)>, password: &[u8], salt: &[u8], cou
     if stands_in(derived.as_slice(), count) {
         return;
     }
-    let aes128 = string_to_key(Etype::Aes128, password, salt, count);
-    let aes256 = string_to_key(Etype::Aes256, password, salt, count);
-    match derived.push((count, aes128, aes256)) {
+    let both = string_to_keys(password, salt, count);
+    match derived.push((count, both.aes128, both.aes256)) {
         Ok(()) => {}
         Err(_) => unreachable!(),
     }
