@@ -1,6 +1,7 @@
-//! Flags: a BIT STRING of 32 bits (RFC 4120 section 5.2.8).
+//! Flags (RFC 4120 section 5.2.8): the element, whose contents are in `bits`.
 
 ghost use Rattle.std.specs.Prelude.{◌≡◌, refl};
+ghost use Rattle.krb_elements.specs.BitStrings.{is_set};
 ghost use Rattle.krb_elements.specs.Shapes.{Shape, Value, flags};
 ghost use Rattle.krb_elements.specs.Reading.{Gives, reads};
 ghost use Rattle.krb_elements.specs.Sinks.{puts};
@@ -19,6 +20,15 @@ use std::alloc::{AllocError, Global};
 /// The first 32 flags; bit 0 is the highest.
 #[derive(Clone, Copy, Debug, PartialEq, Eq)]
 pub struct KerberosFlags(pub u32);
+
+impl KerberosFlags {
+    /// Whether a bit is set, bit 0 the highest; none past bit 31 is.
+    pub fn is_set(self, bit: u32) -> bool
+        ensures value { result ≡ is_set self.0 bit }
+    {
+        bit < 32 && (self.0 >> (31 - bit)) % 2 == 1
+    }
+}
 
 impl Element for KerberosFlags {
     ghost shape = { flags };

@@ -38,4 +38,4 @@ pub use reading::{Read, read_all};
 pub use region::Region;
 pub use sink::Sink;
 pub use time::{seconds_to_time, time_to_seconds};
-pub use writing::{Write, fits, write_all};
+pub use writing::{Write, fits, text_len, write_all};

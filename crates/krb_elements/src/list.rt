@@ -18,7 +18,7 @@ use std::alloc::{AllocError, Global};
 use std::marker::Model;
 
 /// Elements of one type, which contracts see as a list.
-#[derive(Debug, Drop)]
+#[derive(Drop)]
 pub struct SequenceOf<T> {
     items: Vec<T>,
 }

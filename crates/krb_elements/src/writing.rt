@@ -3,7 +3,7 @@
 ghost use Rattle.std.specs.Prelude.{◌≡◌, IfOk, map, true};
 ghost use Rattle.krb_elements.specs.Shapes.{many};
 ghost use Rattle.krb_elements.specs.Sinks.{Puts, puts};
-ghost use Rattle.krb_elements.specs.Texts.{text, fits};
+ghost use Rattle.krb_elements.specs.Texts.{text, fits, text_length};
 
 use crate::element::Element;
 use crate::sink::{Length, Sink, Text};
@@ -47,14 +47,21 @@ pub fn write_all<T: Write>(alloc: Global, value: &T) -> Result<Vec<u8>, AllocErr
     Ok(sink.into_vec())
 }
 
+/// The length of a value's text, if the value can be written (see [`fits`]). Takes no memory.
+pub fn text_len<T: Write>(value: &T) -> Option<usize>
+    ensures value { result ≡ text_length T.shape (T.value value.now) }
+{
+    let mut length = Length::new();
+    match put_value(&mut length, value) {
+        Ok(()) => length.bytes(),
+        Err(_) => None,
+    }
+}
+
 /// Whether a value can be written: its times are in the years 0 to 9999, its microseconds below
 /// 1,000,000, and its text has at most 65,535 bytes. Takes no memory.
 pub fn fits<T: Write>(value: &T) -> bool
     ensures value { result ≡ fits T.shape (T.value value.now) }
 {
-    let mut length = Length::new();
-    match put_value(&mut length, value) {
-        Ok(()) => length.is_allowed(),
-        Err(_) => false,
-    }
+    text_len(value).is_some()
 }
