@@ -2,6 +2,7 @@
 #![tactic(auto)]
 
 mod config;
+mod explanation;
 mod fault;
 mod fitting;
 mod items;
@@ -16,6 +17,7 @@ mod rules;
 mod seen;
 
 pub use config::{Config, KeyBytes, PrincipalRow, ServiceRow};
+pub use explanation::explain;
 pub use fault::{ConfigError, ConfigFault, FaultKind, Part};
 pub use items::Items;
 pub use limits::{
