@@ -28,6 +28,7 @@ pub fn answer(alloc: Global, line: &str) -> Answer {
         "pbkdf2" => stretched(alloc, words),
         "nfold" => folded(alloc, words),
         "key" => named_key(alloc, words),
+        "show" => shown_key(alloc, words),
         "derive" => derived(alloc, words),
         "string-to-key" => password_key(alloc, words),
         "string-to-keys" => password_keys(alloc, words),
@@ -140,6 +141,15 @@ fn named_key(alloc: Global, words: &[&str]) -> Answer {
     };
     let key = key(alloc, etype, bytes)?;
     Ok(format!(in alloc; "{} {}", key.etype().number(), written(alloc, &key)?)?)
+}
+
+// show ETYPE BYTES
+fn shown_key(alloc: Global, words: &[&str]) -> Answer {
+    let [etype, bytes] = words else {
+        return Err(Refusal::WordCount);
+    };
+    let key = key(alloc, etype, bytes)?;
+    Ok(format!(in alloc; "{key:?}")?)
 }
 
 // derive ETYPE KEY CONSTANT
