@@ -1,22 +1,28 @@
 #!/usr/bin/env bash
-# The time of an iteration of PBKDF2 and of a pair of keys at 4096 iterations, beside OpenSSL's on the
-# same machine (Python's hashlib calls it), measured in turn. The last line is `ratio R`: our time of
-# an iteration over OpenSSL's.
+# What hashes, keys and the cipher cost, beside OpenSSL on the same machine: an iteration of PBKDF2,
+# both keys of a password at 4096 iterations, a block of SHA-1 and of AES, a sealed text of 1000 bytes
+# refused. The last line is `ratio R`: our time of an iteration over OpenSSL's.
 #
-# Each time is processor time, the least of ROUNDS rounds (the argument, 25), of a high and of a low
-# count; a figure is the difference of the two, over that of the counts, so that the start of the
-# program is taken off.
+# Each time is processor time, the least of ROUNDS rounds (the argument, 25), of a high count less that
+# of a low one (timing.py). OpenSSL is called by Python: its PBKDF2 and SHA-1 through hashlib, its AES
+# (CBC, whose blocks it deciphers several at a time) through the package `cryptography`, which brings an
+# OpenSSL of its own. Where that isn't installed its figures are left out.
 set -euo pipefail
 cd "$(dirname "$0")/../crates/keys_bench"
 export PYTHONPATH=../../bench PYTHONDONTWRITEBYTECODE=1
-[ -x out/keys_bench ] || rt run >/dev/null
+log=$(rt run 2>&1) || { echo "$log" >&2; exit 1; }
 exec python3 - out/keys_bench "${1:-25}" <<'END'
 import hashlib
-import math
+import ssl
 import sys
-import time
 
-from timing import spent
+from timing import nanos, spent, spent_here
+
+try:
+    from cryptography.hazmat.backends.openssl import backend
+    from cryptography.hazmat.primitives.ciphers import Cipher, algorithms, modes
+except ImportError:
+    backend = None
 
 program, rounds = sys.argv[1], int(sys.argv[2])
 password, salt = b"Old-pass1", b"EXAMPLE.COMalice"
@@ -27,37 +33,70 @@ def ours(what):
     return lambda count: spent(program, what, count)
 
 
-def openssl(lengths, iterations):
-    """Processor seconds of OpenSSL's PBKDF2 over each of the lengths, by the count."""
-    def seconds(count):
-        start = time.process_time()
-        for length in lengths:
-            hashlib.pbkdf2_hmac("sha1", password, salt, count * iterations, length)
-        return time.process_time() - start
-    return seconds
+def theirs(work):
+    """Processor seconds of OpenSSL's work, by its count."""
+    return lambda count: spent_here(work, count)
+
+
+def iterations(count):
+    hashlib.pbkdf2_hmac("sha1", password, salt, count, 20)
+
+
+def both_keys(count):
+    for _ in range(count):
+        hashlib.pbkdf2_hmac("sha1", password, salt, 4096, 32)
+
+
+def hash_blocks(count):
+    hasher, blocks = hashlib.sha1(), bytes(64 * 1000)
+    for _ in range(count // 1000):
+        hasher.update(blocks)
+
+
+def cipher_blocks(key_len, direction):
+    def work(count):
+        cbc = Cipher(algorithms.AES(bytes(key_len)), modes.CBC(bytes(16)))
+        context = getattr(cbc, direction)()
+        blocks, room = bytes(16 * 1000), bytearray(16 * 1000 + 15)
+        for _ in range(count // 1000):
+            context.update_into(blocks, room)
+    return work
 
 
 # What is measured, its low count and its high count.
 measures = {
     "iteration": (ours("pbkdf2"), 20_000, 220_000),
-    "their iteration": (openssl([20], 1), 20_000, 220_000),
-    "pair": (ours("pairs"), 2, 22),
-    "their pair": (openssl([16, 32], 4096), 2, 22),
+    "their iteration": (theirs(iterations), 20_000, 220_000),
+    "both": (ours("both"), 2, 22),
+    "each": (ours("each"), 2, 22),
+    "their both": (theirs(both_keys), 2, 22),
     "block": (ours("sha1"), 50_000, 550_000),
+    "their block": (theirs(hash_blocks), 50_000, 550_000),
+    "unseal": (ours("unseal"), 100, 5_100),
 }
-least = {(name, count): math.inf for name, (_, *counts) in measures.items() for count in counts}
-for _ in range(rounds):
-    for name, (seconds, *counts) in measures.items():
-        for count in counts:
-            least[name, count] = min(least[name, count], seconds(count))
-nanos = {
-    name: (least[name, high] - least[name, low]) / (high - low) * 1e9
-    for name, (_, low, high) in measures.items()
-}
-share = 200 * nanos["block"] / nanos["iteration"]
-print(f"an iteration of PBKDF2: {nanos['iteration']:.0f} ns, OpenSSL {nanos['their iteration']:.0f} ns")
-print(f"a block of SHA-1: {nanos['block']:.0f} ns; two are {share:.0f} % of an iteration")
-print(f"a pair of keys at 4096 iterations: {nanos['pair'] / 1e6:.2f} ms, ", end="")
-print(f"OpenSSL's PBKDF2 alone {nanos['their pair'] / 1e6:.2f} ms")
-print(f"ratio {nanos['iteration'] / nanos['their iteration']:.2f}")
+for direction in ["encrypt", "decrypt"]:
+    for bits in [128, 256]:
+        word = f"{direction}{bits}"
+        measures[word] = (ours(word), 50_000, 550_000)
+        if backend:
+            work = cipher_blocks(bits // 8, direction + "or")
+            measures["their " + word] = (theirs(work), 50_000, 550_000)
+
+took = nanos(measures, rounds)
+share = 200 * took["block"] / took["iteration"]
+print(f"hashlib's {ssl.OPENSSL_VERSION}")
+print(f"a block of SHA-1: {took['block']:.0f} ns, OpenSSL {took['their block']:.0f} ns")
+print(f"an iteration of PBKDF2: {took['iteration']:.0f} ns, OpenSSL {took['their iteration']:.0f} ns;", end=" ")
+print(f"two blocks of SHA-1 are {share:.0f} % of ours")
+print(f"both keys at 4096 iterations: {took['both'] / 1e6:.2f} ms, a call for each", end=" ")
+print(f"{took['each'] / 1e6:.2f} ms ({took['both'] / took['each']:.2f}),", end=" ")
+print(f"OpenSSL's PBKDF2 alone {took['their both'] / 1e6:.2f} ms")
+if backend:
+    print(f"cryptography's {backend.openssl_version_text()}")
+for word, done in [("encrypt", "enciphered"), ("decrypt", "deciphered")]:
+    for bits in ["128", "256"]:
+        beside = f", OpenSSL {took['their ' + word + bits]:.0f} ns" if backend else ""
+        print(f"a block of AES-{bits} {done}: {took[word + bits]:.0f} ns{beside}")
+print(f"a sealed text of 1000 bytes refused: {took['unseal'] / 1e3:.1f} us")
+print(f"ratio {took['iteration'] / took['their iteration']:.2f}")
 END

@@ -1,64 +1,86 @@
-//! Derives keys, to be measured from outside (`bench/keys.sh`).
+//! Derives keys, enciphers and opens texts, to be measured from outside (`bench/keys.sh`).
 //!
-//! Without arguments it prints one pair of keys at 4096 iterations. With `pbkdf2 N` it prints one
-//! block of PBKDF2 under N iterations, with `pairs N` the last of N pairs of keys, each made from
-//! the pair before, and with `sha1 N` the digest of N blocks of 64 bytes.
+//! Without arguments it prints both keys of a password at 4096 iterations. Else it takes one of these
+//! words and a number N of at least 1; any other arguments end it with status 2.
+//!
+//! - `pbkdf2`: one block of PBKDF2 under N iterations
+//! - `sha1`: the digest of N blocks of 64 bytes
+//! - `both`: N times both keys, the key of etype 18 being the next password
+//! - `each`: the same by a call for each key
+//! - `encrypt128`, `encrypt256`: a block enciphered N times
+//! - `decrypt128`, `decrypt256`: a block deciphered N times
+//! - `unseal`: N sealed texts of 1000 bytes, each changed in one byte, tried
 #![tactic(auto)]
 
 ghost use Rattle.std.specs.Prelude.{◌≤◌};
 
+mod work;
+
 use anyhow::Result;
-use krb_keys::{Etype, pbkdf2, string_to_key};
-use sha1::Sha1;
-use std::{env, io};
+use krb_aes::Aes;
+use std::env;
+use std::process::ExitCode;
+use std::rt::Env;
+use work::{
+    digest, last_keys, last_keys_each, print_hex, print_keys, stretched, times_deciphered,
+    times_enciphered, unsealed_count,
+};
 
-const ITERATIONS: u32 = 4096;
+/// The status of a bad command line.
+const BAD_COMMAND: u8 = 2;
 
-const SALT: &[u8; 16] = b"EXAMPLE.COMalice";
-
-fn print_hex(rt: &impl Print, bytes: &[u8]) -> io::Result<()> {
-    for byte in bytes {
-        print!(rt; "{byte:02x}")?;
-    }
-    println!(rt; "")
+// What is done, and how often.
+#[derive(Drop)]
+enum Task {
+    Keys,
+    Repeated(String, u32),
 }
 
-fn print_block(rt: &impl Print, iterations: u32) -> io::Result<()>
-    requires { 1 ≤ iterations }
-{
-    let mut block = [0; 20];
-    pbkdf2(b"Old-pass1", SALT, iterations, &mut block);
-    print_hex(rt, &block)
-}
-
-fn print_pairs(rt: &impl Print, count: u32) -> io::Result<()> {
-    let mut short = string_to_key(Etype::Aes128, b"Old-pass1", SALT, ITERATIONS);
-    let mut long = string_to_key(Etype::Aes256, b"Old-pass1", SALT, ITERATIONS);
-    for _ in 1..count {
-        short = string_to_key(Etype::Aes128, short.bytes(), SALT, ITERATIONS);
-        long = string_to_key(Etype::Aes256, long.bytes(), SALT, ITERATIONS);
-    }
-    print_hex(rt, short.bytes())?;
-    print_hex(rt, long.bytes())
-}
-
-fn print_digest(rt: &impl Print, count: u32) -> io::Result<()> {
-    let mut hasher = Sha1::new();
-    for _ in 0..count {
-        hasher.update(&[3; 64]);
-    }
-    print_hex(rt, &hasher.finalize())
-}
-
-fn main(rt: HostRuntime) -> Result<()> {
-    let mut words = env::args(&rt)?;
+// None for arguments that name no task.
+fn task_of(rt: &(impl Env + AllocGlobal)) -> Result<Option<Task>> {
+    let mut words = env::args(rt)?;
     let _program = words.next();
-    let what = words.next();
-    let count = words.next().and_then(|word| word.parse().ok()).unwrap_or(1);
-    match what.as_deref() {
-        Some("pbkdf2") if count >= 1 => print_block(&rt, count)?,
-        Some("sha1") => print_digest(&rt, count)?,
-        _ => print_pairs(&rt, count)?,
+    let Some(what) = words.next() else {
+        return Ok(Some(Task::Keys));
+    };
+    let count = words.next().and_then(|word| word.parse().ok());
+    Ok(match count {
+        Some(count) if words.next().is_none() => Some(Task::Repeated(what, count)),
+        _ => None,
+    })
+}
+
+// Whether there is such a task.
+fn run(rt: &(impl Print + AllocGlobal), what: &str, count: u32) -> Result<bool>
+    requires { 1 ≤ count }
+{
+    match what {
+        "pbkdf2" => print_hex(rt, &stretched(count))?,
+        "sha1" => print_hex(rt, &digest(count))?,
+        "both" => print_keys(rt, &last_keys(count))?,
+        "each" => print_keys(rt, &last_keys_each(count))?,
+        "encrypt128" => print_hex(rt, &times_enciphered(&Aes::of(&[1; 16]), count))?,
+        "encrypt256" => print_hex(rt, &times_enciphered(&Aes::of(&[1; 32]), count))?,
+        "decrypt128" => print_hex(rt, &times_deciphered(&Aes::of(&[1; 16]), count))?,
+        "decrypt256" => print_hex(rt, &times_deciphered(&Aes::of(&[1; 32]), count))?,
+        "unseal" => rt.println(unsealed_count(rt.alloc(), count)?)?,
+        _ => return Ok(false),
     }
-    Ok(())
+    Ok(true)
+}
+
+fn main(rt: HostRuntime) -> Result<ExitCode> {
+    let done = match task_of(&rt)? {
+        Some(Task::Keys) => {
+            print_keys(&rt, &last_keys(1))?;
+            true
+        }
+        Some(Task::Repeated(what, count)) if count >= 1 => run(&rt, what.as_str(), count)?,
+        _ => false,
+    };
+    Ok(if done {
+        ExitCode::SUCCESS
+    } else {
+        ExitCode::from(BAD_COMMAND)
+    })
 }

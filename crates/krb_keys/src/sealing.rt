@@ -46,7 +46,7 @@ pub enum UnsealFault {
     /// Its checksum is another one: it is not sealed under this key and usage.
     #[error("not sealed under this key and usage")]
     BadMac,
-    /// Memory ran out, before or after the other checks.
+    /// Memory ran out before the checksum was compared. Never where the text is too short.
     #[error("out of memory")]
     Memory,
 }
