@@ -1,12 +1,13 @@
 #!/usr/bin/env bash
-# Megabytes read and written a second, of an AP-REQ of about 700 bytes with its ticket. Each figure
-# is the best of several rounds of processor time; the start of the program is taken off by running
-# two counts. The last line is `read R written W`.
+# Megabytes read and written a second, of an AP-REQ of about 700 bytes with its ticket, by the program
+# as it stands (it is built where something changed). Of several rounds of processor time the least
+# counts, of a high and of a low count of texts; a figure is what the high count takes longer, so that
+# the start of the program is taken off. The last line is `read R written W`.
 set -euo pipefail
 cd "$(dirname "$0")/../crates/der_bench"
 export PYTHONPATH=../../bench PYTHONDONTWRITEBYTECODE=1
-[ -x out/der_bench ] || rt run >/dev/null
-exec python3 - out/der_bench "${1:-7}" <<'END'
+rt run >/dev/null
+exec python3 - out/der_bench "${1:-7}" <<'END2'
 import subprocess
 import sys
 
@@ -20,9 +21,10 @@ size = int(subprocess.run([program], capture_output=True, text=True, check=True)
 
 
 def megabytes(what):
-    """Megabytes a second in the best round."""
-    best = min(spent(program, what, HIGH) - spent(program, what, LOW) for _ in range(rounds))
-    return size * (HIGH - LOW) / best / 1e6
+    """Megabytes a second, by the least times of either count."""
+    low = min(spent(program, what, LOW) for _ in range(rounds))
+    high = min(spent(program, what, HIGH) for _ in range(rounds))
+    return size * (HIGH - LOW) / (high - low) / 1e6
 
 
 print(f"an AP-REQ of {size} bytes")

@@ -5,8 +5,8 @@
 #![tactic(auto)]
 
 use krb_der::{
-    ApReq, Bytes, EncryptedData, KerberosFlags, PrincipalName, ReadError, SequenceOf, Ticket, fits,
-    read_ap_req, write_ap_req,
+    ApReq, Bytes, EncryptedData, KRB_AP_REQ, KerberosFlags, NT_SRV_INST, PVNO, PrincipalName,
+    ReadError, SequenceOf, Ticket, fits, read_ap_req, write_ap_req,
 };
 use std::alloc::{AllocError, Global};
 use std::{env, io};
@@ -30,14 +30,14 @@ fn request(alloc: Global) -> Result<ApReq, AllocError> {
     components.push(bytes(alloc, b"kadmin")?)?;
     components.push(bytes(alloc, b"changepw")?)?;
     Ok(ApReq {
-        pvno: 5,
-        msg_type: 14,
+        pvno: PVNO,
+        msg_type: KRB_AP_REQ,
         ap_options: KerberosFlags(0x2000_0000),
         ticket: Ticket {
-            tkt_vno: 5,
+            tkt_vno: PVNO,
             realm: bytes(alloc, b"EXAMPLE.COM")?,
             sname: PrincipalName {
-                name_type: 2,
+                name_type: NT_SRV_INST,
                 name_string: SequenceOf::of(components),
             },
             enc_part: sealed(alloc, Some(3), &[0x5a; 330])?,

@@ -1,4 +1,5 @@
-//! Times: a GeneralizedTime in whole seconds (RFC 4120 section 5.2.3).
+//! Times as elements: a GeneralizedTime in whole seconds (RFC 4120 section 5.2.3). Its contents are
+//! in `time`.
 
 ghost use Rattle.std.specs.Prelude.{◌≡◌, refl};
 ghost use Rattle.krb_elements.specs.Shapes.{Shape, Value, kerberos_time};

@@ -1,4 +1,5 @@
-//! The INTEGERs of RFC 4120 section 5.2: Int32, UInt32, Microseconds and sequence numbers.
+//! INTEGERs as elements: Int32, UInt32, Microseconds (RFC 4120 section 5.2.4) and sequence numbers
+//! (section 5.5.1). Their contents are in `integer`.
 
 ghost use Rattle.std.specs.Prelude.{◌≡◌, refl, pos};
 ghost use Rattle.krb_elements.specs.Shapes.{Shape, Value, int32, uint32, microseconds, seq_number};

@@ -1,0 +1,10 @@
+//! Tests of the Kerberos crates: what no clause says and what isn't text. Cases that are text lie in
+//! the programs of cases, as `der_cases`.
+#![tactic(auto)]
+
+#[cfg(test)]
+mod long_texts;
+#[cfg(test)]
+mod records;
+#[cfg(test)]
+mod world;
