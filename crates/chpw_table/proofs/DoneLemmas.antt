@@ -1,14 +1,13 @@
 -- What is known of a request that no row refuses.
-use Rattle.std.proofs.Common.{◌≡◌, ◌≢◌, ℕ, List, [], ◌∷◌, ◌++◌, map, Bool, true, false, not, ◌&&◌, ◌||◌, if◌then◌else◌, Option, Some, None, is_none, unwrap_or, refl, sym, ◌∙◌, ap, subst, arith}
-use Rattle.std.specs.Prelude.{nat_lt, ◌==◌, IfSome, IfNone, option_map, int_le}
+use Rattle.std.proofs.Common.{◌≡◌, ◌≢◌, ℕ, [], map, Bool, true, false, not, ◌&&◌, ◌||◌, if◌then◌else◌, is_none, unwrap_or, refl, sym, ◌∙◌, ap, arith}
+use Rattle.std.specs.Prelude.{nat_lt, ◌==◌, int_le}
 use Rattle.std.proofs.lemmas.Bool.Decides.{nat_tests}
-use Rattle.chpw_rules.specs.declared.name.Name.{Name}
 use Rattle.chpw_table.specs.declared.times.Moment.{Moment}
 use Rattle.chpw_table.specs.declared.request.Opened.{Opened}
 use Rattle.chpw_table.specs.declared.verdict.Verdict.{Verdict}
 use Rattle.chpw_table.specs.declared.verdict.Verdict.TheVariants.{Skew, Replay, NotYet, Expired, BadPrivate, BadBody, Denied, NeedInitial, Unknown, Short, Classes, Reused, LastVersion, Broken, Done}
 use Rattle.chpw_table.specs.declared.key.KeyRow.{KeyRow}
-use Rattle.chpw_table.specs.Digests.{Derivation, has_count}
+use Rattle.chpw_table.specs.Digests.{has_count}
 use Rattle.chpw_table.specs.Requests.{id_of, target_of, digest_of, is_change, is_bad_private, is_bad_data}
 use Rattle.chpw_table.specs.State.{State, keys_held, is_used, new_count}
 use Rattle.chpw_table.specs.Verdicts.{is_done, reads_keys}

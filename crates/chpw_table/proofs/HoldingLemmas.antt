@@ -1,6 +1,6 @@
 -- What stays true of a table's principals.
-use Rattle.std.proofs.Common.{◌≡◌, ℕ, zero, suc, ◌+◌, ◌<◌, ◌≤◌, min, max, List, [], ◌∷◌, ◌++◌, map, take, length, get_or, set, Bool, true, false, not, ◌&&◌, ◌||◌, if◌then◌else◌, Option, Some, None, Bor, find, refl, sym, ◌∙◌, ap, subst, arith, length-take}
-use Rattle.std.specs.Prelude.{IfSome, IsTrue, option_map, option_copied, nat_le}
+use Rattle.std.proofs.Common.{◌≡◌, ℕ, zero, suc, ◌≤◌, min, max, List, [], ◌∷◌, ◌++◌, map, take, length, Bool, true, false, not, ◌&&◌, ◌||◌, if◌then◌else◌, Option, Some, None, Bor, find, refl, sym, ◌∙◌, ap, subst, arith, length-take}
+use Rattle.std.specs.Prelude.{IfSome, option_map, option_copied}
 use Rattle.std.specs.List.{list_all, list_any}
 use Rattle.std.proofs.lemmas.Bool.Decides.{nat_tests}
 use Rattle.chpw_rules.specs.declared.name.Name.{Name}
@@ -9,7 +9,7 @@ use Rattle.chpw_rules.specs.declared.config.Config.{Config}
 use Rattle.chpw_rules.specs.declared.config.KeyBytes.{KeyBytes}
 use Rattle.chpw_rules.specs.declared.config.PrincipalRow.{PrincipalRow}
 use Rattle.chpw_rules.specs.Limits.{is_in, depths, entry_counts, key_counts, iteration_counts}
-use Rattle.chpw_rules.specs.Names.{is_same_name, is_name}
+use Rattle.chpw_rules.specs.Names.{is_same_name}
 use Rattle.chpw_rules.specs.Fitting.{config_fits, principal_fits, principals_fit, policy_fits, key_fits, are_distinct, none_again}
 use Rattle.chpw_rules.specs.Fitting as rules
 use Rattle.chpw_table.specs.declared.request.Opened.{Opened}

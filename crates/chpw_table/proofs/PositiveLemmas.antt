@@ -1,5 +1,5 @@
 -- Counts that are held or wanted are at least 1.
-use Rattle.std.proofs.Common.{◌≡◌, ℕ, zero, suc, ◌≤◌, List, [], ◌∷◌, map, take, length, Bool, true, false, not, ◌&&◌, if◌then◌else◌, Option, Some, None, refl, arith}
+use Rattle.std.proofs.Common.{◌≡◌, ℕ, zero, suc, ◌≤◌, List, [], ◌∷◌, map, take, Bool, true, false, not, if◌then◌else◌, Option, Some, None, refl, arith}
 use Rattle.std.specs.Prelude.{IfSome, All, unwrap_or, filter, nat_le, nat_lt, ◌==◌}
 use Rattle.std.specs.List.{list_all}
 use Rattle.std.proofs.lemmas.List.Sums.{AllPass-from_list_all}

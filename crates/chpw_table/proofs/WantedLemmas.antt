@@ -1,9 +1,8 @@
 -- Counts in their order.
-use Rattle.std.proofs.Common.{◌≡◌, ℕ, ◌+◌, ◌≤◌, List, [], ◌∷◌, length, Bool, true, false, ◌||◌, ◌&&◌, if◌then◌else◌, not, refl, sym, ◌∙◌, ap, arith}
-use Rattle.std.specs.Prelude.{nat_lt, ◌==◌, filter}
-use Rattle.std.specs.List.{list_all, list_any}
+use Rattle.std.proofs.Common.{◌≡◌, ℕ, ◌+◌, ◌≤◌, List, [], ◌∷◌, length, Bool, true, false, ◌||◌, if◌then◌else◌, not, refl, sym, ◌∙◌, ap, arith}
+use Rattle.std.specs.Prelude.{nat_lt, ◌==◌}
+use Rattle.std.specs.List.{list_all}
 use Rattle.std.proofs.lemmas.Bool.Decides.{nat_tests}
-use Rattle.krb_keys.specs.declared.key.Key.{Key}
 use Rattle.chpw_table.specs.Digests.{Derivation, has_count}
 use Rattle.chpw_table.specs.Wanted.{with_count, ascending, lacking, ascends, is_one_of, AscendsOnce}
 use Rattle.chpw_table.proofs.BoolLemmas.{and_left, and_right, both}
