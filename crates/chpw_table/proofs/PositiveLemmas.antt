@@ -50,6 +50,7 @@ counts_positive (suc n) (k ∷ keys) h = both (and_left _ _ (and_left _ _ h)) (c
 new_positive : (policy : Policy) → policy_fits policy ≡ true → is_positive policy.iterations ≡ true
 new_positive policy h = let r : is_in iteration_counts policy.iterations ≡ true = and_right _ _ h in and_left _ _ r
 
+-- as a number
 pub new_at_least : (policy : Policy) → policy_fits policy ≡ true → 1 ≤ policy.iterations
 new_at_least policy h = at_least policy.iterations (new_positive policy h)
 
