@@ -1,11 +1,11 @@
 -- What is found in a derivation.
-use Rattle.std.proofs.Common.{◌≡◌, ℕ, List, [], ◌∷◌, Bool, true, false, not, ◌&&◌, ◌||◌, if◌then◌else◌, Option, Some, None, find, refl}
+use Rattle.std.proofs.Common.{◌≡◌, ℕ, [], ◌∷◌, Bool, true, false, ◌||◌, if◌then◌else◌, Option, Some, None, find, refl}
 use Rattle.std.specs.Prelude.{◌==◌, IfSome}
-use Rattle.std.specs.List.{list_any}
 use Rattle.krb_keys.specs.declared.key.Key.{Key}
 use Rattle.chpw_table.proofs.BoolLemmas.{and_left, and_right}
 use Rattle.chpw_table.specs.Digests.{Derivation, has_count, is_both_etypes, is_derivation}
 
+-- the keys that a search for a count finds
 abbrev pub found_under : ℕ → Derivation → Option (ℕ × Key × Key)
 found_under count ds = find (λ (d : ℕ × Key × Key). d.0 == count) ds
 
@@ -14,6 +14,7 @@ none_at : (x : ℕ × Key × Key) (r : Option (ℕ × Key × Key)) (b c : Bool) 
 none_at x r true c h e = cc
 none_at x r false c h e = h e
 
+-- where none are found, the count is not there
 pub found-none : (count : ℕ) (ds : Derivation) → found_under count ds ≡ None → has_count ds count ≡ false
 found-none count [] h = refl
 found-none count (d ∷ ds) h = none_at d (found_under count ds) (d.0 == count) (has_count ds count) (found-none count ds) h
@@ -26,6 +27,7 @@ both_at : (x : ℕ × Key × Key) (r : Option (ℕ × Key × Key)) (b : Bool) �
 both_at x r true h ih = h
 both_at x r false h ih = ih
 
+-- and those that are found
 pub found-both : (count : ℕ) (ds : Derivation) → is_derivation ds ≡ true → AreBoth (found_under count ds)
 found-both count [] h = tt
 found-both count (d ∷ ds) h = both_at d (found_under count ds) (d.0 == count) (and_left _ _ h) (found-both count ds (and_right _ _ (and_right _ _ h)))
