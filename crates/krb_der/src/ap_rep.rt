@@ -18,9 +18,9 @@ use std::alloc::{AllocError, Global};
 /// The reply to an AP-REQ (RFC 4120 section 5.5.2).
 #[derive(Drop)]
 pub struct ApRep {
-    /// 5.
+    /// [`PVNO`](crate::PVNO).
     pub pvno: i32,
-    /// 15.
+    /// [`KRB_AP_REP`](crate::KRB_AP_REP).
     pub msg_type: i32,
     /// An [`EncApRepPart`](crate::EncApRepPart) under the session key.
     pub enc_part: EncryptedData,

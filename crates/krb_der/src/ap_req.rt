@@ -19,11 +19,12 @@ use std::alloc::{AllocError, Global};
 /// A request of a client to a service (RFC 4120 section 5.5.1).
 #[derive(Drop)]
 pub struct ApReq {
-    /// 5.
+    /// [`PVNO`](crate::PVNO).
     pub pvno: i32,
-    /// 14.
+    /// [`KRB_AP_REQ`](crate::KRB_AP_REQ).
     pub msg_type: i32,
-    /// Bit 1: use-session-key. Bit 2: mutual-required.
+    /// Bits [`USE_SESSION_KEY`](crate::USE_SESSION_KEY) and
+    /// [`MUTUAL_REQUIRED`](crate::MUTUAL_REQUIRED).
     pub ap_options: KerberosFlags,
     pub ticket: Ticket,
     /// An [`Authenticator`](crate::Authenticator) under the session key.

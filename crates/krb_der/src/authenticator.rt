@@ -20,7 +20,7 @@ use std::alloc::{AllocError, Global};
 /// What proves that a client knows the session key (RFC 4120 section 5.5.1).
 #[derive(Drop)]
 pub struct Authenticator {
-    /// 5.
+    /// [`PVNO`](crate::PVNO).
     pub authenticator_vno: i32,
     /// The client's realm.
     pub crealm: GeneralString,

@@ -75,7 +75,8 @@ pub fn write_transited_encoding(
 /// The sealed part of a ticket (RFC 4120 section 5.3).
 #[derive(Drop)]
 pub struct EncTicketPart {
-    /// Bit 7: invalid. Bit 9: initial.
+    /// Bits [`TICKET_INVALID`](crate::TICKET_INVALID) and
+    /// [`TICKET_INITIAL`](crate::TICKET_INITIAL).
     pub flags: KerberosFlags,
     /// The session key.
     pub key: EncryptionKey,

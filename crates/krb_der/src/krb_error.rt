@@ -18,9 +18,9 @@ use std::alloc::{AllocError, Global};
 /// An error message (RFC 4120 section 5.9.1).
 #[derive(Drop)]
 pub struct KrbError {
-    /// 5.
+    /// [`PVNO`](crate::PVNO).
     pub pvno: i32,
-    /// 30.
+    /// [`KRB_ERROR`](crate::KRB_ERROR).
     pub msg_type: i32,
     /// The client's time.
     pub ctime: Option<KerberosTime>,

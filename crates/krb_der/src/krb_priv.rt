@@ -19,9 +19,9 @@ use std::alloc::{AllocError, Global};
 /// A sealed message (RFC 4120 section 5.7.1).
 #[derive(Drop)]
 pub struct KrbPriv {
-    /// 5.
+    /// [`PVNO`](crate::PVNO).
     pub pvno: i32,
-    /// 21.
+    /// [`KRB_PRIV`](crate::KRB_PRIV).
     pub msg_type: i32,
     /// An [`EncKrbPrivPart`](crate::EncKrbPrivPart).
     pub enc_part: EncryptedData,

@@ -19,7 +19,7 @@ use std::alloc::{AllocError, Global};
 /// A ticket (RFC 4120 section 5.3).
 #[derive(Drop)]
 pub struct Ticket {
-    /// 5.
+    /// [`PVNO`](crate::PVNO).
     pub tkt_vno: i32,
     /// The service's realm.
     pub realm: GeneralString,

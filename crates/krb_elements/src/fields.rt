@@ -1,9 +1,11 @@
 //! The fields of a record: a list of fields is a type, by which they are read and put alike.
 //!
-//! A field's number is a parameter of its type. A parameter can't be required to be small, so a
-//! number is taken modulo 32, in the code as in the clauses; a tag byte holds 0 to 30 (X.690 section
-//! 8.1.2.2). Lists of up to four fields or lists are written here, as tuples; a longer list is one
-//! of lists, whose grouping says nothing about the record.
+//! A field's number is a parameter of its type. A parameter can't be required to be small, so the
+//! number is taken modulo 32, in reading, in putting and in their clauses alike. A tag of one byte
+//! has the numbers 0 to 30 (X.690 section 8.1.2.2).
+//!
+//! Lists of up to four fields, or of up to four lists, are written here, as tuples; a longer list is
+//! one of lists, whose grouping says nothing about the record.
 
 ghost use Rattle.std.specs.Prelude.{◌≡◌, ◌+◌, ◌%◌, option_map};
 ghost use Rattle.krb_elements.specs.Shapes.{Shape, Value, required, optional, tagged};

@@ -25,6 +25,7 @@ pub fn read_value<T: Read>(alloc: Global, region: &mut Region<'_>) -> Result<T, 
     T::read(alloc, region)
 }
 
+/// The same, by the one clause that says all.
 #[tactic(auto, unfolding(crate::specs::Reading::reads_all))]
 fn whole<T: Read>(alloc: Global, text: &[u8]) -> Result<T, ReadError>
     ensures { Gives T.value result (reads_all T.shape text.now) }
@@ -35,7 +36,9 @@ fn whole<T: Read>(alloc: Global, text: &[u8]) -> Result<T, ReadError>
     Ok(value)
 }
 
-/// The value that a whole text spells, or the first fault.
+/// The value that a whole text spells, or the first fault from left to right.
+///
+/// `Memory` where a growth is refused.
 pub fn read_all<T: Read>(alloc: Global, text: &[u8]) -> Result<T, ReadError>
     // What is read is spelled so.
     ensures value { IfOk result (λ x. Spells T.shape text.now (T.value x)) }

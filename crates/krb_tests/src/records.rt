@@ -1,138 +1,55 @@
 //! Records of the world, by their values: each is written, read back, and written to the same text.
 
 use super::world;
-use krb_der::{
-    fits, read_ap_rep, read_ap_req, read_authenticator, read_change_passwd_data, read_checksum,
-    read_enc_ap_rep_part, read_enc_krb_priv_part, read_enc_ticket_part, read_krb_error,
-    read_krb_priv, write_ap_rep, write_ap_req, write_authenticator, write_change_passwd_data,
-    write_checksum, write_enc_ap_rep_part, write_enc_krb_priv_part, write_enc_ticket_part,
-    write_krb_error, write_krb_priv,
-};
+use krb_elements::{Read, Write, read_all, text_len, write_all};
+use std::alloc::Global;
+use std::process::Abort;
 use std::test::Fail;
 
 /// The length is that of the text which another encoder writes (`der_cases` has the texts).
-macro_rules! goes_both_ways {
-    ($rt:ident, $value:expr, $read:ident, $write:ident, $length:literal) => {{
-        let value = $value;
-        assert!($rt; fits(&value));
-        let text = $write($rt.alloc(), &value)?;
-        assert_eq!($rt; text.len(), $length);
-        let again = $read($rt.alloc(), &text)?;
-        assert!($rt; fits(&again));
-        assert!($rt; $write($rt.alloc(), &again)? == text);
-    }};
-}
-
-#[test]
-fn checksum(rt: HostRuntime) -> Result<(), Fail> {
-    goes_both_ways!(
-        rt,
-        world::checksum(rt.alloc())?,
-        read_checksum,
-        write_checksum,
-        12
-    );
+fn goes_both_ways<T: Read + Write>(
+    rt: &impl Abort,
+    alloc: Global,
+    value: &T,
+    length: usize,
+) -> Result<(), Fail> {
+    assert_eq!(rt; text_len(value), Some(length));
+    let text = write_all(alloc, value)?;
+    assert_eq!(rt; text.len(), length);
+    let again: T = read_all(alloc, &text)?;
+    assert!(rt; write_all(alloc, &again)? == text);
     Ok(())
 }
 
 #[test]
-fn whole_enc_ticket_part(rt: HostRuntime) -> Result<(), Fail> {
-    goes_both_ways!(
-        rt,
-        world::whole_ticket_part(rt.alloc())?,
-        read_enc_ticket_part,
-        write_enc_ticket_part,
-        219
-    );
-    Ok(())
+fn parts(rt: HostRuntime) -> Result<(), Fail> {
+    let alloc = rt.alloc();
+    goes_both_ways(&rt, alloc, &world::service(alloc)?, 29)?;
+    goes_both_ways(&rt, alloc, &world::sealed(alloc, Some(3))?, 56)?;
+    goes_both_ways(&rt, alloc, &world::key(alloc, 0x33)?, 43)?;
+    goes_both_ways(&rt, alloc, &world::local_host(alloc)?, 15)?;
+    goes_both_ways(&rt, alloc, &world::transited(alloc)?, 11)?;
+    goes_both_ways(&rt, alloc, &world::checksum(alloc)?, 12)?;
+    goes_both_ways(&rt, alloc, &world::authorization_data(alloc)?, 14)
 }
 
 #[test]
-fn authenticator(rt: HostRuntime) -> Result<(), Fail> {
-    goes_both_ways!(
-        rt,
-        world::authenticator(rt.alloc())?,
-        read_authenticator,
-        write_authenticator,
-        118
-    );
-    Ok(())
+fn request(rt: HostRuntime) -> Result<(), Fail> {
+    let alloc = rt.alloc();
+    goes_both_ways(&rt, alloc, &world::ticket(alloc)?, 113)?;
+    goes_both_ways(&rt, alloc, &world::ticket_part(alloc)?, 146)?;
+    goes_both_ways(&rt, alloc, &world::whole_ticket_part(alloc)?, 219)?;
+    goes_both_ways(&rt, alloc, &world::authenticator(alloc)?, 118)?;
+    goes_both_ways(&rt, alloc, &world::request(alloc)?, 193)
 }
 
 #[test]
-fn ap_req(rt: HostRuntime) -> Result<(), Fail> {
-    goes_both_ways!(
-        rt,
-        world::request(rt.alloc())?,
-        read_ap_req,
-        write_ap_req,
-        193
-    );
-    Ok(())
-}
-
-#[test]
-fn ap_rep(rt: HostRuntime) -> Result<(), Fail> {
-    goes_both_ways!(rt, world::reply(rt.alloc())?, read_ap_rep, write_ap_rep, 67);
-    Ok(())
-}
-
-#[test]
-fn enc_ap_rep_part(rt: HostRuntime) -> Result<(), Fail> {
-    goes_both_ways!(
-        rt,
-        world::reply_part(),
-        read_enc_ap_rep_part,
-        write_enc_ap_rep_part,
-        33
-    );
-    Ok(())
-}
-
-#[test]
-fn krb_priv(rt: HostRuntime) -> Result<(), Fail> {
-    goes_both_ways!(
-        rt,
-        world::private(rt.alloc())?,
-        read_krb_priv,
-        write_krb_priv,
-        67
-    );
-    Ok(())
-}
-
-#[test]
-fn enc_krb_priv_part(rt: HostRuntime) -> Result<(), Fail> {
-    goes_both_ways!(
-        rt,
-        world::private_part(rt.alloc())?,
-        read_enc_krb_priv_part,
-        write_enc_krb_priv_part,
-        48
-    );
-    Ok(())
-}
-
-#[test]
-fn krb_error(rt: HostRuntime) -> Result<(), Fail> {
-    goes_both_ways!(
-        rt,
-        world::error(rt.alloc())?,
-        read_krb_error,
-        write_krb_error,
-        104
-    );
-    Ok(())
-}
-
-#[test]
-fn change_passwd_data(rt: HostRuntime) -> Result<(), Fail> {
-    goes_both_ways!(
-        rt,
-        world::change_data(rt.alloc())?,
-        read_change_passwd_data,
-        write_change_passwd_data,
-        42
-    );
-    Ok(())
+fn replies(rt: HostRuntime) -> Result<(), Fail> {
+    let alloc = rt.alloc();
+    goes_both_ways(&rt, alloc, &world::reply(alloc)?, 67)?;
+    goes_both_ways(&rt, alloc, &world::reply_part(), 33)?;
+    goes_both_ways(&rt, alloc, &world::private(alloc)?, 67)?;
+    goes_both_ways(&rt, alloc, &world::private_part(alloc)?, 48)?;
+    goes_both_ways(&rt, alloc, &world::error(alloc)?, 104)?;
+    goes_both_ways(&rt, alloc, &world::change_data(alloc)?, 42)
 }
