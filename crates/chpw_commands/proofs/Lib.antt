@@ -1,0 +1,8 @@
+pub mod NumberLemmas
+pub mod SplitLemmas
+pub mod EachLemmas
+pub mod TextLemmas
+pub mod SetupLemmas
+pub mod AppendLemmas
+pub mod RespondLemmas
+pub mod RunLemmas
