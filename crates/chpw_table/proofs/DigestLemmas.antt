@@ -1,7 +1,6 @@
 -- What is found in a derivation.
-use Rattle.std.proofs.Common.{◌≡◌, ℕ, List, [], ◌∷◌, Bool, true, false, not, ◌&&◌, ◌||◌, if◌then◌else◌, Option, Some, None, find, refl}
+use Rattle.std.proofs.Common.{◌≡◌, ℕ, [], ◌∷◌, Bool, true, false, ◌||◌, if◌then◌else◌, Option, Some, None, find, refl}
 use Rattle.std.specs.Prelude.{◌==◌, IfSome}
-use Rattle.std.specs.List.{list_any}
 use Rattle.krb_keys.specs.declared.key.Key.{Key}
 use Rattle.chpw_table.proofs.BoolLemmas.{and_left, and_right}
 use Rattle.chpw_table.specs.Digests.{Derivation, has_count, is_both_etypes, is_derivation}

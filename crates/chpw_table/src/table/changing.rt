@@ -1,5 +1,5 @@
 //! A change of one principal's keys.
-ghost use Rattle.std.specs.Prelude.{[], ◌∷◌, ◌≡◌, ◌≢◌, ℕ, ◌+◌, ◌<◌, ◌≤◌, IfOk, IfSome, IfNone, if◌then◌else◌, true, false, length, map, take, position, is_none, unwrap_or, Some};
+ghost use Rattle.std.specs.Prelude.{[], ◌∷◌, ◌≡◌, ◌≢◌, ◌<◌, ◌≤◌, IfOk, IfSome, IfNone, true, false, length, map, take, position, is_none, unwrap_or};
 ghost use Rattle.chpw_rules.specs.Names.{is_same_name};
 ghost use Rattle.chpw_table.specs.State.{keys_held, new_count, kept_count};
 ghost use Rattle.chpw_table.specs.Requests.{target_of, digest_of};
@@ -11,9 +11,10 @@ ghost use Rattle.chpw_table.specs.Holding.{are_holders};
 ghost use Rattle.chpw_table.specs.Entering.{with_keys_at, IsAt};
 ghost use Rattle.chpw_table.specs.Journal.{record_bytes as record_bytes_spec};
 
-use super::{KeyRow, Principal, Table, kept_by, kvno_of, newest};
-use crate::decision::Opened;
+use super::{Principal, Table, kept_by};
 use crate::journal::record_bytes;
+use crate::key::{KeyRow, kvno_of, newest};
+use crate::request::Opened;
 use chpw_rules::{Items, Name};
 use std::alloc::{AllocError, Global};
 
@@ -32,13 +33,17 @@ impl Table {
     // The change that a request makes which no row refuses.
     pub(super) fn change(&self, opened: &Opened) -> Result<Change, AllocError>
         requires done { is_done (key_row self.now.state opened.now false) ≡ true }
-        requires derived { has_count (digest_of opened.now).derived (new_count self.now.state) ≡ true }
+        requires derived { has_count (digest_of opened.now).derived (new_count self.now.state)
+            ≡ true }
         ensures place { IfOk result (λ c. c.place < length self.now.state.principals) }
         ensures keys { IfOk result (λ c.
-            map (with_key (kept_count self.now.state) (target_of opened.now).name (new_key self.now.state opened.now)) self.now.state.principals
+            map (with_key (kept_count self.now.state) (target_of opened.now).name
+            (new_key self.now.state opened.now)) self.now.state.principals
             ≡ with_keys_at c.place c.keys self.now.state.principals) }
-        ensures holders { IfOk result (λ c. are_holders (with_keys_at c.place c.keys self.now.state.principals) ≡ true) }
-        ensures record_of { IfOk result (λ c. c.record.items ≡ record_bytes_spec (target_of opened.now).name (new_key self.now.state opened.now)) }
+        ensures holders { IfOk result (λ c.
+            are_holders (with_keys_at c.place c.keys self.now.state.principals) ≡ true) }
+        ensures record_of { IfOk result (λ c. c.record.items
+            ≡ record_bytes_spec (target_of opened.now).name (new_key self.now.state opened.now)) }
     {
         let name = opened.target_name();
         let Some((place, principal)) = self.find(name) else {
@@ -58,9 +63,11 @@ impl Table {
 
     // The key that the request makes, in front of these.
     fn new_key(&self, held: &[KeyRow], opened: &Opened) -> KeyRow
-        requires held { unwrap_or (keys_held self.now.state (target_of opened.now).name) [] ≡ held.now }
+        requires held { unwrap_or (keys_held self.now.state (target_of opened.now).name) []
+            ≡ held.now }
         requires version { newest_kvno held.now ≢ 4294967295 }
-        requires derived { has_count (digest_of opened.now).derived (new_count self.now.state) ≡ true }
+        requires derived { has_count (digest_of opened.now).derived (new_count self.now.state)
+            ≡ true }
         ensures value { result ≡ new_key self.now.state opened.now }
     {
         let Some(digest) = opened.digest() else {
@@ -92,7 +99,8 @@ impl Table {
     }
 
     fn place_of(&self, name: &Name) -> Option<usize>
-        ensures value { result ≡ position (λ p. is_same_name p.name name.now) self.now.state.principals }
+        ensures value { result
+            ≡ position (λ p. is_same_name p.name name.now) self.now.state.principals }
     {
         self.principals.iter().position(|p| p.name.is_same(name))
     }
