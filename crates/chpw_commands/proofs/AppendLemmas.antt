@@ -1,15 +1,16 @@
 -- Whether the append of a request failed, from what the request's sink tells.
 use Rattle.std.proofs.Common.{◌≡◌, ℕ, ◌+◌, ◌<◌, List, [], ◌∷◌, ◌++◌, length, Bool, true, false, ◌&&◌, ◌||◌, not, if◌then◌else◌, Option, Some, None, refl, sym, ◌∙◌, ap, arith, length-append}
 use Rattle.std.specs.Prelude.{option_map}
-use Rattle.chpw_table.specs.declared.decision.Moment.{Moment}
-use Rattle.chpw_table.specs.declared.decision.Opened.{Opened}
+use Rattle.chpw_table.specs.declared.times.Moment.{Moment}
+use Rattle.chpw_table.specs.declared.request.Opened.{Opened}
 use Rattle.chpw_table.specs.declared.verdict.Verdict.{Verdict}
 use Rattle.chpw_table.specs.declared.verdict.Verdict.TheVariants.{Skew, Replay, NotYet, Expired, BadPrivate, BadBody, Denied, NeedInitial, Unknown, Short, Classes, Reused, LastVersion, Broken, Done}
 use Rattle.chpw_table.specs.State.{State}
-use Rattle.chpw_table.specs.Verdicts.{is_done, is_broken, with_append}
+use Rattle.chpw_table.specs.Verdicts.{is_done, is_broken}
+use Rattle.chpw_table.specs.Entering.{with_append}
 use Rattle.chpw_table.specs.Decision.{verdict}
 use Rattle.chpw_table.specs.History.{IsDecided}
-use Rattle.chpw_table.specs.declared.table.KeyRow.{KeyRow}
+use Rattle.chpw_table.specs.declared.key.KeyRow.{KeyRow}
 use Rattle.chpw_rules.specs.declared.name.Name.{Name}
 use Rattle.std.specs.Int.{w16, to_be_bytes}
 use Rattle.chpw_table.specs.Requests.{target_of}

@@ -6,3 +6,4 @@ pub mod SetupLemmas
 pub mod AppendLemmas
 pub mod RespondLemmas
 pub mod RunLemmas
+pub mod StageLemmas

@@ -3,8 +3,8 @@ use Rattle.std.proofs.Common.{◌≡◌, ◌≢◌, ℕ, ◌+◌, ◌<◌, List,
 use Rattle.std.specs.Prelude.{◌==◌, option_map}
 use Rattle.std.proofs.lemmas.Bool.Decides.{nat_tests}
 use Rattle.chpw_table.specs.declared.verdict.Verdict.{Verdict}
-use Rattle.chpw_table.specs.declared.table.deciding.Fault.{Fault}
-use Rattle.chpw_table.specs.declared.table.deciding.Fault.TheVariants as fault
+use Rattle.chpw_table.specs.declared.outcome.DecideFault.{DecideFault}
+use Rattle.chpw_table.specs.declared.outcome.DecideFault.TheVariants as fault
 use Rattle.chpw_table.specs.State.{State}
 use Rattle.chpw_table.specs.Verdicts.{is_done}
 use Rattle.chpw_table.specs.Decision.{verdict}
@@ -21,7 +21,6 @@ use Rattle.chpw_commands.specs.declared.drill.sink.RequestSink.{RequestSink}
 use Rattle.chpw_commands.specs.Stages.{Machine, append_fails, response_at, response_to, machine_after}
 use Rattle.chpw_commands.specs.Following.{Runs, refusal_of}
 use Rattle.chpw_commands.proofs.AppendLemmas.{failed_of, told_of, io_is}
-use Rattle.chpw_table.proofs.AgreementLemmas.{same_missing}
 
 -- the clauses of a decision
 pub record Decided (d : Drill) (a : Asked) (io : Bool) (v : Verdict) (k : RequestSink) (t : Held) : Type 0 where
@@ -77,25 +76,24 @@ response_full true x e = refl
 response_full false x e = cc
 
 module _ (d : Drill) (a : Asked) (m : Machine) (r : Runs d m) where
-  pub refused_is : (f : Fault) (x : Response) → IsFirst d.table (missing d.table.state a.now a.opened) f → refusal_of f ≡ Some x → x ≡ response_to m a
+  pub refused_is : (f : DecideFault) (x : Response) → IsFirst d.table (missing m.state a.now a.opened) f → refusal_of f ≡ Some x → x ≡ response_to m a
   refused_is fault.Full x first e =
       let full : m.events ≡ m.max_entries = sym r.events ∙ (first ∙ r.max_entries) in
       let this : x ≡ Full = cc in
       this ∙ sym (response_full (m.events == m.max_entries) _ (is_full m.events m.max_entries full))
   refused_is (fault.NeedKeys given) x first e =
       let low : m.events < m.max_entries = rw (← r.events, ← r.max_entries) first.0 in
-      let counts : missing d.table.state a.now a.opened ≡ missing m.state a.now a.opened = same_missing d.table.state m.state a.now a.opened r.state in
       let this : x ≡ Need given = cc in
-      this ∙ (ap (λ (ns : List ℕ). Need ns) (first.2 ∙ counts)
-      ∙ sym (response_needs (m.events == m.max_entries) (missing m.state a.now a.opened) (verdict m.state a.now a.opened (append_fails m a)) (is_below m.events m.max_entries low) (λ h. first.1 (counts ∙ h))))
+      this ∙ (ap (λ (ns : List ℕ). Need ns) first.2
+      ∙ sym (response_needs (m.events == m.max_entries) (missing m.state a.now a.opened) (verdict m.state a.now a.opened (append_fails m a)) (is_below m.events m.max_entries low) first.1))
   refused_is fault.Memory x first e = cc
 
-  stays : (f : Fault) (x : Response) → refusal_of f ≡ Some x → machine_after x m a ≡ m
+  stays : (f : DecideFault) (x : Response) → refusal_of f ≡ Some x → machine_after x m a ≡ m
   stays fault.Full x e = let this : x ≡ Full = cc in rw this refl
   stays (fault.NeedKeys given) x e = let this : x ≡ Need given = cc in rw this refl
   stays fault.Memory x e = cc
 
-  pub refused_runs : (f : Fault) (x : Response) → IsFirst d.table (missing d.table.state a.now a.opened) f → refusal_of f ≡ Some x → Runs d (machine_after (response_to m a) m a)
+  pub refused_runs : (f : DecideFault) (x : Response) → IsFirst d.table (missing m.state a.now a.opened) f → refusal_of f ≡ Some x → Runs d (machine_after (response_to m a) m a)
   refused_runs f x first e =
       let same : machine_after (response_to m a) m a ≡ m = ap (λ (y : Response). machine_after y m a) (sym (refused_is f x first e)) ∙ stays f x e in
       rw same r

@@ -1,4 +1,5 @@
--- How a run of a script ends, and what it has written then.
+-- For the contracts of `run_drill` and its parts: how a run of a script ends, and what it has written
+-- then.
 use Rattle.std.specs.Prelude.{◌≡◌, ℕ, Bool, true, false, List, [], ◌∷◌, ◌++◌, Option, Some, None, Result, Ok, Err}
 use Rattle.std.specs.Io.KnownBytes.{Appends, Keeps}
 use Rattle.chpw_commands.specs.declared.drill.DrillFault.{DrillFault}

@@ -1,14 +1,14 @@
 -- The line `ask` of a drill script, the two forms.
-use Rattle.std.specs.Prelude.{ℕ, Bool, true, false, ◌&&◌, nat_le, if◌then◌else◌, List, [], ◌∷◌, length, map, replicate, Option, Some, None, option_map, ℤ, pos, negsuc, ◌≤ℤ◌, bytes_eq, codes}
+use Rattle.std.specs.Prelude.{ℕ, Bool, true, false, ◌&&◌, nat_le, if◌then◌else◌, List, [], ◌∷◌, length, map, replicate, Option, Some, None, option_map, pos, bytes_eq, codes}
 use Rattle.krb_keys.specs.declared.key.Key.{Key}
 use Rattle.krb_keys.specs.declared.key.Key.TheVariants.{Aes128, Aes256}
 use Rattle.chpw_rules.specs.declared.limits.Limits.{Limits}
 use Rattle.chpw_rules.specs.Limits.{range, min_class_counts}
-use Rattle.chpw_table.specs.declared.decision.Body.{Body}
-use Rattle.chpw_table.specs.declared.decision.Body.TheVariants.{Ask, BadPrivate, BadData}
-use Rattle.chpw_table.specs.declared.decision.Target.{Target}
-use Rattle.chpw_table.specs.declared.decision.Moment.{Moment}
-use Rattle.chpw_table.specs.declared.decision.Opened.{Opened}
+use Rattle.chpw_table.specs.declared.request.Body.{Body}
+use Rattle.chpw_table.specs.declared.request.Body.TheVariants.{Ask, BadPrivate, BadData}
+use Rattle.chpw_table.specs.declared.request.Target.{Target}
+use Rattle.chpw_table.specs.declared.times.Moment.{Moment}
+use Rattle.chpw_table.specs.declared.request.Opened.{Opened}
 use Rattle.chpw_table.specs.declared.digest.Digest.{Digest}
 use Rattle.chpw_table.specs.Digests.{is_derivation}
 use Rattle.chpw_commands.specs.declared.drill.words.CountedKey.{CountedKey}
@@ -112,7 +112,3 @@ asked_of realm (now ∷ client ∷ stamp ∷ starts ∷ ends ∷ flags ∷ body)
     opened = opened_of client times flags body;
   })
 asked_of realm _ = None
-
--- the moment is in the range of a decision
-abbrev pub FitsMoment : Moment → Type 0
-FitsMoment now = (pos 0 ≤ℤ now.seconds) × (now.seconds ≤ℤ pos 253402300799)

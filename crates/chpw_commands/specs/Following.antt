@@ -1,8 +1,10 @@
--- What the program holds of a script's machine, and of its stage.
-use Rattle.std.specs.Prelude.{◌≡◌, ◌≤ℤ◌, pos, ℕ, List, [], Option, Some, None}
-use Rattle.chpw_table.specs.declared.table.deciding.Fault.{Fault}
-use Rattle.chpw_table.specs.declared.table.deciding.Fault.TheVariants as fault
+-- For the contracts of the drill's own functions: what the program holds of a script's machine, and of
+-- its stage.
+use Rattle.std.specs.Prelude.{◌≡◌, ℕ, List, [], Option, Some, None}
+use Rattle.chpw_table.specs.declared.outcome.DecideFault.{DecideFault}
+use Rattle.chpw_table.specs.declared.outcome.DecideFault.TheVariants as fault
 use Rattle.chpw_table.specs.Agreement.{Agrees}
+use Rattle.chpw_table.specs.Times.{IsMoment}
 use Rattle.chpw_commands.specs.declared.drill.line.Line.{Line}
 use Rattle.chpw_commands.specs.declared.drill.line.Line.TheVariants as line
 use Rattle.chpw_commands.specs.declared.drill.printed.Response.{Response}
@@ -11,7 +13,6 @@ use Rattle.chpw_commands.specs.declared.drill.running.Drill.{Drill}
 use Rattle.chpw_commands.specs.declared.drill.stage.Stage.{Stage as ProgramStage}
 use Rattle.chpw_commands.specs.declared.drill.stage.Stage.TheVariants as program
 use Rattle.chpw_commands.specs.declared.drill.stage.Turn.{Turn as ProgramTurn}
-use Rattle.chpw_commands.specs.Asking.{FitsMoment}
 use Rattle.chpw_commands.specs.Stages.{Machine, Stage, start, named, listed, running, Turn}
 
 -- the table agrees with the machine's state, and the rest is the machine's
@@ -23,7 +24,7 @@ pub record Runs (d : Drill) (m : Machine) : Type 0 where
   pub realm : d.realm ≡ m.state.fixed.realm
 
 -- what a refusal of the table answers, but for want of memory
-abbrev pub refusal_of : Fault → Option Response
+abbrev pub refusal_of : DecideFault → Option Response
 refusal_of fault.Full = Some Full
 refusal_of (fault.NeedKeys counts) = Some (Need counts)
 refusal_of fault.Memory = None
@@ -51,5 +52,5 @@ IsTurn _ _ = ⊥
 
 -- a request is asked in the years up to 9999
 abbrev pub FitsLine : Line → Type 0
-FitsLine (line.Ask a) = FitsMoment a.now
+FitsLine (line.Ask a) = IsMoment a.now
 FitsLine _ = Unit {0}

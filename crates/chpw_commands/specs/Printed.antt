@@ -3,7 +3,7 @@ use Rattle.std.specs.Prelude.{ℕ, List, ◌++◌, take, Option, Some, None, cod
 use Rattle.hex.specs.Hex.{encode_lower}
 use Rattle.std.specs.List.{flat_map}
 use Rattle.std.specs.Fmt.{decimal, signed_decimal}
-use Rattle.chpw_table.specs.declared.table.KeyRow.{KeyRow}
+use Rattle.chpw_table.specs.declared.key.KeyRow.{KeyRow}
 use Rattle.chpw_table.specs.Replies.{answer_of}
 use Rattle.chpw_commands.specs.declared.drill.printed.Response.{Response}
 use Rattle.chpw_commands.specs.declared.drill.printed.Response.TheVariants.{Said, Need, Full}

@@ -6,7 +6,7 @@ use Rattle.hex.specs.Hex.{decode_sized}
 use Rattle.chpw_rules.specs.declared.limits.Limits.{Limits}
 use Rattle.chpw_rules.specs.Limits.{is_in, iteration_counts, realm_lengths}
 use Rattle.chpw_rules.specs.Names.{name_of}
-use Rattle.chpw_table.specs.declared.decision.Target.{Target}
+use Rattle.chpw_table.specs.declared.request.Target.{Target}
 use Rattle.chpw_commands.specs.declared.drill.words.CountedKey.{CountedKey}
 
 -- one after the other; none where one is none

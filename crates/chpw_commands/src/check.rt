@@ -86,7 +86,14 @@ fn good(alloc: Global, config: &Config) -> Result<String, AllocError>
     let principals = config.principals.as_slice().len();
     let rules = config.rules.list.as_slice().len();
     let keys = config.service.as_slice().len();
-    format!(in alloc; "ok: principals {principals}, rules {rules}, service keys {keys}\n")
+    let mut line = String::from_str(alloc, "ok: principals ")?;
+    line.push_str(principals.to_string(alloc)?.as_str())?;
+    line.push_str(", rules ")?;
+    line.push_str(rules.to_string(alloc)?.as_str())?;
+    line.push_str(", service keys ")?;
+    line.push_str(keys.to_string(alloc)?.as_str())?;
+    line.push_str("\n")?;
+    Ok(line)
 }
 
 // The line of a fault.

@@ -1,17 +1,18 @@
 //! The line `ask`.
 ghost use Rattle.std.specs.Prelude.{◌≡◌, map, IfOk, IfSome};
-ghost use Rattle.chpw_commands.specs.Asking.{FitsMoment, times_of, flags_of, target_in, derived_of, digest_of, bad_body_of, ask_of, body_of, opened_of, asked_of};
+ghost use Rattle.chpw_table.specs.Times.{IsMoment};
+ghost use Rattle.chpw_commands.specs.Asking.{times_of, flags_of, target_in, derived_of, digest_of, bad_body_of, ask_of, body_of, opened_of, asked_of};
 
 use crate::drill::words::{CountedKey, counted_keys, named, number, split_first};
 use chpw_rules::{Limits, MIN_CLASS_COUNTS};
-use chpw_table::{Body, COUNTS_LIMIT, Digest, Moment, Opened, Target};
+use chpw_table::{Body, COUNTS_LIMIT, Digest, LAST_SECOND, Moment, Opened, Target};
 use krb_keys::Key;
 use std::alloc::{AllocError, Global};
 
 /// Seconds from 1970-01-01T00:00:00Z to the end of the year 9999.
 pub const SECONDS: Limits = Limits {
     low: 0,
-    high: 253_402_300_799,
+    high: LAST_SECOND as usize,
 };
 /// The microseconds of a second.
 const MICROSECONDS: Limits = Limits {
@@ -170,7 +171,7 @@ fn bad_body(word: &str) -> Option<Body>
 /// NOW CLIENT CTIME.CUSEC STARTS ENDS FLAGS, and the body.
 pub fn asked_from(alloc: Global, realm: &[u8], words: &[&str]) -> Result<Option<Asked>, AllocError>
     ensures value { IfOk result (λ found. found ≡ asked_of realm.now (map (λ w. w.now) words.now)) }
-    ensures moment { IfOk result (λ found. IfSome found (λ asked. FitsMoment asked.now)) }
+    ensures moment { IfOk result (λ found. IfSome found (λ asked. IsMoment asked.now)) }
 {
     let [now, client, stamp, starts, ends, flags, rest @ ..] = words else {
         return Ok(None);

@@ -52,9 +52,14 @@ fn reply_line(
 ) -> Result<String, AllocError>
     ensures value { IfOk result (λ line. string_bytes line ≡ reply_text code error text.now) }
 {
+    let mut line = code.to_string(alloc)?;
     let error = error_word(alloc, error)?;
-    let error = error.as_str();
-    format!(in alloc; "{code} {error} {text}\n")
+    line.push_str(" ")?;
+    line.push_str(error.as_str())?;
+    line.push_str(" ")?;
+    line.push_str(text)?;
+    line.push_str("\n")?;
+    Ok(line)
 }
 
 // The counts that lack.

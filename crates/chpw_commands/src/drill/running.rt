@@ -1,6 +1,7 @@
 //! The machine that a script runs.
-ghost use Rattle.std.specs.Prelude.{◌≡◌, pos, ◌≤ℤ◌, IfOk, true, ◌&&◌, not};
+ghost use Rattle.std.specs.Prelude.{◌≡◌, IfOk, true, ◌&&◌, not};
 ghost use Rattle.chpw_rules.specs.Fitting.{config_fits};
+ghost use Rattle.chpw_table.specs.Times.{IsMoment};
 ghost use Rattle.chpw_commands.specs.Stages.{Machine, opened_with, response_to, machine_after};
 ghost use Rattle.chpw_commands.specs.Following.{Runs, refusal_of};
 
@@ -8,7 +9,7 @@ use crate::drill::asking::Asked;
 use crate::drill::printed::Response;
 use crate::drill::sink::RequestSink;
 use chpw_rules::{Config, Items};
-use chpw_table::{Fault, Table};
+use chpw_table::{DecideFault, Table};
 use std::alloc::{AllocError, Global};
 
 /// The table, and what the lines hold beside it.
@@ -39,7 +40,7 @@ impl Drill {
     /// What is answered to a request, and one step where that is a verdict. A pending failure is
     /// over where it met an append.
     pub fn respond(&mut self, asked: Asked) -> Result<Response, AllocError>
-        requires moment { (pos 0 ≤ℤ asked.now.seconds) × (asked.now.seconds ≤ℤ pos 253402300799) }
+        requires moment { IsMoment asked.now }
         ensures response { IfOk result (λ r. (m : Machine) → Runs self.old m → r ≡ response_to m asked) }
         ensures step { IfOk result (λ r. (m : Machine) → Runs self.old m
             → Runs self.new (machine_after (response_to m asked) m asked)) }
@@ -66,12 +67,12 @@ fn still_fails(fails: bool, met: bool) -> bool
 }
 
 // What is answered where nothing is decided; none for want of memory.
-fn refusal(fault: Fault) -> Option<Response>
+fn refusal(fault: DecideFault) -> Option<Response>
     ensures value { result ≡ refusal_of fault }
 {
     match fault {
-        Fault::Full => Some(Response::Full),
-        Fault::NeedKeys(counts) => Some(Response::Need(counts)),
-        Fault::Memory => None,
+        DecideFault::Full => Some(Response::Full),
+        DecideFault::NeedKeys(counts) => Some(Response::Need(counts)),
+        DecideFault::Memory => None,
     }
 }

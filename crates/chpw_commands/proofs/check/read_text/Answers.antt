@@ -15,4 +15,4 @@ pub returns-in-Ok : goal.returns-in-Ok
 returns-in-Ok c = record { value = rw (is_utf8-from_IsUtf8 c.args.text.now c.in-Ok.ensures.cases.1, ← c.in-Ok.ensures.cases.0) c.read_config.ensures.value }
 
 pub returns-in-Err : goal.returns-in-Err
-returns-in-Err c = record { value = rw (not_utf8 c.args.text.now c.in-Err.ensures.cases.0) refl }
+returns-in-Err c = record { value = rw (not_utf8 c.args.text.now c.in-Err.ensures.cases.0, c.not_toml.ensures.value) refl }

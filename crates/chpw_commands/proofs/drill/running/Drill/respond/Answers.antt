@@ -27,7 +27,7 @@ returns-in-Ok-clause-step c = λ m r.
     rw c.still_fails-self.ensures.value (runs_on c.args.self.now c.args.asked c.in-Ok.outcome.io_failed c.in-Ok.outcome.verdict c.decide.new.sink c.decide.new.self (decided c) m r)
 
 pub returns-in-Some-clause-response : goal.returns-in-Some-clause-response
-returns-in-Some-clause-response c = λ m r. refused_is c.args.self.now c.args.asked m r c.in-Err.refused.fault c.in-Some.response c.in-Err.ensures.first (sym c.in-Some.ensures.value)
+returns-in-Some-clause-response c = λ m r. refused_is c.args.self.now c.args.asked m r c.in-Err.refused.fault c.in-Some.response (c.in-Err.ensures.first m.state r.state) (sym c.in-Some.ensures.value)
 
 pub returns-in-Some-clause-step : goal.returns-in-Some-clause-step
-returns-in-Some-clause-step c = λ m r. rw c.in-Err.ensures.unchanged.0 (refused_runs c.args.self.now c.args.asked m r c.in-Err.refused.fault c.in-Some.response c.in-Err.ensures.first (sym c.in-Some.ensures.value))
+returns-in-Some-clause-step c = λ m r. rw c.in-Err.ensures.unchanged.0 (refused_runs c.args.self.now c.args.asked m r c.in-Err.refused.fault c.in-Some.response (c.in-Err.ensures.first m.state r.state) (sym c.in-Some.ensures.value))
