@@ -1,7 +1,10 @@
 -- The drill: what a script prints, and its first bad line.
-use Rattle.std.specs.Prelude.{ℕ, ◌+◌, ◌==◌, List, [], ◌∷◌, ◌++◌, Option, Some, None}
+use Rattle.std.specs.Prelude.{ℕ, ◌+◌, ◌==◌, List, [], ◌∷◌, ◌++◌, Option, Some, None, codes}
+use Rattle.std.specs.Fmt.{decimal}
 use Rattle.std.specs.Option.{option_map_or}
 use Rattle.std.specs.List.{slice_split}
+use Rattle.chpw_commands.specs.declared.drill.DrillFault.{DrillFault}
+use Rattle.chpw_commands.specs.declared.drill.DrillFault.TheVariants as fault
 use Rattle.chpw_commands.specs.Words.{◌>>=◌}
 use Rattle.chpw_commands.specs.Lines.{line_of}
 use Rattle.chpw_commands.specs.Stages.{Stage, start, realm_at, Turn, silent, turn_line}
@@ -33,3 +36,10 @@ drilled_from stage n (line ∷ lines) =
 
 abbrev pub drilled : List ℕ → Drilled
 drilled script = drilled_from start 1 (lines_of script)
+
+-- why a command ended early
+abbrev pub fault_text : DrillFault → List ℕ
+fault_text (fault.Line n) = codes "line " ++ decimal n ++ codes ": bad"
+fault_text fault.Memory = codes "memory"
+fault_text fault.Read = codes "cannot read"
+fault_text fault.Write = codes "cannot write"

@@ -16,8 +16,8 @@ mod words;
 
 use crate::drill::stage::{Stage, Turn, take_turn};
 use std::alloc::Global;
+use std::fmt;
 use std::io::{ErrorKind, Read, Write};
-use thiserror::Error;
 
 /// How many reads a script may take.
 const MAX_READS: u32 = 16_777_216;
@@ -26,20 +26,32 @@ const MAX_READS: u32 = 16_777_216;
 const READ_LENGTH: usize = 4096;
 
 /// Why a drill ends early.
-#[derive(Clone, Copy, PartialEq, Eq, Debug, Drop, Error)]
+#[derive(Clone, Copy, Drop)]
 pub enum DrillFault {
     /// The line of this number, from 1, is bad.
-    #[error("line {0}: bad")]
     Line(u64),
     /// A growth was refused.
-    #[error("memory")]
     Memory,
     /// A read failed, or the script takes too many.
-    #[error("cannot read")]
     Read,
     /// A write failed.
-    #[error("cannot write")]
     Write,
+}
+
+impl fmt::Display for DrillFault {
+    ghost use Rattle.std.specs.Prelude.{Some};
+    ghost use Rattle.chpw_commands.specs.Drilled.{fault_text};
+
+    ghost output = { λ fault. Some (fault_text fault) };
+
+    fn fmt<W: fmt::Write>(&self, f: &mut fmt::Formatter<W>) -> fmt::Result {
+        match self {
+            DrillFault::Line(number) => write!(f, "line {number}: bad"),
+            DrillFault::Memory => f.write_str("memory"),
+            DrillFault::Read => f.write_str("cannot read"),
+            DrillFault::Write => f.write_str("cannot write"),
+        }
+    }
 }
 
 /// Runs the script that the reader gives, and writes what it prints. The script is read whole

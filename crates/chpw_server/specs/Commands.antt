@@ -1,8 +1,6 @@
 -- The command line, and how a run ends: its status and its line on standard error.
-use Rattle.std.specs.Prelude.{ℕ, Bool, ◌&&◌, List, [], ◌∷◌, ◌++◌, Option, Some, None, bytes_eq, codes, if◌then◌else◌, string_bytes}
-use Rattle.std.specs.Fmt.{decimal}
-use Rattle.chpw_commands.specs.declared.drill.DrillFault.{DrillFault}
-use Rattle.chpw_commands.specs.declared.drill.DrillFault.TheVariants as fault
+use Rattle.std.specs.Prelude.{ℕ, ◌&&◌, List, [], ◌∷◌, ◌++◌, Option, Some, None, bytes_eq, codes, if◌then◌else◌, string_bytes}
+use Rattle.chpw_commands.specs.Drilled.{fault_text}
 use Rattle.chpw_server.specs.declared.command.Command.{Command}
 use Rattle.chpw_server.specs.declared.command.Command.TheVariants.{Drill, Check}
 use Rattle.chpw_server.specs.declared.command.Ending.{Ending}
@@ -26,13 +24,6 @@ status_of (Faulty file words) = 1
 status_of (Early fault) = 1
 status_of (Unread file) = 1
 status_of BadCommand = 2
-
--- why a command ended early
-abbrev pub fault_text : DrillFault → List ℕ
-fault_text (fault.Line n) = codes "line " ++ decimal n ++ codes ": bad"
-fault_text fault.Memory = codes "memory"
-fault_text fault.Read = codes "cannot read"
-fault_text fault.Write = codes "cannot write"
 
 -- the line on standard error
 abbrev pub ending_text : Ending → List ℕ

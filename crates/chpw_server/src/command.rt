@@ -1,5 +1,5 @@
 //! What the program is asked for, and how a run ends.
-ghost use Rattle.std.specs.Prelude.{◌≡◌, map, option_map};
+ghost use Rattle.std.specs.Prelude.{◌≡◌, ◌∷◌, [], map, option_map};
 ghost use Rattle.chpw_server.specs.Commands.{command_of, ending_text, file_of, status_of};
 
 use chpw_commands::DrillFault;
@@ -19,11 +19,29 @@ pub fn command_of<'a>(words: &[&'a str]) -> Option<Command<'a>>
     ensures value { option_map file_of result ≡ command_of (map (λ w. w.now) words.now) }
 {
     match words {
-        [word] if *word == "drill" => Some(Command::Drill),
-        [word, option, file] if *word == "check" && *option == "--config" => {
-            Some(Command::Check(file))
-        }
+        [word] => drill_of(word),
+        [word, option, file] => check_of(word, option, file),
         _ => None,
+    }
+}
+
+fn drill_of<'a>(word: &str) -> Option<Command<'a>>
+    ensures value { option_map file_of result ≡ command_of (word.now ∷ []) }
+{
+    if word == "drill" {
+        Some(Command::Drill)
+    } else {
+        None
+    }
+}
+
+fn check_of<'a>(word: &str, option: &str, file: &'a str) -> Option<Command<'a>>
+    ensures value { option_map file_of result ≡ command_of (word.now ∷ option.now ∷ file.now ∷ []) }
+{
+    if word == "check" && option == "--config" {
+        Some(Command::Check(file))
+    } else {
+        None
     }
 }
 

@@ -50,7 +50,7 @@ fn run(rt: &(impl Files + Input + Print + AllocGlobal), words: &[String]) -> End
 }
 
 fn asked(alloc: Global, words: &[String]) -> Result<Option<Command<'_>>, AllocError> {
-    let words = words.iter().map(|word| word.as_str()).collect(alloc)?;
+    let words: Vec<&str> = words.iter().map(|word| word.as_str()).collect(alloc)?;
     Ok(command_of(words.as_slice()))
 }
 
