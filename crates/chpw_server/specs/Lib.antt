@@ -1,10 +1,1 @@
-pub mod Checked
-pub mod Words
-pub mod Setup
-pub mod Asking
-pub mod Lines
-pub mod Stages
-pub mod Printed
-pub mod Drilled
-pub mod Following
-pub mod Answering
+pub mod Commands

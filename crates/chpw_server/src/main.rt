@@ -1,108 +1,91 @@
-//! The service's program. Of its commands there are `drill`, a script of decisions on standard
-//! input, their results on standard output; and `check`, what is found in a configuration file.
+//! The service's program. Of its commands there are `drill`, a script of decisions on standard input
+//! and their results on standard output; and `check`, what is found in a configuration file.
 #![tactic(auto)]
 
-mod asking;
-mod check;
-mod drill;
-mod line;
-mod printed;
-mod running;
-mod setup;
-mod sink;
-mod stage;
+mod command;
 #[cfg(test)]
 mod tests;
-mod words;
 
-use check::run_check;
-use drill::{DrillFault, run_drill};
+pub use chpw_commands::{DrillFault, explain_check, run_check, run_drill};
+use command::{Command, Ending, command_of};
+use std::alloc::{AllocError, Global};
+use std::io::{BufWriter, Write};
 use std::process::ExitCode;
 use std::rt::{Env, Files};
 use std::{env, fs, io};
 
-/// The status of a bad command line.
-const BAD_COMMAND: u8 = 2;
-
-// What the program is asked for.
-#[derive(Drop)]
-enum Command {
-    Drill,
-    // The configuration's file.
-    Check(String),
-}
-
-/// Ends with 0; with 1 after a fault, which is named on standard error, and for a configuration with
-/// a fault; with 2 for a command that there is not.
+/// Ends with 0; with 1 after a fault, which is told on standard error; with 2 and a line on the usage
+/// for a command that there isn't.
 fn main(rt: HostRuntime) -> ExitCode {
-    match command_of(&rt) {
-        Ok(Some(Command::Drill)) => drill_input(&rt),
-        Ok(Some(Command::Check(path))) => check_file(&rt, path.as_str()),
-        Ok(None) => ExitCode::from(BAD_COMMAND),
-        Err(error) => {
-            if error.kind() == io::ErrorKind::OutOfMemory {
-                failed(&rt, DrillFault::Memory)
-            } else {
-                ExitCode::from(BAD_COMMAND)
-            }
-        }
-    }
-}
-
-// The words behind the program's name: `drill`, or `check --config FILE`.
-fn command_of(rt: &(impl Env + AllocGlobal)) -> io::Result<Option<Command>> {
-    let mut words = env::args(rt)?;
-    let _program = words.next();
-    let command = words.next();
-    let option = words.next();
-    let value = words.next();
-    let another = words.next();
-    let Some(command) = command else {
-        return Ok(None);
+    let ending = match words(&rt) {
+        Ok(words) => run(&rt, words.as_slice()),
+        Err(error) if error.kind() == io::ErrorKind::OutOfMemory => Ending::Early(
+            DrillFault::Memory,
+        ),
+        Err(_) => Ending::BadCommand,
     };
-    Ok(match command.as_str() {
-        "drill" if option.is_none() => Some(Command::Drill),
-        "check" if another.is_none() => check_of(option, value),
-        _ => None,
-    })
-}
-
-// The words behind `check`.
-fn check_of(option: Option<String>, value: Option<String>) -> Option<Command> {
-    if option?.as_str() != "--config" {
-        return None;
+    if ending.is_told() {
+        let _ = eprintln!(rt; "{ending}");
     }
-    Some(Command::Check(value?))
+    ExitCode::from(ending.status())
 }
 
-fn drill_input(rt: &(impl Input + Print + Eprint + AllocGlobal)) -> ExitCode {
-    let mut reader = rt.reader();
-    let mut writer = io::writer(rt);
-    match run_drill(rt.alloc(), &mut reader, &mut writer) {
-        Ok(()) => ExitCode::SUCCESS,
-        Err(fault) => failed(rt, fault),
+// The words behind the program's name.
+fn words(rt: &(impl Env + AllocGlobal)) -> io::Result<Vec<String>> {
+    let mut words = Vec::new(rt.alloc());
+    for word in env::args(rt)?.skip(1) {
+        words.push(word)?;
+    }
+    Ok(words)
+}
+
+// Runs the command of these words.
+fn run(rt: &(impl Files + Input + Print + AllocGlobal), words: &[String]) -> Ending {
+    match asked(rt.alloc(), words) {
+        Err(_) => Ending::Early(DrillFault::Memory),
+        Ok(None) => Ending::BadCommand,
+        Ok(Some(Command::Drill)) => drill(rt),
+        Ok(Some(Command::Check(file))) => check(rt, file),
     }
 }
 
-fn check_file(rt: &(impl Files + Print + Eprint + AllocGlobal), path: &str) -> ExitCode {
-    let text = match fs::read(rt, path) {
-        Ok(text) => text,
-        Err(error) if error.kind() == io::ErrorKind::OutOfMemory => {
-            return failed(rt, DrillFault::Memory);
-        }
-        Err(_) => {
-            let _ = eprintln!(rt; "cannot read {path}");
-            return ExitCode::FAILURE;
-        }
+fn asked(alloc: Global, words: &[String]) -> Result<Option<Command<'_>>, AllocError> {
+    let words: Vec<&str> = words.iter().map(|word| word.as_str()).collect(alloc)?;
+    Ok(command_of(words.as_slice()))
+}
+
+// The script on standard input; what it prints is written in few pieces.
+fn drill(rt: &(impl Input + Print + AllocGlobal)) -> Ending {
+    let Ok(mut writer) = BufWriter::new(rt.alloc(), io::writer(rt)) else {
+        return Ending::Early(DrillFault::Memory);
     };
-    let mut writer = io::writer(rt);
-    match run_check(rt.alloc(), text.as_slice(), &mut writer) {
-        Ok(status) => ExitCode::from(status),
-        Err(fault) => failed(rt, fault),
+    let ended = run_drill(rt.alloc(), &mut rt.reader(), &mut writer);
+    match (writer.flush(), ended) {
+        (Err(_), _) => Ending::Early(DrillFault::Write),
+        (Ok(()), Err(fault)) => Ending::Early(fault),
+        (Ok(()), Ok(())) => Ending::Good,
     }
 }
 
-fn failed(rt: &impl Eprint, fault: DrillFault) -> ExitCode {
-    let _ = eprintln!(rt; "{fault}");
-    ExitCode::FAILURE
+// The configuration in a file.
+fn check(rt: &(impl Files + Print + AllocGlobal), file: &str) -> Ending {
+    let read = match fs::read(rt, file) {
+        Ok(text) => checked(rt, file, text.as_slice()),
+        Err(error) if error.kind() == io::ErrorKind::OutOfMemory => Err(AllocError),
+        Err(_) => String::from_str(rt.alloc(), file).map(Ending::Unread),
+    };
+    read.unwrap_or(Ending::Early(DrillFault::Memory))
+}
+
+fn checked(rt: &(impl Print + AllocGlobal), file: &str, text: &[u8]) -> Result<Ending, AllocError> {
+    match run_check(rt.alloc(), text, &mut io::writer(rt)) {
+        Err(fault) => Ok(Ending::Early(fault)),
+        Ok(_) => match explain_check(rt.alloc(), text)? {
+            None => Ok(Ending::Good),
+            Some(words) => Ok(Ending::Faulty {
+                file: String::from_str(rt.alloc(), file)?,
+                words,
+            }),
+        },
+    }
 }

@@ -1,0 +1,9 @@
+pub mod NumberLemmas
+pub mod SplitLemmas
+pub mod EachLemmas
+pub mod TextLemmas
+pub mod SetupLemmas
+pub mod AppendLemmas
+pub mod RespondLemmas
+pub mod RunLemmas
+pub mod StageLemmas

@@ -1,0 +1,99 @@
+-- What the machine answers, from what the table decided.
+use Rattle.std.proofs.Common.{◌≡◌, ◌≢◌, ℕ, ◌+◌, ◌<◌, List, [], ◌∷◌, ◌++◌, Bool, true, false, ◌&&◌, not, if◌then◌else◌, Option, Some, None, refl, sym, ◌∙◌, ap, subst, arith}
+use Rattle.std.specs.Prelude.{◌==◌, option_map}
+use Rattle.std.proofs.lemmas.Bool.Decides.{nat_tests}
+use Rattle.chpw_table.specs.declared.verdict.Verdict.{Verdict}
+use Rattle.chpw_table.specs.declared.outcome.DecideFault.{DecideFault}
+use Rattle.chpw_table.specs.declared.outcome.DecideFault.TheVariants as fault
+use Rattle.chpw_table.specs.State.{State}
+use Rattle.chpw_table.specs.Verdicts.{is_done}
+use Rattle.chpw_table.specs.Decision.{verdict}
+use Rattle.chpw_table.specs.Step.{step}
+use Rattle.chpw_table.specs.History.{IsDecided, missing}
+use Rattle.chpw_table.specs.Journal.{appended}
+use Rattle.chpw_table.specs.Agreement.{Held, Agrees}
+use Rattle.chpw_table.specs.Refusals.{IsFirst}
+use Rattle.chpw_commands.specs.declared.drill.asking.Asked.{Asked}
+use Rattle.chpw_commands.specs.declared.drill.printed.Response.{Response}
+use Rattle.chpw_commands.specs.declared.drill.printed.Response.TheVariants.{Said, Need, Full}
+use Rattle.chpw_commands.specs.declared.drill.running.Drill.{Drill}
+use Rattle.chpw_commands.specs.declared.drill.sink.RequestSink.{RequestSink}
+use Rattle.chpw_commands.specs.Stages.{Machine, append_fails, response_at, response_to, machine_after}
+use Rattle.chpw_commands.specs.Following.{Runs, refusal_of}
+use Rattle.chpw_commands.proofs.AppendLemmas.{failed_of, told_of, io_is}
+
+-- the clauses of a decision
+pub record Decided (d : Drill) (a : Asked) (io : Bool) (v : Verdict) (k : RequestSink) (t : Held) : Type 0 where
+  pub legal : (s : State) → Agrees d.table.state s → IsDecided s a.now a.opened io v
+  pub steps : (s : State) → Agrees d.table.state s → Agrees t.state (step s a.now a.opened io)
+  pub counted : failed_of k ≡ (if io then failed_of (record { fails = d.fails; failed = 0 }) + 1 else failed_of (record { fails = d.fails; failed = 0 }))
+  pub told : (s : State) → Agrees d.table.state s → told_of k ≡ option_map (λ xs. xs ++ appended s a.opened v) (told_of (record { fails = d.fails; failed = 0 }))
+  pub events : t.events ≡ d.table.events + 1
+  pub max_entries : t.max_entries ≡ d.table.max_entries
+  pub room : d.table.events < d.table.max_entries
+
+response_said : (b : Bool) (ns : List ℕ) (v : Verdict) → b ≡ false → ns ≡ [] → (if b then Full else response_at ns v) ≡ Said v
+response_said true ns v e f = cc
+response_said false [] v e f = refl
+response_said false (n ∷ ns) v e f = cc
+
+is_below : (m n : ℕ) → m < n → (m == n) ≡ false
+is_below m n h = grind (arith, nat_tests)
+
+is_full : (m n : ℕ) → m ≡ n → (m == n) ≡ true
+is_full m n h = grind (arith, nat_tests)
+
+module _ (d : Drill) (a : Asked) (io : Bool) (v : Verdict) (k : RequestSink) (t : Held) (c : Decided d a io v k t) (m : Machine) (r : Runs d m) where
+  same_io : io ≡ append_fails m a
+  same_io = io_is d.fails io k m.state a.now a.opened v (c.legal m.state r.state) c.counted (c.told m.state r.state)
+      ∙ ap (λ (b : Bool). b && is_done (verdict m.state a.now a.opened false)) r.fails
+
+  pub said_is : Said v ≡ response_to m a
+  said_is =
+      let here : IsDecided m.state a.now a.opened io v = c.legal m.state r.state in
+      let low : m.events < m.max_entries = rw (← r.events, ← r.max_entries) c.room in
+      ap (λ (w : Verdict). Said w) (here.verdict_is ∙ ap (λ (b : Bool). verdict m.state a.now a.opened b) same_io)
+      ∙ sym (response_said (m.events == m.max_entries) (missing m.state a.now a.opened) (verdict m.state a.now a.opened (append_fails m a)) (is_below m.events m.max_entries low) here.derived)
+
+  pub runs_on : Runs (record { table = t; realm = d.realm; fails = d.fails && not io }) (machine_after (response_to m a) m a)
+  runs_on =
+      let after : Runs (record { table = t; realm = d.realm; fails = d.fails && not io }) (machine_after (Said v) m a) = record {
+        state = subst (λ (b : Bool). Agrees t.state (step m.state a.now a.opened b)) same_io (c.steps m.state r.state);
+        events = c.events ∙ ap (λ (n : ℕ). n + 1) r.events;
+        max_entries = c.max_entries ∙ r.max_entries;
+        fails = ap (λ (b : Bool). b && not io) r.fails ∙ ap (λ (b : Bool). m.fails && not b) same_io;
+        realm = r.realm;
+      } in
+      subst (λ (x : Response). Runs (record { table = t; realm = d.realm; fails = d.fails && not io }) (machine_after x m a)) said_is after
+
+response_needs : (b : Bool) (ns : List ℕ) (v : Verdict) → b ≡ false → ns ≢ [] → (if b then Full else response_at ns v) ≡ Need ns
+response_needs true ns v e f = cc
+response_needs false [] v e f = absurd (f refl)
+response_needs false (n ∷ ns) v e f = refl
+
+response_full : (b : Bool) (x : Response) → b ≡ true → (if b then Full else x) ≡ Full
+response_full true x e = refl
+response_full false x e = cc
+
+module _ (d : Drill) (a : Asked) (m : Machine) (r : Runs d m) where
+  pub refused_is : (f : DecideFault) (x : Response) → IsFirst d.table (missing m.state a.now a.opened) f → refusal_of f ≡ Some x → x ≡ response_to m a
+  refused_is fault.Full x first e =
+      let full : m.events ≡ m.max_entries = sym r.events ∙ (first ∙ r.max_entries) in
+      let this : x ≡ Full = cc in
+      this ∙ sym (response_full (m.events == m.max_entries) _ (is_full m.events m.max_entries full))
+  refused_is (fault.NeedKeys given) x first e =
+      let low : m.events < m.max_entries = rw (← r.events, ← r.max_entries) first.0 in
+      let this : x ≡ Need given = cc in
+      this ∙ (ap (λ (ns : List ℕ). Need ns) first.2
+      ∙ sym (response_needs (m.events == m.max_entries) (missing m.state a.now a.opened) (verdict m.state a.now a.opened (append_fails m a)) (is_below m.events m.max_entries low) first.1))
+  refused_is fault.Memory x first e = cc
+
+  stays : (f : DecideFault) (x : Response) → refusal_of f ≡ Some x → machine_after x m a ≡ m
+  stays fault.Full x e = let this : x ≡ Full = cc in rw this refl
+  stays (fault.NeedKeys given) x e = let this : x ≡ Need given = cc in rw this refl
+  stays fault.Memory x e = cc
+
+  pub refused_runs : (f : DecideFault) (x : Response) → IsFirst d.table (missing m.state a.now a.opened) f → refusal_of f ≡ Some x → Runs d (machine_after (response_to m a) m a)
+  refused_runs f x first e =
+      let same : machine_after (response_to m a) m a ≡ m = ap (λ (y : Response). machine_after y m a) (sym (refused_is f x first e)) ∙ stays f x e in
+      rw same r

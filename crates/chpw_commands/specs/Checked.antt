@@ -1,0 +1,37 @@
+-- The command `check`: what is found in a file, its line, and the status.
+use Rattle.std.specs.Prelude.{ℕ, List, ◌++◌, length, Result, Ok, Err, codes, if◌then◌else◌}
+use Rattle.std.specs.Fmt.{decimal}
+use Rattle.std.specs.Str.{is_utf8}
+use Rattle.chpw_rules.specs.declared.config.Config.{Config}
+use Rattle.chpw_rules.specs.declared.fault.ConfigFault.{ConfigFault}
+use Rattle.chpw_rules.specs.Faults.{no_toml, fault_text}
+use Rattle.chpw_rules.specs.Settings.{settings_of}
+use Rattle.chpw_commands.specs.declared.drill.DrillFault.{DrillFault}
+use Rattle.chpw_commands.specs.declared.drill.DrillFault.TheVariants as drill
+
+-- the configuration or its first fault; bytes that are not UTF-8 are no TOML
+abbrev pub checked : List ℕ → Result Config ConfigFault
+checked text = if is_utf8 text then settings_of text else Err no_toml
+
+abbrev pub good_line : Config → List ℕ
+good_line c =
+    codes "ok: principals " ++ decimal (length c.principals) ++ codes ", rules " ++ decimal (length c.rules.list)
+    ++ codes ", service keys " ++ decimal (length c.service) ++ codes "\n"
+
+abbrev pub fault_line : ConfigFault → List ℕ
+fault_line fault = fault_text fault ++ codes "\n"
+
+abbrev pub line_of_check : Result Config ConfigFault → List ℕ
+line_of_check (Ok c) = good_line c
+line_of_check (Err fault) = fault_line fault
+
+abbrev pub status_of : Result Config ConfigFault → ℕ
+status_of (Ok c) = 0
+status_of (Err fault) = 1
+
+-- a check ends early for these alone
+abbrev pub IsCheckFault : DrillFault → Type 0
+IsCheckFault drill.Memory = Unit {0}
+IsCheckFault drill.Write = Unit {0}
+IsCheckFault drill.Read = ⊥
+IsCheckFault (drill.Line n) = ⊥

@@ -1,0 +1,10 @@
+pub mod Checked
+pub mod Words
+pub mod Setup
+pub mod Asking
+pub mod Lines
+pub mod Stages
+pub mod Printed
+pub mod Drilled
+pub mod Following
+pub mod Answering

@@ -1,0 +1,104 @@
+//! The check of a configuration.
+ghost use Rattle.std.specs.Prelude.{◌≡◌, Err, IfOk, IfErr, is_some, string_bytes, if◌then◌else◌};
+ghost use Rattle.std.specs.Io.KnownBytes.{Appends};
+ghost use Rattle.chpw_rules.specs.Faults.{UnlessMemory};
+ghost use Rattle.chpw_commands.specs.Checked.{checked, line_of_check, status_of, good_line, fault_line, IsCheckFault};
+ghost use Rattle.chpw_commands.specs.declared.drill.DrillFault.TheVariants.{Memory};
+
+use crate::drill::DrillFault;
+use chpw_rules::{Config, ConfigError, ConfigFault, explain, read_config};
+use std::alloc::{AllocError, Global};
+use std::io::Write;
+use std::str;
+
+/// The status of a configuration without a fault.
+const GOOD: u8 = 0;
+
+/// The status of one with a fault.
+const FAULTY: u8 = 1;
+
+/// Writes one line on the text of a configuration, and gives the status: 0, and how many principals,
+/// rules and service keys there are; or 1, and the first fault. A text that isn't UTF-8 isn't TOML.
+///
+/// `Memory` where a growth was refused, and nothing is written then; `Write` where the write failed.
+pub fn run_check<W: Write>(alloc: Global, text: &[u8], writer: &mut W) -> Result<u8, DrillFault>
+    ensures status { IfOk result (λ status. status ≡ status_of (checked text.now)) }
+    ensures written { IfOk result (λ _. Appends (W.contents writer.old) (W.contents writer.new) (line_of_check (checked text.now))) }
+    ensures faults { IfErr result IsCheckFault }
+    ensures unchanged { result ≡ Err Memory → writer.new ≡ writer.old }
+{
+    let Ok((line, status)) = found(alloc, text) else {
+        return Err(DrillFault::Memory);
+    };
+    match writer.write_all(line.as_bytes()) {
+        Ok(()) => Ok(status),
+        Err(_) => Err(DrillFault::Write),
+    }
+}
+
+/// What is wrong with the text of a configuration, in words for a person; none where nothing is.
+pub fn explain_check(alloc: Global, text: &[u8]) -> Result<Option<String>, AllocError>
+    ensures status { IfOk result (λ words. status_of (checked text.now) ≡ (if is_some words then 1 else 0)) }
+{
+    match read_text(alloc, text) {
+        Ok(_) => Ok(None),
+        Err(ConfigError::Memory) => Err(AllocError),
+        Err(ConfigError::Fault(fault)) => Ok(Some(in_words(alloc, text, fault)?)),
+    }
+}
+
+fn in_words(alloc: Global, text: &[u8], fault: ConfigFault) -> Result<String, AllocError> {
+    match str::from_utf8(text) {
+        Ok(text) => explain(alloc, text, fault),
+        Err(error) => {
+            let before = error.valid_up_to();
+            format!(in alloc; "not UTF-8 after {before} bytes")
+        }
+    }
+}
+
+// The line of what is found, and the status.
+fn found(alloc: Global, text: &[u8]) -> Result<(String, u8), AllocError>
+    ensures line { IfOk result (λ r. string_bytes r.0 ≡ line_of_check (checked text.now)) }
+    ensures status { IfOk result (λ r. r.1 ≡ status_of (checked text.now)) }
+{
+    match read_text(alloc, text) {
+        Err(ConfigError::Memory) => Err(AllocError),
+        Err(ConfigError::Fault(fault)) => Ok((faulty(alloc, fault)?, FAULTY)),
+        Ok(config) => Ok((good(alloc, &config)?, GOOD)),
+    }
+}
+
+// The configuration that the bytes set, or their first fault.
+fn read_text(alloc: Global, text: &[u8]) -> Result<Config, ConfigError>
+    ensures value { UnlessMemory result (checked text.now) }
+{
+    match str::from_utf8(text) {
+        Ok(text) => read_config(alloc, text),
+        Err(_) => Err(ConfigError::Fault(ConfigFault::not_toml())),
+    }
+}
+
+// The line of a configuration without a fault.
+fn good(alloc: Global, config: &Config) -> Result<String, AllocError>
+    ensures value { IfOk result (λ line. string_bytes line ≡ good_line config.now) }
+{
+    let principals = config.principals.as_slice().len();
+    let rules = config.rules.list.as_slice().len();
+    let keys = config.service.as_slice().len();
+    let mut line = String::from_str(alloc, "ok: principals ")?;
+    line.push_str(principals.to_string(alloc)?.as_str())?;
+    line.push_str(", rules ")?;
+    line.push_str(rules.to_string(alloc)?.as_str())?;
+    line.push_str(", service keys ")?;
+    line.push_str(keys.to_string(alloc)?.as_str())?;
+    line.push_str("\n")?;
+    Ok(line)
+}
+
+// The line of a fault.
+fn faulty(alloc: Global, fault: ConfigFault) -> Result<String, AllocError>
+    ensures value { IfOk result (λ line. string_bytes line ≡ fault_line fault) }
+{
+    format!(in alloc; "{fault}\n")
+}

@@ -1,0 +1,78 @@
+//! The machine that a script runs.
+ghost use Rattle.std.specs.Prelude.{◌≡◌, IfOk, true, ◌&&◌, not};
+ghost use Rattle.chpw_rules.specs.Fitting.{config_fits};
+ghost use Rattle.chpw_table.specs.Times.{IsMoment};
+ghost use Rattle.chpw_commands.specs.Stages.{Machine, opened_with, response_to, machine_after};
+ghost use Rattle.chpw_commands.specs.Following.{Runs, refusal_of};
+
+use crate::drill::asking::Asked;
+use crate::drill::printed::Response;
+use crate::drill::sink::RequestSink;
+use chpw_rules::{Config, Items};
+use chpw_table::{DecideFault, Table};
+use std::alloc::{AllocError, Global};
+
+/// The table, and what the lines hold beside it.
+#[derive(Drop)]
+pub struct Drill {
+    pub table: Table,
+    /// The realm of names without `@`.
+    pub realm: Items<u8>,
+    /// Whether the next append fails.
+    pub fails: bool,
+}
+
+/// The machine that a configuration opens with.
+pub fn open_drill(alloc: Global, config: Config, quiet_until: i64) -> Result<Drill, AllocError>
+    requires fits { config_fits config ≡ true }
+    ensures opening { IfOk result (λ drill. Runs drill (opened_with config quiet_until)) }
+{
+    let realm = Items::of(Vec::from_slice(alloc, config.realm.as_slice())?);
+    let table = Table::start(alloc, config, quiet_until)?;
+    Ok(Drill {
+        table,
+        realm,
+        fails: false,
+    })
+}
+
+impl Drill {
+    /// What is answered to a request, and one step where that is a verdict. A pending failure is
+    /// over where it met an append.
+    pub fn respond(&mut self, asked: Asked) -> Result<Response, AllocError>
+        requires moment { IsMoment asked.now }
+        ensures response { IfOk result (λ r. (m : Machine) → Runs self.old m → r ≡ response_to m asked) }
+        ensures step { IfOk result (λ r. (m : Machine) → Runs self.old m
+            → Runs self.new (machine_after (response_to m asked) m asked)) }
+    {
+        let mut sink = RequestSink::new(self.fails);
+        match self.table.decide(asked.now, asked.opened, &mut sink) {
+            Ok(outcome) => {
+                self.fails = still_fails(self.fails, outcome.io_failed);
+                Ok(Response::Said(outcome.verdict))
+            }
+            Err(refused) => match refusal(refused.fault) {
+                Some(response) => Ok(response),
+                None => Err(AllocError),
+            },
+        }
+    }
+}
+
+// A failure is pending until it meets an append.
+fn still_fails(fails: bool, met: bool) -> bool
+    ensures value { result ≡ (fails && not met) }
+{
+    fails && !met
+}
+
+// What is answered where nothing is decided; none for want of memory.
+fn refusal(fault: DecideFault) -> Option<Response>
+    ensures value { result ≡ refusal_of fault }
+{
+    match fault {
+        DecideFault::Full => Some(Response::Full),
+        DecideFault::NeedKeys(counts) => Some(Response::Need(counts)),
+        DecideFault::Memory => None,
+    }
+}

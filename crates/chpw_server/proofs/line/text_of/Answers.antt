@@ -1,7 +1,0 @@
-use Rattle.chpw_server.proofs.TextLemmas.{text_gives}
-use Rattle.chpw_server.proofs.line.text_of.Goals as goal
-
-pub returns : goal.returns
-returns c = record {
-  value = rw c.ok.ensures.value (text_gives _ c.args.bytes.now c.from_utf8.result c.from_utf8.ensures.cases);
-}

@@ -1,0 +1,75 @@
+//! One case of the drill or of the check.
+use chpw_commands::{DrillFault, explain_check, run_check, run_drill};
+use std::alloc::Global;
+use std::io::{Error, ErrorKind, Result};
+
+/// What a script prints, and how it ends.
+pub fn drilled(alloc: Global, script: &str) -> Result<(Vec<u8>, String)> {
+    let mut reader = script.as_bytes();
+    let mut printed = Vec::new(alloc);
+    let ending = match run_drill(alloc, &mut reader, &mut printed) {
+        Ok(()) => String::from_str(alloc, "ends")?,
+        Err(fault) => fault.to_string(alloc)?,
+    };
+    Ok((printed, ending))
+}
+
+/// The line that the check prints, without its newline, and the status.
+pub fn checked(alloc: Global, text: &str) -> Result<(String, u8)> {
+    let mut printed = Vec::new(alloc);
+    let status = run_check(alloc, text.as_bytes(), &mut printed).map_err(no_memory)?;
+    let line = String::from_utf8(printed).map_err(|_| Error::from(ErrorKind::InvalidData))?;
+    Ok((String::from_str(alloc, line.as_str().trim_end())?, status))
+}
+
+/// What is wrong with a configuration, in words.
+pub fn explained(alloc: Global, text: &str) -> Result<Option<String>> {
+    Ok(explain_check(alloc, text.as_bytes())?)
+}
+
+fn no_memory(_fault: DrillFault) -> Error {
+    Error::from(ErrorKind::OutOfMemory)
+}
+
+/// How the script ends that is the base, a line and `show alice`; and how many lines it prints, if any.
+pub fn line_ending(alloc: Global, base: &str, line: &str) -> Result<String> {
+    let line = expanded(alloc, line)?;
+    let end = if base.is_empty() { "" } else { "\n" };
+    let script = format!(in alloc; "{base}{end}{}\nshow alice\n", line.as_str())?;
+    let (printed, ending) = drilled(alloc, script.as_str())?;
+    let count = printed
+        .as_slice()
+        .iter()
+        .filter(|byte| **byte == b'\n')
+        .count();
+    if count == 0 {
+        return Ok(ending);
+    }
+    Ok(format!(in alloc; "{} after {count} lines", ending.as_str())?)
+}
+
+/// The base with the edits of a line, `OLD -> NEW | OLD -> NEW`: each OLD is replaced wherever it stands.
+pub fn edited(alloc: Global, base: &str, line: &str) -> Result<String> {
+    let mut text = String::from_str(alloc, base)?;
+    for edit in line.split(" | ") {
+        if let Some((old, new)) = edit.split_once(" -> ") {
+            let old = old.replace(alloc, ";", "\n")?;
+            let new = expanded(alloc, new)?;
+            text = text.as_str().replace(alloc, old.as_str(), new.as_str())?;
+        }
+    }
+    Ok(text)
+}
+
+/// A text in which `;` stands for a newline, or `N * TEXT` for N such texts.
+fn expanded(alloc: Global, text: &str) -> Result<String> {
+    let (count, text) = match text.split_once(" * ") {
+        Some((count, rest)) => match count.parse() {
+            Ok(count) => (count, rest),
+            Err(_) => (1, text),
+        },
+        None => (1, text),
+    };
+    let text = text.repeat(alloc, count)?;
+    Ok(text.as_str().replace(alloc, ";", "\n")?)
+}
