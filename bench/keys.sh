@@ -1,12 +1,12 @@
 #!/usr/bin/env bash
 # What hashes, keys and the cipher cost, beside OpenSSL on the same machine: an iteration of PBKDF2,
-# both keys of a password at 4096 iterations, a block of SHA-1 and of AES, a sealed text of 1000 bytes
-# refused. The last line is `ratio R`: our time of an iteration over OpenSSL's.
+# both keys of a password at 4096 iterations, a block of SHA-1 and of AES, a sealed text of 1000
+# bytes refused. The last line is `ratio R`: our time of an iteration over OpenSSL's.
 #
-# Each time is processor time, the least of ROUNDS rounds (the argument, 25), of a high count less that
-# of a low one (timing.py). OpenSSL is called by Python: its PBKDF2 and SHA-1 through hashlib, its AES
-# (CBC, whose blocks it deciphers several at a time) through the package `cryptography`, which brings an
-# OpenSSL of its own. Where that isn't installed its figures are left out.
+# Each time is processor time, the least of ROUNDS rounds (the argument, 25), of a high count less
+# that of a low one (timing.py). OpenSSL is called by Python: its PBKDF2 and SHA-1 through hashlib,
+# its AES (CBC, whose blocks it deciphers several at a time) through the package `cryptography`,
+# which brings an OpenSSL of its own. Where that isn't installed its figures are left out.
 set -euo pipefail
 cd "$(dirname "$0")/../crates/keys_bench"
 export PYTHONPATH=../../bench PYTHONDONTWRITEBYTECODE=1

@@ -1,7 +1,7 @@
 //! Derives keys, enciphers and opens texts, to be measured from outside (`bench/keys.sh`).
 //!
-//! Without arguments it prints both keys of a password at 4096 iterations. Else it takes one of these
-//! words and a number N of at least 1; any other arguments end it with status 2.
+//! Without arguments it prints both keys of a password at 4096 iterations. Else it takes one of
+//! these words and a number N of at least 1; any other arguments end it with status 2.
 //!
 //! - `pbkdf2`: one block of PBKDF2 under N iterations
 //! - `sha1`: the digest of N blocks of 64 bytes

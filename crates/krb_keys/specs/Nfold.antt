@@ -24,7 +24,8 @@ copy input i =
     number_bytes (length input) (turned w (13 * i % w) (value input))
 
 -- the fewest copies of m bytes that make up whole parts of n bytes: m times their number is the
--- least common multiple of m and n. Of the first n numbers the last one, n, always is such a number.
+-- least common multiple of m and n. Of the first n numbers the last one, n, always is such a
+-- number.
 unfoldable pub copy_count : ℕ → ℕ → ℕ
 copy_count m n = unwrap_or (find (λ k. k * m % n == 0) (range_with_len 1 n)) n
 

@@ -23,7 +23,8 @@ pub fn one_plain_text()
     ensures only { OnePlainText }
 {}
 
-/// What is sealed opens: the sealed text of a plain text, with any confounder, seals it and no other.
+/// What is sealed opens: the sealed text of a plain text, with any confounder, seals it and no
+/// other.
 pub fn sealed_opens()
     ensures only { SealedOpens }
 {}

@@ -40,8 +40,8 @@ fn pbkdf2_block(keyed: &KeyedHmac, salt: &[u8], index: u32, n: u32) -> [u8; HMAC
     sum
 }
 
-/// Fills `out`, of at most 1024 bytes, with PBKDF2 of `password` and `salt` under `n` iterations, at
-/// least 1 (RFC 2898 section 5.2), over HMAC-SHA1.
+/// Fills `out`, of at most 1024 bytes, with PBKDF2 of `password` and `salt` under `n` iterations,
+/// at least 1 (RFC 2898 section 5.2), over HMAC-SHA1.
 pub fn pbkdf2(password: &[u8], salt: &[u8], n: u32, out: &mut [u8])
     requires positive { 1 ≤ n }
     requires short { length out.old ≤ PBKDF2_MAX_LEN }
@@ -78,8 +78,8 @@ pub fn string_to_key(etype: Etype, password: &[u8], salt: &[u8], n: u32) -> Key
     derive_key(&random, KERBEROS)
 }
 
-/// Both keys of a password and a salt under `n` iterations, at least 1, as `string_to_key` gives each,
-/// at two thirds of the cost: the 16 bytes of PBKDF2 are the first of its 32.
+/// Both keys of a password and a salt under `n` iterations, at least 1, as `string_to_key` gives
+/// each, at two thirds of the cost: the 16 bytes of PBKDF2 are the first of its 32.
 pub fn string_to_keys(password: &[u8], salt: &[u8], n: u32) -> BothKeys
     requires positive { 1 ≤ n }
     ensures aes128 { result.aes128 ≡ s2k Etype.Aes128 password.now salt.now n }

@@ -79,8 +79,8 @@ fn checksum_of(key: &Key, usage: u32, text: &[u8]) -> [u8; CHECKSUM_LEN]
 }
 
 /// Seals a text, of at least one byte, under a key, for a key usage (RFC 3961 section 5.3, RFC 3962
-/// section 6): the confounder and the text, enciphered, and then their checksum, 28 bytes more than the
-/// text. It fails only where memory does.
+/// section 6): the confounder and the text, enciphered, and then their checksum, 28 bytes more than
+/// the text. It fails only where memory does.
 #[tactic(auto, unfolding(crate::specs::Sealing::sealed, crate::specs::Sealing::enciphered))]
 pub fn seal(
     alloc: Global,
@@ -131,14 +131,16 @@ fn without_confounder(mut text: Vec<u8>) -> Vec<u8>
     text
 }
 
-/// Opens a text that was sealed under a key, for a key usage: the plain text, 28 bytes shorter. A text
-/// seals at most one plain text under a key and a usage (`laws::one_plain_text`).
+/// Opens a text that was sealed under a key, for a key usage: the plain text, 28 bytes shorter. A
+/// text seals at most one plain text under a key and a usage (`laws::one_plain_text`).
 ///
 /// A text of 28 bytes or fewer is refused as `TooShort`, any other that seals nothing as `BadMac`.
 pub fn unseal(alloc: Global, key: &Key, usage: u32, cipher: &[u8]) -> Result<Vec<u8>, UnsealFault>
     ensures first { IsErrOf result UnsealFault.TooShort ↔ length cipher.now ≤ 28 }
-    ensures too_short { IsErrOf result UnsealFault.TooShort → SealsNothing key.now usage cipher.now }
-    ensures bad_mac { IsErrOf result UnsealFault.BadMac → SealsNothing key.now usage cipher.now }
+    ensures too_short { IsErrOf result UnsealFault.TooShort
+        → SealsNothing key.now usage cipher.now }
+    ensures bad_mac { IsErrOf result UnsealFault.BadMac
+        → SealsNothing key.now usage cipher.now }
     ensures found { IfOk result (λ plain. IsSealed key.now usage cipher.now plain.items) }
     ensures only { (plain : List ℕ) → IsSealed key.now usage cipher.now plain
         → IfOk result (λ found. found.items ≡ plain) }
