@@ -49,7 +49,9 @@ flags_of word =
 
 -- TARGET, or - where it is absent
 abbrev pub target_in : List ℕ → List ℕ → Option (Option Target)
-target_in realm word = if bytes_eq word (codes "-") then Some None else option_map (λ target. Some target) (named_in realm word)
+target_in realm word =
+    if bytes_eq word (codes "-") then Some None
+    else option_map (λ target. Some target) (named_in realm word)
 
 -- both keys of one byte under the count
 abbrev pub derived_of : CountedKey → ℕ × Key × Key

@@ -15,7 +15,8 @@ checked text = if is_utf8 text then settings_of text else Err no_toml
 
 abbrev pub good_line : Config → List ℕ
 good_line c =
-    codes "ok: principals " ++ decimal (length c.principals) ++ codes ", rules " ++ decimal (length c.rules.list)
+    codes "ok: principals " ++ decimal (length c.principals)
+    ++ codes ", rules " ++ decimal (length c.rules.list)
     ++ codes ", service keys " ++ decimal (length c.service) ++ codes "\n"
 
 abbrev pub fault_line : ConfigFault → List ℕ

@@ -1,5 +1,5 @@
--- For the contracts of the drill's own functions: what the program holds of a script's machine, and of
--- its stage.
+-- For the contracts of the drill's own functions: what the program holds of a script's machine, and
+-- of its stage.
 use Rattle.std.specs.Prelude.{◌≡◌, ℕ, List, [], Option, Some, None}
 use Rattle.chpw_table.specs.declared.outcome.DecideFault.{DecideFault}
 use Rattle.chpw_table.specs.declared.outcome.DecideFault.TheVariants as fault

@@ -16,7 +16,9 @@ realm_of _ = None
 
 -- QUIET_UNTIL, which may be -1
 abbrev pub quiet_of : List ℕ → Option ℤ
-quiet_of word = if bytes_eq word (codes "-1") then Some (negsuc 0) else option_map (λ n. pos n) (number_in seconds word)
+quiet_of word =
+    if bytes_eq word (codes "-1") then Some (negsuc 0)
+    else option_map (λ n. pos n) (number_in seconds word)
 
 -- MAX_ENTRIES QUIET_UNTIL
 abbrev pub open_of : List (List ℕ) → Option Line
@@ -40,15 +42,19 @@ abbrev pub line_from : List ℕ → List (List ℕ) → Option Line
 line_from realm [] = None
 line_from realm (kind ∷ words) =
     if bytes_eq kind (codes "realm") then realm_of words
-    else if bytes_eq kind (codes "policy") then option_map (λ policy. line.Policy policy) (policy_of words)
+    else if bytes_eq kind (codes "policy") then
+    option_map (λ policy. line.Policy policy) (policy_of words)
     else if bytes_eq kind (codes "rule") then option_map (λ rule. line.Rule rule) (rule_of words)
-    else if bytes_eq kind (codes "principal") then option_map (λ row. line.Principal row) (principal_of words)
+    else if bytes_eq kind (codes "principal") then
+    option_map (λ row. line.Principal row) (principal_of words)
     else if bytes_eq kind (codes "open") then open_of words
     else if bytes_eq kind (codes "fail") then fail_of words
-    else if bytes_eq kind (codes "ask") then option_map (λ asked. line.Ask asked) (asked_of realm words)
+    else if bytes_eq kind (codes "ask") then
+    option_map (λ asked. line.Ask asked) (asked_of realm words)
     else if bytes_eq kind (codes "show") then show_of words
     else None
 
 -- a line is UTF-8 of at most 4096 bytes
 abbrev pub line_of : List ℕ → List ℕ → Option Line
-line_of realm text = if nat_le (length text) 4096 && is_utf8 text then line_from realm (words_of text) else None
+line_of realm text =
+    if nat_le (length text) 4096 && is_utf8 text then line_from realm (words_of text) else None

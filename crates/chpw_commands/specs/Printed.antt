@@ -15,7 +15,8 @@ error_text (Some error) = signed_decimal error
 
 -- code, error and text
 abbrev pub reply_text : ℕ → Option ℤ → List ℕ → List ℕ
-reply_text code error text = decimal code ++ codes " " ++ error_text error ++ codes " " ++ text ++ codes "\n"
+reply_text code error text = decimal code ++ codes " " ++ error_text error ++ codes " " ++ text
+    ++ codes "\n"
 
 abbrev pub count_text : ℕ → List ℕ
 count_text count = codes " " ++ decimal count
@@ -31,7 +32,8 @@ key_text key = encode_lower (take 1 key)
 
 -- a space and KVNO:COUNT:KEY
 abbrev pub row_text : KeyRow → List ℕ
-row_text k = codes " " ++ decimal k.kvno ++ codes ":" ++ decimal k.count ++ codes ":" ++ key_text k.aes128
+row_text k = codes " " ++ decimal k.kvno ++ codes ":" ++ decimal k.count ++ codes ":"
+    ++ key_text k.aes128
 
 abbrev pub rows_text : Option (List KeyRow) → List ℕ
 rows_text None = codes " none"

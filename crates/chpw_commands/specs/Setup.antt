@@ -25,12 +25,20 @@ policy_of (length ∷ classes ∷ depth ∷ iterations ∷ set ∷ []) = do
   depth ← number_in depths depth
   iterations ← number_in iteration_counts iterations
   set_needs_initial ← choice_of set
-  Some (record { min_length = min_length; min_classes = min_classes; depth = depth; iterations = iterations; set_needs_initial = set_needs_initial })
+  Some (record {
+    min_length = min_length;
+    min_classes = min_classes;
+    depth = depth;
+    iterations = iterations;
+    set_needs_initial = set_needs_initial;
+  })
 policy_of _ = None
 
 -- TARGET|*
 abbrev pub rule_target : List ℕ → Option (Option Name)
-rule_target word = if bytes_eq word (codes "*") then Some None else option_map (λ name. Some name) (name_of word)
+rule_target word =
+    if bytes_eq word (codes "*") then Some None
+    else option_map (λ name. Some name) (name_of word)
 
 -- ACTOR TARGET|*
 abbrev pub rule_of : List (List ℕ) → Option Rule
@@ -42,7 +50,12 @@ rule_of _ = None
 
 -- both keys of one byte, 16 of etype 17 and 32 of etype 18
 abbrev pub key_under : ℕ → CountedKey → KeyBytes
-key_under kvno k = record { kvno = kvno; iterations = k.count; aes128 = replicate 16 k.byte; aes256 = replicate 32 k.byte }
+key_under kvno k = record {
+  kvno = kvno;
+  iterations = k.count;
+  aes128 = replicate 16 k.byte;
+  aes256 = replicate 32 k.byte;
+}
 
 -- versions go down from the first
 abbrev pub numbered : ℕ → List CountedKey → List KeyBytes

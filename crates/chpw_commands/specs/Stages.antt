@@ -22,7 +22,8 @@ use Rattle.chpw_commands.specs.declared.drill.printed.Response.{Response}
 use Rattle.chpw_commands.specs.declared.drill.printed.Response.TheVariants.{Said, Need, Full}
 use Rattle.chpw_commands.specs.Printed.{response_text, shown_text}
 
--- the machine: its state, the events decided and how many it may decide, and whether the next append fails
+-- the machine: its state, the events decided and how many it may decide, and whether the next
+-- append fails
 pub record Machine : Type 0 where
   pub state : State
   pub events : ℕ
@@ -96,7 +97,8 @@ response_at (n ∷ ns) v = Need (n ∷ ns)
 abbrev pub response_to : Machine → Asked → Response
 response_to m a =
     if m.events == m.max_entries then Full
-    else response_at (missing m.state a.now a.opened) (verdict m.state a.now a.opened (append_fails m a))
+    else response_at (missing m.state a.now a.opened)
+    (verdict m.state a.now a.opened (append_fails m a))
 
 -- a verdict is an event; what is refused changes nothing
 abbrev pub machine_after : Response → Machine → Asked → Machine
@@ -122,7 +124,8 @@ turn_named realm _ = None
 -- then rules and principals, and `open`
 abbrev pub turn_listed : Config → Line → Option Turn
 turn_listed config (line.Rule rule) =
-    keep_if (nat_lt (length config.rules.list) rule_counts.high) (silent (listed (with_rule config rule)))
+    keep_if (nat_lt (length config.rules.list) rule_counts.high)
+    (silent (listed (with_rule config rule)))
 turn_listed config (line.Principal row) =
     keep_if (takes_principal config row) (silent (listed (with_principal config row)))
 turn_listed config (line.Open max_entries quiet_until) =
@@ -134,7 +137,10 @@ turn_listed config _ = None
 abbrev pub turn_running : Machine → Line → Option Turn
 turn_running m line.Fail = Some (silent (running (record m { fails = true })))
 turn_running m (line.Ask a) =
-    Some (record { stage = running (machine_after (response_to m a) m a); output = response_text (response_to m a) })
+    Some (record {
+      stage = running (machine_after (response_to m a) m a);
+      output = response_text (response_to m a);
+    })
 turn_running m (line.Show name text) =
     Some (record { stage = running m; output = shown_text text (keys_held m.state name) })
 turn_running m _ = None

@@ -17,13 +17,16 @@ const GOOD: u8 = 0;
 /// The status of one with a fault.
 const FAULTY: u8 = 1;
 
-/// Writes one line on the text of a configuration, and gives the status: 0, and how many principals,
-/// rules and service keys there are; or 1, and the first fault. A text that isn't UTF-8 isn't TOML.
+/// Writes one line on the text of a configuration, and gives the status: 0, and how many
+/// principals, rules and service keys there are; or 1, and the first fault. A text that isn't
+/// UTF-8 isn't TOML.
 ///
-/// `Memory` where a growth was refused, and nothing is written then; `Write` where the write failed.
+/// `Memory` where a growth was refused, and nothing is written then; `Write` where the write
+/// failed.
 pub fn run_check<W: Write>(alloc: Global, text: &[u8], writer: &mut W) -> Result<u8, DrillFault>
     ensures status { IfOk result (λ status. status ≡ status_of (checked text.now)) }
-    ensures written { IfOk result (λ _. Appends (W.contents writer.old) (W.contents writer.new) (line_of_check (checked text.now))) }
+    ensures written { IfOk result (λ _.
+        Appends (W.contents writer.old) (W.contents writer.new) (line_of_check (checked text.now))) }
     ensures faults { IfErr result IsCheckFault }
     ensures unchanged { result ≡ Err Memory → writer.new ≡ writer.old }
 {
@@ -38,7 +41,8 @@ pub fn run_check<W: Write>(alloc: Global, text: &[u8], writer: &mut W) -> Result
 
 /// What is wrong with the text of a configuration, in words for a person; none where nothing is.
 pub fn explain_check(alloc: Global, text: &[u8]) -> Result<Option<String>, AllocError>
-    ensures status { IfOk result (λ words. status_of (checked text.now) ≡ (if is_some words then 1 else 0)) }
+    ensures status { IfOk result (λ words.
+        status_of (checked text.now) ≡ (if is_some words then 1 else 0)) }
 {
     match read_text(alloc, text) {
         Ok(_) => Ok(None),

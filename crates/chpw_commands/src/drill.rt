@@ -86,7 +86,8 @@ enum ReadFault {
 // All that the reader gives.
 #[tactic(auto, using(crate::proofs::RunLemmas::read_first, crate::proofs::RunLemmas::read_on, crate::proofs::RunLemmas::read_all))]
 fn read_script<R: Read>(alloc: Global, reader: &mut R) -> Result<Vec<u8>, ReadFault>
-    ensures bytes { IfOk result (λ script. IfSome (R.remaining reader.old) (λ given. script.items ≡ given)) }
+    ensures bytes { IfOk result (λ script.
+        IfSome (R.remaining reader.old) (λ given. script.items ≡ given)) }
 {
     let mut script = Vec::new(alloc);
     for _ in 0..MAX_READS {
@@ -99,7 +100,9 @@ fn read_script<R: Read>(alloc: Global, reader: &mut R) -> Result<Vec<u8>, ReadFa
 
 // One read behind what was read; false at the end. An interrupted read gave nothing.
 fn read_more<R: Read>(reader: &mut R, script: &mut Vec<u8>) -> Result<bool, ReadFault>
-    ensures bytes { IfOk result (λ more. IsMore more (R.remaining reader.old) (R.remaining reader.new) script.old.items script.new.items) }
+    ensures bytes { IfOk result (λ more.
+        IsMore more (R.remaining reader.old) (R.remaining reader.new)
+        script.old.items script.new.items) }
 {
     let mut chunk = [0; READ_LENGTH];
     match reader.read(&mut chunk) {
@@ -121,7 +124,8 @@ fn read_more<R: Read>(reader: &mut R, script: &mut Vec<u8>) -> Result<bool, Read
 #[tactic(auto, using(crate::proofs::RunLemmas::begins, crate::proofs::RunLemmas::at_end, crate::proofs::RunLemmas::answer_err, crate::proofs::RunLemmas::written_err))]
 fn run_script<W: Write>(alloc: Global, script: &[u8], writer: &mut W) -> Result<(), DrillFault>
     ensures answer { IsAnswer (drilled script.now) result }
-    ensures written { IsWritten (drilled script.now) result (W.contents writer.old) (W.contents writer.new) }
+    ensures written { IsWritten (drilled script.now) result
+        (W.contents writer.old) (W.contents writer.new) }
 {
     let mut stage = Stage::Start;
     let mut number = 0u64;

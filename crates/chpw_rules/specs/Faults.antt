@@ -1,4 +1,5 @@
--- How the first fault of a configuration is found: the steps in a row, the first that fails answers.
+-- How the first fault of a configuration is found: of the steps in a row, the first that fails
+-- answers.
 use Rattle.std.specs.Prelude.{◌≡◌, ℕ, List, ◌++◌, Result, Ok, Err, codes}
 use Rattle.std.specs.Fmt.{decimal}
 use Rattle.chpw_rules.specs.declared.fault.FaultKind.{FaultKind}
@@ -57,4 +58,5 @@ part_text Principal = codes "principal"
 part_text PrincipalKey = codes "principalkey"
 
 abbrev pub fault_text : ConfigFault → List ℕ
-fault_text fault = kind_text fault.kind ++ codes " " ++ part_text fault.part ++ codes " " ++ decimal fault.index
+fault_text fault = kind_text fault.kind ++ codes " " ++ part_text fault.part ++ codes " "
+    ++ decimal fault.index

@@ -41,4 +41,7 @@ class_count password = count_by (λ class. list_any (is_of_class class) password
 
 -- the length in bytes, at most what a u32 holds
 abbrev pub facts_of : List ℕ → Facts
-facts_of password = record { length = min (length password) 4294967295; classes = class_count password }
+facts_of password = record {
+  length = min (length password) 4294967295;
+  classes = class_count password;
+}

@@ -5,8 +5,8 @@ use std::alloc::{AllocError, AllocFailed};
 use std::fmt;
 use thiserror::Error;
 
-/// What is wrong. Of one key, `MissingKey`, `WrongKind`, `BadHex` and `OutOfRange` are looked for in
-/// this order. A kind is displayed as its code, `C1` to `C6`.
+/// What is wrong. Of one key, `MissingKey`, `WrongKind`, `BadHex` and `OutOfRange` are looked for
+/// in this order. A kind is displayed as its code, `C1` to `C6`.
 #[derive(Clone, Copy, Debug, Drop)]
 pub enum FaultKind {
     /// The file isn't TOML.

@@ -24,7 +24,8 @@ pub struct Named<'a> {
 
 // The value of a key, where there is one.
 fn get<'a>(table: &'a Table, key: &str) -> Option<&'a Value>
-    ensures value { option_map (λ v. view v.now) result ≡ get_member key.now (table_view table.now) }
+    ensures value { option_map (λ v. view v.now) result
+        ≡ get_member key.now (table_view table.now) }
 {
     table.get(key)
 }
@@ -105,7 +106,8 @@ impl Place {
         table: &Table,
         key: &str,
     ) -> Result<Option<Name>, ConfigError>
-        ensures value { UnlessMemory result (required self key.now a_target (table_view table.now)) }
+        ensures value { UnlessMemory result
+            (required self key.now a_target (table_view table.now)) }
     {
         let text = self.any_text(table, key)?;
         if text == "*" {
@@ -177,7 +179,8 @@ impl Place {
         limits: Limits,
         default: usize,
     ) -> Result<usize, ConfigFault>
-        ensures value { result ≡ optional self key.now (a_number limits) default (table_view table.now) }
+        ensures value { result
+            ≡ optional self key.now (a_number limits) default (table_view table.now) }
         ensures high { default ≤ limits.high → IfOk result (λ number. number ≤ limits.high) }
     {
         match get(table, key) {

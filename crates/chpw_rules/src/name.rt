@@ -18,7 +18,8 @@ impl Name {
     /// 1 to 8 components of 1 to 128 bytes. A component has no `/`.
     pub fn parse(alloc: Global, text: &str) -> Result<Option<Name>, AllocError>
         ensures value { IfOk result (λ found. found ≡ name_of text.now) }
-        ensures whole { IfOk result (λ found. IfSome found (λ name. join_with_byte 47 name.parts ≡ text.now)) }
+        ensures whole { IfOk result (λ found.
+            IfSome found (λ name. join_with_byte 47 name.parts ≡ text.now)) }
     {
         let parts = pieces(alloc, text)?;
         let parts = copies(alloc, parts.as_slice())?;
@@ -58,7 +59,7 @@ impl Name {
     }
 }
 
-/// A component.
+// A component.
 impl Limited for Items<u8> {
     ghost fits = { is_component };
 
@@ -67,14 +68,15 @@ impl Limited for Items<u8> {
     }
 }
 
-/// What stands between the text's bytes `/`.
+// What stands between the text's bytes `/`.
 fn pieces<'a>(alloc: Global, text: &'a str) -> Result<Vec<&'a str>, AllocError>
-    ensures value { IfOk result (λ pieces. map (λ part. part.now) pieces.items ≡ parts_of text.now) }
+    ensures value { IfOk result (λ pieces. map (λ part. part.now) pieces.items
+        ≡ parts_of text.now) }
 {
     text.split('/').collect(alloc)
 }
 
-/// The texts' bytes.
+// The texts' bytes.
 fn copies(alloc: Global, parts: &[&str]) -> Result<Vec<Items<u8>>, AllocError>
     ensures value { IfOk result (λ copies. copies.items ≡ map (λ part. part.now) parts.now) }
 {

@@ -221,7 +221,8 @@ fn read_settings(alloc: Global, file: &Table) -> Result<Config, ConfigError>
 pub fn read_config(alloc: Global, text: &str) -> Result<Config, ConfigError>
     ensures value { UnlessMemory result (settings_of text.now) }
     ensures fits { IfOk result (λ config. IsTrue (config_fits config)) }
-    ensures keys { IfOk result (λ config. (1 ≤ length config.service) × (length config.service ≤ 16)) }
+    ensures keys { IfOk result (λ config. (1 ≤ length config.service)
+        × (length config.service ≤ 16)) }
 {
     match toml::table_from_str(alloc, text) {
         Ok(file) => read_settings(alloc, &file),

@@ -17,9 +17,11 @@ pub fn no_names<'a>(alloc: Global) -> BTreeSet<&'a str>
 
 /// Adds a text that spells a name, and tells whether the name is new.
 pub fn add_name<'a>(seen: &mut BTreeSet<&'a str>, text: &'a str) -> Result<bool, AllocError>
-    ensures value { (names : List Name) (name : Name) → Knows seen.old names → name_of text.now ≡ Some name
+    ensures value { (names : List Name) (name : Name) → Knows seen.old names
+        → name_of text.now ≡ Some name
         → IfOk result (λ new. new ≡ not (list_any (is_same_name name) names)) }
-    ensures added { (names : List Name) (name : Name) → Knows seen.old names → name_of text.now ≡ Some name
+    ensures added { (names : List Name) (name : Name) → Knows seen.old names
+        → name_of text.now ≡ Some name
         → IfOk result (λ new. Knows seen.new (names ++ name ∷ [])) }
 {
     Ok(seen.insert(text)?)

@@ -15,7 +15,8 @@ file_of (Check file) = Some file.now
 abbrev pub command_of : List (List ℕ) → Option (Option (List ℕ))
 command_of (word ∷ []) = if bytes_eq word (codes "drill") then Some None else None
 command_of (word ∷ option ∷ file ∷ []) =
-    if bytes_eq word (codes "check") && bytes_eq option (codes "--config") then Some (Some file) else None
+    if bytes_eq word (codes "check") && bytes_eq option (codes "--config") then Some (Some file)
+    else None
 command_of _ = None
 
 abbrev pub status_of : Ending → ℕ

@@ -1,5 +1,5 @@
-//! The service's program. Of its commands there are `drill`, a script of decisions on standard input
-//! and their results on standard output; and `check`, what is found in a configuration file.
+//! The service's program. Of its commands there are `drill`, a script of decisions on standard
+//! input and their results on standard output; and `check`, what is found in a configuration file.
 #![tactic(auto)]
 
 mod command;
@@ -14,8 +14,8 @@ use std::process::ExitCode;
 use std::rt::{Env, Files};
 use std::{env, fs, io};
 
-/// Ends with 0; with 1 after a fault, which is told on standard error; with 2 and a line on the usage
-/// for a command that there isn't.
+/// Ends with 0; with 1 after a fault, which is told on standard error; with 2 and a line on the
+/// usage for a command that there isn't.
 fn main(rt: HostRuntime) -> ExitCode {
     let ending = match words(&rt) {
         Ok(words) => run(&rt, words.as_slice()),

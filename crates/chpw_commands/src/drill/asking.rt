@@ -114,7 +114,8 @@ fn digest(
     classes: u8,
     words: &[&str],
 ) -> Result<Option<Digest>, AllocError>
-    ensures value { IfOk result (λ found. found ≡ digest_of length classes (map (λ w. w.now) words.now)) }
+    ensures value { IfOk result (λ found.
+        found ≡ digest_of length classes (map (λ w. w.now) words.now)) }
 {
     let Some(keys) = counted_keys(alloc, words)? else {
         return Ok(None);

@@ -94,7 +94,8 @@ fn show(alloc: Global, words: &[&str]) -> Result<Option<Line>, AllocError>
 
 // The line of these words, whose first tells its kind.
 fn line_from(alloc: Global, realm: &[u8], words: &[&str]) -> Result<Option<Line>, AllocError>
-    ensures value { IfOk result (λ found. found ≡ line_from realm.now (map (λ w. w.now) words.now)) }
+    ensures value { IfOk result (λ found.
+        found ≡ line_from realm.now (map (λ w. w.now) words.now)) }
     ensures fits { IfOk result (λ found. IfSome found FitsLine) }
 {
     let [kind, words @ ..] = words else {

@@ -107,7 +107,8 @@ pub fn shown_line(
     name: &[u8],
     keys: Option<&[KeyRow]>,
 ) -> Result<Vec<u8>, AllocError>
-    ensures value { IfOk result (λ line. line.items ≡ shown_text name.now (option_copied keys.entry)) }
+    ensures value { IfOk result (λ line.
+        line.items ≡ shown_text name.now (option_copied keys.entry)) }
 {
     let mut line = Vec::from_slice(alloc, name)?;
     match keys {

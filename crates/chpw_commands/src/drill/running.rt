@@ -41,7 +41,8 @@ impl Drill {
     /// over where it met an append.
     pub fn respond(&mut self, asked: Asked) -> Result<Response, AllocError>
         requires moment { IsMoment asked.now }
-        ensures response { IfOk result (λ r. (m : Machine) → Runs self.old m → r ≡ response_to m asked) }
+        ensures response { IfOk result (λ r. (m : Machine) → Runs self.old m
+            → r ≡ response_to m asked) }
         ensures step { IfOk result (λ r. (m : Machine) → Runs self.old m
             → Runs self.new (machine_after (response_to m asked) m asked)) }
     {

@@ -180,7 +180,8 @@ fn open(
     max_entries: u32,
     quiet_until: i64,
 ) -> Result<Option<Turn>, AllocError>
-    ensures value { IfOk result (λ found. IsTurn found (turn_listed config (OpenLine max_entries quiet_until))) }
+    ensures value { IfOk result (λ found.
+        IsTurn found (turn_listed config (OpenLine max_entries quiet_until))) }
 {
     let config = Config {
         max_entries,
@@ -196,7 +197,8 @@ fn open(
 // Then the machine runs.
 fn turn_running(alloc: Global, drill: Drill, line: Line) -> Result<Option<Turn>, AllocError>
     requires moment { FitsLine line }
-    ensures value { IfOk result (λ found. (m : Machine) → Runs drill m → IsTurn found (turn_running m line)) }
+    ensures value { IfOk result (λ found. (m : Machine) → Runs drill m
+        → IsTurn found (turn_running m line)) }
 {
     let mut drill = drill;
     let output = match line {
@@ -218,7 +220,8 @@ fn turn_running(alloc: Global, drill: Drill, line: Line) -> Result<Option<Turn>,
 
 fn turn_line(alloc: Global, stage: Stage, line: Line) -> Result<Option<Turn>, AllocError>
     requires moment { FitsLine line }
-    ensures value { IfOk result (λ found. (s : StageModel) → Follows stage s → IsTurn found (turn_line s line)) }
+    ensures value { IfOk result (λ found. (s : StageModel) → Follows stage s
+        → IsTurn found (turn_line s line)) }
 {
     match stage {
         Stage::Start => Ok(turn_first(alloc, line)),
@@ -230,7 +233,8 @@ fn turn_line(alloc: Global, stage: Stage, line: Line) -> Result<Option<Turn>, Al
 
 /// The turn of a line; none where it is bad. An empty line is skipped.
 pub fn take_turn(alloc: Global, stage: Stage, line: &[u8]) -> Result<Option<Turn>, AllocError>
-    ensures value { IfOk result (λ found. (s : StageModel) → Follows stage s → IsTurn found (turn s line.now)) }
+    ensures value { IfOk result (λ found. (s : StageModel) → Follows stage s
+        → IsTurn found (turn s line.now)) }
 {
     if line.is_empty() {
         return Ok(Some(silent(alloc, stage)));

@@ -19,7 +19,8 @@ pub struct CountedKey {
 /// What stands before the first such character, and what after it.
 pub fn split_first(word: &str, mark: char) -> Option<(&str, &str)>
     requires { mark < 128 }
-    ensures value { option_map (λ parts. (parts.0.now, parts.1.now)) result ≡ split_first mark word.now }
+    ensures value { option_map (λ parts. (parts.0.now, parts.1.now)) result
+        ≡ split_first mark word.now }
 {
     word.split_once(mark)
 }
@@ -27,7 +28,8 @@ pub fn split_first(word: &str, mark: char) -> Option<(&str, &str)>
 // What stands before the last such character, and what after it.
 fn split_last(word: &str, mark: char) -> Option<(&str, &str)>
     requires { mark < 128 }
-    ensures value { option_map (λ parts. (parts.0.now, parts.1.now)) result ≡ split_last mark word.now }
+    ensures value { option_map (λ parts. (parts.0.now, parts.1.now)) result
+        ≡ split_last mark word.now }
 {
     word.rsplit_once(mark)
 }
@@ -35,7 +37,9 @@ fn split_last(word: &str, mark: char) -> Option<(&str, &str)>
 // The number that digits spell, as far as `high`.
 fn digits_up_to(digits: &[u8], high: usize) -> Option<usize>
     requires { high < 2 ^ 60 }
-    ensures value { result ≡ keep_if (list_all is_ascii_digit digits.now && nat_le (value_from 0 digits.now) high) (value_from 0 digits.now) }
+    ensures value { result ≡ keep_if
+        (list_all is_ascii_digit digits.now && nat_le (value_from 0 digits.now) high)
+        (value_from 0 digits.now) }
 {
     let mut value = 0;
     let mut rest = digits;
@@ -93,7 +97,8 @@ fn counted_key(word: &str) -> Option<CountedKey>
 
 /// COUNT:KEY ..
 pub fn counted_keys(alloc: Global, words: &[&str]) -> Result<Option<Vec<CountedKey>>, AllocError>
-    ensures value { IfOk result (λ found. option_map (λ keys. keys.items) found ≡ each_of counted_key (map (λ w. w.now) words.now)) }
+    ensures value { IfOk result (λ found. option_map (λ keys. keys.items) found
+        ≡ each_of counted_key (map (λ w. w.now) words.now)) }
 {
     let mut keys = Vec::new(alloc);
     for word in words {
