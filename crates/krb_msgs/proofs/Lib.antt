@@ -1,0 +1,6 @@
+pub mod AnswerLemmas
+pub mod ReadingLemmas
+pub mod PartLemmas
+pub mod LengthLemmas
+pub mod FittingLemmas
+pub mod OpenedLemmas
