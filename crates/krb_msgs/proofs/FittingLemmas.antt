@@ -1,5 +1,6 @@
 -- A message is little longer than its parts.
-use Rattle.std.proofs.Common.{◌≡◌, rules, ℕ, ◌+◌, ◌≤◌, ◌<◌, ◌^◌, ◌×◌, true, List, ◌++◌, length, ℤ, pos, refl, sym, subst, ap, ◌∙◌, arith, length-append, Option, Some, None}
+use Rattle.std.proofs.Common.{◌≡◌, rules, ℕ, ◌+◌, ◌≤◌, ◌<◌, ◌^◌, true, List, ◌++◌, length, ℤ, pos, refl, sym, subst, ap, ◌∙◌, arith, length-append, Option, Some, None, option_map, ◌≤ℤ◌}
+use Rattle.std.proofs.lemmas.Bool.{lt-ltb}
 use Rattle.std.proofs.lemmas.Int.{ints}
 use Rattle.krb_aes.specs.Aes.{aes}
 use Rattle.krb_aes.proofs.CtsLength.{length-aes, length-cts}
@@ -20,7 +21,7 @@ use Rattle.krb_der.specs.Values.{ap_rep_value, ap_req_value, authenticator_value
 use Rattle.krb_msgs.specs.Making.{ap_rep_of, ap_req_of, priv_of, service_name, ticket_of}
 use Rattle.krb_msgs.specs.Lengths.{longest}
 use Rattle.krb_msgs.specs.Fitting.{ApRepsFit, ApReqsFit, PrivsFit, TicketsFit}
-use Rattle.krb_msgs.proofs.LengthLemmas.{short_element, short_texts_fit, texts_are_short}
+use Rattle.krb_msgs.proofs.LengthLemmas.{between, short_element, short_texts_fit, texts_are_short}
 use Rattle.krb_msgs.proofs.PartLemmas.{some_text}
 
 length-sealed : (key : Key) (usage : ℕ) (confounder plain : List ℕ) → length confounder ≡ 16
@@ -34,11 +35,14 @@ length-sealed key usage confounder plain c16 some =
 
 -- ---- the value of a sealed part
 
-sealed_value : Key → Option ℕ → List ℕ → Value encrypted_data
+abbrev sealed_value : Key → Option ℕ → List ℕ → Value encrypted_data
 sealed_value key kvno cipher = number_of (etype_of key) & option_map pos kvno & cipher & tt
 
 kvno_range : (n : ℕ) → n < 2 ^ 32 → is_in_range uint32 (pos n) ≡ true
-kvno_range n lt = grind (arith, ints)
+kvno_range n lt =
+    let low : pos 0 ≤ℤ pos n = omega (arith, ints) in
+    let high : pos n ≤ℤ pos 4294967295 = omega (arith, ints, lt) in
+    between (pos 0) (pos 4294967295) (pos n) low high
 
 sealed_range : (key : Key) (cipher : List ℕ) → is_in_range encrypted_data (sealed_value key None cipher) ≡ true
 sealed_range (Aes128 bytes) cipher = refl
@@ -46,8 +50,8 @@ sealed_range (Aes256 bytes) cipher = refl
 
 kvno_sealed_range : (key : Key) (n : ℕ) (cipher : List ℕ) → n < 2 ^ 32
     → is_in_range encrypted_data (sealed_value key (Some n) cipher) ≡ true
-kvno_sealed_range (Aes128 bytes) n cipher lt = let range = kvno_range n lt in rw range refl
-kvno_sealed_range (Aes256 bytes) n cipher lt = let range = kvno_range n lt in rw range refl
+kvno_sealed_range (Aes128 bytes) n cipher lt = and_both (kvno_range n lt) refl
+kvno_sealed_range (Aes256 bytes) n cipher lt = and_both (kvno_range n lt) refl
 
 -- ---- the messages
 
@@ -88,7 +92,7 @@ privs_fit part subkey confounder c16 le =
 
 ticket_range : (realm : List ℕ) (key : Key) (n : ℕ) (cipher : List ℕ) → n < 2 ^ 32
     → is_in_range types.ticket (protocol.pvno & realm & principal_name_value service_name & sealed_value key (Some n) cipher & tt) ≡ true
-ticket_range realm key n cipher lt = let range = kvno_sealed_range key n cipher lt in rw range refl
+ticket_range realm key n cipher lt = and_both (kvno_sealed_range key n cipher lt) refl
 
 ticket_short : (realm : List ℕ) (key : Key) (n : ℕ) (cipher : List ℕ) → length realm + length cipher ≤ 65028
     → longest types.ticket (protocol.pvno & realm & principal_name_value service_name & sealed_value key (Some n) cipher & tt) ≤ longest_text
@@ -102,16 +106,15 @@ tickets_fit realm part service confounder c16 lt le =
     fit types.ticket (ticket_value (ticket_of realm part service confounder)) (ticket_range realm service.key service.kvno cipher lt) (ticket_short realm service.key service.kvno cipher (omega (arith, len, le)))
 
 -- the fields of an AP-REQ before its ticket, and that behind it
-request_value : ℕ → Value types.ticket → Key → List ℕ → Value ap_req
+abbrev request_value : ℕ → Value types.ticket → Key → List ℕ → Value ap_req
 request_value options v key cipher =
     protocol.pvno & protocol.krb_ap_req & options & v & sealed_value key None cipher & tt
 
 request_range : (options : ℕ) (v : Value types.ticket) (key : Key) (cipher : List ℕ) → options < 2 ^ 32
     → is_in_range types.ticket v ≡ true → is_in_range ap_req (request_value options v key cipher) ≡ true
 request_range options v key cipher lt range =
-    let bits : is_in_range flags options ≡ true = grind arith in
-    let part = sealed_range key cipher in
-    rw (bits, range, part) refl
+    let bits : is_in_range flags options ≡ true = lt-ltb options 4294967296 lt in
+    and_both bits (and_both range (and_both (sealed_range key cipher) refl))
 
 field_short : (first rest : Shape) (v : Value first) (w : Value rest) (m n : ℕ)
     → length (text first v) ≤ m → length (text rest w) ≤ n → length (text (field first rest) (v, w)) ≤ m + n
@@ -120,24 +123,24 @@ field_short first rest v w m n one others = omega (arith, length-append (text fi
 tagged_short : (tag : ℕ) (s : Shape) (v : Value s) (n : ℕ) → length (text s v) ≤ n → length (text (tagged tag s) v) ≤ 10 + n
 tagged_short tag s v n le = omega (arith, short_element tag (text s v))
 
-last_fields : Shape
+abbrev last_fields : Shape
 last_fields = field (tagged 0xa4 encrypted_data) nothing
 
-ticket_fields : Shape
+abbrev ticket_fields : Shape
 ticket_fields = field (tagged 0xa3 types.ticket) last_fields
 
 request_short : (options : ℕ) (v : Value types.ticket) (key : Key) (cipher : List ℕ)
     → length (text types.ticket v) + length cipher ≤ 65028
     → length (text ap_req (request_value options v key cipher)) ≤ longest_text
 request_short options v key cipher le =
-    let last = texts_are_short last_fields (sealed_value key None cipher, tt) in
-    let ticket = field_short (tagged 0xa3 types.ticket) last_fields v (sealed_value key None cipher, tt) (10 + length (text types.ticket v)) (68 + length cipher)
+    let last = texts_are_short last_fields (sealed_value key None cipher & tt) in
+    let ticket = field_short (tagged 0xa3 types.ticket) last_fields v (sealed_value key None cipher & tt) (10 + length (text types.ticket v)) (68 + length cipher)
     (tagged_short 0xa3 types.ticket v _ (omega arith)) (omega (arith, last)) in
-    let flag = field_short (tagged 0xa2 flags) ticket_fields options (v, sealed_value key None cipher, tt) 25 (78 + length (text types.ticket v) + length cipher)
+    let flag = field_short (tagged 0xa2 flags) ticket_fields options (v & sealed_value key None cipher & tt) 25 (78 + length (text types.ticket v) + length cipher)
     (texts_are_short (tagged 0xa2 flags) options) (omega (arith, ticket)) in
-    let type = field_short (tagged 0xa1 int32) (field (tagged 0xa2 flags) ticket_fields) protocol.krb_ap_req (options, v, sealed_value key None cipher, tt) 28 (103 + length (text types.ticket v) + length cipher)
+    let type = field_short (tagged 0xa1 int32) (field (tagged 0xa2 flags) ticket_fields) protocol.krb_ap_req (options & v & sealed_value key None cipher & tt) 28 (103 + length (text types.ticket v) + length cipher)
     (texts_are_short (tagged 0xa1 int32) protocol.krb_ap_req) (omega (arith, flag)) in
-    let all = field_short (tagged 0xa0 int32) (field (tagged 0xa1 int32) (field (tagged 0xa2 flags) ticket_fields)) protocol.pvno (protocol.krb_ap_req, options, v, sealed_value key None cipher, tt) 28 (131 + length (text types.ticket v) + length cipher)
+    let all = field_short (tagged 0xa0 int32) (field (tagged 0xa1 int32) (field (tagged 0xa2 flags) ticket_fields)) protocol.pvno (protocol.krb_ap_req & options & v & sealed_value key None cipher & tt) 28 (131 + length (text types.ticket v) + length cipher)
     (texts_are_short (tagged 0xa0 int32) protocol.pvno) (omega (arith, type)) in
     let fields : Shape = field (tagged 0xa0 int32) (field (tagged 0xa1 int32) (field (tagged 0xa2 flags) ticket_fields)) in
     let whole = tagged_short 0x6e (tagged 0x30 fields) (request_value options v key cipher) _

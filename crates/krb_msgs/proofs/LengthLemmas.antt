@@ -1,10 +1,12 @@
--- The text of a value is no longer than its sum.
-use Rattle.std.proofs.Common.{◌≡◌, ℕ, ◌+◌, ◌≤◌, ◌<◌, Bool, true, List, [], ◌∷◌, ◌++◌, Option, Some, None, refl, ap, ◌∙◌, arith, length, length-append, eqb, ltb, inl, inr, pos, w64}
+-- The text of a value is no longer than its sum; numbers in a range.
+use Rattle.std.proofs.Common.{◌≡◌, ℕ, ◌+◌, ◌≤◌, ◌<◌, Bool, true, List, [], ◌∷◌, ◌++◌, Option, Some, None, refl, ap, ◌∙◌, arith, length, length-append, not, eqb, ltb, inl, inr, ℤ, pos, ◌≤ℤ◌, w64}
+use Rattle.std.specs.Prelude.{int_lt}
+use Rattle.std.proofs.lemmas.Int.{ints, by_lt_z}
 use Rattle.std.specs.Int.{cast_unsigned, to_be_bytes}
 use Rattle.std.specs.List.{flat_map}
 use Rattle.std.proofs.lemmas.Bool.{le-leb}
 use Rattle.std.proofs.lemmas.List.Concat.{flat_map-cons}
-use Rattle.krb_elements.specs.Shapes.{Primitive, integer, sequence_number, octets, bits, time, Shape, primitive, tagged, many, further, nothing, field, option, Meaning, Value, tag_of}
+use Rattle.krb_elements.specs.Shapes.{Primitive, integer, sequence_number, octets, bits, time, Shape, primitive, tagged, many, further, nothing, field, option, Meaning, Value, is_between, tag_of}
 use Rattle.krb_elements.specs.Integers.{integer_octets, repeats_sign, without_sign}
 use Rattle.krb_elements.specs.BitStrings.{bits_octets}
 use Rattle.krb_elements.specs.Times.{is_writable, time_octets, time_of}
@@ -80,3 +82,11 @@ texts_are_short (option tag first rest) v =
 pub short_texts_fit : ShortTextsFit
 unfolding fits
 short_texts_fit s v range le = and_both range (le-leb _ _ le)
+
+-- ---- numbers in a range
+
+not_less : (a b : ℤ) → b ≤ℤ a → not (int_lt a b) ≡ true
+not_less a b le = by_lt_z a b (λ lt. absurd (omega (arith, ints))) (λ _. grind (arith, ints))
+
+pub between : (low high n : ℤ) → low ≤ℤ n → n ≤ℤ high → is_between low high n ≡ true
+between low high n le ge = and_both (not_less n low le) (not_less high n ge)

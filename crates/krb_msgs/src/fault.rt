@@ -137,7 +137,7 @@ pub enum ReplyFault {
 }
 
 /// Why a message wasn't opened: its first fault, or want of memory.
-#[derive(Clone, Copy, Debug, Drop)]
+#[derive(Drop)]
 pub enum OpenError<F> {
     Fault(F),
     /// A growth was refused.

@@ -1,6 +1,6 @@
 //! What a reply of the service says (RFC 3244 section 2).
 
-ghost use Rattle.std.specs.Prelude.{◌≡◌, ◌↔◌, IsTrue};
+ghost use Rattle.std.specs.Prelude.{◌≡◌, ◌↔◌, IsTrue, Some};
 ghost use Rattle.krb_msgs.specs.Answers.{Answers};
 ghost use Rattle.krb_msgs.specs.Replies.{IsAnswerTo, IsApRep, IsKrbError, OpensApRep, OpensError, OpensReply, OpensResult, SaysCode};
 
@@ -104,6 +104,13 @@ fn is_krb_error(message: &KrbError) -> bool
     message.pvno == PVNO && message.msg_type == KRB_ERROR
 }
 
+// The error code of a KRB-ERROR.
+fn error_of(message: &KrbError) -> Option<i32>
+    ensures { result ≡ Some message.now.error_code }
+{
+    Some(message.error_code)
+}
+
 // What a KRB-ERROR says.
 fn open_error(alloc: Global, bytes: &[u8]) -> Result<Reply, OpenError<ReplyFault>>
     ensures { Answers (OpensError bytes.now) result }
@@ -113,7 +120,7 @@ fn open_error(alloc: Global, bytes: &[u8]) -> Result<Reply, OpenError<ReplyFault
         return Err(OpenError::Fault(ReplyFault::Mismatch));
     }
     match &message.e_data {
-        Some(bytes) => said(alloc, bytes.as_slice(), Some(message.error_code)),
+        Some(bytes) => said(alloc, bytes.as_slice(), error_of(&message)),
         None => Err(OpenError::Fault(ReplyFault::NoCode)),
     }
 }

@@ -34,7 +34,7 @@ unreachable-requires c =
 pub write_ap_req-requires : goal.write_ap_req-requires
 write_ap_req-requires c = record {
   fits =
-      subst (λ (x : EncryptedData). fits ap_req (ap_req_value (message_of c.in-Ok.ticket c.args.options x)) ≡ true) (sym c.in_ok-seal_part.ensures)
+      subst (λ (x : EncryptedData). fits ap_req (ap_req_value (message_of c.in-Ok.ticket c.args.options x)) ≡ true) (sym c.in_ok-seal_part.ensures.value)
       (c.requires.message c.in-Ok.ticket c.in-Ok.ensures.value);
 }
 
@@ -42,6 +42,6 @@ pub returns : goal.returns
 returns c = record {
   text =
       if_ok c.write_ap_req.result
-      (λ v h. (c.in-Ok.ticket, c.in-Ok.ensures.value, h ∙ ap (λ (x : EncryptedData). text ap_req (ap_req_value (message_of c.in-Ok.ticket c.args.options x))) c.in_ok-seal_part.ensures))
+      (λ v h. (c.in-Ok.ticket, c.in-Ok.ensures.value, h ∙ ap (λ (x : EncryptedData). text ap_req (ap_req_value (message_of c.in-Ok.ticket c.args.options x))) c.in_ok-seal_part.ensures.value))
       c.write_ap_req.ensures.text;
 }
