@@ -38,6 +38,11 @@ pub fn bytes<const TAG: u8>(alloc: Global, text: &[u8]) -> Result<Bytes<TAG>, Al
     Ok(Bytes::of(Vec::from_slice(alloc, text)?))
 }
 
+/// Bytes as they are printed.
+pub fn text_of(bytes: &[u8]) -> &str {
+    str::from_utf8(bytes).unwrap_or("no UTF-8")
+}
+
 pub fn name(alloc: Global, name_type: i32, parts: &[&[u8]]) -> Result<PrincipalName, AllocError> {
     let mut components = Vec::new(alloc);
     for part in parts {
