@@ -1,5 +1,4 @@
 pub mod AnswerLemmas
-pub mod ReadingLemmas
 pub mod PartLemmas
 pub mod LengthLemmas
 pub mod FittingLemmas

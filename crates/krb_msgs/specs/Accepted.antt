@@ -22,7 +22,8 @@ IsSameClient part a = (part.crealm ≡ a.crealm) × (part.cname.name_string ≡ 
 
 -- an address is this one of IPv4 (section 7.5.3)
 abbrev pub is_ipv4 : List ℕ → HostAddress → Bool
-is_ipv4 peer address = int_eq address.addr_type protocol.addr_type_ipv4 && bytes_eq address.address peer
+is_ipv4 peer address =
+    int_eq address.addr_type protocol.addr_type_ipv4 && bytes_eq address.address peer
 
 -- there are no addresses, or the peer's is among them
 abbrev pub may_come_from : List ℕ → Option (List HostAddress) → Bool
@@ -54,7 +55,8 @@ opened_of part session a subkey = record {
   seq_number = a.seq_number;
 }
 
-unfoldable pub Accepts : List ℕ → EncTicketPart → Key → Authenticator → Result ApOpened ApFault → Type 0
+unfoldable pub Accepts : List ℕ → EncTicketPart → Key → Authenticator
+    → Result ApOpened ApFault → Type 0
 Accepts peer part session a =
     Held (IsSameClient part a) fault.ClientMismatch (
     Held (MayComeFrom peer part.caddr) fault.WrongAddress (

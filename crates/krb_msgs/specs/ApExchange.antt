@@ -10,7 +10,8 @@ use Rattle.krb_msgs.specs.declared.ap_exchange.ApOpened.{ApOpened}
 use Rattle.krb_msgs.specs.declared.fault.ApFault.{ApFault}
 
 -- of a realm, its service keys, the bytes of the AP-REQ and the peer's address
-unfoldable pub OpensAp : List ℕ → List ServiceKey → List ℕ → List ℕ → Result ApOpened ApFault → Type 0
+unfoldable pub OpensAp : (realm : List ℕ) → List ServiceKey → (bytes peer : List ℕ)
+    → Result ApOpened ApFault → Type 0
 OpensAp realm keys bytes peer =
     Then (Presents realm keys bytes) (λ presented.
     Then (OpensTicket presented.1 presented.0.ticket.enc_part) (λ ticket.

@@ -14,6 +14,7 @@ use Rattle.krb_msgs.specs.declared.fault.ApFault.TheVariants as fault
 
 unfoldable pub OpensAuthenticator : Key → EncryptedData → Result Authenticator ApFault → Type 0
 OpensAuthenticator session sealed =
-    Then (OpensPart authenticator authenticator_value session usage_ap_req_authenticator sealed fault.BadAuthenticator fault.BadAuthenticator) (λ (a : Authenticator).
+    Then (OpensPart authenticator authenticator_value session usage_ap_req_authenticator sealed
+    fault.BadAuthenticator fault.BadAuthenticator) (λ (a : Authenticator).
     Held (a.authenticator_vno ≡ protocol.pvno) fault.BadAuthenticator (
     Passed a))

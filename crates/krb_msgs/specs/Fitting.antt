@@ -22,7 +22,8 @@ longest_part = 65000
 
 -- a ticket, its realm and its sealed part together
 abbrev pub TicketsFit : Type 0
-TicketsFit = (realm : List ℕ) (part : EncTicketPart) (service : ServiceKey) (confounder : List ℕ)
+TicketsFit = (realm : List ℕ) (part : EncTicketPart) (service : ServiceKey)
+    (confounder : List ℕ)
     → length confounder ≡ 16 → service.kvno < 2 ^ 32
     → length realm + length (text enc_ticket_part (enc_ticket_part_value part)) ≤ longest_part
     → fits types.ticket (ticket_value (ticket_of realm part service confounder)) ≡ true
@@ -52,7 +53,8 @@ PrivsFit = (part : EncKrbPrivPart) (subkey : Key) (confounder : List ℕ)
 
 -- the client's time and microseconds, once a request is opened, can be written again
 abbrev pub OpenedTimesFit : Type 0
-OpenedTimesFit = (realm : List ℕ) (keys : List ServiceKey) (bytes peer : List ℕ) (opened : ApOpened)
+OpenedTimesFit = (realm : List ℕ) (keys : List ServiceKey) (bytes peer : List ℕ)
+    (opened : ApOpened)
     → OpensAp realm keys bytes peer (Ok opened)
     → (is_in_range kerberos_time opened.ctime.0 ≡ true)
     × (is_in_range microseconds (pos opened.cusec.0) ≡ true)

@@ -27,8 +27,8 @@ use Rattle.krb_msgs.specs.declared.service_keys.ServiceKey.{ServiceKey}
 -- a part seals the text of a value that fits, whose bytes are bytes, under a confounder of 16 bytes
 abbrev pub Seals : Key → ℕ → EncryptedData → (s : Shape) → Value s → Type 0
 Seals key usage part s v =
-    (confounder : List ℕ) × (kvno : Option ℕ) × (length confounder ≡ 16) × AreBytes confounder
-    × (fits s v ≡ true) × AreBytes (text s v)
+    (confounder : List ℕ) × (kvno : Option ℕ)
+    × (length confounder ≡ 16) × AreBytes confounder × (fits s v ≡ true) × AreBytes (text s v)
     × (part ≡ sealed_part key usage kvno confounder (text s v))
 
 -- the text of an AP-REQ for this service, whose parts are made of a ticket's and an authenticator's
@@ -43,10 +43,12 @@ ApReqsOpen = (realm : List ℕ) (keys : List ServiceKey) (peer : List ℕ) (requ
     → IsServiceKey keys request.ticket.enc_part key
     → Seals key usage_ticket request.ticket.enc_part enc_ticket_part (enc_ticket_part_value part)
     → IsKeyIn part.key session
-    → Seals session usage_ap_req_authenticator request.authenticator authenticator (authenticator_value a)
+    → Seals session usage_ap_req_authenticator request.authenticator
+    authenticator (authenticator_value a)
     → a.authenticator_vno ≡ protocol.pvno
     → IsSameClient part a → MayComeFrom peer part.caddr → IsSubkey a.subkey subkey
-    → OpensAp realm keys (text ap_req (ap_req_value request)) peer (Ok (opened_of part session a subkey))
+    → OpensAp realm keys (text ap_req (ap_req_value request)) peer
+    (Ok (opened_of part session a subkey))
 
 -- the text of a KRB-PRIV made of a part's record, under the subkey, opens to what that says
 abbrev pub PrivsOpen : Type 0

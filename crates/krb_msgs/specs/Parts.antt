@@ -20,7 +20,8 @@ IsUnsealed key usage part (Some plain) = IsSealedPart key usage part plain
 IsUnsealed key usage part None = (plain : List ℕ) → IsSealedPart key usage part plain → ⊥
 
 -- the record that a text spells, or a fault
-abbrev pub Reads : {X F : Type 0} (shape : Shape) → (X → Value shape) → List ℕ → F → Result X F → Type 0
+abbrev pub Reads : {X F : Type 0} (shape : Shape) → (X → Value shape) → List ℕ → F
+    → Result X F → Type 0
 Reads shape value text fault = Found (λ x. Spells shape text (value x)) fault Passed
 
 -- the plain text of a part, or a fault
@@ -29,9 +30,12 @@ Unseals key usage part fault = Found (IsSealedPart key usage part) fault Passed
 
 -- the record that the plain text of a part spells; or one fault where there is no plain text,
 -- another where it spells none
-abbrev pub OpensPart : {X F : Type 0} (shape : Shape) → (X → Value shape) → Key → ℕ → EncryptedData → F → F → Result X F → Type 0
+abbrev pub OpensPart : {X F : Type 0} (shape : Shape) → (X → Value shape)
+    → Key → (usage : ℕ) → EncryptedData → (sealed_otherwise spelled_otherwise : F)
+    → Result X F → Type 0
 OpensPart shape value key usage part sealed_otherwise spelled_otherwise =
-    Then (Unseals key usage part sealed_otherwise) (λ plain. Reads shape value plain spelled_otherwise)
+    Then (Unseals key usage part sealed_otherwise) (λ plain.
+    Reads shape value plain spelled_otherwise)
 
 -- the part that is made of a plain text
 abbrev pub sealed_part : Key → ℕ → Option ℕ → List ℕ → List ℕ → EncryptedData

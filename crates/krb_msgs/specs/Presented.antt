@@ -1,5 +1,5 @@
--- What an AP-REQ shows in the clear (RFC 4120 section 3.2.3): the request, and the service key of its
--- ticket.
+-- What an AP-REQ shows in the clear (RFC 4120 section 3.2.3): the request, and the service key of
+-- its ticket.
 use Rattle.std.specs.Prelude.{◌≡◌, ◌⊎◌, true, ℕ, ℤ, pos, List, [], ◌∷◌, codes, Some, Result}
 use Rattle.krb_keys.specs.declared.key.Key.{Key}
 use Rattle.krb_der.specs.Protocol as protocol
@@ -40,7 +40,8 @@ IsKnownEtype etype = (etype ≡ pos 17) ⊎ (etype ≡ pos 18)
 abbrev pub IsServiceKey : List ServiceKey → EncryptedData → Key → Type 0
 IsServiceKey keys part key = service_key keys part.etype part.kvno ≡ Some key
 
-unfoldable pub Presents : List ℕ → List ServiceKey → List ℕ → Result (ApReq × Key) ApFault → Type 0
+unfoldable pub Presents : (realm : List ℕ) → List ServiceKey → (bytes : List ℕ)
+    → Result (ApReq × Key) ApFault → Type 0
 Presents realm keys bytes =
     Then (Reads ap_req ap_req_value bytes fault.Malformed) (λ (request : ApReq).
     Held (HasVersion request) fault.Version (

@@ -33,10 +33,12 @@ private_of part = record {
 }
 
 -- of the subkey, the authenticator's sequence number and the bytes of the KRB-PRIV
-unfoldable pub OpensPriv : Key → Option SeqNumber → List ℕ → Result Private PrivFault → Type 0
+unfoldable pub OpensPriv : Key → Option SeqNumber → List ℕ
+    → Result Private PrivFault → Type 0
 OpensPriv subkey seq_number bytes =
     Then (Reads krb_priv krb_priv_value bytes fault.Malformed) (λ (m : KrbPriv).
     Held (IsPrivate m) fault.WrongMessage (
-    Then (OpensPart enc_krb_priv_part enc_krb_priv_part_value subkey usage_krb_priv m.enc_part fault.NotSealed fault.Malformed) (λ (part : EncKrbPrivPart).
+    Then (OpensPart enc_krb_priv_part enc_krb_priv_part_value subkey usage_krb_priv m.enc_part
+    fault.NotSealed fault.Malformed) (λ (part : EncKrbPrivPart).
     Held (MayFollow seq_number part.seq_number) fault.WrongSeqNumber (
     Passed (private_of part)))))

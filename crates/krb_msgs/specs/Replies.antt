@@ -40,11 +40,13 @@ abbrev pub IsAnswerTo : KerberosTime → Microseconds → EncApRepPart → Type 
 IsAnswerTo ctime cusec part = (part.ctime ≡ ctime) × (part.cusec ≡ cusec)
 
 -- the AP-REP is the service's answer to the authenticator with this time
-unfoldable pub OpensApRep : Key → KerberosTime → Microseconds → List ℕ → Result (Unit {0}) ReplyFault → Type 0
+unfoldable pub OpensApRep : Key → KerberosTime → Microseconds → List ℕ
+    → Result (Unit {0}) ReplyFault → Type 0
 OpensApRep session ctime cusec bytes =
     Then (Reads ap_rep ap_rep_value bytes fault.Malformed) (λ (m : ApRep).
     Held (IsApRep m) fault.Mismatch (
-    Then (OpensPart enc_ap_rep_part enc_ap_rep_part_value session usage_ap_rep_enc_part m.enc_part fault.NotSealed fault.Malformed) (λ (part : EncApRepPart).
+    Then (OpensPart enc_ap_rep_part enc_ap_rep_part_value session usage_ap_rep_enc_part m.enc_part
+    fault.NotSealed fault.Malformed) (λ (part : EncApRepPart).
     Held (IsAnswerTo ctime cusec part) fault.Mismatch (
     Passed tt))))
 
@@ -53,7 +55,8 @@ unfoldable pub OpensResult : Key → List ℕ → Result Reply ReplyFault → Ty
 OpensResult subkey bytes =
     Then (Reads krb_priv krb_priv_value bytes fault.Malformed) (λ (m : KrbPriv).
     Held (IsPrivate m) fault.Mismatch (
-    Then (OpensPart enc_krb_priv_part enc_krb_priv_part_value subkey usage_krb_priv m.enc_part fault.NotSealed fault.Malformed) (λ (part : EncKrbPrivPart).
+    Then (OpensPart enc_krb_priv_part enc_krb_priv_part_value subkey usage_krb_priv m.enc_part
+    fault.NotSealed fault.Malformed) (λ (part : EncKrbPrivPart).
     SaysCode part.user_data None)))
 
 -- version and message type (RFC 4120 section 5.9.1)
@@ -68,9 +71,10 @@ OpensError bytes =
     Found (λ (data_bytes : List ℕ). m.e_data ≡ Some data_bytes) fault.NoCode (λ data_bytes.
     SaysCode data_bytes (Some m.error_code))))
 
--- of session key, subkey, the authenticator's time and microseconds, and the bytes of the AP-REP and
--- of what follows it: where there is no AP-REP, that is a KRB-ERROR
-unfoldable pub OpensReply : Key → Key → KerberosTime → Microseconds → List ℕ → List ℕ → Result Reply ReplyFault → Type 0
+-- of session key, subkey, the authenticator's time and microseconds, the AP-REP and what follows
+-- it: where there is no AP-REP, that is a KRB-ERROR
+unfoldable pub OpensReply : (session subkey : Key) → KerberosTime → Microseconds
+    → (ap_rep tail : List ℕ) → Result Reply ReplyFault → Type 0
 OpensReply session subkey ctime cusec [] tail = OpensError tail
 OpensReply session subkey ctime cusec (b ∷ bytes) tail =
     Then (OpensApRep session ctime cusec (b ∷ bytes)) (λ _. OpensResult subkey tail)

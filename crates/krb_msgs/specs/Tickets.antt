@@ -1,4 +1,5 @@
--- What a ticket holds (RFC 4120 section 5.3): its part under the service's key, and the session key.
+-- What a ticket holds (RFC 4120 section 5.3): its part under the service's key, and the session
+-- key.
 use Rattle.std.specs.Prelude.{◌≡◌, Some, Result}
 use Rattle.krb_keys.specs.Keys.{key_of}
 use Rattle.krb_keys.specs.declared.key.Key.{Key}
@@ -19,6 +20,7 @@ IsKeyIn field key = key_of field.keytype field.keyvalue ≡ Some key
 
 unfoldable pub OpensTicket : Key → EncryptedData → Result (EncTicketPart × Key) ApFault → Type 0
 OpensTicket key sealed =
-    Then (OpensPart enc_ticket_part enc_ticket_part_value key usage_ticket sealed fault.BadTicket fault.BadTicket) (λ (part : EncTicketPart).
+    Then (OpensPart enc_ticket_part enc_ticket_part_value key usage_ticket sealed
+    fault.BadTicket fault.BadTicket) (λ (part : EncTicketPart).
     Found (IsKeyIn part.key) fault.BadSessionKey (λ session.
     Passed (part, session)))

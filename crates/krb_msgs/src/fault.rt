@@ -12,8 +12,8 @@ use crate::codes::{
 use std::alloc::AllocError;
 use thiserror::Error;
 
-/// Why an AP-REQ is refused, in the order of the checks. Each has the result code, the error code and
-/// the text of its reply.
+/// Why an AP-REQ is refused, in the order of the checks. Each has the result code, the error code
+/// and the text of its reply.
 #[derive(Clone, Copy, Debug, Drop, Error)]
 pub enum ApFault {
     /// The bytes are no AP-REQ, or their ticket's outer part is none: 1, KRB_ERR_GENERIC (60).
@@ -34,10 +34,12 @@ pub enum ApFault {
     /// The ticket's encryption type isn't 17 or 18: 3, KDC_ERR_ETYPE_NOSUPP (14).
     #[error("a ticket of another encryption type")]
     TicketEtype,
-    /// The service has no key of the ticket's encryption type and kvno: 3, KRB_AP_ERR_BADKEYVER (44).
+    /// The service has no key of the ticket's encryption type and kvno: 3, KRB_AP_ERR_BADKEYVER
+    /// (44).
     #[error("no such service key")]
     NoServiceKey,
-    /// The ticket isn't sealed under the service's key, or isn't DER: 3, KRB_AP_ERR_BAD_INTEGRITY (31).
+    /// The ticket isn't sealed under the service's key, or isn't DER: 3,
+    /// KRB_AP_ERR_BAD_INTEGRITY (31).
     #[error("the ticket cannot be opened")]
     BadTicket,
     /// The session key isn't of encryption type 17 or 18: 3, KDC_ERR_ETYPE_NOSUPP (14).

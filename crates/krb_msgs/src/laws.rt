@@ -10,7 +10,8 @@ pub fn openings()
     ensures krb_priv { PrivsOpen }
 {}
 
-/// A text is no longer than a sum over its value, and a value in its range whose text is short fits.
+/// A text is no longer than a sum over its value, and a value in its range whose text is short
+/// fits.
 pub fn lengths()
     ensures short { TextsAreShort }
     ensures fits { ShortTextsFit }

@@ -1,5 +1,5 @@
-//! Messages, made of their parts (RFC 4120 sections 3.2, 3.5, 5.3 and 5.9). A message is for Kerberos
-//! 5, of the message type that is its application number.
+//! Messages, made of their parts (RFC 4120 sections 3.2, 3.5, 5.3 and 5.9). A message is for
+//! Kerberos 5, of the message type that is its application number.
 
 ghost use Rattle.std.specs.Prelude.{◌≡◌, true, IfOk};
 ghost use Rattle.krb_elements.specs.Texts.{fits, text};

@@ -1,7 +1,7 @@
 //! AP-REQs.
 
 use crate::making::ap_req;
-use crate::parts::{sealed_bytes, sealed_record};
+use crate::parts::{change_first, sealed_bytes, sealed_record};
 use crate::refusal::Refusal;
 use crate::world::{
     OPTIONS, PEER, REALM, SERVICE, SESSION, address, authenticator, bytes, client, name,
@@ -230,9 +230,15 @@ fn change_sealed_authenticator(
 
 fn change_text(text: &mut Vec<u8>, change: &str) {
     if change == "text 6f" {
-        if let Some(first) = text.first_mut() {
-            *first = 0x6f;
-        }
+        change_first(text, 0x6f);
+    }
+}
+
+/// The number that all bytes of a key are, or 0.
+fn shown_key(key: &Key) -> u8 {
+    match key.bytes() {
+        [first, rest @ ..] if rest.iter().all(|b| b == first) => *first,
+        _ => 0,
     }
 }
 
@@ -249,8 +255,8 @@ fn shown(alloc: Global, opened: &ApOpened) -> Result<String, AllocError> {
     let (ctime, cusec) = (opened.ctime.0, opened.cusec.0);
     shown.push_str(format!(in alloc; " flags {flags:08x} from {starts} to {ends}")?.as_str())?;
     shown.push_str(format!(in alloc; " at {ctime}.{cusec:06}")?.as_str())?;
-    let (session, subkey) = (&opened.session, &opened.subkey);
-    shown.push_str(format!(in alloc; " session {session:?} subkey {subkey:?}")?.as_str())?;
+    let (session, subkey) = (shown_key(&opened.session), shown_key(&opened.subkey));
+    shown.push_str(format!(in alloc; " session {session:02x} subkey {subkey:02x}")?.as_str())?;
     match opened.seq_number {
         Some(number) => shown.push_str(format!(in alloc; " seq {}", number.0)?.as_str())?,
         None => {}

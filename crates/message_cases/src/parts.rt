@@ -35,6 +35,13 @@ pub fn sealed_record<T: Write>(
     sealed_bytes(alloc, key, usage, &plain)
 }
 
+/// Puts another first byte into a text.
+pub fn change_first(text: &mut [u8], byte: u8) {
+    if let Some(first) = text.first_mut() {
+        *first = byte;
+    }
+}
+
 /// The same part with its cipher's first byte changed.
 pub fn forged(part: EncryptedData) -> EncryptedData {
     let EncryptedData {
@@ -43,7 +50,7 @@ pub fn forged(part: EncryptedData) -> EncryptedData {
         cipher,
     } = part;
     let mut bytes = cipher.into_vec();
-    if let Some(first) = bytes.first_mut() {
+    if let [first, ..] = bytes.as_mut_slice() {
         *first ^= 1;
     }
     EncryptedData {

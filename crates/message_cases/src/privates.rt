@@ -1,7 +1,7 @@
 //! KRB-PRIVs.
 
 use crate::making::krb_priv;
-use crate::parts::{forged, sealed_bytes, sealed_record};
+use crate::parts::{change_first, forged, sealed_bytes, sealed_record};
 use crate::refusal::Refusal;
 use crate::world::{CTIME, CUSEC, REALM, SESSION, SUBKEY, bytes, client, private_part, text_of};
 use krb_der::{
@@ -64,9 +64,7 @@ pub fn made(alloc: Global, part: &EncKrbPrivPart, changes: &str) -> Result<Vec<u
     }
     let mut text = write_krb_priv(alloc, &message)?;
     if changes.contains("text 76") {
-        if let Some(first) = text.first_mut() {
-            *first = 0x76;
-        }
+        change_first(&mut text, 0x76);
     }
     Ok(text)
 }

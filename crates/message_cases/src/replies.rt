@@ -1,7 +1,7 @@
 //! Replies: an AP-REP and a KRB-PRIV, or a KRB-ERROR.
 
 use crate::making::{ap_rep, krb_error};
-use crate::parts::{forged, sealed_bytes};
+use crate::parts::{change_first, forged, sealed_bytes};
 use crate::privates;
 use crate::refusal::Refusal;
 use crate::world::{CTIME, CUSEC, SESSION, SUBKEY, ap_rep_part, private_part, text_of};
@@ -32,7 +32,10 @@ pub fn answer(alloc: Global, changes: &str) -> Result<String, Refusal> {
         }
     }
     let head = made_ap_rep(alloc, changes)?;
-    let tail = privates::made(alloc, &private_part(alloc, said)?, changes)?;
+    let mut tail = privates::made(alloc, &private_part(alloc, said)?, changes)?;
+    if changes.contains("text 74") {
+        change_first(&mut tail, 0x74);
+    }
     let reply = read_reply(alloc, &session, &SUBKEY, ctime, cusec, &head, &tail);
     shown(alloc, reply)
 }
@@ -49,9 +52,7 @@ fn made_ap_rep(alloc: Global, changes: &str) -> Result<Vec<u8>, Refusal> {
     }
     let mut text = write_ap_rep(alloc, &message)?;
     if changes.contains("ap-rep text 6e") {
-        if let Some(first) = text.first_mut() {
-            *first = 0x6e;
-        }
+        change_first(&mut text, 0x6e);
     }
     Ok(text)
 }
@@ -90,9 +91,7 @@ pub fn error_answer(alloc: Global, changes: &str) -> Result<String, Refusal> {
     }
     let mut text = write_krb_error(alloc, &message)?;
     if changes.contains("text 7f") {
-        if let Some(first) = text.first_mut() {
-            *first = 0x7f;
-        }
+        change_first(&mut text, 0x7f);
     }
     shown(
         alloc,

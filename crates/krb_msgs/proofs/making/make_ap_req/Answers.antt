@@ -1,7 +1,10 @@
-use Rattle.std.proofs.Common.{◌≡◌, ◌<◌, ℕ, true, List, length, subst, sym, ap, ◌∙◌, None, Result, Ok, Err}
+use Rattle.std.proofs.Common.{rules, ◌≡◌, ◌<◌, ℕ, true, List, length, subst, sym, ap, ◌∙◌, None, Result, Ok, Err}
 use Rattle.std.specs.Result.{IfOk}
 use Rattle.krb_keys.specs.KeyUsages.{usage_ap_req_authenticator}
+use Rattle.krb_elements.specs.Reading.{Gives}
 use Rattle.krb_elements.specs.Texts.{text, fits}
+use Rattle.krb_elements.specs.declared.fault.DerFault.{DerFault}
+use Rattle.krb_elements.specs.declared.fault.ReadError.TheVariants as errors
 use Rattle.krb_der.specs.Protocol as protocol
 use Rattle.krb_der.specs.Types.{authenticator, ap_req}
 use Rattle.krb_der.specs.Values.{authenticator_value, ticket_value, ap_req_value}
@@ -9,7 +12,6 @@ use Rattle.krb_der.specs.declared.ap_req.ApReq.{ApReq}
 use Rattle.krb_der.specs.declared.ticket.Ticket.{Ticket}
 use Rattle.krb_der.specs.declared.encrypted_data.EncryptedData.{EncryptedData}
 use Rattle.krb_msgs.specs.Parts.{sealed_part}
-use Rattle.krb_msgs.proofs.ReadingLemmas.{not_refused}
 use Rattle.krb_msgs.proofs.making.make_ap_req.Goals as goal
 
 -- the message of a ticket and a sealed part
@@ -21,6 +23,14 @@ message_of ticket options part = record {
   ticket = ticket;
   authenticator = part;
 }
+
+-- an answer isn't both
+ok_err : {A F : Type 0} {v : A} {e : F} → Ok v ≡ Err e → ⊥
+ok_err h = search rules
+
+-- a text that spells a value isn't refused
+not_refused : {X Y : Type 0} (view : X → Y) (f : DerFault) (v : Y) → Gives view (Err (errors.Fault f)) (Ok v) → ⊥
+not_refused view f v h = ok_err h
 
 if_ok : {T E : Type 0} {P Q : T → Type 0} (r : Result T E) → ((v : T) → P v → Q v) → IfOk r P → IfOk r Q
 if_ok (Ok v) step h = step v h
