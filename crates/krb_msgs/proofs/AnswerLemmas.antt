@@ -1,10 +1,9 @@
 -- What an answer tells of the checks that gave it.
-use Rattle.std.proofs.Common.{◌≡◌, sym, subst, rules, Option, Some, None, Result, Ok, Err, refl}
+use Rattle.std.proofs.Common.{◌≡◌, sym, subst, Result, Ok, Err}
 use Rattle.std.specs.Result.{IsErrAnd}
 use Rattle.krb_msgs.specs.declared.fault.OpenError.{OpenError}
 use Rattle.krb_msgs.specs.declared.fault.OpenError.TheVariants as errors
 use Rattle.krb_msgs.specs.Answers.{Answers}
-use Rattle.krb_msgs.specs.Checks.{Found, of_one, of_none}
 
 -- a fault of the first checks, or want of memory, is passed on
 passes_err : {A X F : Type 0} (first : Result A F → Type 0) (whole : Result X F → Type 0)

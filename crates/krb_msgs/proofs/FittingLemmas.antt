@@ -1,5 +1,5 @@
 -- A message is little longer than its parts.
-use Rattle.std.proofs.Common.{◌≡◌, rules, ℕ, ◌+◌, ◌≤◌, ◌<◌, ◌^◌, true, List, ◌++◌, length, ℤ, pos, refl, sym, subst, ap, ◌∙◌, arith, length-append, Option, Some, None, option_map, ◌≤ℤ◌}
+use Rattle.std.proofs.Common.{◌≡◌, ℕ, ◌+◌, ◌≤◌, ◌<◌, ◌^◌, true, List, ◌++◌, length, pos, refl, subst, arith, length-append, Option, Some, None, option_map, ◌≤ℤ◌}
 use Rattle.std.proofs.lemmas.Bool.{lt-ltb}
 use Rattle.std.proofs.lemmas.Int.{ints}
 use Rattle.krb_aes.specs.Aes.{aes}
@@ -11,7 +11,7 @@ use Rattle.krb_keys.specs.declared.key.Key.{Key}
 use Rattle.krb_keys.specs.declared.key.Key.TheVariants.{Aes128, Aes256}
 use Rattle.krb_keys.proofs.SealingLemmas.{length-checksum_of}
 use Rattle.krb_elements.specs.Shapes.{Shape, Value, ◌&◌, uint32, tagged, field, nothing, int32, flags}
-use Rattle.krb_elements.specs.Texts.{element, fits, is_in_range, longest_text, text}
+use Rattle.krb_elements.specs.Texts.{fits, is_in_range, longest_text, text}
 use Rattle.krb_elements.proofs.CompleteLemmas.{and_both, and_true, one_value}
 use Rattle.krb_elements.proofs.TextLemmas.{text_spells}
 use Rattle.krb_der.specs.Protocol as protocol
@@ -20,7 +20,7 @@ use Rattle.krb_der.specs.Types.{ap_rep, ap_req, authenticator, enc_ap_rep_part, 
 use Rattle.krb_der.specs.Values.{ap_rep_value, ap_req_value, authenticator_value, enc_ap_rep_part_value, enc_krb_priv_part_value, enc_ticket_part_value, krb_priv_value, principal_name_value, ticket_value}
 use Rattle.krb_msgs.specs.Making.{ap_rep_of, ap_req_of, priv_of, service_name, ticket_of}
 use Rattle.krb_msgs.specs.Lengths.{longest}
-use Rattle.krb_msgs.specs.Fitting.{ApRepsFit, ApReqsFit, PrivsFit, TicketsFit}
+use Rattle.krb_msgs.specs.Fitting.{ApRepsFit, ApReqsFit, PrivsFit, TicketsAreShort, TicketsFit}
 use Rattle.krb_msgs.proofs.LengthLemmas.{between, short_element, short_texts_fit, texts_are_short}
 use Rattle.krb_msgs.proofs.PartLemmas.{some_text}
 
@@ -104,6 +104,14 @@ tickets_fit realm part service confounder c16 lt le =
     let cipher : List ℕ = sealed service.key usage_ticket confounder plain in
     let len = length-sealed service.key usage_ticket confounder plain c16 (some_text enc_ticket_part (enc_ticket_part_value part) refl) in
     fit types.ticket (ticket_value (ticket_of realm part service confounder)) (ticket_range realm service.key service.kvno cipher lt) (ticket_short realm service.key service.kvno cipher (omega (arith, len, le)))
+
+pub tickets_are_short : TicketsAreShort
+tickets_are_short realm part service confounder c16 =
+    let plain : List ℕ = text enc_ticket_part (enc_ticket_part_value part) in
+    let cipher : List ℕ = sealed service.key usage_ticket confounder plain in
+    let len = length-sealed service.key usage_ticket confounder plain c16 (some_text enc_ticket_part (enc_ticket_part_value part) refl) in
+    let short = texts_are_short types.ticket (ticket_value (ticket_of realm part service confounder)) in
+    omega (arith, len, short)
 
 -- the fields of an AP-REQ before its ticket, and that behind it
 abbrev request_value : ℕ → Value types.ticket → Key → List ℕ → Value ap_req

@@ -1,12 +1,12 @@
 -- The text of a value is no longer than its sum; numbers in a range.
-use Rattle.std.proofs.Common.{◌≡◌, ℕ, ◌+◌, ◌≤◌, ◌<◌, Bool, true, List, [], ◌∷◌, ◌++◌, Option, Some, None, refl, ap, ◌∙◌, arith, length, length-append, not, eqb, ltb, inl, inr, ℤ, pos, ◌≤ℤ◌, w64}
+use Rattle.std.proofs.Common.{◌≡◌, ℕ, ◌+◌, ◌≤◌, true, List, [], ◌∷◌, Option, Some, None, ap, arith, length, length-append, not, eqb, ltb, inl, inr, ℤ, pos, ◌≤ℤ◌, w64}
 use Rattle.std.specs.Prelude.{int_lt}
 use Rattle.std.proofs.lemmas.Int.{ints, by_lt_z}
 use Rattle.std.specs.Int.{cast_unsigned, to_be_bytes}
 use Rattle.std.specs.List.{flat_map}
 use Rattle.std.proofs.lemmas.Bool.{le-leb}
 use Rattle.std.proofs.lemmas.List.Concat.{flat_map-cons}
-use Rattle.krb_elements.specs.Shapes.{Primitive, integer, sequence_number, octets, bits, time, Shape, primitive, tagged, many, further, nothing, field, option, Meaning, Value, is_between, tag_of}
+use Rattle.krb_elements.specs.Shapes.{Primitive, integer, sequence_number, octets, bits, time, primitive, tagged, many, further, nothing, field, option, Meaning, is_between, tag_of}
 use Rattle.krb_elements.specs.Integers.{integer_octets, repeats_sign, without_sign}
 use Rattle.krb_elements.specs.BitStrings.{bits_octets}
 use Rattle.krb_elements.specs.Times.{is_writable, time_octets, time_of}

@@ -4,7 +4,7 @@ use Rattle.std.specs.Prelude.{is_some}
 use Rattle.krb_elements.specs.Shapes.{Shape, Value, ◌&◌, field, option, nothing, tagged, kerberos_time, microseconds, seq_number}
 use Rattle.krb_elements.specs.Grammar.{IsElement, IsOptional, Spells}
 use Rattle.krb_elements.specs.Texts.{is_in_range}
-use Rattle.krb_elements.specs.Times.{IsTime, time_of}
+use Rattle.krb_elements.specs.Times.{IsTime}
 use Rattle.krb_elements.proofs.TimeLemmas.{time_of-exact}
 use Rattle.krb_der.specs.Types.{authenticator, authorization_data, checksum, encryption_key}
 use Rattle.krb_der.specs.Values.{authenticator_value, authorization_data_value, checksum_value, encryption_key_value}

@@ -1,11 +1,11 @@
 -- What is made of a part's record is unsealed and spelled.
-use Rattle.std.proofs.Common.{◌≡◌, rules, ℕ, ◌<◌, List, ◌∷◌, length, inl, inr, refl, subst, sym, true, arith, length-append, Option, Ok}
+use Rattle.std.proofs.Common.{◌≡◌, rules, ℕ, ◌<◌, List, ◌∷◌, length, inl, inr, refl, subst, sym, true, arith, length-append, Ok}
 use Rattle.krb_keys.specs.Keys.{etype_of, number_of}
 use Rattle.krb_keys.specs.declared.key.Key.{Key}
 use Rattle.krb_keys.specs.declared.key.Key.TheVariants.{Aes128, Aes256}
 use Rattle.krb_elements.specs.Shapes.{Shape, Value, primitive, tagged, many, further, nothing, field, option}
 use Rattle.krb_elements.specs.Texts.{element, length_octets, text, fits}
-use Rattle.krb_elements.specs.Grammar.{Spells, is_element, is_legal}
+use Rattle.krb_elements.specs.Grammar.{is_element, is_legal}
 use Rattle.krb_elements.proofs.TextLemmas.{text_spells}
 use Rattle.krb_der.specs.declared.encrypted_data.EncryptedData.{EncryptedData}
 use Rattle.krb_msgs.specs.Checks.{of_one, goes_on}

@@ -28,6 +28,14 @@ TicketsFit = (realm : List ℕ) (part : EncTicketPart) (service : ServiceKey)
     → length realm + length (text enc_ticket_part (enc_ticket_part_value part)) ≤ longest_part
     → fits types.ticket (ticket_value (ticket_of realm part service confounder)) ≡ true
 
+-- a ticket has at most 300 bytes more than its realm and its sealed part together
+abbrev pub TicketsAreShort : Type 0
+TicketsAreShort = (realm : List ℕ) (part : EncTicketPart) (service : ServiceKey)
+    (confounder : List ℕ)
+    → length confounder ≡ 16
+    → length (text types.ticket (ticket_value (ticket_of realm part service confounder)))
+    ≤ length realm + length (text enc_ticket_part (enc_ticket_part_value part)) + 300
+
 -- an AP-REQ, the text of its ticket and that of the authenticator together
 abbrev pub ApReqsFit : Type 0
 ApReqsFit = (made : Ticket) (t : Ticket) (options : ℕ) (a : Authenticator) (session : Key)

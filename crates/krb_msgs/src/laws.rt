@@ -2,7 +2,7 @@
 
 ghost use Rattle.krb_msgs.specs.Laws.{ApReqsOpen, PrivsOpen};
 ghost use Rattle.krb_msgs.specs.Lengths.{ShortTextsFit, TextsAreShort};
-ghost use Rattle.krb_msgs.specs.Fitting.{ApRepsFit, ApReqsFit, OpenedTimesFit, PrivsFit, TicketsFit};
+ghost use Rattle.krb_msgs.specs.Fitting.{ApRepsFit, ApReqsFit, OpenedTimesFit, PrivsFit, TicketsAreShort, TicketsFit};
 
 /// What is made of a request opens to that request.
 pub fn openings()
@@ -21,6 +21,7 @@ pub fn lengths()
 /// message has its conditions from this.
 pub fn messages_fit()
     ensures ticket { TicketsFit }
+    ensures ticket_length { TicketsAreShort }
     ensures ap_req { ApReqsFit }
     ensures ap_rep { ApRepsFit }
     ensures krb_priv { PrivsFit }

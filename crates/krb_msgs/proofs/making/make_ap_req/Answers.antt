@@ -1,17 +1,15 @@
-use Rattle.std.proofs.Common.{rules, ◌≡◌, ◌<◌, ℕ, true, List, length, subst, sym, ap, ◌∙◌, None, Result, Ok, Err}
+use Rattle.std.proofs.Common.{rules, ◌≡◌, ℕ, true, subst, sym, ap, ◌∙◌, Result, Ok, Err}
 use Rattle.std.specs.Result.{IfOk}
-use Rattle.krb_keys.specs.KeyUsages.{usage_ap_req_authenticator}
 use Rattle.krb_elements.specs.Reading.{Gives}
 use Rattle.krb_elements.specs.Texts.{text, fits}
 use Rattle.krb_elements.specs.declared.fault.DerFault.{DerFault}
 use Rattle.krb_elements.specs.declared.fault.ReadError.TheVariants as errors
 use Rattle.krb_der.specs.Protocol as protocol
-use Rattle.krb_der.specs.Types.{authenticator, ap_req}
-use Rattle.krb_der.specs.Values.{authenticator_value, ticket_value, ap_req_value}
+use Rattle.krb_der.specs.Types.{ap_req}
+use Rattle.krb_der.specs.Values.{ticket_value, ap_req_value}
 use Rattle.krb_der.specs.declared.ap_req.ApReq.{ApReq}
 use Rattle.krb_der.specs.declared.ticket.Ticket.{Ticket}
 use Rattle.krb_der.specs.declared.encrypted_data.EncryptedData.{EncryptedData}
-use Rattle.krb_msgs.specs.Parts.{sealed_part}
 use Rattle.krb_msgs.proofs.making.make_ap_req.Goals as goal
 
 -- the message of a ticket and a sealed part
