@@ -4,8 +4,8 @@
 //! number is taken modulo 32, in reading, in putting and in their clauses alike. A tag of one byte
 //! has the numbers 0 to 30 (X.690 section 8.1.2.2).
 //!
-//! Lists of up to four fields, or of up to four lists, are written here, as tuples; a longer list is
-//! one of lists, whose grouping says nothing about the record.
+//! Lists of up to four fields, or of up to four lists, are written here, as tuples; a longer list
+//! is one of lists, whose grouping says nothing about the record.
 
 ghost use Rattle.std.specs.Prelude.{◌≡◌, ◌+◌, ◌%◌, option_map};
 ghost use Rattle.krb_elements.specs.Shapes.{Shape, Value, required, optional, tagged};

@@ -2,10 +2,9 @@
 
 ghost use Rattle.std.specs.Prelude.{◌≡◌, refl};
 ghost use Rattle.krb_elements.specs.BitStrings.{is_set};
-ghost use Rattle.krb_elements.specs.Shapes.{Shape, Value, flags};
-ghost use Rattle.krb_elements.specs.Reading.{Gives, reads};
+ghost use Rattle.krb_elements.specs.Shapes.{flags};
+ghost use Rattle.krb_elements.specs.Reading.{reads};
 ghost use Rattle.krb_elements.specs.Sinks.{puts};
-ghost use Rattle.krb_elements.specs.Sinks.{Puts};
 
 use crate::bits::{bits_in, bits_octets};
 use crate::element::Element;

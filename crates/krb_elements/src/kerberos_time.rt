@@ -1,11 +1,10 @@
 //! Times as elements: a GeneralizedTime in whole seconds (RFC 4120 section 5.2.3). Its contents are
 //! in `time`.
 
-ghost use Rattle.std.specs.Prelude.{◌≡◌, refl};
-ghost use Rattle.krb_elements.specs.Shapes.{Shape, Value, kerberos_time};
-ghost use Rattle.krb_elements.specs.Reading.{Gives, reads};
+ghost use Rattle.std.specs.Prelude.{refl};
+ghost use Rattle.krb_elements.specs.Shapes.{kerberos_time};
+ghost use Rattle.krb_elements.specs.Reading.{reads};
 ghost use Rattle.krb_elements.specs.Sinks.{puts};
-ghost use Rattle.krb_elements.specs.Sinks.{Puts};
 
 use crate::element::Element;
 use crate::fault::ReadError;

@@ -2,10 +2,9 @@
 
 ghost use Rattle.std.specs.Prelude.{◌≡◌, map};
 ghost use Rattle.std.specs.Cmp.Lexicographic.{pointwise, lists_per};
-ghost use Rattle.krb_elements.specs.Shapes.{Shape, Value, many, sequence_of};
+ghost use Rattle.krb_elements.specs.Shapes.{Value, many, sequence_of};
 ghost use Rattle.krb_elements.specs.Reading.{Gives, reads};
 ghost use Rattle.krb_elements.specs.Sinks.{puts};
-ghost use Rattle.krb_elements.specs.Sinks.{Puts, puts};
 
 use crate::element::Element;
 use crate::fault::ReadError;

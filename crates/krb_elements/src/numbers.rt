@@ -1,11 +1,10 @@
 //! INTEGERs as elements: Int32, UInt32, Microseconds (RFC 4120 section 5.2.4) and sequence numbers
 //! (section 5.5.1). Their contents are in `integer`.
 
-ghost use Rattle.std.specs.Prelude.{◌≡◌, refl, pos};
-ghost use Rattle.krb_elements.specs.Shapes.{Shape, Value, int32, uint32, microseconds, seq_number};
-ghost use Rattle.krb_elements.specs.Reading.{Gives, reads};
+ghost use Rattle.std.specs.Prelude.{refl, pos};
+ghost use Rattle.krb_elements.specs.Shapes.{int32, uint32, microseconds, seq_number};
+ghost use Rattle.krb_elements.specs.Reading.{reads};
 ghost use Rattle.krb_elements.specs.Sinks.{puts};
-ghost use Rattle.krb_elements.specs.Sinks.{Puts};
 
 use crate::element::Element;
 use crate::fault::ReadError;

@@ -3,10 +3,9 @@
 ghost use Rattle.std.specs.Prelude.{◌≡◌, ◌==◌, refl};
 ghost use Rattle.std.specs.Cmp.Lexicographic.{pointwise};
 ghost use Rattle.std.specs.Cmp.Rules.{comparing};
-ghost use Rattle.krb_elements.specs.Shapes.{Shape, Value, primitive, octets};
-ghost use Rattle.krb_elements.specs.Reading.{Gives, reads};
+ghost use Rattle.krb_elements.specs.Shapes.{Value, primitive, octets};
+ghost use Rattle.krb_elements.specs.Reading.{reads};
 ghost use Rattle.krb_elements.specs.Sinks.{puts};
-ghost use Rattle.krb_elements.specs.Sinks.{Puts};
 
 use crate::element::Element;
 use crate::fault::ReadError;

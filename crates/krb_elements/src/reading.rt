@@ -1,6 +1,6 @@
 //! Reading a whole text.
 
-ghost use Rattle.std.specs.Prelude.{◌≡◌, IfOk, Ok};
+ghost use Rattle.std.specs.Prelude.{IfOk, Ok};
 ghost use Rattle.krb_elements.specs.Shapes.{Value};
 ghost use Rattle.krb_elements.specs.Grammar.{Spells};
 ghost use Rattle.krb_elements.specs.Reading.{Gives, reads, reads_all};

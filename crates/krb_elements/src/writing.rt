@@ -1,6 +1,6 @@
 //! Writing a whole text, and measuring it.
 
-ghost use Rattle.std.specs.Prelude.{◌≡◌, IfOk, map, true};
+ghost use Rattle.std.specs.Prelude.{◌≡◌, IfOk, map};
 ghost use Rattle.krb_elements.specs.Shapes.{many};
 ghost use Rattle.krb_elements.specs.Sinks.{Puts, puts};
 ghost use Rattle.krb_elements.specs.Texts.{text, fits, text_length};
