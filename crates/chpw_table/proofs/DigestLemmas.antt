@@ -3,11 +3,7 @@ use Rattle.std.proofs.Common.{◌≡◌, ℕ, [], ◌∷◌, Bool, true, false, 
 use Rattle.std.specs.Prelude.{◌==◌, IfSome}
 use Rattle.krb_keys.specs.declared.key.Key.{Key}
 use Rattle.chpw_table.proofs.BoolLemmas.{and_left, and_right}
-use Rattle.chpw_table.specs.Digests.{Derivation, has_count, is_both_etypes, is_derivation}
-
--- the keys that a search for a count finds
-abbrev pub found_under : ℕ → Derivation → Option (ℕ × Key × Key)
-found_under count ds = find (λ (d : ℕ × Key × Key). d.0 == count) ds
+use Rattle.chpw_table.specs.Digests.{Derivation, has_count, found_under, is_both_etypes, is_derivation}
 
 -- where nothing is found, the count is not there
 none_at : (x : ℕ × Key × Key) (r : Option (ℕ × Key × Key)) (b c : Bool) → (r ≡ None → c ≡ false) → (if b then Some x else r) ≡ None → (b || c) ≡ false

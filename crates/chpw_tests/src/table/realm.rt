@@ -85,23 +85,11 @@ fn config(alloc: Global, max_entries: u32) -> Result<Config, AllocError> {
     })
 }
 
-/// Alice asks for a new password of 9 bytes and 3 classes of her own, whose keys these are.
+/// Alice asks at 1000 for a new password of 9 bytes and 3 classes of her own, whose keys these are.
 pub fn change(alloc: Global, cusec: u32, derived: Vec<(u32, Key, Key)>) -> Result<Opened, Fail> {
     let Some(digest) = Digest::of(9, 3, derived) else {
         return Err(Fail::new("no keys of a password"));
     };
-    Ok(request(
-        alloc,
-        cusec,
-        Body::Ask {
-            target: None,
-            digest,
-        },
-    )?)
-}
-
-/// What alice sends at 1000.
-pub fn request(alloc: Global, cusec: u32, body: Body) -> Result<Opened, AllocError> {
     Ok(Opened {
         crealm: bytes(alloc, "EXAMPLE.COM")?,
         client: name(alloc, "alice")?,
@@ -112,7 +100,10 @@ pub fn request(alloc: Global, cusec: u32, body: Body) -> Result<Opened, AllocErr
         ctime: 1000,
         cusec,
         stamp: None,
-        body,
+        body: Body::Ask {
+            target: None,
+            digest,
+        },
     })
 }
 
