@@ -1,19 +1,17 @@
 -- A request completed for its password.
-use Rattle.std.proofs.Common.{◌≡◌, ℕ, List, [], ◌∷◌, ◌++◌, map, Bool, true, false, not, ◌&&◌, ◌||◌, ◌==◌, if◌then◌else◌, refl, sym, ◌∙◌, ap, subst, arith, append-nil}
+use Rattle.std.proofs.Common.{◌≡◌, ℕ, List, [], ◌∷◌, ◌++◌, map, Bool, true, false, not, ◌||◌, ◌==◌, if◌then◌else◌, refl, sym, ◌∙◌, ap, arith, append-nil}
 use Rattle.std.specs.Prelude.{filter}
 use Rattle.std.specs.List.{list_any}
 use Rattle.std.proofs.lemmas.Bool.Decides.{nat_tests}
-use Rattle.krb_keys.specs.declared.key.Key.{Key}
 use Rattle.chpw_table.specs.declared.times.Moment.{Moment}
 use Rattle.chpw_table.specs.declared.request.Opened.{Opened}
-use Rattle.chpw_table.specs.declared.request.Target.{Target}
 use Rattle.chpw_table.specs.declared.request.Body.{Body}
 use Rattle.chpw_table.specs.declared.request.Body.TheVariants.{Ask, BadPrivate, BadData}
 use Rattle.chpw_table.specs.declared.verdict.Verdict.{Verdict}
 use Rattle.chpw_table.specs.declared.verdict.Verdict.TheVariants.{Skew, Replay, NotYet, Expired, BadBody}
 use Rattle.chpw_table.specs.declared.verdict.Verdict.TheVariants as row
 use Rattle.chpw_table.specs.State.{State}
-use Rattle.chpw_table.specs.Requests.{target_of, digest_of, body_target, client_of}
+use Rattle.chpw_table.specs.Requests.{target_of, digest_of, client_of}
 use Rattle.chpw_table.specs.Digests.{Derivation, has_count}
 use Rattle.chpw_table.specs.Derivations.{with_counts, keys_from, each_once, new_counts}
 use Rattle.chpw_table.specs.Wanted.{wanted, lacking}

@@ -19,21 +19,25 @@ use Rattle.chpw_table.specs.Journal.{appended, journal}
 use Rattle.chpw_table.specs.Verdicts.{is_done}
 use Rattle.chpw_table.specs.Keeping.{Kept, IsKept, AreOwn, OwnAreCalls, entries, basis_after, receipt_behind}
 
-legal_on : (s : State) (es : List Entry) (e : Entry) → IsLegal s es → IsDecided (outcome s es) e.now e.opened e.io_failed e.verdict → IsLegal s (es ++ e ∷ [])
+-- it is legal
+pub legal_on : (s : State) (es : List Entry) (e : Entry) → IsLegal s es → IsDecided (outcome s es) e.now e.opened e.io_failed e.verdict → IsLegal s (es ++ e ∷ [])
 legal_on s [] e h d = (d, tt)
 legal_on s (x ∷ xs) e h d = (h.0, legal_on (step_entry s x) xs e h.1 d)
 
-outcome_on : (s : State) (es : List Entry) (e : Entry) → outcome s (es ++ e ∷ []) ≡ step_entry (outcome s es) e
+-- it leads one step on
+pub outcome_on : (s : State) (es : List Entry) (e : Entry) → outcome s (es ++ e ∷ []) ≡ step_entry (outcome s es) e
 outcome_on s [] e = refl
 outcome_on s (x ∷ xs) e = outcome_on (step_entry s x) xs e
 
-journal_on : (s : State) (es : List Entry) (e : Entry) → journal s (es ++ e ∷ []) ≡ journal s es ++ appended (outcome s es) e.opened e.verdict
+-- its journal has what the entry appended behind it
+pub journal_on : (s : State) (es : List Entry) (e : Entry) → journal s (es ++ e ∷ []) ≡ journal s es ++ appended (outcome s es) e.opened e.verdict
 journal_on s [] e = append-nil (appended s e.opened e.verdict)
 journal_on s (x ∷ xs) e =
     ap (λ (ys : List ℕ). appended s x.opened x.verdict ++ ys) (journal_on (step_entry s x) xs e)
     ∙ sym (append_assoc (appended s x.opened x.verdict) (journal (step_entry s x) xs) (appended (outcome (step_entry s x) xs) e.opened e.verdict))
 
-entries_on : (rs : List Receipt) (r : Receipt) → entries (rs ++ r ∷ []) ≡ entries rs ++ r.entry ∷ []
+-- the entries of receipts
+pub entries_on : (rs : List Receipt) (r : Receipt) → entries (rs ++ r ∷ []) ≡ entries rs ++ r.entry ∷ []
 entries_on [] r = refl
 entries_on (x ∷ xs) r = ap (λ (ys : List Entry). x.entry ∷ ys) (entries_on xs r)
 
@@ -60,6 +64,7 @@ own_calls_from position basis (x ∷ xs) h =
     let whole : x ∷ xs ≡ here = ap (λ (r : Receipt). r ∷ xs) h.0 ∙ ap (λ (ys : List Receipt). record { worker = 0; number = position + 1; position = position; basis = basis; entry = x.entry } ∷ ys) tail in
     whole ∙ sym (ap (λ (b : Bool). if b then here else there) mine)
 
+-- the law on the receipts of one thread
 pub own_are_calls : OwnAreCalls
 own_are_calls receipts h = own_calls_from 0 0 receipts h
 
@@ -67,6 +72,7 @@ basis_on : (basis : ℕ) (rs : List Receipt) (r : Receipt) → basis_after basis
 basis_on basis [] r = refl
 basis_on basis (x ∷ xs) r = basis_on (next_basis basis x.entry) xs r
 
+-- the accepted entries behind one receipt more
 pub basis_next : (rs : List Receipt) (now : Moment) (x : Outcome) → basis_after 0 (rs ++ receipt_behind rs now x ∷ []) ≡ next_basis (basis_after 0 rs) (receipt_behind rs now x).entry
 basis_next rs now x = basis_on 0 rs (receipt_behind rs now x)
 
@@ -81,6 +87,7 @@ basis_few_from basis (x ∷ xs) =
     let g = next_few (is_done x.entry.verdict) basis x.entry refl in
     omega (arith, h, g)
 
+-- which are no more than the receipts
 pub basis_few : (rs : List Receipt) → basis_after 0 rs ≤ length rs
 basis_few rs = let h = basis_few_from 0 rs in omega (arith, h)
 

@@ -1,5 +1,5 @@
 //! A small realm, requests of its principal alice, and a journal that fails where it is told to.
-ghost use Rattle.std.specs.Prelude.{None};
+ghost use Rattle.std.specs.Prelude.{◌≡◌, None};
 
 use chpw_rules::{Config, Items, KeyBytes, Name, Policy, PrincipalRow, Rules};
 use chpw_table::{Body, Digest, JournalSink, Opened, SinkFault, Table};
@@ -39,7 +39,9 @@ impl JournalSink for Tally {
 
 impl Tally {
     /// No append yet; the append of this number fails, and none where it is 0.
-    pub fn failing_at(fails_at: u32) -> Tally {
+    pub fn failing_at(fails_at: u32) -> Tally
+        ensures whole { result.failed ≡ 0 }
+    {
         Tally {
             fails_at,
             appends: 0,
