@@ -1,8 +1,9 @@
 -- What one event does.
 use Rattle.std.proofs.Common.{◌≡◌, ◌≢◌, List, [], ◌∷◌, ◌++◌, Bool, true, false, ◌||◌, if◌then◌else◌, refl, sym, ◌∙◌, ap, subst, arith}
-use Rattle.std.specs.Prelude.{ℤ, pos, ◌+ℤ◌, ◌≤ℤ◌, int_le}
+use Rattle.std.specs.Prelude.{ℤ, ◌+ℤ◌, ◌≤ℤ◌, int_le}
 use Rattle.std.specs.List.{list_any}
 use Rattle.std.proofs.lemmas.Int.{ints, clamps}
+use Rattle.chpw_table.specs.declared.times.TheConstants.{CLOCK_SKEW}
 use Rattle.chpw_table.specs.declared.times.Moment.{Moment}
 use Rattle.chpw_table.specs.declared.request.Opened.{Opened}
 use Rattle.chpw_table.specs.declared.request.RequestId.{RequestId}
@@ -112,7 +113,7 @@ clock_throughout : (s : State) (es : List Entry) (start : ℤ) → s.clock ≤�
 clock_throughout s [] start a b = a
 clock_throughout s (e ∷ es) start a b = clock_throughout (step_entry s e) es start (clock_by s e.now start a b.0) b.1
 
-quiet_covers : (clock ctime start : ℤ) → is_far clock ctime ≡ false → clock ≤ℤ start → int_le ctime (start +ℤ pos 300) ≡ true
+quiet_covers : (clock ctime start : ℤ) → is_far clock ctime ≡ false → clock ≤ℤ start → int_le ctime (start +ℤ CLOCK_SKEW) ≡ true
 quiet_covers clock ctime start h g = grind (arith, ints)
 
 quiet_skew : (a b : Bool) (v : Verdict) → b ≡ true → (if a || b then Skew else v) ≡ Skew

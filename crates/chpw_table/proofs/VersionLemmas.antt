@@ -13,11 +13,8 @@ use Rattle.chpw_table.specs.Verdicts.{is_done}
 use Rattle.chpw_table.specs.Decision.{verdict}
 use Rattle.chpw_table.specs.Step.{after, new_key}
 use Rattle.chpw_table.specs.History.{step_entry}
-use Rattle.chpw_table.specs.Versions.{KeyChange, Shown, entry_change, accepted, shown_keys, with_change, ShowsHeld}
+use Rattle.chpw_table.specs.Versions.{KeyChange, Shown, change_of, entry_change, accepted, shown_keys, with_change, ShowsHeld}
 use Rattle.chpw_table.proofs.KeyLemmas.{keys_after, put, kept_some, newest_put}
-
-abbrev change_of : Name → KeyRow → KeyChange
-change_of name key = record { name = name; kvno = key.kvno; count = key.count }
 
 put_shown : (kept k : ℕ) (name : Name) (key : KeyRow) (keys : List KeyRow) → kept ≡ suc k → with_change kept (change_of name key) (shown_keys keys) ≡ shown_keys (put kept key keys)
 put_shown kept k name key keys h = λ i. record {

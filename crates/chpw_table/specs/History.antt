@@ -36,8 +36,6 @@ abbrev pub outcome : State → List Entry → State
 outcome s [] = s
 outcome s (e ∷ es) = outcome (step_entry s e) es
 
--- What follows is what those who keep a history promise of it: the receipts of a worker.
-
 -- the accepted entries, one more after an accepted one
 abbrev pub next_basis : ℕ → Entry → ℕ
 next_basis n e = if is_done e.verdict then n + 1 else n

@@ -1,7 +1,8 @@
 -- Laws of the machine.
-use Rattle.std.specs.Prelude.{◌≡◌, ◌≢◌, ℕ, ℤ, pos, ◌+◌, ◌+ℤ◌, ◌≤ℤ◌, ◌≤◌, List, [], ◌∷◌, ◌++◌, length, Bool, true, false, ◌&&◌, if◌then◌else◌, Option, IsSome, IfSome, option_map, take}
+use Rattle.std.specs.Prelude.{◌≡◌, ◌≢◌, ℕ, ℤ, ◌+◌, ◌+ℤ◌, ◌≤ℤ◌, ◌≤◌, List, [], ◌∷◌, ◌++◌, length, Bool, true, false, ◌&&◌, if◌then◌else◌, Option, IsSome, IfSome, option_map, take}
 use Rattle.chpw_rules.specs.declared.name.Name.{Name}
 use Rattle.chpw_rules.specs.Names.{is_same_name}
+use Rattle.chpw_table.specs.declared.times.TheConstants.{CLOCK_SKEW}
 use Rattle.chpw_table.specs.declared.times.Moment.{Moment}
 use Rattle.chpw_table.specs.declared.request.Opened.{Opened}
 use Rattle.chpw_table.specs.declared.verdict.Verdict.TheVariants.{Skew, Done}
@@ -16,7 +17,8 @@ use Rattle.chpw_table.specs.History.{step_entry, outcome, IsLegal}
 
 -- a verdict other than Done leaves all principals
 abbrev pub RefusalKeepsKeys : Type 0
-RefusalKeepsKeys = (s : State) (now : Moment) (o : Opened) (io : Bool) → verdict s now o io ≢ Done → (step s now o io).principals ≡ s.principals
+RefusalKeepsKeys = (s : State) (now : Moment) (o : Opened) (io : Bool) →
+    verdict s now o io ≢ Done → (step s now o io).principals ≡ s.principals
 
 -- a name's newest version
 abbrev pub newest_of : State → Name → Option ℕ
@@ -25,20 +27,27 @@ newest_of s name = option_map newest_kvno (keys_held s name)
 -- Done raises the target's newest version by one
 abbrev pub DoneRaisesTarget : Type 0
 DoneRaisesTarget = (s : State) (now : Moment) (o : Opened) (io : Bool) → verdict s now o io ≡ Done →
-    IsSome (newest_of s (target_of o).name) × (newest_of (step s now o io) (target_of o).name ≡ option_map (λ n. n + 1) (newest_of s (target_of o).name))
+    IsSome (newest_of s (target_of o).name)
+    × (newest_of (step s now o io) (target_of o).name ≡ option_map (λ n. n + 1) (newest_of s (target_of o).name))
 
 -- no other name's keys change, whatever the verdict
 abbrev pub OthersStay : Type 0
-OthersStay = (s : State) (now : Moment) (o : Opened) (io : Bool) (name : Name) → name ≢ (target_of o).name → keys_held (step s now o io) name ≡ keys_held s name
+OthersStay = (s : State) (now : Moment) (o : Opened) (io : Bool) (name : Name) →
+    name ≢ (target_of o).name → keys_held (step s now o io) name ≡ keys_held s name
 
 -- an id that an entry added is never judged past Replay again
 abbrev pub UsedForGood : Type 0
-UsedForGood = (s : State) (before : Moment) (used : Opened) (failed : Bool) (es : List Entry) (now : Moment) (o : Opened) (io : Bool) →
-    adds_id (verdict s before used failed) ≡ true → id_of o ≡ id_of used → adds_id (verdict (outcome (step s before used failed) es) now o io) ≡ false
+UsedForGood = (s : State) (before : Moment) (used : Opened) (failed : Bool) (es : List Entry)
+    (now : Moment) (o : Opened) (io : Bool) →
+    adds_id (verdict s before used failed) ≡ true → id_of o ≡ id_of used →
+    adds_id (verdict (outcome (step s before used failed) es) now o io) ≡ false
 
 -- the keys that the entries made for a name, newest first
 abbrev pub entry_keys : State → Entry → Name → List KeyRow
-entry_keys s e name = if is_done e.verdict && is_same_name (target_of e.opened).name name then new_key s e.opened ∷ [] else []
+entry_keys s e name =
+    if is_done e.verdict && is_same_name (target_of e.opened).name name
+    then new_key s e.opened ∷ []
+    else []
 
 abbrev pub keys_made : State → List Entry → Name → List KeyRow
 keys_made s [] name = []
@@ -51,15 +60,18 @@ HoldsFew s = (name : Name) → IfSome (keys_held s name) (λ keys. length keys �
 -- the keys of a name are those made and then the opening's, of which the newest are kept
 abbrev pub KeepsNewest : Type 0
 KeepsNewest = (opening : State) (history : List Entry) (name : Name) → IsLegal opening history → HoldsFew opening →
-    keys_held (outcome opening history) name ≡ option_map (λ keys. take (kept_count opening) (keys_made opening history name ++ keys)) (keys_held opening name)
+    keys_held (outcome opening history) name
+    ≡ option_map (λ keys. take (kept_count opening) (keys_made opening history name ++ keys)) (keys_held opening name)
 
 -- no moment of these is after the start
 abbrev pub AllBefore : ℤ → List Entry → Type 0
 AllBefore start [] = Unit {0}
 AllBefore start (e ∷ es) = (e.now.seconds ≤ℤ start) × AllBefore start es
 
--- an id that a run added up to `start` is Skew in a run that is quiet until 300 seconds after it
+-- an id that a run added up to `start` is Skew in a run that is quiet for the skew after it
 abbrev pub QuietRefusesFormer : Type 0
-QuietRefusesFormer = (opening : State) (es : List Entry) (before : Moment) (used : Opened) (failed : Bool) (start : ℤ) → opening.clock ≤ℤ start → AllBefore start es → before.seconds ≤ℤ start →
+QuietRefusesFormer = (opening : State) (es : List Entry) (before : Moment) (used : Opened) (failed : Bool)
+    (start : ℤ) → opening.clock ≤ℤ start → AllBefore start es → before.seconds ≤ℤ start →
     adds_id (verdict (outcome opening es) before used failed) ≡ true →
-    (next : State) (now : Moment) (o : Opened) (io : Bool) → next.fixed.quiet_until ≡ start +ℤ pos 300 → id_of o ≡ id_of used → verdict next now o io ≡ Skew
+    (next : State) (now : Moment) (o : Opened) (io : Bool) →
+    next.fixed.quiet_until ≡ start +ℤ CLOCK_SKEW → id_of o ≡ id_of used → verdict next now o io ≡ Skew

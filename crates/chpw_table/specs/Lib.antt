@@ -19,3 +19,5 @@ pub mod Holding
 pub mod Entering
 pub mod Completing
 pub mod Inserting
+pub mod Deciding
+pub mod Keeping

@@ -3,4 +3,6 @@
 #![tactic(auto)]
 
 #[cfg(test)]
+mod rules;
+#[cfg(test)]
 mod table;

@@ -1,5 +1,6 @@
 //! Tests of chpw_table.
 
+mod alone;
 mod copies;
 mod counts;
 mod decisions;

@@ -1,5 +1,5 @@
-use super::realm::{Tally, change, name, request, table};
-use chpw_table::{Body, DecideFault, Moment, Opened, Table, Verdict};
+use super::realm::{Tally, change, name, table};
+use chpw_table::{DecideFault, Moment, Opened, Table, Verdict};
 use krb_keys::Key;
 use std::alloc::Global;
 use std::process::Abort;
@@ -44,13 +44,6 @@ fn whole(alloc: Global, cusec: u32) -> Result<Opened, Fail> {
     change(alloc, cusec, keys)
 }
 
-// Alice sends bad user-data, with a timestamp.
-fn stamped(alloc: Global, cusec: u32, stamp: i64) -> Result<Opened, Fail> {
-    let mut opened = request(alloc, cusec, Body::BadData)?;
-    opened.stamp = Some(stamp);
-    Ok(opened)
-}
-
 #[test]
 fn keys_are_wanting(rt: HostRuntime) -> Result<(), Fail> {
     let mut table = table(&rt, rt.alloc(), 1)?;
@@ -88,20 +81,6 @@ fn shown_of_a_name(rt: HostRuntime) -> Result<(), Fail> {
         }
         _ => return Err(Fail::new("no such name")),
     }
-    Ok(())
-}
-
-// A timestamp may be 300 seconds from the clock, and not 301, whatever the body.
-#[test]
-fn timestamps(rt: HostRuntime) -> Result<(), Fail> {
-    let mut table = table(&rt, rt.alloc(), 10)?;
-    let mut sink = Tally::failing_at(0);
-    let late = stamped(rt.alloc(), 1, 1301)?;
-    assert!(rt; verdict(&rt, &mut table, &mut sink, late)? == Verdict::BadPrivate);
-    let early = stamped(rt.alloc(), 2, 699)?;
-    assert!(rt; verdict(&rt, &mut table, &mut sink, early)? == Verdict::BadPrivate);
-    let near = stamped(rt.alloc(), 3, 1300)?;
-    assert!(rt; verdict(&rt, &mut table, &mut sink, near)? == Verdict::BadBody);
     Ok(())
 }
 

@@ -1,5 +1,5 @@
 //! A small realm, requests of its principal alice, and a journal that fails where it is told to.
-ghost use Rattle.std.specs.Prelude.{None};
+ghost use Rattle.std.specs.Prelude.{◌≡◌, None};
 
 use chpw_rules::{Config, Items, KeyBytes, Name, Policy, PrincipalRow, Rules};
 use chpw_table::{Body, Digest, JournalSink, Opened, SinkFault, Table};
@@ -39,7 +39,9 @@ impl JournalSink for Tally {
 
 impl Tally {
     /// No append yet; the append of this number fails, and none where it is 0.
-    pub fn failing_at(fails_at: u32) -> Tally {
+    pub fn failing_at(fails_at: u32) -> Tally
+        ensures whole { result.failed ≡ 0 }
+    {
         Tally {
             fails_at,
             appends: 0,
@@ -85,23 +87,11 @@ fn config(alloc: Global, max_entries: u32) -> Result<Config, AllocError> {
     })
 }
 
-/// Alice asks for a new password of 9 bytes and 3 classes of her own, whose keys these are.
+/// Alice asks at 1000 for a new password of 9 bytes and 3 classes of her own, whose keys these are.
 pub fn change(alloc: Global, cusec: u32, derived: Vec<(u32, Key, Key)>) -> Result<Opened, Fail> {
     let Some(digest) = Digest::of(9, 3, derived) else {
         return Err(Fail::new("no keys of a password"));
     };
-    Ok(request(
-        alloc,
-        cusec,
-        Body::Ask {
-            target: None,
-            digest,
-        },
-    )?)
-}
-
-/// What alice sends at 1000.
-pub fn request(alloc: Global, cusec: u32, body: Body) -> Result<Opened, AllocError> {
     Ok(Opened {
         crealm: bytes(alloc, "EXAMPLE.COM")?,
         client: name(alloc, "alice")?,
@@ -112,7 +102,10 @@ pub fn request(alloc: Global, cusec: u32, body: Body) -> Result<Opened, AllocErr
         ctime: 1000,
         cusec,
         stamp: None,
-        body,
+        body: Body::Ask {
+            target: None,
+            digest,
+        },
     })
 }
 
