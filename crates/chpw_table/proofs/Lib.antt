@@ -19,7 +19,3 @@ pub mod VersionLemmas
 pub mod AppendLemmas
 pub mod DecideLemmas
 pub mod WorkedEdges
-pub mod CompletingLemmas
-pub mod KeepingLemmas
-pub mod ShelfLemmas
-pub mod ResultLemmas

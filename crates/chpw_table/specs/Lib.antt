@@ -19,5 +19,3 @@ pub mod Holding
 pub mod Entering
 pub mod Completing
 pub mod Inserting
-pub mod Deciding
-pub mod Keeping

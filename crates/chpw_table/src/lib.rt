@@ -2,9 +2,7 @@
 //! table.
 #![tactic(auto)]
 
-mod alone;
 mod counts;
-mod decider;
 mod derived;
 mod digest;
 mod history;
@@ -14,15 +12,12 @@ pub mod laws;
 mod outcome;
 pub mod replies;
 mod request;
-mod shelf;
 mod sink;
 mod table;
 mod times;
 mod verdict;
 
-pub use alone::Alone;
 pub use counts::{COUNTS_LIMIT, Counts};
-pub use decider::Decider;
 pub use derived::Derived;
 pub use digest::Digest;
 pub use history::{Entry, Receipt};

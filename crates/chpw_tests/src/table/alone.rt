@@ -1,5 +1,6 @@
 use super::realm::{Tally, change, name, table};
-use chpw_table::{Alone, DecideFault, Decider, Moment, Opened, Verdict};
+use chpw_decider::{Alone, Decider};
+use chpw_table::{DecideFault, Moment, Opened, Verdict};
 use std::alloc::Global;
 use std::test::Fail;
 
