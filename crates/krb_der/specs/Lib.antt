@@ -1,16 +1,3 @@
-pub mod Faults
-pub mod Fields
-pub mod Integers
-pub mod BitStrings
-pub mod CivilTimes
-pub mod Times
-pub mod Shapes
+pub mod Protocol
 pub mod Types
 pub mod Values
-pub mod Texts
-pub mod Grammar
-pub mod Reading
-pub mod Sinks
-pub mod Records
-pub mod Laws
-pub mod PrimitiveLaws

@@ -1,29 +1,22 @@
 //! AP-REP and its sealed part (RFC 4120 section 5.5.2).
 
 ghost use Rattle.std.specs.Prelude.{◌≡◌, refl, true, IfOk, Ok};
-ghost use Rattle.krb_der.specs.Shapes.{Shape, Value};
+ghost use Rattle.krb_elements.specs.Shapes.{Value};
 ghost use Rattle.krb_der.specs.Types.{ap_rep, enc_ap_rep_part};
 ghost use Rattle.krb_der.specs.Values.{ap_rep_value, enc_ap_rep_part_value};
-ghost use Rattle.krb_der.specs.Grammar.{Spells};
-ghost use Rattle.krb_der.specs.Reading.{Gives, reads_all, reads};
-ghost use Rattle.krb_der.specs.Records.{puts_record};
-ghost use Rattle.krb_der.specs.Texts.{text, fits};
-ghost use Rattle.krb_der.specs.Sinks.{Puts};
+ghost use Rattle.krb_elements.specs.Grammar.{Spells};
+ghost use Rattle.krb_elements.specs.Reading.{Gives, reads_all};
+ghost use Rattle.krb_elements.specs.Texts.{text, fits};
 
-use crate::element::Element;
 use crate::encrypted_data::{EncryptedData, EncryptionKey};
-use crate::fault::ReadError;
-use crate::fields::{Optional, Required, application};
-use crate::kerberos_time::KerberosTime;
-use crate::numbers::{Microseconds, SeqNumber};
-use crate::reading::{APPLICATION, Read, SEQUENCE, read_all};
-use crate::region::Region;
-use crate::sink::Sink;
-use crate::writing::{Write, put_optional, put_required, write_all};
+use krb_elements::{
+    Application, Element, KerberosTime, Layout, Microseconds, Optional, Read, ReadError, Region,
+    Required, SeqNumber, Sink, Write, read_all, write_all,
+};
 use std::alloc::{AllocError, Global};
 
 /// The reply to an AP-REQ (RFC 4120 section 5.5.2).
-#[derive(Debug, PartialEq, Drop)]
+#[derive(Drop)]
 pub struct ApRep {
     /// 5.
     pub pvno: i32,
@@ -42,16 +35,18 @@ impl Element for ApRep {
 }
 
 /// The fields in turn.
-type ReplyFields = (
-    Required<0, i32>,
-    Required<1, i32>,
-    Required<2, EncryptedData>,
-);
+type ReplyFields = Application<
+    15,
+    (
+        Required<0, i32>,
+        Required<1, i32>,
+        Required<2, EncryptedData>,
+    ),
+>;
 
 impl Read for ApRep {
-    #[tactic(auto, unfolding(crate::specs::Reading::reads))]
     fn read(alloc: Global, region: &mut Region<'_>) -> Result<ApRep, ReadError> {
-        let (pvno, msg_type, enc_part) = application::<ReplyFields>(alloc, region, 15)?;
+        let (pvno, msg_type, enc_part) = ReplyFields::read(alloc, region)?;
         Ok(ApRep {
             pvno,
             msg_type,
@@ -61,18 +56,14 @@ impl Read for ApRep {
 }
 
 impl Write for ApRep {
-    #[tactic(auto, unfolding(crate::specs::Records::puts_record))]
     fn write<S: Sink>(&self, sink: &mut S) -> Result<(), AllocError> {
-        let start = sink.place();
-        put_required(sink, 0, &self.pvno)?;
-        put_required(sink, 1, &self.msg_type)?;
-        put_required(sink, 2, &self.enc_part)?;
-        sink.enclose(start, SEQUENCE)?;
-        sink.enclose(start, APPLICATION + 15)
+        ReplyFields::put(sink, (&self.pvno, &self.msg_type, &self.enc_part))
     }
 }
 
 /// The ApRep that a whole text spells (RFC 4120 section 5.5.2), or the first fault.
+///
+/// `Memory` where a growth is refused.
 pub fn read_ap_rep(alloc: Global, text: &[u8]) -> Result<ApRep, ReadError>
     ensures value { IfOk result (λ x. Spells ap_rep text.now (ap_rep_value x)) }
     ensures found { (v : Value ap_rep) → Spells ap_rep text.now v
@@ -82,7 +73,7 @@ pub fn read_ap_rep(alloc: Global, text: &[u8]) -> Result<ApRep, ReadError>
     read_all(alloc, text)
 }
 
-/// The text of an ApRep, which fits.
+/// The text of an ApRep that fits. An error where a growth is refused.
 pub fn write_ap_rep(alloc: Global, value: &ApRep) -> Result<Vec<u8>, AllocError>
     requires fits { fits ap_rep (ap_rep_value value.now) ≡ true }
     ensures text { IfOk result (λ v. v.items ≡ text ap_rep (ap_rep_value value.now)) }
@@ -91,7 +82,7 @@ pub fn write_ap_rep(alloc: Global, value: &ApRep) -> Result<Vec<u8>, AllocError>
 }
 
 /// The sealed part of an AP-REP (RFC 4120 section 5.5.2).
-#[derive(Debug, PartialEq, Drop)]
+#[derive(Drop)]
 pub struct EncApRepPart {
     /// That of the authenticator.
     pub ctime: KerberosTime,
@@ -110,17 +101,19 @@ impl Element for EncApRepPart {
 }
 
 /// The fields in turn.
-type PartFields = (
-    Required<0, KerberosTime>,
-    Required<1, Microseconds>,
-    Optional<2, EncryptionKey>,
-    Optional<3, SeqNumber>,
-);
+type PartFields = Application<
+    27,
+    (
+        Required<0, KerberosTime>,
+        Required<1, Microseconds>,
+        Optional<2, EncryptionKey>,
+        Optional<3, SeqNumber>,
+    ),
+>;
 
 impl Read for EncApRepPart {
-    #[tactic(auto, unfolding(crate::specs::Reading::reads))]
     fn read(alloc: Global, region: &mut Region<'_>) -> Result<EncApRepPart, ReadError> {
-        let (ctime, cusec, subkey, seq_number) = application::<PartFields>(alloc, region, 27)?;
+        let (ctime, cusec, subkey, seq_number) = PartFields::read(alloc, region)?;
         Ok(EncApRepPart {
             ctime,
             cusec,
@@ -131,19 +124,17 @@ impl Read for EncApRepPart {
 }
 
 impl Write for EncApRepPart {
-    #[tactic(auto, unfolding(crate::specs::Records::puts_record))]
     fn write<S: Sink>(&self, sink: &mut S) -> Result<(), AllocError> {
-        let start = sink.place();
-        put_required(sink, 0, &self.ctime)?;
-        put_required(sink, 1, &self.cusec)?;
-        put_optional(sink, 2, &self.subkey)?;
-        put_optional(sink, 3, &self.seq_number)?;
-        sink.enclose(start, SEQUENCE)?;
-        sink.enclose(start, APPLICATION + 27)
+        PartFields::put(
+            sink,
+            (&self.ctime, &self.cusec, &self.subkey, &self.seq_number),
+        )
     }
 }
 
 /// The EncApRepPart that a whole text spells (RFC 4120 section 5.5.2), or the first fault.
+///
+/// `Memory` where a growth is refused.
 pub fn read_enc_ap_rep_part(alloc: Global, text: &[u8]) -> Result<EncApRepPart, ReadError>
     ensures value { IfOk result (λ x. Spells enc_ap_rep_part text.now (enc_ap_rep_part_value x)) }
     ensures found { (v : Value enc_ap_rep_part) → Spells enc_ap_rep_part text.now v
@@ -153,7 +144,7 @@ pub fn read_enc_ap_rep_part(alloc: Global, text: &[u8]) -> Result<EncApRepPart, 
     read_all(alloc, text)
 }
 
-/// The text of an EncApRepPart, which fits.
+/// The text of an EncApRepPart that fits. An error where a growth is refused.
 pub fn write_enc_ap_rep_part(alloc: Global, value: &EncApRepPart) -> Result<Vec<u8>, AllocError>
     requires fits { fits enc_ap_rep_part (enc_ap_rep_part_value value.now) ≡ true }
     ensures text { IfOk result (λ v. v.items

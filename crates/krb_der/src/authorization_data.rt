@@ -1,28 +1,22 @@
 //! Authorization data (RFC 4120 section 5.2.6).
 
 ghost use Rattle.std.specs.Prelude.{◌≡◌, refl, true, IfOk, Ok};
-ghost use Rattle.krb_der.specs.Shapes.{Shape, Value};
+ghost use Rattle.krb_elements.specs.Shapes.{Value};
 ghost use Rattle.krb_der.specs.Types.{authorization_data, authorization_entry};
 ghost use Rattle.krb_der.specs.Values.{authorization_data_value, authorization_entry_value};
-ghost use Rattle.krb_der.specs.Grammar.{Spells};
-ghost use Rattle.krb_der.specs.Reading.{Gives, reads_all, reads};
-ghost use Rattle.krb_der.specs.Records.{puts_record};
-ghost use Rattle.krb_der.specs.Texts.{text, fits};
-ghost use Rattle.krb_der.specs.Sinks.{Puts};
+ghost use Rattle.krb_elements.specs.Grammar.{Spells};
+ghost use Rattle.krb_elements.specs.Reading.{Gives, reads_all};
+ghost use Rattle.krb_elements.specs.Texts.{text, fits};
 
-use crate::element::Element;
-use crate::fault::ReadError;
-use crate::fields::sequence;
-use crate::list::SequenceOf;
-use crate::octets::{OctetString, TypedOctets};
-use crate::reading::{Read, SEQUENCE, read_all};
-use crate::region::Region;
-use crate::sink::Sink;
-use crate::writing::{Write, put_required, write_all};
+use crate::typed_octets::TypedOctets;
+use krb_elements::{
+    Element, Layout, OctetString, Read, ReadError, Region, SequenceOf, Sink, Write, read_all,
+    write_all,
+};
 use std::alloc::{AllocError, Global};
 
 /// An element of authorization data (RFC 4120 section 5.2.6).
-#[derive(Debug, PartialEq, Drop)]
+#[derive(Drop)]
 pub struct AuthorizationEntry {
     pub ad_type: i32,
     pub ad_data: OctetString,
@@ -40,24 +34,21 @@ impl Element for AuthorizationEntry {
 }
 
 impl Read for AuthorizationEntry {
-    #[tactic(auto, unfolding(crate::specs::Reading::reads))]
     fn read(alloc: Global, region: &mut Region<'_>) -> Result<AuthorizationEntry, ReadError> {
-        let (ad_type, ad_data) = sequence::<TypedOctets>(alloc, region)?;
+        let (ad_type, ad_data) = TypedOctets::read(alloc, region)?;
         Ok(AuthorizationEntry { ad_type, ad_data })
     }
 }
 
 impl Write for AuthorizationEntry {
-    #[tactic(auto, unfolding(crate::specs::Records::puts_record))]
     fn write<S: Sink>(&self, sink: &mut S) -> Result<(), AllocError> {
-        let start = sink.place();
-        put_required(sink, 0, &self.ad_type)?;
-        put_required(sink, 1, &self.ad_data)?;
-        sink.enclose(start, SEQUENCE)
+        TypedOctets::put(sink, (&self.ad_type, &self.ad_data))
     }
 }
 
 /// The AuthorizationData that a whole text spells (RFC 4120 section 5.2.6), or the first fault.
+///
+/// `Memory` where a growth is refused.
 pub fn read_authorization_data(alloc: Global, text: &[u8]) -> Result<AuthorizationData, ReadError>
     ensures value { IfOk result (λ x. Spells authorization_data
         text.now (authorization_data_value x)) }
@@ -68,7 +59,7 @@ pub fn read_authorization_data(alloc: Global, text: &[u8]) -> Result<Authorizati
     read_all(alloc, text)
 }
 
-/// The text of an AuthorizationData, which fits.
+/// The text of an AuthorizationData that fits. An error where a growth is refused.
 pub fn write_authorization_data(
     alloc: Global,
     value: &AuthorizationData,

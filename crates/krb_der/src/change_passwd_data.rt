@@ -1,24 +1,18 @@
 //! ChangePasswdData (RFC 3244 section 2).
 
 ghost use Rattle.std.specs.Prelude.{◌≡◌, refl, true, IfOk, Ok};
-ghost use Rattle.krb_der.specs.Shapes.{Shape, Value};
+ghost use Rattle.krb_elements.specs.Shapes.{Value};
 ghost use Rattle.krb_der.specs.Types.{change_passwd_data};
 ghost use Rattle.krb_der.specs.Values.{change_passwd_data_value};
-ghost use Rattle.krb_der.specs.Grammar.{Spells};
-ghost use Rattle.krb_der.specs.Reading.{Gives, reads_all, reads};
-ghost use Rattle.krb_der.specs.Records.{puts_record};
-ghost use Rattle.krb_der.specs.Texts.{text, fits};
-ghost use Rattle.krb_der.specs.Sinks.{Puts};
+ghost use Rattle.krb_elements.specs.Grammar.{Spells};
+ghost use Rattle.krb_elements.specs.Reading.{Gives, reads_all};
+ghost use Rattle.krb_elements.specs.Texts.{text, fits};
 
-use crate::element::Element;
-use crate::fault::ReadError;
-use crate::fields::{Optional, Required, extensible_sequence};
-use crate::octets::{GeneralString, OctetString};
 use crate::principal_name::PrincipalName;
-use crate::reading::{Read, SEQUENCE, read_all};
-use crate::region::Region;
-use crate::sink::Sink;
-use crate::writing::{Write, put_optional, put_required, write_all};
+use krb_elements::{
+    Element, ExtensibleSequence, GeneralString, Layout, OctetString, Optional, Read, ReadError,
+    Region, Required, Sink, Write, read_all, write_all,
+};
 use std::alloc::{AllocError, Global};
 
 /// The tags of fields that later versions may add.
@@ -28,7 +22,7 @@ const LAST_FURTHER: u8 = 0xbe;
 
 /// The new password, and whose it is (RFC 3244 section 2).
 /// Further fields, which later versions may add, are let pass and not kept.
-#[derive(Debug, PartialEq, Drop)]
+#[derive(Drop)]
 pub struct ChangePasswdData {
     pub newpasswd: OctetString,
     /// Absent: the client.
@@ -45,16 +39,19 @@ impl Element for ChangePasswdData {
 }
 
 /// The fields in turn.
-type Fields = (
-    Required<0, OctetString>,
-    Optional<1, PrincipalName>,
-    Optional<2, GeneralString>,
-);
+type Fields = ExtensibleSequence<
+    FIRST_FURTHER,
+    LAST_FURTHER,
+    (
+        Required<0, OctetString>,
+        Optional<1, PrincipalName>,
+        Optional<2, GeneralString>,
+    ),
+>;
 
 impl Read for ChangePasswdData {
-    #[tactic(auto, unfolding(crate::specs::Reading::reads))]
     fn read(alloc: Global, region: &mut Region<'_>) -> Result<ChangePasswdData, ReadError> {
-        let fields = extensible_sequence::<Fields>(alloc, region, FIRST_FURTHER, LAST_FURTHER)?;
+        let fields = Fields::read(alloc, region)?;
         let (newpasswd, targname, targrealm) = fields;
         Ok(ChangePasswdData {
             newpasswd,
@@ -65,17 +62,14 @@ impl Read for ChangePasswdData {
 }
 
 impl Write for ChangePasswdData {
-    #[tactic(auto, unfolding(crate::specs::Records::puts_record))]
     fn write<S: Sink>(&self, sink: &mut S) -> Result<(), AllocError> {
-        let start = sink.place();
-        put_required(sink, 0, &self.newpasswd)?;
-        put_optional(sink, 1, &self.targname)?;
-        put_optional(sink, 2, &self.targrealm)?;
-        sink.enclose(start, SEQUENCE)
+        Fields::put(sink, (&self.newpasswd, &self.targname, &self.targrealm))
     }
 }
 
 /// The ChangePasswdData that a whole text spells (RFC 3244 section 2), or the first fault.
+///
+/// `Memory` where a growth is refused.
 pub fn read_change_passwd_data(alloc: Global, text: &[u8]) -> Result<ChangePasswdData, ReadError>
     ensures value { IfOk result (λ x. Spells change_passwd_data
         text.now (change_passwd_data_value x)) }
@@ -86,7 +80,7 @@ pub fn read_change_passwd_data(alloc: Global, text: &[u8]) -> Result<ChangePassw
     read_all(alloc, text)
 }
 
-/// The text of a ChangePasswdData, which fits.
+/// The text of a ChangePasswdData that fits. An error where a growth is refused.
 pub fn write_change_passwd_data(
     alloc: Global,
     value: &ChangePasswdData,

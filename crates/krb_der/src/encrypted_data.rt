@@ -1,27 +1,22 @@
 //! Sealed texts, keys and checksums (RFC 4120 section 5.2.9).
 
 ghost use Rattle.std.specs.Prelude.{◌≡◌, refl, true, IfOk, Ok};
-ghost use Rattle.krb_der.specs.Shapes.{Shape, Value};
+ghost use Rattle.krb_elements.specs.Shapes.{Value};
 ghost use Rattle.krb_der.specs.Types.{checksum, encrypted_data, encryption_key};
 ghost use Rattle.krb_der.specs.Values.{checksum_value, encrypted_data_value, encryption_key_value};
-ghost use Rattle.krb_der.specs.Grammar.{Spells};
-ghost use Rattle.krb_der.specs.Reading.{Gives, reads_all, reads};
-ghost use Rattle.krb_der.specs.Records.{puts_record};
-ghost use Rattle.krb_der.specs.Texts.{text, fits};
-ghost use Rattle.krb_der.specs.Sinks.{Puts};
+ghost use Rattle.krb_elements.specs.Grammar.{Spells};
+ghost use Rattle.krb_elements.specs.Reading.{Gives, reads_all};
+ghost use Rattle.krb_elements.specs.Texts.{text, fits};
 
-use crate::element::Element;
-use crate::fault::ReadError;
-use crate::fields::{Optional, Required, sequence};
-use crate::octets::{OctetString, TypedOctets};
-use crate::reading::{Read, SEQUENCE, read_all};
-use crate::region::Region;
-use crate::sink::Sink;
-use crate::writing::{Write, put_optional, put_required, write_all};
+use crate::typed_octets::TypedOctets;
+use krb_elements::{
+    Element, Layout, OctetString, Optional, Read, ReadError, Region, Required, Sequence, Sink,
+    Write, read_all, write_all,
+};
 use std::alloc::{AllocError, Global};
 
 /// A sealed text (RFC 4120 section 5.2.9).
-#[derive(Debug, PartialEq, Drop)]
+#[derive(Drop)]
 pub struct EncryptedData {
     /// The encryption type.
     pub etype: i32,
@@ -39,12 +34,11 @@ impl Element for EncryptedData {
 }
 
 /// The fields in turn.
-type SealedFields = (Required<0, i32>, Optional<1, u32>, Required<2, OctetString>);
+type SealedFields = Sequence<(Required<0, i32>, Optional<1, u32>, Required<2, OctetString>)>;
 
 impl Read for EncryptedData {
-    #[tactic(auto, unfolding(crate::specs::Reading::reads))]
     fn read(alloc: Global, region: &mut Region<'_>) -> Result<EncryptedData, ReadError> {
-        let (etype, kvno, cipher) = sequence::<SealedFields>(alloc, region)?;
+        let (etype, kvno, cipher) = SealedFields::read(alloc, region)?;
         Ok(EncryptedData {
             etype,
             kvno,
@@ -54,17 +48,14 @@ impl Read for EncryptedData {
 }
 
 impl Write for EncryptedData {
-    #[tactic(auto, unfolding(crate::specs::Records::puts_record))]
     fn write<S: Sink>(&self, sink: &mut S) -> Result<(), AllocError> {
-        let start = sink.place();
-        put_required(sink, 0, &self.etype)?;
-        put_optional(sink, 1, &self.kvno)?;
-        put_required(sink, 2, &self.cipher)?;
-        sink.enclose(start, SEQUENCE)
+        SealedFields::put(sink, (&self.etype, &self.kvno, &self.cipher))
     }
 }
 
 /// The EncryptedData that a whole text spells (RFC 4120 section 5.2.9), or the first fault.
+///
+/// `Memory` where a growth is refused.
 pub fn read_encrypted_data(alloc: Global, text: &[u8]) -> Result<EncryptedData, ReadError>
     ensures value { IfOk result (λ x. Spells encrypted_data text.now (encrypted_data_value x)) }
     ensures found { (v : Value encrypted_data) → Spells encrypted_data text.now v
@@ -74,7 +65,7 @@ pub fn read_encrypted_data(alloc: Global, text: &[u8]) -> Result<EncryptedData, 
     read_all(alloc, text)
 }
 
-/// The text of an EncryptedData, which fits.
+/// The text of an EncryptedData that fits. An error where a growth is refused.
 pub fn write_encrypted_data(alloc: Global, value: &EncryptedData) -> Result<Vec<u8>, AllocError>
     requires fits { fits encrypted_data (encrypted_data_value value.now) ≡ true }
     ensures text { IfOk result (λ v. v.items
@@ -84,7 +75,7 @@ pub fn write_encrypted_data(alloc: Global, value: &EncryptedData) -> Result<Vec<
 }
 
 /// A key (RFC 4120 section 5.2.9).
-#[derive(Debug, PartialEq, Drop)]
+#[derive(Drop)]
 pub struct EncryptionKey {
     /// The encryption type.
     pub keytype: i32,
@@ -100,24 +91,21 @@ impl Element for EncryptionKey {
 }
 
 impl Read for EncryptionKey {
-    #[tactic(auto, unfolding(crate::specs::Reading::reads))]
     fn read(alloc: Global, region: &mut Region<'_>) -> Result<EncryptionKey, ReadError> {
-        let (keytype, keyvalue) = sequence::<TypedOctets>(alloc, region)?;
+        let (keytype, keyvalue) = TypedOctets::read(alloc, region)?;
         Ok(EncryptionKey { keytype, keyvalue })
     }
 }
 
 impl Write for EncryptionKey {
-    #[tactic(auto, unfolding(crate::specs::Records::puts_record))]
     fn write<S: Sink>(&self, sink: &mut S) -> Result<(), AllocError> {
-        let start = sink.place();
-        put_required(sink, 0, &self.keytype)?;
-        put_required(sink, 1, &self.keyvalue)?;
-        sink.enclose(start, SEQUENCE)
+        TypedOctets::put(sink, (&self.keytype, &self.keyvalue))
     }
 }
 
 /// The EncryptionKey that a whole text spells (RFC 4120 section 5.2.9), or the first fault.
+///
+/// `Memory` where a growth is refused.
 pub fn read_encryption_key(alloc: Global, text: &[u8]) -> Result<EncryptionKey, ReadError>
     ensures value { IfOk result (λ x. Spells encryption_key text.now (encryption_key_value x)) }
     ensures found { (v : Value encryption_key) → Spells encryption_key text.now v
@@ -127,7 +115,7 @@ pub fn read_encryption_key(alloc: Global, text: &[u8]) -> Result<EncryptionKey, 
     read_all(alloc, text)
 }
 
-/// The text of an EncryptionKey, which fits.
+/// The text of an EncryptionKey that fits. An error where a growth is refused.
 pub fn write_encryption_key(alloc: Global, value: &EncryptionKey) -> Result<Vec<u8>, AllocError>
     requires fits { fits encryption_key (encryption_key_value value.now) ≡ true }
     ensures text { IfOk result (λ v. v.items
@@ -137,7 +125,7 @@ pub fn write_encryption_key(alloc: Global, value: &EncryptionKey) -> Result<Vec<
 }
 
 /// A checksum (RFC 4120 section 5.2.9).
-#[derive(Debug, PartialEq, Drop)]
+#[derive(Drop)]
 pub struct Checksum {
     pub cksumtype: i32,
     pub checksum: OctetString,
@@ -152,9 +140,8 @@ impl Element for Checksum {
 }
 
 impl Read for Checksum {
-    #[tactic(auto, unfolding(crate::specs::Reading::reads))]
     fn read(alloc: Global, region: &mut Region<'_>) -> Result<Checksum, ReadError> {
-        let (cksumtype, checksum) = sequence::<TypedOctets>(alloc, region)?;
+        let (cksumtype, checksum) = TypedOctets::read(alloc, region)?;
         Ok(Checksum {
             cksumtype,
             checksum,
@@ -163,16 +150,14 @@ impl Read for Checksum {
 }
 
 impl Write for Checksum {
-    #[tactic(auto, unfolding(crate::specs::Records::puts_record))]
     fn write<S: Sink>(&self, sink: &mut S) -> Result<(), AllocError> {
-        let start = sink.place();
-        put_required(sink, 0, &self.cksumtype)?;
-        put_required(sink, 1, &self.checksum)?;
-        sink.enclose(start, SEQUENCE)
+        TypedOctets::put(sink, (&self.cksumtype, &self.checksum))
     }
 }
 
 /// The Checksum that a whole text spells (RFC 4120 section 5.2.9), or the first fault.
+///
+/// `Memory` where a growth is refused.
 pub fn read_checksum(alloc: Global, text: &[u8]) -> Result<Checksum, ReadError>
     ensures value { IfOk result (λ x. Spells checksum text.now (checksum_value x)) }
     ensures found { (v : Value checksum) → Spells checksum text.now v
@@ -182,7 +167,7 @@ pub fn read_checksum(alloc: Global, text: &[u8]) -> Result<Checksum, ReadError>
     read_all(alloc, text)
 }
 
-/// The text of a Checksum, which fits.
+/// The text of a Checksum that fits. An error where a growth is refused.
 pub fn write_checksum(alloc: Global, value: &Checksum) -> Result<Vec<u8>, AllocError>
     requires fits { fits checksum (checksum_value value.now) ≡ true }
     ensures text { IfOk result (λ v. v.items ≡ text checksum (checksum_value value.now)) }

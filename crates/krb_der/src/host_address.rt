@@ -1,27 +1,21 @@
 //! Addresses of hosts (RFC 4120 section 5.2.5).
 
 ghost use Rattle.std.specs.Prelude.{◌≡◌, refl, true, IfOk, Ok};
-ghost use Rattle.krb_der.specs.Shapes.{Shape, Value};
+ghost use Rattle.krb_elements.specs.Shapes.{Value};
 ghost use Rattle.krb_der.specs.Types.{host_address};
 ghost use Rattle.krb_der.specs.Values.{host_address_value};
-ghost use Rattle.krb_der.specs.Grammar.{Spells};
-ghost use Rattle.krb_der.specs.Reading.{Gives, reads_all, reads};
-ghost use Rattle.krb_der.specs.Records.{puts_record};
-ghost use Rattle.krb_der.specs.Texts.{text, fits};
-ghost use Rattle.krb_der.specs.Sinks.{Puts};
+ghost use Rattle.krb_elements.specs.Grammar.{Spells};
+ghost use Rattle.krb_elements.specs.Reading.{Gives, reads_all};
+ghost use Rattle.krb_elements.specs.Texts.{text, fits};
 
-use crate::element::Element;
-use crate::fault::ReadError;
-use crate::fields::sequence;
-use crate::octets::{OctetString, TypedOctets};
-use crate::reading::{Read, SEQUENCE, read_all};
-use crate::region::Region;
-use crate::sink::Sink;
-use crate::writing::{Write, put_required, write_all};
+use crate::typed_octets::TypedOctets;
+use krb_elements::{
+    Element, Layout, OctetString, Read, ReadError, Region, Sink, Write, read_all, write_all,
+};
 use std::alloc::{AllocError, Global};
 
 /// An address of a host (RFC 4120 section 5.2.5).
-#[derive(Debug, PartialEq, Drop)]
+#[derive(PartialEq, Drop)]
 pub struct HostAddress {
     /// 2 for IPv4.
     pub addr_type: i32,
@@ -38,24 +32,21 @@ impl Element for HostAddress {
 }
 
 impl Read for HostAddress {
-    #[tactic(auto, unfolding(crate::specs::Reading::reads))]
     fn read(alloc: Global, region: &mut Region<'_>) -> Result<HostAddress, ReadError> {
-        let (addr_type, address) = sequence::<TypedOctets>(alloc, region)?;
+        let (addr_type, address) = TypedOctets::read(alloc, region)?;
         Ok(HostAddress { addr_type, address })
     }
 }
 
 impl Write for HostAddress {
-    #[tactic(auto, unfolding(crate::specs::Records::puts_record))]
     fn write<S: Sink>(&self, sink: &mut S) -> Result<(), AllocError> {
-        let start = sink.place();
-        put_required(sink, 0, &self.addr_type)?;
-        put_required(sink, 1, &self.address)?;
-        sink.enclose(start, SEQUENCE)
+        TypedOctets::put(sink, (&self.addr_type, &self.address))
     }
 }
 
 /// The HostAddress that a whole text spells (RFC 4120 section 5.2.5), or the first fault.
+///
+/// `Memory` where a growth is refused.
 pub fn read_host_address(alloc: Global, text: &[u8]) -> Result<HostAddress, ReadError>
     ensures value { IfOk result (λ x. Spells host_address text.now (host_address_value x)) }
     ensures found { (v : Value host_address) → Spells host_address text.now v
@@ -65,7 +56,7 @@ pub fn read_host_address(alloc: Global, text: &[u8]) -> Result<HostAddress, Read
     read_all(alloc, text)
 }
 
-/// The text of a HostAddress, which fits.
+/// The text of a HostAddress that fits. An error where a growth is refused.
 pub fn write_host_address(alloc: Global, value: &HostAddress) -> Result<Vec<u8>, AllocError>
     requires fits { fits host_address (host_address_value value.now) ≡ true }
     ensures text { IfOk result (λ v. v.items ≡ text host_address (host_address_value value.now)) }

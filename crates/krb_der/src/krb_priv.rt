@@ -1,31 +1,23 @@
 //! KRB-PRIV and its sealed part (RFC 4120 section 5.7.1).
 
 ghost use Rattle.std.specs.Prelude.{◌≡◌, refl, true, IfOk, Ok};
-ghost use Rattle.krb_der.specs.Shapes.{Shape, Value};
+ghost use Rattle.krb_elements.specs.Shapes.{Value};
 ghost use Rattle.krb_der.specs.Types.{enc_krb_priv_part, krb_priv};
 ghost use Rattle.krb_der.specs.Values.{enc_krb_priv_part_value, krb_priv_value};
-ghost use Rattle.krb_der.specs.Grammar.{Spells};
-ghost use Rattle.krb_der.specs.Reading.{Gives, reads_all, reads};
-ghost use Rattle.krb_der.specs.Records.{puts_record};
-ghost use Rattle.krb_der.specs.Texts.{text, fits};
-ghost use Rattle.krb_der.specs.Sinks.{Puts};
+ghost use Rattle.krb_elements.specs.Grammar.{Spells};
+ghost use Rattle.krb_elements.specs.Reading.{Gives, reads_all};
+ghost use Rattle.krb_elements.specs.Texts.{text, fits};
 
-use crate::element::Element;
 use crate::encrypted_data::EncryptedData;
-use crate::fault::ReadError;
-use crate::fields::{Optional, Required, application};
 use crate::host_address::HostAddress;
-use crate::kerberos_time::KerberosTime;
-use crate::numbers::{Microseconds, SeqNumber};
-use crate::octets::OctetString;
-use crate::reading::{APPLICATION, Read, SEQUENCE, read_all};
-use crate::region::Region;
-use crate::sink::Sink;
-use crate::writing::{Write, put_optional, put_required, write_all};
+use krb_elements::{
+    Application, Element, KerberosTime, Layout, Microseconds, OctetString, Optional, Read,
+    ReadError, Region, Required, SeqNumber, Sink, Write, read_all, write_all,
+};
 use std::alloc::{AllocError, Global};
 
 /// A sealed message (RFC 4120 section 5.7.1).
-#[derive(Debug, PartialEq, Drop)]
+#[derive(Drop)]
 pub struct KrbPriv {
     /// 5.
     pub pvno: i32,
@@ -44,16 +36,18 @@ impl Element for KrbPriv {
 }
 
 /// The fields in turn.
-type MessageFields = (
-    Required<0, i32>,
-    Required<1, i32>,
-    Required<3, EncryptedData>,
-);
+type MessageFields = Application<
+    21,
+    (
+        Required<0, i32>,
+        Required<1, i32>,
+        Required<3, EncryptedData>,
+    ),
+>;
 
 impl Read for KrbPriv {
-    #[tactic(auto, unfolding(crate::specs::Reading::reads))]
     fn read(alloc: Global, region: &mut Region<'_>) -> Result<KrbPriv, ReadError> {
-        let (pvno, msg_type, enc_part) = application::<MessageFields>(alloc, region, 21)?;
+        let (pvno, msg_type, enc_part) = MessageFields::read(alloc, region)?;
         Ok(KrbPriv {
             pvno,
             msg_type,
@@ -63,18 +57,14 @@ impl Read for KrbPriv {
 }
 
 impl Write for KrbPriv {
-    #[tactic(auto, unfolding(crate::specs::Records::puts_record))]
     fn write<S: Sink>(&self, sink: &mut S) -> Result<(), AllocError> {
-        let start = sink.place();
-        put_required(sink, 0, &self.pvno)?;
-        put_required(sink, 1, &self.msg_type)?;
-        put_required(sink, 3, &self.enc_part)?;
-        sink.enclose(start, SEQUENCE)?;
-        sink.enclose(start, APPLICATION + 21)
+        MessageFields::put(sink, (&self.pvno, &self.msg_type, &self.enc_part))
     }
 }
 
 /// The KrbPriv that a whole text spells (RFC 4120 section 5.7.1), or the first fault.
+///
+/// `Memory` where a growth is refused.
 pub fn read_krb_priv(alloc: Global, text: &[u8]) -> Result<KrbPriv, ReadError>
     ensures value { IfOk result (λ x. Spells krb_priv text.now (krb_priv_value x)) }
     ensures found { (v : Value krb_priv) → Spells krb_priv text.now v
@@ -84,7 +74,7 @@ pub fn read_krb_priv(alloc: Global, text: &[u8]) -> Result<KrbPriv, ReadError>
     read_all(alloc, text)
 }
 
-/// The text of a KrbPriv, which fits.
+/// The text of a KrbPriv that fits. An error where a growth is refused.
 pub fn write_krb_priv(alloc: Global, value: &KrbPriv) -> Result<Vec<u8>, AllocError>
     requires fits { fits krb_priv (krb_priv_value value.now) ≡ true }
     ensures text { IfOk result (λ v. v.items ≡ text krb_priv (krb_priv_value value.now)) }
@@ -93,7 +83,7 @@ pub fn write_krb_priv(alloc: Global, value: &KrbPriv) -> Result<Vec<u8>, AllocEr
 }
 
 /// The sealed part of a KRB-PRIV (RFC 4120 section 5.7.1).
-#[derive(Debug, PartialEq, Drop)]
+#[derive(Drop)]
 pub struct EncKrbPrivPart {
     pub user_data: OctetString,
     pub timestamp: Option<KerberosTime>,
@@ -115,20 +105,22 @@ impl Element for EncKrbPrivPart {
 }
 
 /// The fields in turn.
-type PartFields = (
-    Required<0, OctetString>,
+type PartFields = Application<
+    28,
     (
-        Optional<1, KerberosTime>,
-        Optional<2, Microseconds>,
-        Optional<3, SeqNumber>,
+        Required<0, OctetString>,
+        (
+            Optional<1, KerberosTime>,
+            Optional<2, Microseconds>,
+            Optional<3, SeqNumber>,
+        ),
+        (Required<4, HostAddress>, Optional<5, HostAddress>),
     ),
-    (Required<4, HostAddress>, Optional<5, HostAddress>),
-);
+>;
 
 impl Read for EncKrbPrivPart {
-    #[tactic(auto, unfolding(crate::specs::Reading::reads))]
     fn read(alloc: Global, region: &mut Region<'_>) -> Result<EncKrbPrivPart, ReadError> {
-        let fields = application::<PartFields>(alloc, region, 28)?;
+        let fields = PartFields::read(alloc, region)?;
         let (user_data, (timestamp, usec, seq_number), (s_address, r_address)) = fields;
         Ok(EncKrbPrivPart {
             user_data,
@@ -142,21 +134,21 @@ impl Read for EncKrbPrivPart {
 }
 
 impl Write for EncKrbPrivPart {
-    #[tactic(auto, unfolding(crate::specs::Records::puts_record))]
     fn write<S: Sink>(&self, sink: &mut S) -> Result<(), AllocError> {
-        let start = sink.place();
-        put_required(sink, 0, &self.user_data)?;
-        put_optional(sink, 1, &self.timestamp)?;
-        put_optional(sink, 2, &self.usec)?;
-        put_optional(sink, 3, &self.seq_number)?;
-        put_required(sink, 4, &self.s_address)?;
-        put_optional(sink, 5, &self.r_address)?;
-        sink.enclose(start, SEQUENCE)?;
-        sink.enclose(start, APPLICATION + 28)
+        PartFields::put(
+            sink,
+            (
+                &self.user_data,
+                (&self.timestamp, &self.usec, &self.seq_number),
+                (&self.s_address, &self.r_address),
+            ),
+        )
     }
 }
 
 /// The EncKrbPrivPart that a whole text spells (RFC 4120 section 5.7.1), or the first fault.
+///
+/// `Memory` where a growth is refused.
 pub fn read_enc_krb_priv_part(alloc: Global, text: &[u8]) -> Result<EncKrbPrivPart, ReadError>
     ensures value { IfOk result (λ x. Spells enc_krb_priv_part
         text.now (enc_krb_priv_part_value x)) }
@@ -167,7 +159,7 @@ pub fn read_enc_krb_priv_part(alloc: Global, text: &[u8]) -> Result<EncKrbPrivPa
     read_all(alloc, text)
 }
 
-/// The text of an EncKrbPrivPart, which fits.
+/// The text of an EncKrbPrivPart that fits. An error where a growth is refused.
 pub fn write_enc_krb_priv_part(alloc: Global, value: &EncKrbPrivPart) -> Result<Vec<u8>, AllocError>
     requires fits { fits enc_krb_priv_part (enc_krb_priv_part_value value.now) ≡ true }
     ensures text { IfOk result (λ v. v.items

@@ -1,28 +1,21 @@
 //! Names of principals (RFC 4120 section 5.2.2).
 
 ghost use Rattle.std.specs.Prelude.{◌≡◌, refl, true, IfOk, Ok};
-ghost use Rattle.krb_der.specs.Shapes.{Shape, Value};
+ghost use Rattle.krb_elements.specs.Shapes.{Value};
 ghost use Rattle.krb_der.specs.Types.{principal_name};
 ghost use Rattle.krb_der.specs.Values.{principal_name_value};
-ghost use Rattle.krb_der.specs.Grammar.{Spells};
-ghost use Rattle.krb_der.specs.Reading.{Gives, reads_all, reads};
-ghost use Rattle.krb_der.specs.Records.{puts_record};
-ghost use Rattle.krb_der.specs.Texts.{text, fits};
-ghost use Rattle.krb_der.specs.Sinks.{Puts};
+ghost use Rattle.krb_elements.specs.Grammar.{Spells};
+ghost use Rattle.krb_elements.specs.Reading.{Gives, reads_all};
+ghost use Rattle.krb_elements.specs.Texts.{text, fits};
 
-use crate::element::Element;
-use crate::fault::ReadError;
-use crate::fields::{Required, sequence};
-use crate::list::SequenceOf;
-use crate::octets::GeneralString;
-use crate::reading::{Read, SEQUENCE, read_all};
-use crate::region::Region;
-use crate::sink::Sink;
-use crate::writing::{Write, put_required, write_all};
+use krb_elements::{
+    Element, GeneralString, Layout, Read, ReadError, Region, Required, Sequence, SequenceOf, Sink,
+    Write, read_all, write_all,
+};
 use std::alloc::{AllocError, Global};
 
 /// A name of a principal, without its realm (RFC 4120 section 5.2.2).
-#[derive(Debug, PartialEq, Drop)]
+#[derive(PartialEq, Drop)]
 pub struct PrincipalName {
     /// What kind of name it is; no part of its identity.
     pub name_type: i32,
@@ -39,12 +32,11 @@ impl Element for PrincipalName {
 }
 
 /// The fields in turn.
-type Fields = (Required<0, i32>, Required<1, SequenceOf<GeneralString>>);
+type Fields = Sequence<(Required<0, i32>, Required<1, SequenceOf<GeneralString>>)>;
 
 impl Read for PrincipalName {
-    #[tactic(auto, unfolding(crate::specs::Reading::reads))]
     fn read(alloc: Global, region: &mut Region<'_>) -> Result<PrincipalName, ReadError> {
-        let (name_type, name_string) = sequence::<Fields>(alloc, region)?;
+        let (name_type, name_string) = Fields::read(alloc, region)?;
         Ok(PrincipalName {
             name_type,
             name_string,
@@ -53,16 +45,14 @@ impl Read for PrincipalName {
 }
 
 impl Write for PrincipalName {
-    #[tactic(auto, unfolding(crate::specs::Records::puts_record))]
     fn write<S: Sink>(&self, sink: &mut S) -> Result<(), AllocError> {
-        let start = sink.place();
-        put_required(sink, 0, &self.name_type)?;
-        put_required(sink, 1, &self.name_string)?;
-        sink.enclose(start, SEQUENCE)
+        Fields::put(sink, (&self.name_type, &self.name_string))
     }
 }
 
 /// The PrincipalName that a whole text spells (RFC 4120 section 5.2.2), or the first fault.
+///
+/// `Memory` where a growth is refused.
 pub fn read_principal_name(alloc: Global, text: &[u8]) -> Result<PrincipalName, ReadError>
     ensures value { IfOk result (λ x. Spells principal_name text.now (principal_name_value x)) }
     ensures found { (v : Value principal_name) → Spells principal_name text.now v
@@ -72,7 +62,7 @@ pub fn read_principal_name(alloc: Global, text: &[u8]) -> Result<PrincipalName, 
     read_all(alloc, text)
 }
 
-/// The text of a PrincipalName, which fits.
+/// The text of a PrincipalName that fits. An error where a growth is refused.
 pub fn write_principal_name(alloc: Global, value: &PrincipalName) -> Result<Vec<u8>, AllocError>
     requires fits { fits principal_name (principal_name_value value.now) ≡ true }
     ensures text { IfOk result (λ v. v.items
