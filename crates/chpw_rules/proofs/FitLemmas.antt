@@ -17,7 +17,7 @@ use Rattle.chpw_rules.specs.Faults.{UnlessMemory, place, placed}
 use Rattle.chpw_rules.specs.declared.fault.ConfigError.{ConfigError}
 use Rattle.chpw_rules.specs.Fitting.{are_distinct, config_fits, is_same_principal, is_same_service_key, key_fits, kvnos_descend, policy_fits, principal_fits, principals_fit, rule_fits, rules_fit, service_fits, service_key_fits}
 use Rattle.chpw_rules.specs.Kinds.{a_flag, a_hex_key, a_list, a_name, a_number, a_table, a_target, a_text, item_count, optional}
-use Rattle.chpw_rules.specs.Limits.{is_in, realm_lengths, entry_counts, kvnos, iteration_counts, min_lengths, min_class_counts, depths, etypes, key_length, service_key_counts, key_counts, rule_counts, principal_counts}
+use Rattle.chpw_rules.specs.Limits.{is_in, realm_lengths, entry_counts, kvnos, iteration_counts, min_lengths, min_class_counts, depths, etypes, key_length, service_key_counts, key_counts, rule_counts, principal_counts, aes128_length, aes256_length}
 use Rattle.chpw_rules.specs.Names.{is_name, is_same_name}
 use Rattle.chpw_rules.specs.Rows.{comes_after, key_row, names_of, once, policy_of, principal_row, rule_row, service_row, step_down, walk}
 use Rattle.chpw_rules.specs.Settings.{settings}
@@ -68,8 +68,8 @@ key_row_fits at before value =
     gives_key at (codes "kvno") (a_number kvnos) members _ (gives_number kvnos) (λ kvno in_kvnos.
     gives_then {Q = λ _. comes_after before kvno ≡ true} (step_down at before kvno) _ (gives_tested (comes_after before kvno) kvno _ (λ h. h)) (λ _ after.
     gives_key at (codes "iterations") (a_number iteration_counts) members _ (gives_number iteration_counts) (λ iterations in_counts.
-    gives_key at (codes "aes128") (a_hex_key 16) members _ (λ v. gives_any (a_hex_key 16 v)) (λ aes128 _.
-    gives_key at (codes "aes256") (a_hex_key 32) members _ (λ v. gives_any (a_hex_key 32 v)) (λ aes256 _.
+    gives_key at (codes "aes128") (a_hex_key aes128_length) members _ (λ v. gives_any (a_hex_key aes128_length v)) (λ aes128 _.
+    gives_key at (codes "aes256") (a_hex_key aes256_length) members _ (λ v. gives_any (a_hex_key aes256_length v)) (λ aes256 _.
     gives_ok (λ key. (key_fits key ≡ true) × (comes_after before key.kvno ≡ true)) _ (rw (in_kvnos, in_counts), after)))))))
 
 -- the keys of a principal
@@ -184,8 +184,8 @@ settings_fit file =
     let at = place Service 0 in
     gives_key at (codes "service") a_table file _ (λ v. gives_any (a_table v)) (λ service _.
     gives_key at (codes "realm") (a_text realm_lengths) service _ (gives_text realm_lengths) (λ realm in_lengths.
-    gives_then (optional at (codes "max_entries") (a_number entry_counts) 1048576 service) _
-    (gives_optional {P = λ n. is_in entry_counts n ≡ true} at (codes "max_entries") (a_number entry_counts) 1048576 service refl (gives_number entry_counts)) (λ max_entries in_entries.
+    gives_then (optional at (codes "max_entries") (a_number entry_counts) entry_counts.high service) _
+    (gives_optional {P = λ n. is_in entry_counts n ≡ true} at (codes "max_entries") (a_number entry_counts) entry_counts.high service refl (gives_number entry_counts)) (λ max_entries in_entries.
     gives_key (place ServiceKey 0) (codes "key") (a_list service_key_counts) service _ (gives_list service_key_counts) (λ key_items in_counts.
     gives_then (walk service_row [] key_items) _ (service_keys_fit key_items in_counts) (λ service_keys served.
     gives_key (place PolicyPart 0) (codes "policy") a_table file _ (λ v. gives_any (a_table v)) (λ policy_table _.

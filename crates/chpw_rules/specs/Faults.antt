@@ -23,6 +23,10 @@ place part index = record { part = part; index = index }
 abbrev pub fault_at : Place → FaultKind → ConfigFault
 fault_at at kind = record { kind = kind; part = at.part; index = at.index }
 
+-- the fault of a file that isn't TOML, or isn't UTF-8
+abbrev pub no_toml : ConfigFault
+no_toml = fault_at (place File 0) NotToml
+
 -- a value, or the kind of its fault, at its place
 abbrev pub placed : {A : Type 0} → Place → Result A FaultKind → Result A ConfigFault
 placed at (Ok a) = Ok a

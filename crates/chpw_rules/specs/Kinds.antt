@@ -36,6 +36,10 @@ a_number limits value = of_kind (as_integer value) (whole_number limits)
 abbrev pub a_flag : Data → Result Bool FaultKind
 a_flag value = of_kind (as_bool value) Ok
 
+-- a text
+abbrev pub any_text : Data → Result (List ℕ) FaultKind
+any_text value = of_kind (as_str value) Ok
+
 -- a text of so many bytes
 abbrev pub a_text : Limits → Data → Result (List ℕ) FaultKind
 a_text limits value = of_kind (as_str value) (λ text. within limits (length text) text)

@@ -13,7 +13,7 @@ is_in limits number = nat_le limits.low number && nat_le number limits.high
 abbrev pub realm_lengths : Limits
 realm_lengths = range 1 255
 
--- the events that a history may have
+-- the events that a history may have; the upper limit is the default
 abbrev pub entry_counts : Limits
 entry_counts = range 1 1048576
 
@@ -41,9 +41,15 @@ depths = range 0 16
 abbrev pub etypes : Limits
 etypes = range 17 18
 
--- the bytes of a key of encryption type 17 or 18
+-- the bytes of a key of encryption type 17, and of one of 18
+abbrev pub aes128_length : ℕ
+aes128_length = 16
+
+abbrev pub aes256_length : ℕ
+aes256_length = 32
+
 abbrev pub key_length : ℕ → ℕ
-key_length etype = if etype == 17 then 16 else 32
+key_length etype = if etype == etypes.low then aes128_length else aes256_length
 
 -- how many service keys a file has
 abbrev pub service_key_counts : Limits

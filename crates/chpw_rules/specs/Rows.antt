@@ -17,7 +17,7 @@ use Rattle.chpw_rules.specs.Faults.{place, fault_at, placed, ◌>>=◌}
 use Rattle.chpw_rules.specs.Fitting.{is_same_service_key}
 use Rattle.chpw_rules.specs.Names.{is_same_name}
 use Rattle.chpw_rules.specs.Kinds.{a_number, a_flag, a_name, a_target, a_hex_key, a_table, a_list, required}
-use Rattle.chpw_rules.specs.Limits.{kvnos, iteration_counts, min_lengths, min_class_counts, depths, etypes, key_length, key_counts}
+use Rattle.chpw_rules.specs.Limits.{kvnos, iteration_counts, min_lengths, min_class_counts, depths, etypes, key_length, key_counts, aes128_length, aes256_length}
 
 -- a list's elements one after the other, each read in sight of those before it
 abbrev pub walk : {A : Type 0} → (List A → Data → Result A ConfigFault) → List A → Items
@@ -83,8 +83,8 @@ key_row at before value = do
   kvno ← required at (codes "kvno") (a_number kvnos) members
   _ ← step_down at before kvno
   iterations ← required at (codes "iterations") (a_number iteration_counts) members
-  aes128 ← required at (codes "aes128") (a_hex_key 16) members
-  aes256 ← required at (codes "aes256") (a_hex_key 32) members
+  aes128 ← required at (codes "aes128") (a_hex_key aes128_length) members
+  aes256 ← required at (codes "aes256") (a_hex_key aes256_length) members
   Ok (record { kvno = kvno; iterations = iterations; aes128 = aes128; aes256 = aes256 })
 
 abbrev pub names_of : List PrincipalRow → List Name

@@ -4,10 +4,9 @@ use Rattle.std.specs.Prelude.{ℕ, List, [], codes, Option, Some, None, Result, 
 use Rattle.toml.specs.Data.{Members, no_items}
 use Rattle.toml.specs.Parse.{parse_document}
 use Rattle.chpw_rules.specs.declared.config.Config.{Config}
-use Rattle.chpw_rules.specs.declared.fault.FaultKind.TheVariants.{NotToml}
-use Rattle.chpw_rules.specs.declared.fault.Part.TheVariants.{File, Service, ServiceKey, Policy as PolicyPart, Rule as RulePart, Principal}
+use Rattle.chpw_rules.specs.declared.fault.Part.TheVariants.{Service, ServiceKey, Policy as PolicyPart, Rule as RulePart, Principal}
 use Rattle.chpw_rules.specs.declared.fault.ConfigFault.{ConfigFault}
-use Rattle.chpw_rules.specs.Faults.{place, fault_at, ◌>>=◌}
+use Rattle.chpw_rules.specs.Faults.{place, no_toml, ◌>>=◌}
 use Rattle.chpw_rules.specs.Kinds.{a_number, a_text, a_table, a_list, required, optional}
 use Rattle.chpw_rules.specs.Limits.{realm_lengths, entry_counts, service_key_counts, rule_counts, principal_counts}
 use Rattle.chpw_rules.specs.Rows.{policy_of, principal_row, rule_row, service_row, walk}
@@ -18,7 +17,7 @@ settings file = do
   let at = place Service 0
   service ← required at (codes "service") a_table file
   realm ← required at (codes "realm") (a_text realm_lengths) service
-  max_entries ← optional at (codes "max_entries") (a_number entry_counts) 1048576 service
+  max_entries ← optional at (codes "max_entries") (a_number entry_counts) entry_counts.high service
   key_items ← required (place ServiceKey 0) (codes "key") (a_list service_key_counts) service
   service_keys ← walk service_row [] key_items
   policy_table ← required (place PolicyPart 0) (codes "policy") a_table file
@@ -40,7 +39,7 @@ settings file = do
 
 -- a file's text: what its table sets, or that it is no TOML
 abbrev pub of_table : Option Members → Result Config ConfigFault
-of_table None = Err (fault_at (place File 0) NotToml)
+of_table None = Err no_toml
 of_table (Some file) = settings file
 
 abbrev pub settings_of : List ℕ → Result Config ConfigFault

@@ -1,10 +1,11 @@
 //! The configuration.
 use crate::items::Items;
+use crate::limits::{AES128_LENGTH, AES256_LENGTH};
 use crate::name::Name;
 use crate::policy::Policy;
 use crate::rules::Rules;
 
-/// A key of the service.
+/// A key of the service, under which tickets are sealed.
 #[derive(Drop)]
 pub struct ServiceRow {
     /// 1 to 4294967295.
@@ -15,18 +16,20 @@ pub struct ServiceRow {
     pub key: Items<u8>,
 }
 
-/// A principal's key: one password's keys of both encryption types.
-#[derive(Clone, Copy, PartialEq, Eq, Debug, Drop)]
+/// One password's keys of both encryption types.
+#[derive(Clone, Copy, Drop)]
 pub struct KeyBytes {
     /// 1 to 4294967295.
     pub kvno: u32,
     /// The iteration count that the keys were derived under, 1 to 16,777,216.
     pub iterations: u32,
-    pub aes128: [u8; 16],
-    pub aes256: [u8; 32],
+    /// The key of etype 17.
+    pub aes128: [u8; AES128_LENGTH],
+    /// The key of etype 18.
+    pub aes256: [u8; AES256_LENGTH],
 }
 
-/// A principal at the start.
+/// A principal as the file has it.
 #[derive(Drop)]
 pub struct PrincipalRow {
     pub name: Name,
@@ -34,7 +37,7 @@ pub struct PrincipalRow {
     pub keys: Items<KeyBytes>,
 }
 
-/// What the service is started with.
+/// What the service is started with. `Config::fits` tells whether all of it is within the limits.
 #[derive(Drop)]
 pub struct Config {
     /// 1 to 255 bytes.

@@ -5,42 +5,50 @@ use std::alloc::{AllocError, AllocFailed};
 use std::fmt;
 use thiserror::Error;
 
-/// What is wrong with a value. Of one key the kinds are looked for in the order missing, wrong
-/// kind, bad hex, out of range; each shows itself by a letter and a number.
-#[derive(Clone, Copy, PartialEq, Eq, Debug, Drop, Error)]
+/// What is wrong. Of one key, `MissingKey`, `WrongKind`, `BadHex` and `OutOfRange` are looked for in
+/// this order. A kind is displayed as its code, `C1` to `C6`.
+#[derive(Clone, Copy, Debug, Drop)]
 pub enum FaultKind {
-    /// The text is not TOML.
+    /// The file isn't TOML.
     NotToml,
     /// A key is missing.
     MissingKey,
-    /// A value is of another kind than its key takes.
+    /// A value isn't of the kind that its key takes.
     WrongKind,
     /// A value is outside its limits.
     OutOfRange,
-    /// A key's text is not hexadecimal digits, two for each byte.
+    /// A key's text isn't hexadecimal digits, two for each byte.
     BadHex,
-    /// A service key or a name stood earlier.
+    /// An earlier service key has the same encryption type and version number, or an earlier
+    /// principal the same name.
     Duplicate,
 }
 
-/// A part of the file.
-#[derive(Clone, Copy, PartialEq, Eq, Debug, Drop, Error)]
+/// A part of the file. A part is displayed as its word, such as `servicekey`.
+#[derive(Clone, Copy, Debug, Drop)]
 pub enum Part {
+    /// The file as a whole.
     File,
+    /// The table `service`.
     Service,
+    /// The list `service.key`, and each key in it.
     ServiceKey,
+    /// The table `policy`.
     Policy,
+    /// The list `rule`, and each rule in it.
     Rule,
+    /// The list `principal`, and each principal in it.
     Principal,
+    /// A principal's list `key`, and each key in it.
     PrincipalKey,
 }
 
-/// The first fault of a configuration. It shows itself as `C4 policy 0`.
-#[derive(Clone, Copy, PartialEq, Eq, Debug, Drop, Error)]
+/// The first fault of a configuration, displayed as `C4 policy 0`.
+#[derive(Clone, Copy, Debug, Drop, Error)]
 pub struct ConfigFault {
     pub kind: FaultKind,
     pub part: Part,
-    /// The place in the part's list, from 0; of a principal's key it is the principal's.
+    /// The place in the part's list, from 0. For a principal's key it is the principal's.
     pub index: usize,
 }
 
@@ -81,6 +89,17 @@ impl Part {
     }
 }
 
+impl ConfigFault {
+    ghost use Rattle.chpw_rules.specs.Faults.{no_toml};
+
+    /// The fault of a file that isn't TOML, or isn't UTF-8.
+    pub fn not_toml() -> ConfigFault
+        ensures value { result ≡ no_toml }
+    {
+        Place::of(Part::File, 0).fault(FaultKind::NotToml)
+    }
+}
+
 impl fmt::Display for FaultKind {
     ghost use Rattle.std.specs.Prelude.{Some};
     ghost use Rattle.chpw_rules.specs.Faults.{kind_text};
@@ -114,7 +133,7 @@ impl fmt::Display for ConfigFault {
     }
 }
 
-/// Where a fault is found.
+/// Where a fault is found, and where the keys of a table are read (`keys`).
 #[derive(Clone, Copy, Drop)]
 pub struct Place {
     pub part: Part,
@@ -141,11 +160,13 @@ impl Place {
     }
 }
 
-/// Why a configuration is refused.
-#[derive(Clone, Copy, PartialEq, Eq, Debug, Drop, Error)]
+/// Why no configuration is read.
+#[derive(Clone, Copy, Debug, Drop, Error)]
 pub enum ConfigError {
+    /// The file's first fault.
     #[error(transparent)]
     Fault(ConfigFault),
+    /// A growth was refused.
     #[error("memory")]
     Memory,
 }

@@ -1,10 +1,11 @@
 //! A `Vec` that contracts see as the list of its elements.
-ghost use Rattle.std.specs.Prelude.{◌≡◌};
+ghost use Rattle.std.specs.Prelude.{◌≡◌, IfOk};
 
-use std::alloc::Global;
+use std::alloc::{AllocError, Global};
 use std::marker::Model;
 
-/// The elements of a `Vec`; its capacity is no part of the value.
+/// A `Vec` whose value, in contracts, is the list of its elements alone. So two records are equal
+/// where their elements are, whatever room their vectors have.
 #[derive(Drop)]
 pub struct Items<T> {
     vec: Vec<T>,
@@ -19,28 +20,40 @@ impl<T> Model for Items<T> {
 }
 
 impl<T> Items<T> {
+    /// The elements of the vector, which is kept as it is.
     pub fn of(vec: Vec<T>) -> Items<T>
         ensures value { result ≡ vec.items }
     {
         Items { vec }
     }
 
+    /// The elements, in their order.
     pub fn as_slice(&self) -> &[T]
         ensures value { result.now ≡ self.now }
     {
         self.vec.as_slice()
     }
 
-    /// What its memory comes from.
+    /// The allocator that the elements' memory comes from.
     pub(crate) fn allocator(&self) -> &Global {
         self.vec.allocator()
     }
 
+    /// The vector of the elements.
     pub fn into_vec(self) -> Vec<T>
         ensures value { result.items ≡ self }
     {
         let Items { vec: items } = self;
         items
+    }
+}
+
+impl Items<u8> {
+    /// The same bytes in memory of their own, from the same allocator.
+    pub fn clone(&self) -> Result<Items<u8>, AllocError>
+        ensures value { IfOk result (λ copy. copy ≡ self.now) }
+    {
+        Ok(Items::of(Vec::from_slice(*self.allocator(), self.as_slice())?))
     }
 }
 

@@ -5,15 +5,24 @@ ghost use Rattle.toml.specs.Data.{get_member, no_items};
 ghost use Rattle.toml.specs.View.{items_view, table_view, view};
 ghost use Rattle.chpw_rules.specs.Faults.{UnlessMemory, placed};
 ghost use Rattle.chpw_rules.specs.Names.{name_of};
-ghost use Rattle.chpw_rules.specs.Kinds.{a_flag, a_hex_key, a_list, a_name, a_number, a_table, a_target, a_text, optional, present, required};
+ghost use Rattle.chpw_rules.specs.Kinds.{a_flag, a_hex_key, a_list, a_name, a_number, a_table, a_target, a_text, any_text, optional, present, required};
 
 use crate::fault::{ConfigError, ConfigFault, FaultKind, Place};
-use crate::kinds::{Named, a_flag, a_hex_key, a_list, a_name, a_number, a_table, a_target, a_text};
+use crate::kinds::{a_flag, a_list, a_number, a_table, a_text};
 use crate::limits::Limits;
 use crate::name::Name;
+use hex::FromHexError;
 use std::alloc::Global;
 use toml::{Table, Value};
 
+/// A name, and the text that spells it.
+#[derive(Drop)]
+pub struct Named<'a> {
+    pub name: Name,
+    pub text: &'a str,
+}
+
+// The value of a key, where there is one.
 fn get<'a>(table: &'a Table, key: &str) -> Option<&'a Value>
     ensures value { option_map (λ v. view v.now) result ≡ get_member key.now (table_view table.now) }
 {
@@ -21,6 +30,7 @@ fn get<'a>(table: &'a Table, key: &str) -> Option<&'a Value>
 }
 
 impl Place {
+    // The value of a key that has to be there.
     fn present<'a>(self, table: &'a Table, key: &str) -> Result<&'a Value, ConfigFault>
         ensures value { MatchResult result
             (λ value. present self key.now (table_view table.now) ≡ Ok (view value.now))
@@ -30,6 +40,16 @@ impl Place {
             None => Err(self.fault(FaultKind::MissingKey)),
             Some(value) => Ok(value),
         }
+    }
+
+    // A text of any length.
+    fn any_text<'a>(self, table: &'a Table, key: &str) -> Result<&'a str, ConfigFault>
+        ensures value { MatchResult result
+            (λ text. required self key.now any_text (table_view table.now) ≡ Ok text.now)
+            (λ fault. required self key.now any_text (table_view table.now) ≡ Err fault) }
+    {
+        let value = self.present(table, key)?;
+        value.as_str().ok_or(self.fault(FaultKind::WrongKind))
     }
 
     /// A whole number within the limits.
@@ -71,10 +91,10 @@ impl Place {
             (required self key.now a_name (table_view table.now)) }
         ensures text { IfOk result (λ named. name_of named.text.now ≡ Some named.name) }
     {
-        let value = self.present(table, key)?;
-        match a_name(alloc, value)? {
-            Ok(named) => Ok(named),
-            Err(kind) => Err(ConfigError::Fault(self.fault(kind))),
+        let text = self.any_text(table, key)?;
+        match Name::parse(alloc, text)? {
+            Some(name) => Ok(Named { name, text }),
+            None => Err(ConfigError::Fault(self.fault(FaultKind::OutOfRange))),
         }
     }
 
@@ -87,10 +107,13 @@ impl Place {
     ) -> Result<Option<Name>, ConfigError>
         ensures value { UnlessMemory result (required self key.now a_target (table_view table.now)) }
     {
-        let value = self.present(table, key)?;
-        match a_target(alloc, value)? {
-            Ok(target) => Ok(target),
-            Err(kind) => Err(ConfigError::Fault(self.fault(kind))),
+        let text = self.any_text(table, key)?;
+        if text == "*" {
+            return Ok(None);
+        }
+        match Name::parse(alloc, text)? {
+            Some(name) => Ok(Some(name)),
+            None => Err(ConfigError::Fault(self.fault(FaultKind::OutOfRange))),
         }
     }
 
@@ -121,10 +144,12 @@ impl Place {
             (required self key.now (a_hex_key size) (table_view table.now)) }
         ensures size { IfOk result (λ key. vec_len key ≡ size) }
     {
-        let value = self.present(table, key)?;
-        match a_hex_key(alloc, value, size)? {
-            Ok(key) => Ok(key),
-            Err(kind) => Err(ConfigError::Fault(self.fault(kind))),
+        let text = self.any_text(table, key)?;
+        match hex::decode(alloc, text) {
+            Ok(key) if key.len() == size => Ok(key),
+            Ok(_) => Err(ConfigError::Fault(self.fault(FaultKind::OutOfRange))),
+            Err(FromHexError::OutOfMemory) => Err(ConfigError::Memory),
+            Err(_) => Err(ConfigError::Fault(self.fault(FaultKind::BadHex))),
         }
     }
 

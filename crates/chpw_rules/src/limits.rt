@@ -3,20 +3,22 @@ ghost use Rattle.std.specs.Prelude.{Bool, ◌≡◌};
 ghost use Rattle.std.specs.List.{list_all};
 ghost use Rattle.chpw_rules.specs.Limits.{is_in, key_length as key_length_of};
 
-/// The numbers from `low` to `high`, both among them.
+/// A range of numbers, both ends among them.
 #[derive(Clone, Copy, Drop)]
 pub struct Limits {
     pub low: usize,
     pub high: usize,
 }
 
-/// The bytes of a realm.
+/// The length of a realm in bytes.
 pub const REALM_LENGTHS: Limits = Limits { low: 1, high: 255 };
-/// The events that a history may have.
+/// How many events the history may have.
 pub const ENTRY_COUNTS: Limits = Limits {
     low: 1,
     high: 1_048_576,
 };
+/// How many it may have where a file doesn't say.
+pub const DEFAULT_ENTRIES: usize = ENTRY_COUNTS.high;
 /// Key version numbers (UInt32 of RFC 4120 section 5.2.4, from 1).
 pub const KVNOS: Limits = Limits {
     low: 1,
@@ -27,32 +29,36 @@ pub const ITERATION_COUNTS: Limits = Limits {
     low: 1,
     high: 16_777_216,
 };
-/// The bytes that a policy may ask of a password.
+/// The least length in bytes that a policy may ask of a password.
 pub const MIN_LENGTHS: Limits = Limits { low: 0, high: 1024 };
-/// The character classes that a policy may ask of a password.
+/// The least number of character classes that a policy may ask of a password.
 pub const MIN_CLASS_COUNTS: Limits = Limits { low: 0, high: 5 };
-/// The old keys that a policy compares a new password with.
+/// How many of a principal's newest keys a policy may compare a new password with.
 pub const DEPTHS: Limits = Limits { low: 0, high: 16 };
 /// Encryption types 17 and 18 (RFC 3962 section 7).
 pub const ETYPES: Limits = Limits { low: 17, high: 18 };
-/// The service keys of a file.
+/// How many keys the service has.
 pub const SERVICE_KEY_COUNTS: Limits = Limits { low: 1, high: 16 };
-/// The keys of a principal.
+/// How many keys a principal has.
 pub const KEY_COUNTS: Limits = Limits { low: 1, high: 16 };
-/// The rules of a file.
+/// How many rules there are.
 pub const RULE_COUNTS: Limits = Limits {
     low: 0,
     high: 10_000,
 };
-/// The principals of a file.
+/// How many principals there are.
 pub const PRINCIPAL_COUNTS: Limits = Limits {
     low: 0,
     high: 10_000,
 };
-/// The components of a name.
+/// How many components a name has.
 pub const COMPONENT_COUNTS: Limits = Limits { low: 1, high: 8 };
-/// The bytes of a component.
+/// The length of a name's component in bytes.
 pub const COMPONENT_LENGTHS: Limits = Limits { low: 1, high: 128 };
+/// The length in bytes of a key of encryption type 17 (RFC 3962 section 7).
+pub const AES128_LENGTH: usize = 16;
+/// The length in bytes of a key of encryption type 18.
+pub const AES256_LENGTH: usize = 32;
 
 impl Limits {
     ghost use Rattle.chpw_rules.specs.Limits.{is_in};
@@ -65,11 +71,15 @@ impl Limits {
     }
 }
 
-/// The bytes of a key of encryption type 17 or 18 (RFC 3962 section 7).
+/// The length in bytes of a key of encryption type 17 or 18 (RFC 3962 section 7).
 pub fn key_length(etype: usize) -> usize
     ensures value { result ≡ key_length_of etype }
 {
-    if etype == 17 { 16 } else { 32 }
+    if etype == ETYPES.low {
+        AES128_LENGTH
+    } else {
+        AES256_LENGTH
+    }
 }
 
 /// A value that has limits.

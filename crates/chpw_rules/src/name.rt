@@ -36,7 +36,21 @@ impl Name {
         COMPONENT_COUNTS.allow(parts.len()) && all_fit(parts)
     }
 
-    /// Whether the components are the same.
+    /// The same name in memory of its own, from the same allocator.
+    pub fn clone(&self) -> Result<Name, AllocError>
+        ensures value { IfOk result (λ copy. copy ≡ self.now) }
+    {
+        let parts = self.parts.as_slice();
+        let mut copies = Vec::with_capacity(*self.parts.allocator(), parts.len())?;
+        for part in parts {
+            copies.push(part.clone()?)?;
+        }
+        Ok(Name {
+            parts: Items::of(copies),
+        })
+    }
+
+    /// Whether the components are the same, one by one.
     pub fn is_same(&self, other: &Name) -> bool
         ensures value { result ≡ is_same_name self.now other.now }
     {

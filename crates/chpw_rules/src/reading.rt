@@ -14,8 +14,9 @@ use crate::fitting::stands_in;
 use crate::items::Items;
 use crate::kinds::a_table;
 use crate::limits::{
-    DEPTHS, ENTRY_COUNTS, ETYPES, ITERATION_COUNTS, KEY_COUNTS, KVNOS, MIN_CLASS_COUNTS,
-    MIN_LENGTHS, PRINCIPAL_COUNTS, REALM_LENGTHS, RULE_COUNTS, SERVICE_KEY_COUNTS, key_length,
+    AES128_LENGTH, AES256_LENGTH, DEFAULT_ENTRIES, DEPTHS, ENTRY_COUNTS, ETYPES, ITERATION_COUNTS,
+    KEY_COUNTS, KVNOS, MIN_CLASS_COUNTS, MIN_LENGTHS, PRINCIPAL_COUNTS, REALM_LENGTHS, RULE_COUNTS,
+    SERVICE_KEY_COUNTS, key_length,
 };
 use crate::policy::Policy;
 use crate::rules::{Rule, Rules};
@@ -118,13 +119,13 @@ fn read_key(
         return Err(ConfigError::Fault(at.fault(FaultKind::OutOfRange)));
     }
     let iterations = at.number(table, "iterations", ITERATION_COUNTS)?;
-    let aes128 = at.hex_key(alloc, table, "aes128", 16)?;
-    let aes256 = at.hex_key(alloc, table, "aes256", 32)?;
+    let aes128 = at.hex_key(alloc, table, "aes128", AES128_LENGTH)?;
+    let aes256 = at.hex_key(alloc, table, "aes256", AES256_LENGTH)?;
     let mut key = KeyBytes {
         kvno,
         iterations: iterations as u32,
-        aes128: [0; 16],
-        aes256: [0; 32],
+        aes128: [0; AES128_LENGTH],
+        aes256: [0; AES256_LENGTH],
     };
     key.aes128.copy_from_slice(aes128.as_slice());
     key.aes256.copy_from_slice(aes256.as_slice());
@@ -191,7 +192,7 @@ fn read_settings(alloc: Global, file: &Table) -> Result<Config, ConfigError>
     let principals_at = Place::of(Part::Principal, 0);
     let service = service_at.table(file, "service")?;
     let realm = service_at.text(service, "realm", REALM_LENGTHS)?;
-    let max_entries = service_at.number_or(service, "max_entries", ENTRY_COUNTS, 1_048_576)?;
+    let max_entries = service_at.number_or(service, "max_entries", ENTRY_COUNTS, DEFAULT_ENTRIES)?;
     let service_keys = service_keys_at.list(service, "key", SERVICE_KEY_COUNTS)?;
     let service_keys = read_service_keys(alloc, service_keys)?;
     let policy = read_policy(policy_at.table(file, "policy")?)?;
@@ -215,8 +216,8 @@ fn read_settings(alloc: Global, file: &Table) -> Result<Config, ConfigError>
 ///
 /// A text that `toml` refuses is `NotToml` of the file. Then the parts are walked: the service,
 /// its keys, the policy, the rules, the principals, each followed by its keys; within a table its
-/// keys in the order of `docs/CONFIGURATION.md`; for each key it is found missing, of the wrong
-/// kind, no hexadecimal text, out of range, in this order. `Memory` may come at any place.
+/// keys in the order of `docs/CONFIGURATION.md`. A key may be missing, of the wrong kind, not
+/// hexadecimal, or out of range; these are looked for in this order. `Memory` may come anywhere.
 pub fn read_config(alloc: Global, text: &str) -> Result<Config, ConfigError>
     ensures value { UnlessMemory result (settings_of text.now) }
     ensures fits { IfOk result (λ config. IsTrue (config_fits config)) }
@@ -225,6 +226,6 @@ pub fn read_config(alloc: Global, text: &str) -> Result<Config, ConfigError>
     match toml::table_from_str(alloc, text) {
         Ok(file) => read_settings(alloc, &file),
         Err(error) if error.is_memory() => Err(ConfigError::Memory),
-        Err(_) => Err(ConfigError::Fault(Place::of(Part::File, 0).fault(FaultKind::NotToml))),
+        Err(_) => Err(ConfigError::Fault(ConfigFault::not_toml())),
     }
 }

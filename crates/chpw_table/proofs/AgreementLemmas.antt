@@ -6,12 +6,12 @@ use Rattle.std.specs.List.{list_any}
 use Rattle.std.proofs.lemmas.Int.{ints, clamps}
 use Rattle.chpw_rules.specs.declared.name.Name.{Name}
 use Rattle.chpw_rules.specs.Names.{is_same_name}
-use Rattle.chpw_table.specs.declared.decision.Moment.{Moment}
-use Rattle.chpw_table.specs.declared.decision.Opened.{Opened}
-use Rattle.chpw_table.specs.declared.decision.RequestId.{RequestId}
+use Rattle.chpw_table.specs.declared.times.Moment.{Moment}
+use Rattle.chpw_table.specs.declared.request.Opened.{Opened}
+use Rattle.chpw_table.specs.declared.request.RequestId.{RequestId}
 use Rattle.chpw_table.specs.declared.verdict.Verdict.{Verdict}
 use Rattle.chpw_table.specs.declared.verdict.Verdict.TheVariants.{Skew, Replay}
-use Rattle.chpw_table.specs.declared.table.KeyRow.{KeyRow}
+use Rattle.chpw_table.specs.declared.key.KeyRow.{KeyRow}
 use Rattle.chpw_table.specs.Requests.{id_of, is_same_id, target_of, digest_of}
 use Rattle.chpw_table.specs.State.{State, Fixed, keys_held, is_used, kept_count, new_count}
 use Rattle.chpw_table.specs.Verdicts.{adds_id, is_done, is_broken, reads_keys}
@@ -26,19 +26,19 @@ use Rattle.chpw_table.proofs.StepLemmas.{used_more}
 use Rattle.chpw_table.proofs.KeyLemmas.{keys_after, put}
 
 -- from NotYet on only these are read
-same_fresh : (t s : State) (clock : ℤ) (o : Opened) (io : Bool) → t.fixed ≡ s.fixed → keys_held t (target_of o).name ≡ keys_held s (target_of o).name → t.broken ≡ s.broken
+pub same_fresh : (t s : State) (clock : ℤ) (o : Opened) (io : Bool) → t.fixed ≡ s.fixed → keys_held t (target_of o).name ≡ keys_held s (target_of o).name → t.broken ≡ s.broken
     → message_row t clock o io ≡ message_row s clock o io
 same_fresh t s clock o io f k b = simp (k, f, b)
 
 -- the clock of an event is no earlier than the state's
-not_old : (clock now ctime : ℤ) → is_far (int_max clock now) ctime ≡ false → is_later clock ctime ≡ false
+pub not_old : (clock now ctime : ℤ) → is_far (int_max clock now) ctime ≡ false → is_later clock ctime ≡ false
 not_old clock now ctime h = grind (arith, ints, clamps)
 
-same_judged : (a b c d : Bool) (v w : Verdict) → (a ≡ false → b ≡ d) → (a ≡ false → v ≡ w) → (if a then Skew else if b then Replay else v) ≡ (if a then Skew else if d then Replay else w)
+pub same_judged : (a b c d : Bool) (v w : Verdict) → (a ≡ false → b ≡ d) → (a ≡ false → v ≡ w) → (if a then Skew else if b then Replay else v) ≡ (if a then Skew else if d then Replay else w)
 same_judged true b c d v w g h = refl
 same_judged false b c d v w g h = ap (λ (x : Bool). if x then Replay else v) (g refl) ∙ ap (λ (x : Verdict). if d then Replay else x) (h refl)
 
-near_both : (a b : Bool) → (a || b) ≡ false → a ≡ false
+pub near_both : (a b : Bool) → (a || b) ≡ false → a ≡ false
 near_both true b h = h
 near_both false b h = refl
 
@@ -55,7 +55,7 @@ same_verdict t s now o io a =
 pub same_new_key : (t s : State) (o : Opened) → t.fixed ≡ s.fixed → keys_held t (target_of o).name ≡ keys_held s (target_of o).name → new_key t o ≡ new_key s o
 same_new_key t s o f k = let c : new_count t ≡ new_count s = ap (λ (x : Fixed). x.policy.iterations) f in simp (k, c)
 
-agrees_keys : (t s : State) (v : Verdict) (now : Moment) (o : Opened) (io : Bool) → Agrees t s → (name : Name) → keys_held (after v t now o io) name ≡ keys_held (after v s now o io) name
+pub agrees_keys : (t s : State) (v : Verdict) (now : Moment) (o : Opened) (io : Bool) → Agrees t s → (name : Name) → keys_held (after v t now o io) name ≡ keys_held (after v s now o io) name
 agrees_keys t s v now o io a name =
     keys_after t v now o io name
     ∙ (ap (λ (x : Option (List KeyRow)). if is_done v && is_same_name (target_of o).name name then option_map (put (kept_count t) (new_key t o)) x else x) (a.principals name)

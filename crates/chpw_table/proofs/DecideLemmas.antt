@@ -1,17 +1,19 @@
 -- What is shown of a table's own state holds of each state that it agrees with.
 use Rattle.std.proofs.Common.{◌≡◌, ℕ, List, [], ◌++◌, Bool, if◌then◌else◌, Option, sym, ◌∙◌, ap, subst}
 use Rattle.std.specs.Prelude.{option_map}
-use Rattle.chpw_table.specs.declared.decision.Moment.{Moment}
-use Rattle.chpw_table.specs.declared.decision.Opened.{Opened}
+use Rattle.chpw_table.specs.declared.times.Moment.{Moment}
+use Rattle.chpw_table.specs.declared.request.Opened.{Opened}
+use Rattle.chpw_table.specs.declared.outcome.DecideFault.{DecideFault}
 use Rattle.chpw_table.specs.declared.verdict.Verdict.{Verdict}
-use Rattle.chpw_table.specs.declared.table.KeyRow.{KeyRow}
+use Rattle.chpw_table.specs.declared.key.KeyRow.{KeyRow}
 use Rattle.chpw_table.specs.Requests.{target_of}
 use Rattle.chpw_table.specs.State.{State}
 use Rattle.chpw_table.specs.Verdicts.{is_done}
 use Rattle.chpw_table.specs.Step.{step}
-use Rattle.chpw_table.specs.History.{IsDecided}
+use Rattle.chpw_table.specs.History.{IsDecided, missing}
 use Rattle.chpw_table.specs.Journal.{appended, record_bytes}
-use Rattle.chpw_table.specs.Agreement.{Agrees}
+use Rattle.chpw_table.specs.Agreement.{Held, Agrees}
+use Rattle.chpw_table.specs.Refusals.{IsFirst}
 use Rattle.chpw_table.proofs.AgreementLemmas.{same_verdict, same_missing, same_new_key, agrees_step}
 
 pub decided_for_all : (t s : State) (now : Moment) (o : Opened) (io : Bool) (v : Verdict) → IsDecided t now o io v → Agrees t s → IsDecided s now o io v
@@ -29,3 +31,6 @@ same_appended t s o v a = ap (λ (k : KeyRow). if is_done v then record_bytes (t
 
 pub told_for_all : (t s : State) (o : Opened) (v : Verdict) (before after : Option (List ℕ)) → after ≡ option_map (λ xs. xs ++ appended t o v) before → Agrees t s → after ≡ option_map (λ xs. xs ++ appended s o v) before
 told_for_all t s o v before after h a = h ∙ ap (λ (ys : List ℕ). option_map (λ (xs : List ℕ). xs ++ ys) before) (same_appended t s o v a)
+
+pub first_for_all : (t : Held) (s : State) (now : Moment) (o : Opened) (fault : DecideFault) → IsFirst t (missing t.state now o) fault → Agrees t.state s → IsFirst t (missing s now o) fault
+first_for_all t s now o fault h a = subst (λ (counts : List ℕ). IsFirst t counts fault) (same_missing t.state s now o a) h

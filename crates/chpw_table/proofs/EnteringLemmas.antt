@@ -1,17 +1,16 @@
 -- What an event does, put together from its parts.
 use Rattle.std.proofs.Common.{◌≡◌, ℕ, zero, suc, ◌<◌, List, [], ◌∷◌, length, get_or, set, Bool, true, false, refl, sym, ◌∙◌, ap, arith}
-use Rattle.chpw_table.specs.declared.decision.Moment.{Moment}
-use Rattle.chpw_table.specs.declared.decision.Opened.{Opened}
+use Rattle.chpw_table.specs.declared.times.Moment.{Moment}
+use Rattle.chpw_table.specs.declared.request.Opened.{Opened}
 use Rattle.chpw_table.specs.declared.verdict.Verdict.{Verdict}
 use Rattle.chpw_table.specs.declared.verdict.Verdict.TheVariants.{Broken, Done}
-use Rattle.chpw_table.specs.declared.table.KeyRow.{KeyRow}
+use Rattle.chpw_table.specs.declared.key.KeyRow.{KeyRow}
 use Rattle.chpw_table.specs.declared.table.Principal.{Principal}
-use Rattle.chpw_table.specs.Verdicts.{with_append}
 use Rattle.chpw_table.specs.Decision.{verdict}
 use Rattle.chpw_table.specs.Step.{step, after}
 use Rattle.chpw_table.specs.History.{IsDecided, missing}
 use Rattle.chpw_table.specs.Agreement.{Held}
-use Rattle.chpw_table.specs.Entering.{with_keys_at, IsEntered}
+use Rattle.chpw_table.specs.Entering.{with_append, with_keys_at, IsEntered}
 use Rattle.chpw_table.proofs.AppendLemmas.{verdict_written}
 use Rattle.chpw_table.proofs.DoneLemmas.{done_key_row, done_whole}
 

@@ -8,14 +8,14 @@ use Rattle.chpw_rules.specs.declared.policy.Policy.{Policy}
 use Rattle.chpw_rules.specs.declared.config.Config.{Config}
 use Rattle.chpw_rules.specs.declared.config.KeyBytes.{KeyBytes}
 use Rattle.chpw_rules.specs.declared.config.PrincipalRow.{PrincipalRow}
-use Rattle.chpw_rules.specs.Limits.{is_in, depths, key_counts, iteration_counts}
+use Rattle.chpw_rules.specs.Limits.{is_in, depths, entry_counts, key_counts, iteration_counts}
 use Rattle.chpw_rules.specs.Names.{is_same_name, is_name}
 use Rattle.chpw_rules.specs.Fitting.{config_fits, principal_fits, principals_fit, policy_fits, key_fits, are_distinct, none_again}
 use Rattle.chpw_rules.specs.Fitting as rules
-use Rattle.chpw_table.specs.declared.decision.Opened.{Opened}
+use Rattle.chpw_table.specs.declared.request.Opened.{Opened}
 use Rattle.chpw_table.specs.Requests.{target_of}
 use Rattle.chpw_table.specs.Entering.{with_keys_at}
-use Rattle.chpw_table.specs.declared.table.KeyRow.{KeyRow}
+use Rattle.chpw_table.specs.declared.key.KeyRow.{KeyRow}
 use Rattle.chpw_table.specs.declared.table.Principal.{Principal}
 use Rattle.chpw_table.specs.State.{State, key_row_of, opening_principal, keys_held, kept_count}
 use Rattle.chpw_table.specs.Step.{with_key, new_key}
@@ -107,12 +107,23 @@ opening_holders kept a b rows h =
 
 -- ---- what is held
 
-few_held : (keys : Option Principal) → IfSome keys (λ p. is_holder p ≡ true) → IfSome (option_map (λ (p : Principal). p.keys) keys) (λ ks. length ks ≤ 16)
-few_held None h = tt
-few_held (Some p) h = range_high (length p.keys) (and_left _ _ (and_right _ _ h))
+-- as many keys as a configuration takes, each under a count that one takes
+abbrev pub AreHeld : List KeyRow → Type 0
+AreHeld keys = (is_in key_counts (length keys) ≡ true) × (list_all is_count_in_range keys ≡ true)
 
-pub held_few : (s : State) (name : Name) → are_holders s.principals ≡ true → IfSome (keys_held s name) (λ ks. length ks ≤ 16)
-held_few s name h = few_held (find (λ (p : Principal). is_same_name p.name name) s.principals) (find-all is_holder (λ (p : Principal). is_same_name p.name name) s.principals (and_left _ _ h))
+keys_of_holder : (found : Option Principal) → IfSome found (λ p. is_holder p ≡ true) → IfSome (option_map (λ (p : Principal). p.keys) found) AreHeld
+keys_of_holder None h = tt
+keys_of_holder (Some p) h = (and_left _ _ (and_right _ _ h), and_right _ _ (and_right _ _ h))
+
+pub held : (s : State) (name : Name) → are_holders s.principals ≡ true → IfSome (keys_held s name) AreHeld
+held s name h = keys_of_holder (find (λ (p : Principal). is_same_name p.name name) s.principals) (find-all is_holder (λ (p : Principal). is_same_name p.name name) s.principals (and_left _ _ h))
+
+pub IfSome-weaker : {A : Type 0} (P Q : A → Type 0) → ((x : A) → P x → Q x) → (o : Option A) → IfSome o P → IfSome o Q
+IfSome-weaker P Q f None h = tt
+IfSome-weaker P Q f (Some x) h = f x h
+
+pub few_keys : (keys : List KeyRow) → AreHeld keys → (1 ≤ length keys) × (length keys ≤ 16)
+few_keys keys h = (range_low (length keys) h.0, range_high (length keys) h.0)
 
 -- ---- a new key
 
@@ -158,6 +169,9 @@ pub depth_at_most : (policy : Policy) → policy_fits policy ≡ true → max po
 depth_at_most policy h = kept_at_most policy.depth (in_depths policy.depth (and_right _ _ (and_left _ _ h)))
 
 -- the parts of a configuration that fits
+pub entries_of_fits : (c : Config) → config_fits c ≡ true → is_in entry_counts c.max_entries ≡ true
+entries_of_fits c h = and_right _ _ (and_left _ _ (and_left _ _ (and_left _ _ (and_left _ _ h))))
+
 pub policy_of_fits : (c : Config) → config_fits c ≡ true → policy_fits c.policy ≡ true
 policy_of_fits c h = and_right _ _ (and_left _ _ (and_left _ _ h))
 

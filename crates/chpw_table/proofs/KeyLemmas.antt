@@ -4,12 +4,12 @@ use Rattle.std.specs.Prelude.{option_map, ℤ, IsSome, IfSome}
 use Rattle.std.proofs.lemmas.List.{take_all, take-take, length-take}
 use Rattle.chpw_rules.specs.declared.name.Name.{Name}
 use Rattle.chpw_rules.specs.Names.{is_same_name}
-use Rattle.chpw_table.specs.declared.decision.Moment.{Moment}
-use Rattle.chpw_table.specs.declared.decision.Opened.{Opened}
+use Rattle.chpw_table.specs.declared.times.Moment.{Moment}
+use Rattle.chpw_table.specs.declared.request.Opened.{Opened}
 use Rattle.chpw_table.specs.declared.verdict.Verdict.{Verdict}
 use Rattle.chpw_table.specs.declared.verdict.Verdict.TheVariants.{Skew, Replay, NotYet, Expired, BadPrivate, BadBody, Denied, NeedInitial, Unknown, Done}
 use Rattle.chpw_table.specs.declared.history.Entry.{Entry}
-use Rattle.chpw_table.specs.declared.table.KeyRow.{KeyRow}
+use Rattle.chpw_table.specs.declared.key.KeyRow.{KeyRow}
 use Rattle.chpw_table.specs.declared.table.Principal.{Principal}
 use Rattle.chpw_table.specs.Requests.{target_of}
 use Rattle.chpw_table.specs.State.{State, keys_held, kept_count}

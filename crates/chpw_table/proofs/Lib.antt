@@ -11,6 +11,7 @@ pub mod WorkedScripts
 pub mod WorkedHistories
 pub mod DigestLemmas
 pub mod NameLemmas
+pub mod PositiveLemmas
 pub mod StepLemmas
 pub mod KeyLemmas
 pub mod AgreementLemmas

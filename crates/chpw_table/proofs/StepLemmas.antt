@@ -3,9 +3,9 @@ use Rattle.std.proofs.Common.{◌≡◌, ◌≢◌, List, [], ◌∷◌, ◌++�
 use Rattle.std.specs.Prelude.{ℤ, pos, ◌+ℤ◌, ◌≤ℤ◌, int_le}
 use Rattle.std.specs.List.{list_any}
 use Rattle.std.proofs.lemmas.Int.{ints, clamps}
-use Rattle.chpw_table.specs.declared.decision.Moment.{Moment}
-use Rattle.chpw_table.specs.declared.decision.Opened.{Opened}
-use Rattle.chpw_table.specs.declared.decision.RequestId.{RequestId}
+use Rattle.chpw_table.specs.declared.times.Moment.{Moment}
+use Rattle.chpw_table.specs.declared.request.Opened.{Opened}
+use Rattle.chpw_table.specs.declared.request.RequestId.{RequestId}
 use Rattle.chpw_table.specs.declared.verdict.Verdict.{Verdict}
 use Rattle.chpw_table.specs.declared.verdict.Verdict.TheVariants.{Skew, Replay, NotYet, Expired, BadPrivate, BadBody, Denied, NeedInitial, Unknown, Short, Classes, Reused, LastVersion, Broken, Done}
 use Rattle.chpw_table.specs.declared.history.Entry.{Entry}

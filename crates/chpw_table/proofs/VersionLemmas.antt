@@ -6,7 +6,7 @@ use Rattle.chpw_rules.specs.declared.name.Name.{Name}
 use Rattle.chpw_rules.specs.Names.{is_same_name}
 use Rattle.chpw_table.specs.declared.verdict.Verdict.{Verdict}
 use Rattle.chpw_table.specs.declared.history.Entry.{Entry}
-use Rattle.chpw_table.specs.declared.table.KeyRow.{KeyRow}
+use Rattle.chpw_table.specs.declared.key.KeyRow.{KeyRow}
 use Rattle.chpw_table.specs.Requests.{target_of}
 use Rattle.chpw_table.specs.State.{State, keys_held, kept_count}
 use Rattle.chpw_table.specs.Verdicts.{is_done}

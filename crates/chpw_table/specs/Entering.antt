@@ -1,19 +1,23 @@
--- What a table becomes at an event, part by part.
-use Rattle.std.specs.Prelude.{◌≡◌, ℕ, zero, suc, ◌+◌, List, [], ◌∷◌, ◌++◌, ◌<◌, length, map, take, Option, Some, Bool, true, if◌then◌else◌}
+-- For the proofs of a step: what a table becomes at an event, part by part.
+use Rattle.std.specs.Prelude.{◌≡◌, ℕ, zero, suc, ◌+◌, List, [], ◌∷◌, ◌++◌, ◌<◌, length, map, take, Option, Some, Bool, true, ◌&&◌, if◌then◌else◌}
 use Rattle.chpw_rules.specs.declared.name.Name.{Name}
 use Rattle.chpw_rules.specs.Names.{is_name}
-use Rattle.chpw_table.specs.declared.decision.Moment.{Moment}
-use Rattle.chpw_table.specs.declared.decision.Opened.{Opened}
+use Rattle.chpw_table.specs.declared.times.Moment.{Moment}
+use Rattle.chpw_table.specs.declared.request.Opened.{Opened}
 use Rattle.chpw_table.specs.declared.verdict.Verdict.{Verdict}
-use Rattle.chpw_table.specs.declared.verdict.Verdict.TheVariants.{Done}
-use Rattle.chpw_table.specs.declared.table.KeyRow.{KeyRow}
+use Rattle.chpw_table.specs.declared.verdict.Verdict.TheVariants.{Broken, Done}
+use Rattle.chpw_table.specs.declared.key.KeyRow.{KeyRow}
 use Rattle.chpw_table.specs.declared.table.Principal.{Principal}
 use Rattle.chpw_table.specs.Requests.{id_of}
 use Rattle.chpw_table.specs.State.{State, keys_held}
-use Rattle.chpw_table.specs.Verdicts.{adds_id, is_done, with_append}
+use Rattle.chpw_table.specs.Verdicts.{adds_id, is_done}
 use Rattle.chpw_table.specs.Times.{clock_at}
 use Rattle.chpw_table.specs.Step.{after, with_key}
 use Rattle.chpw_table.specs.Agreement.{Held}
+
+-- Done becomes Broken where the append failed
+abbrev pub with_append : Bool → Verdict → Verdict
+with_append io v = if is_done v && io then Broken else v
 
 -- the id is used, where the row uses it
 abbrev pub with_used : Verdict → Opened → Held → Held

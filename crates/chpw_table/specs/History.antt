@@ -1,7 +1,7 @@
 -- A history: the entries in their order, replayed from the opening.
 use Rattle.std.specs.Prelude.{◌≡◌, ℕ, ◌+◌, List, [], ◌∷◌, Bool, true, false, ◌==◌, if◌then◌else◌}
-use Rattle.chpw_table.specs.declared.decision.Moment.{Moment}
-use Rattle.chpw_table.specs.declared.decision.Opened.{Opened}
+use Rattle.chpw_table.specs.declared.times.Moment.{Moment}
+use Rattle.chpw_table.specs.declared.request.Opened.{Opened}
 use Rattle.chpw_table.specs.declared.verdict.Verdict.{Verdict}
 use Rattle.chpw_table.specs.declared.verdict.Verdict.TheVariants.{Broken}
 use Rattle.chpw_table.specs.declared.history.Entry.{Entry}
@@ -35,6 +35,8 @@ IsLegal s (e ∷ es) = IsDecided s e.now e.opened e.io_failed e.verdict × IsLeg
 abbrev pub outcome : State → List Entry → State
 outcome s [] = s
 outcome s (e ∷ es) = outcome (step_entry s e) es
+
+-- What follows is what those who keep a history promise of it: the receipts of a worker.
 
 -- the accepted entries, one more after an accepted one
 abbrev pub next_basis : ℕ → Entry → ℕ

@@ -17,3 +17,5 @@ pub mod Lookups
 pub mod Replies
 pub mod Holding
 pub mod Entering
+pub mod Completing
+pub mod Inserting

@@ -3,7 +3,7 @@ ghost use Rattle.std.specs.Prelude.{◌≡◌, ◌++◌, ◌+◌, ◌≤◌, tru
 ghost use Rattle.chpw_rules.specs.Names.{is_component, is_name};
 ghost use Rattle.chpw_table.specs.Journal.{part_bytes, name_bytes, version_bytes, record_bytes as record_bytes_spec};
 
-use crate::table::KeyRow;
+use crate::key::KeyRow;
 use chpw_rules::{Items, Name};
 use std::alloc::{AllocError, Global};
 

@@ -1,25 +1,30 @@
-//! The decision machine of the service: one request, one row of the table, one step.
+//! The decision machine of the service: one request, one row of the decision, one step of the table.
 #![tactic(auto)]
 
 mod counts;
-mod decision;
+mod derived;
 mod digest;
 mod history;
 mod journal;
+mod key;
 pub mod laws;
-mod rows;
+mod outcome;
+pub mod replies;
+mod request;
 mod sink;
 mod table;
+mod times;
 mod verdict;
 
 pub use counts::{COUNTS_LIMIT, Counts};
-pub use decision::{Body, Moment, Opened, RequestId, Target};
-pub use digest::{Derived, Digest};
+pub use derived::Derived;
+pub use digest::Digest;
 pub use history::{Entry, Receipt};
 pub use journal::record_bytes;
+pub use key::KeyRow;
+pub use outcome::{DecideFault, Outcome, Refused};
+pub use request::{Body, Opened, RequestId, Target};
 pub use sink::{JournalSink, SinkFault};
-pub use table::{Fault, KeyRow, Lookup, Outcome, Principal, Refused, Table};
+pub use table::{Lookup, Principal, Table};
+pub use times::{CLOCK_SKEW, LAST_SECOND, Moment};
 pub use verdict::Verdict;
-
-#[cfg(test)]
-mod tests;

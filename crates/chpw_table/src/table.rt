@@ -1,34 +1,25 @@
 //! The table: the principals with their keys, and the ids used.
-ghost use Rattle.std.specs.Prelude.{[], ◌∷◌, ◌≡◌, ℕ, ◌≤◌, length, IfOk, IfSome, IfNone, OnOk, true, false, option_map, find, map, take, max, position, option_copied, vec_len};
+ghost use Rattle.std.specs.Prelude.{◌≡◌, ℕ, ◌≤◌, ◌<◌, ◌^◌, length, All, MatchBool, IfOk, IfSome, true, option_map, find, max, option_copied};
 ghost use Rattle.chpw_rules.specs.Names.{is_same_name};
+ghost use Rattle.chpw_rules.specs.Limits.{entry_counts};
 ghost use Rattle.chpw_rules.specs.Fitting.{config_fits};
-ghost use Rattle.chpw_table.specs.State.{opening_of, opening_principal, key_row_of, keys_held, new_count, kept_count};
-ghost use Rattle.chpw_table.specs.Decision.{newest_kvno};
+ghost use Rattle.chpw_table.specs.Agreement.{Agrees};
+ghost use Rattle.chpw_table.specs.State.{opening_of, keys_held};
 ghost use Rattle.chpw_table.specs.Lookups.{lookup_of};
 
 mod changing;
-mod deciding;
-mod judging;
+mod decision;
+mod opening;
+mod step;
+mod wanted;
 
 use crate::counts::Counts;
-use crate::decision::RequestId;
-use chpw_rules::{Config, Items, KeyBytes, Name, Policy, PrincipalRow, Rules};
-pub use deciding::{Fault, Outcome, Refused};
+use crate::key::{KeyRow, counts_of, kvno_of};
+use crate::request::RequestId;
+use chpw_rules::{Config, Items, Name, Policy, Rules};
+use opening::opening_principals;
 use std::alloc::{AllocError, Global};
 use std::marker::Model;
-
-/// A principal's keys of one version, both made under one iteration count.
-#[derive(Clone, Copy, PartialEq, Eq, Debug, Drop)]
-pub struct KeyRow {
-    /// The key version number, 1 to 4294967295.
-    pub kvno: u32,
-    /// The iteration count that both keys were derived under, 1 to 16,777,216.
-    pub count: u32,
-    /// The key of etype 17.
-    pub aes128: [u8; 16],
-    /// The key of etype 18.
-    pub aes256: [u8; 32],
-}
 
 /// A principal and its keys, newest first.
 #[derive(Drop)]
@@ -40,17 +31,21 @@ pub struct Principal {
 /// What a lookup shows of a principal.
 #[derive(Drop)]
 pub struct Lookup {
-    /// Its newest version.
+    /// The kvno of its newest keys.
     pub kvno: u32,
     /// The iteration counts of its keys, newest first.
     pub held: Counts,
-    /// The iteration count of new keys.
+    /// The iteration count of new keys: the policy's.
     pub policy: u32,
-    /// The changes accepted so far.
+    /// The changes accepted so far, of all principals.
     pub seen: u32,
 }
 
 /// The principals in the order of the configuration, and the used ids in the order of use.
+///
+/// Contracts see a table as a `Held`: a state, how many events were decided, how many changes accepted,
+/// and how many events there may be. A table may forget ids that are too old to be judged again; so its
+/// contracts speak of each state that it agrees with (`Agrees`), in which all used ids may stand.
 #[derive(Drop)]
 pub struct Table {
     realm: Items<u8>,
@@ -67,8 +62,10 @@ pub struct Table {
 }
 
 impl Model for Table {
-    ghost use Rattle.std.specs.Prelude.{◌≤◌, ◌≤ℤ◌, pos, IsTrue};
+    ghost use Rattle.std.specs.Prelude.{◌≤◌, IsTrue};
+    ghost use Rattle.chpw_rules.specs.Limits.{is_in, entry_counts};
     ghost use Rattle.chpw_rules.specs.Fitting.{policy_fits};
+    ghost use Rattle.chpw_table.specs.Times.{IsTime};
     ghost use Rattle.chpw_table.specs.Agreement.{Held};
     ghost use Rattle.chpw_table.specs.Holding.{are_holders};
 
@@ -88,17 +85,20 @@ impl Model for Table {
     } };
 
     ghost invariant = { λ t. (t.seen ≤ t.events) × (t.events ≤ t.max_entries)
-        × (pos 0 ≤ℤ t.clock) × (t.clock ≤ℤ pos 253402300799)
+        × IsTrue (is_in entry_counts t.max_entries) × IsTime t.clock
         × IsTrue (policy_fits t.policy) × IsTrue (are_holders t.principals.items) };
 }
 
 impl Table {
     /// The table that a configuration opens with: of each principal the newest keys, as many as the
-    /// policy's depth and at least one. A request whose ctime is not after `quiet_until`, seconds
-    /// since 1970, will be refused.
+    /// policy's depth and at least one; clock 0, no id used, no event decided. The configuration fits
+    /// (`Config::fits`). A request whose ctime is not after `quiet_until`, seconds since 1970, will be
+    /// refused; -1 refuses none.
     pub fn start(alloc: Global, config: Config, quiet_until: i64) -> Result<Table, AllocError>
         requires fits { config_fits config ≡ true }
-        ensures opening { IfOk result (λ t. t ≡ record { state = opening_of config quiet_until; events = 0; seen = 0; max_entries = config.max_entries }) }
+        ensures opening { IfOk result (λ t. Agrees t.state (opening_of config quiet_until)) }
+        ensures counts { IfOk result (λ t. (t.events ≡ 0) × (t.seen ≡ 0)
+            × (t.max_entries ≡ config.max_entries)) }
     {
         let kept = kept_by(config.policy);
         let principals = opening_principals(alloc, config.principals.into_vec(), kept)?;
@@ -117,9 +117,22 @@ impl Table {
         })
     }
 
-    /// What the table shows of a name; none for an unknown one.
+    /// Whether the table has decided as many events as it may, 1 to 1,048,576.
+    pub fn is_full(&self) -> bool
+        ensures value { MatchBool result (self.now.events ≡ self.now.max_entries)
+            (self.now.events < self.now.max_entries) }
+        ensures range { (entry_counts.low ≤ self.now.max_entries)
+            × (self.now.max_entries ≤ entry_counts.high) }
+    {
+        self.events == self.max_entries
+    }
+
+    /// What the table shows of a name; none for an unknown one. The counts are at least 1, and 1 to 16
+    /// of them are held.
     pub fn lookup(&self, name: &Name) -> Option<Lookup>
         ensures value { result ≡ lookup_of self.now name.now }
+        ensures few { IfSome result (λ l. (1 ≤ length l.held) × (length l.held ≤ 16)) }
+        ensures positive { IfSome result (λ l. (1 ≤ l.policy) × All (λ n. 1 ≤ n) l.held) }
     {
         let keys = self.keys_of(name)?;
         Some(Lookup {
@@ -133,8 +146,10 @@ impl Table {
     /// The keys of a name, 1 to 16, newest first; none for an unknown one.
     pub fn keys_of(&self, name: &Name) -> Option<&[KeyRow]>
         ensures value { option_copied result ≡ keys_held self.now.state name.now }
-        ensures few { IfSome result (λ keys. length keys.now ≤ 16) }
+        ensures few { IfSome result (λ keys. (1 ≤ length keys.now) × (length keys.now ≤ 16)) }
+        ensures positive { IfSome result (λ keys. All (λ k. 1 ≤ k.count) keys.now) }
     {
+        // A field is read, so that the type's invariant is known here.
         let _ = &self.principals;
         self.find_keys(name)
     }
@@ -154,75 +169,4 @@ fn kept_by(policy: Policy) -> usize
     ensures value { result ≡ max policy.depth 1 }
 {
     usize::from(policy.depth.max(1))
-}
-
-// The newest version, and 0 where no key is held.
-fn kvno_of(keys: &[KeyRow]) -> u32
-    ensures value { result ≡ newest_kvno keys.now }
-{
-    match keys {
-        [] => 0,
-        [key, ..] => key.kvno,
-    }
-}
-
-// The newest, as many.
-fn newest<T>(items: &[T], count: usize) -> &[T]
-    ensures value { result.now ≡ take count items.now }
-{
-    if count < items.len() {
-        &items[..count]
-    } else {
-        items
-    }
-}
-
-fn counts_of(keys: &[KeyRow]) -> Counts
-    requires few { length keys.now ≤ 17 }
-    ensures value { result ≡ map (λ k. k.count) keys.now }
-{
-    let mut counts = Counts::new();
-    for key in keys {
-        let _ = counts.push(key.count);
-    }
-    counts
-}
-
-fn opening_principals(
-    alloc: Global,
-    rows: Vec<PrincipalRow>,
-    kept: usize,
-) -> Result<Vec<Principal>, AllocError>
-    ensures value { IfOk result (λ ps. ps.items ≡ map (opening_principal kept) rows.items) }
-{
-    let mut principals = Vec::with_capacity(alloc, rows.len())?;
-    for row in rows {
-        principals.push(Principal {
-            keys: opening_keys(alloc, row.keys.as_slice(), kept)?,
-            name: row.name,
-        })?;
-    }
-    Ok(principals)
-}
-
-fn opening_keys(alloc: Global, keys: &[KeyBytes], kept: usize) -> Result<Items<KeyRow>, AllocError>
-    ensures value { IfOk result (λ rows. rows ≡ map key_row_of (take kept keys.now)) }
-{
-    let newest = newest(keys, kept);
-    let mut rows = Vec::with_capacity(alloc, newest.len())?;
-    for key in newest {
-        rows.push(key_row(key))?;
-    }
-    Ok(Items::of(rows))
-}
-
-fn key_row(key: &KeyBytes) -> KeyRow
-    ensures value { result ≡ key_row_of key.now }
-{
-    KeyRow {
-        kvno: key.kvno,
-        count: key.iterations,
-        aes128: key.aes128,
-        aes256: key.aes256,
-    }
 }

@@ -3,16 +3,16 @@
 #![tactic(auto)]
 
 mod cipher;
+mod column;
 mod cts;
 mod field;
 mod key_schedule;
 pub mod laws;
-#[cfg(test)]
-mod tests;
 mod xor;
 
 pub use cipher::Aes;
 pub use cts::{cts_decrypt, cts_encrypt};
+pub use xor::xor_into;
 
 /// The bytes of a block.
 pub const BLOCK_LEN: usize = 16;

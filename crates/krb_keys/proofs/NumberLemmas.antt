@@ -7,6 +7,8 @@ use Rattle.std.proofs.lemmas.Nat.{mod-mul-add, div-mul-add, div-add-mod', mod_be
 use Rattle.std.proofs.lemmas.List.{drop-set-lt, drop_all, get_or_append_left, get_or_push, get_or-drop, take-append-drop, drop_more}
 use Rattle.std.proofs.lemmas.Grind.{same_number_lists}
 use Rattle.std.proofs.Common.{inl, inr}
+use Rattle.std.proofs.lemmas.List.Elements.{All-nil, All-cons, All-append}
+use Rattle.krb_aes.specs.Bytes.{AreBytes}
 use Rattle.krb_keys.specs.Nfold.{value, number_bytes, residue}
 
 pub pow_of_256 : (k : ℕ) → 256 ^ k ≡ 2 ^ (8 * k)
@@ -39,6 +41,13 @@ pub length-number_bytes : (n v : ℕ) → length (number_bytes n v) ≡ n
 unfolding number_bytes
 length-number_bytes zero v = refl
 length-number_bytes (suc n) v = length-append (number_bytes n (v / 256)) (v % 256 ∷ []) ∙ omega (arith, length-number_bytes n (v / 256))
+
+pub AreBytes-number_bytes : (n v : ℕ) → AreBytes (number_bytes n v)
+unfolding number_bytes
+AreBytes-number_bytes zero v = All-nil (λ (x : ℕ). x < 256)
+AreBytes-number_bytes (suc n) v =
+    All-append (λ (x : ℕ). x < 256) (number_bytes n (v / 256)) (v % 256 ∷ []) (AreBytes-number_bytes n (v / 256))
+    (All-cons (λ (x : ℕ). x < 256) (v % 256) [] (omega arith) (All-nil (λ (x : ℕ). x < 256)))
 
 -- byte j of a number
 pub get_or-number_bytes : (n v j : ℕ) → j < n → get_or (number_bytes n v) j 0 ≡ v / 2 ^ (8 * (n - 1 - j)) % 256

@@ -11,17 +11,17 @@ repeated password text zero = hmac password text
 repeated password text (suc j) = hmac password (repeated password text j)
 
 -- U 1 xor .. xor U (j + 1)
-unfoldable pub mixed : List ℕ → List ℕ → ℕ → List ℕ
-mixed password text zero = hmac password text
-mixed password text (suc j) = xor_bytes (mixed password text j) (repeated password text (suc j))
+unfoldable pub xored : List ℕ → List ℕ → ℕ → List ℕ
+xored password text zero = hmac password text
+xored password text (suc j) = xor_bytes (xored password text j) (repeated password text (suc j))
 
--- block i under n iterations: U 1 is that of the salt followed by i in four bytes
-abbrev pub block : List ℕ → List ℕ → ℕ → ℕ → List ℕ
-block password salt n i = mixed password (salt ++ to_be_bytes w32 i) (n - 1)
+-- F: block i under n iterations, where U 1 is that of the salt followed by i in four bytes
+abbrev pub pbkdf2_block : List ℕ → List ℕ → ℕ → ℕ → List ℕ
+pbkdf2_block password salt n i = xored password (salt ++ to_be_bytes w32 i) (n - 1)
 
 -- blocks 1 to k, joined
 unfoldable pub blocks : List ℕ → List ℕ → ℕ → ℕ → List ℕ
-blocks password salt n k = flat_map (block password salt n) (range_with_len 1 k)
+blocks password salt n k = flat_map (pbkdf2_block password salt n) (range_with_len 1 k)
 
 -- PBKDF2 of `count` bytes: as many blocks of 20 bytes as hold them, truncated
 unfoldable pub pbkdf2 : List ℕ → List ℕ → ℕ → ℕ → List ℕ

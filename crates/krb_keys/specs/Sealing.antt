@@ -2,9 +2,8 @@
 use Rattle.std.specs.Prelude.{◌≡◌, ℕ, ◌<◌, List, [], ◌∷◌, ◌++◌, length, take}
 use Rattle.std.specs.Int.{w32, to_be_bytes}
 use Rattle.krb_aes.specs.Bytes.{AreBytes}
-use Rattle.krb_aes.specs.KeyExpansion.{IsKey}
-use Rattle.krb_aes.specs.Aes.{aes, unaes}
-use Rattle.krb_aes.specs.Cts.{cts, uncts}
+use Rattle.krb_aes.specs.Aes.{aes}
+use Rattle.krb_aes.specs.Cts.{cts}
 use Rattle.krb_keys.specs.Hmac.{hmac}
 use Rattle.krb_keys.specs.Keys.{bytes_of, dk}
 use Rattle.krb_keys.specs.declared.key.Key.{Key}
@@ -21,14 +20,14 @@ integrity_key key usage = dk key (to_be_bytes w32 usage ++ 0x55 ∷ [])
 unfoldable pub enciphered : Key → ℕ → List ℕ → List ℕ
 enciphered key usage text = cts (aes (bytes_of (encryption_key key usage))) text
 
--- their code: 96 bits of the HMAC under Ki
-unfoldable pub code_of : Key → ℕ → List ℕ → List ℕ
-code_of key usage text = take 12 (hmac (bytes_of (integrity_key key usage)) text)
+-- their checksum: 96 bits of the HMAC under Ki
+unfoldable pub checksum_of : Key → ℕ → List ℕ → List ℕ
+checksum_of key usage text = take 12 (hmac (bytes_of (integrity_key key usage)) text)
 
 -- the sealed text
 unfoldable pub sealed : Key → ℕ → List ℕ → List ℕ → List ℕ
 sealed key usage confounder plain =
-    enciphered key usage (confounder ++ plain) ++ code_of key usage (confounder ++ plain)
+    enciphered key usage (confounder ++ plain) ++ checksum_of key usage (confounder ++ plain)
 
 -- a text is the sealed text of a plain text that isn't empty, with some confounder of 16 bytes
 abbrev pub IsSealed : Key → ℕ → List ℕ → List ℕ → Type 0
@@ -36,9 +35,6 @@ IsSealed key usage text plain =
     (confounder : List ℕ) × (length confounder ≡ 16) × (0 < length plain)
     × AreBytes confounder × AreBytes plain × (text ≡ sealed key usage confounder plain)
 
--- a text of which a body was enciphered under Ke, as it is got back from the body
-unfoldable pub IsDeciphered : Key → ℕ → List ℕ → List ℕ → Type 0
-IsDeciphered key usage body text =
-    let ke : List ℕ = bytes_of (encryption_key key usage) in
-    IsKey ke × (length text ≡ length body)
-    × (text ≡ uncts (unaes ke) body) × (enciphered key usage text ≡ body)
+-- a text is the sealed text of no plain text
+abbrev pub SealsNothing : Key → ℕ → List ℕ → Type 0
+SealsNothing key usage text = (plain : List ℕ) → IsSealed key usage text plain → ⊥

@@ -1,6 +1,5 @@
 //! Keys derived from keys (RFC 3961 section 5.1).
 ghost use Rattle.std.specs.Prelude.{◌≡◌, ◌≤◌, ◌++◌, length};
-ghost use Rattle.krb_aes.specs.KeyExpansion.{IsKey};
 ghost use Rattle.krb_keys.specs.Keys.{bytes_of, constant_block, dk};
 
 use crate::folding::nfold;
@@ -10,17 +9,13 @@ use krb_aes::{Aes, BLOCK_LEN};
 /// The cipher under a key.
 pub(crate) fn cipher_of(key: &Key) -> Aes
     ensures value { result ≡ bytes_of key.now }
-    ensures key { IsKey result }
 {
-    match key {
-        Key::Aes128(bytes) => Aes::new(bytes).unwrap(),
-        Key::Aes256(bytes) => Aes::new(bytes).unwrap(),
-    }
+    Aes::of(key.bytes())
 }
 
 // A constant as a block.
 #[tactic(auto, unfolding(crate::specs::Keys::constant_block))]
-fn block_of(constant: &[u8]) -> [u8; BLOCK_LEN]
+fn constant_block(constant: &[u8]) -> [u8; BLOCK_LEN]
     requires some { 1 ≤ length constant.now }
     requires short { length constant.now ≤ 16 }
     ensures { result ≡ constant_block constant.now }
@@ -34,7 +29,8 @@ fn block_of(constant: &[u8]) -> [u8; BLOCK_LEN]
     block
 }
 
-fn joined(first: &[u8; BLOCK_LEN], second: &[u8; BLOCK_LEN]) -> [u8; 32]
+// The bytes of two blocks.
+fn two_blocks(first: &[u8; BLOCK_LEN], second: &[u8; BLOCK_LEN]) -> [u8; 32]
     ensures { result ≡ first.now ++ second.now }
 {
     let mut bytes = [0; 32];
@@ -51,14 +47,14 @@ pub fn derive_key(key: &Key, constant: &[u8]) -> Key
     ensures value { result ≡ dk key.now constant.now }
 {
     let cipher = cipher_of(key);
-    let mut first = block_of(constant);
+    let mut first = constant_block(constant);
     cipher.encrypt_block(&mut first);
     match key {
         Key::Aes128(_) => Key::Aes128(first),
         Key::Aes256(_) => {
             let mut second = first;
             cipher.encrypt_block(&mut second);
-            Key::Aes256(joined(&first, &second))
+            Key::Aes256(two_blocks(&first, &second))
         }
     }
 }

@@ -11,9 +11,9 @@ const TURN: usize = 13;
 // How many copies of `len` bytes make up whole parts of `part_len` bytes.
 fn copy_count(len: usize, part_len: usize) -> usize
     requires some_bytes { 1 ≤ len }
-    requires short { len ≤ 1024 }
+    requires short { len ≤ FOLD_MAX_LEN }
     requires some_part { 1 ≤ part_len }
-    requires short_part { part_len ≤ 1024 }
+    requires short_part { part_len ≤ FOLD_MAX_LEN }
     ensures value { result ≡ copy_count len part_len }
     ensures short { result ≤ part_len }
 {
@@ -27,8 +27,8 @@ fn copy_count(len: usize, part_len: usize) -> usize
 
 // Byte `place` of copy `turns` of the input.
 fn copied_byte(input: &[u8], turns: usize, place: usize) -> u8
-    requires few { turns < 1024 * 1024 }
-    requires short { length input.now ≤ 1024 }
+    requires few { turns < FOLD_MAX_LEN * FOLD_MAX_LEN }
+    requires short { length input.now ≤ FOLD_MAX_LEN }
     requires inside { place < length input.now }
     ensures { result ≡ slice_index (copy input.now turns) place }
 {
@@ -44,8 +44,9 @@ fn copied_byte(input: &[u8], turns: usize, place: usize) -> u8
 // Takes the bytes from `start` on out of the joined copies.
 fn take_part(input: &[u8], start: usize, part: &mut [u8])
     requires some { 1 ≤ length input.now }
-    requires short_input { length input.now ≤ 1024 }
-    requires short_text { length (joined input.now (length part.old)) ≤ 1024 * 1024 }
+    requires short_input { length input.now ≤ FOLD_MAX_LEN }
+    requires short_text { length (joined input.now (length part.old))
+        ≤ FOLD_MAX_LEN * FOLD_MAX_LEN }
     requires inside { start + length part.old ≤ length (joined input.now (length part.old)) }
     ensures { part.new ≡ take (length part.old) (drop start (joined input.now (length part.old))) }
 {
@@ -102,9 +103,9 @@ fn add_part(sum: &mut [u8], part: &[u8])
 /// Both have 1 to 1024 bytes.
 pub fn nfold(input: &[u8], out: &mut [u8])
     requires some_input { 1 ≤ length input.now }
-    requires short_input { length input.now ≤ 1024 }
+    requires short_input { length input.now ≤ FOLD_MAX_LEN }
     requires some_output { 1 ≤ length out.old }
-    requires short_output { length out.old ≤ 1024 }
+    requires short_output { length out.old ≤ FOLD_MAX_LEN }
     ensures value { out.new ≡ nfold input.now (length out.old) }
 {
     let len = out.len();

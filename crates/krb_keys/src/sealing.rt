@@ -1,15 +1,15 @@
 //! Sealed texts (RFC 3961 section 5.3, RFC 3962 section 6).
-ghost use Rattle.std.specs.Prelude.{◌≡◌, ℕ, ◌+◌, ◌<◌, ◌≤◌, ◌↔◌, List, ◌∷◌, ◌++◌, [], IfOk, IsErrOf, length, drop};
+ghost use Rattle.std.specs.Prelude.{◌≡◌, ◌+◌, ◌<◌, ◌≤◌, ◌↔◌, ℕ, List, ◌∷◌, ◌++◌, [], IfOk, IsErrOf, length, drop};
 ghost use Rattle.std.specs.Int.{w32, to_be_bytes};
 ghost use Rattle.std.specs.Str.{bytes_eq};
 ghost use Rattle.krb_aes.specs.Bytes.{AreBytes};
-ghost use Rattle.krb_aes.specs.KeyExpansion.{IsKey};
 ghost use Rattle.krb_keys.specs.Keys.{dk, bytes_of};
-ghost use Rattle.krb_keys.specs.Sealing.{encryption_key, integrity_key, code_of, sealed, IsDeciphered, IsSealed};
+ghost use Rattle.krb_keys.specs.Sealing.{encryption_key, integrity_key, checksum_of, sealed, IsSealed, SealsNothing};
+ghost use Rattle.krb_keys.specs.Deciphering.{IsDeciphered};
 
 use crate::derivation::{cipher_of, derive_key};
+use crate::hmac::hmac_sha1;
 use crate::key::Key;
-use crate::mac::hmac_sha1;
 use krb_aes::{Aes, cts_decrypt, cts_encrypt};
 use std::alloc::{AllocError, Global};
 use thiserror::Error;
@@ -26,11 +26,11 @@ pub const USAGE_AP_REP_ENC_PART: u32 = 12;
 /// Key usage of a KRB-PRIV's encrypted part (RFC 4120 section 7.5.1).
 pub const USAGE_KRB_PRIV: u32 = 13;
 
-/// The bytes of a confounder, with which each sealed text begins.
+/// The bytes of a confounder, with which each text begins before it is enciphered.
 pub const CONFOUNDER_LEN: usize = 16;
 
-/// The bytes of the code, with which each sealed text ends.
-pub const CODE_LEN: usize = 12;
+/// The bytes of the checksum, with which each sealed text ends: a truncated HMAC.
+pub const CHECKSUM_LEN: usize = 12;
 
 // The last byte of the constants that make Ke and Ki (RFC 3961 section 5.3).
 const ENCRYPTION: u8 = 0xaa;
@@ -38,12 +38,12 @@ const ENCRYPTION: u8 = 0xaa;
 const INTEGRITY: u8 = 0x55;
 
 /// Why a text does not unseal, in the order of the checks.
-#[derive(Clone, Copy, PartialEq, Eq, Debug, Drop, Error)]
+#[derive(Clone, Copy, Debug, Drop, Error)]
 pub enum UnsealFault {
-    /// It has 28 bytes or fewer: a confounder and a code, with nothing between them.
+    /// It has 28 bytes or fewer: a confounder and a checksum, with nothing between them.
     #[error("too short for a sealed text")]
     TooShort,
-    /// It is not sealed under this key and usage.
+    /// Its checksum is another one: it is not sealed under this key and usage.
     #[error("not sealed under this key and usage")]
     BadMac,
     /// Memory ran out, before or after the other checks.
@@ -51,6 +51,7 @@ pub enum UnsealFault {
     Memory,
 }
 
+// Ke or Ki, by the last byte of its constant.
 fn usage_key(key: &Key, usage: u32, purpose: u8) -> Key
     ensures { result ≡ dk key.now (to_be_bytes w32 usage ++ purpose ∷ []) }
 {
@@ -61,25 +62,25 @@ fn usage_key(key: &Key, usage: u32, purpose: u8) -> Key
 // The cipher under Ke.
 #[tactic(auto, unfolding(crate::specs::Sealing::encryption_key))]
 fn encryption_cipher(key: &Key, usage: u32) -> Aes
-    ensures value { result ≡ bytes_of (encryption_key key.now usage) }
-    ensures key { IsKey result }
+    ensures { result ≡ bytes_of (encryption_key key.now usage) }
 {
     cipher_of(&usage_key(key, usage, ENCRYPTION))
 }
 
-// The code of a text under Ki.
-#[tactic(auto, unfolding(crate::specs::Sealing::code_of, crate::specs::Sealing::integrity_key))]
-fn code_of(key: &Key, usage: u32, text: &[u8]) -> [u8; CODE_LEN]
-    ensures { result ≡ code_of key.now usage text.now }
+// The checksum of a text, under Ki.
+#[tactic(auto, unfolding(crate::specs::Sealing::checksum_of, crate::specs::Sealing::integrity_key))]
+fn checksum_of(key: &Key, usage: u32, text: &[u8]) -> [u8; CHECKSUM_LEN]
+    ensures { result ≡ checksum_of key.now usage text.now }
 {
     let whole = hmac_sha1(usage_key(key, usage, INTEGRITY).bytes(), text);
-    let mut code = [0; CODE_LEN];
-    code.copy_from_slice(&whole[..CODE_LEN]);
-    code
+    let mut checksum = [0; CHECKSUM_LEN];
+    checksum.copy_from_slice(&whole[..CHECKSUM_LEN]);
+    checksum
 }
 
-/// Seals a text under a key, for a key usage (RFC 3961 section 5.3, RFC 3962 section 6): the
-/// confounder and the text, enciphered, and then their code, 28 bytes more than the text.
+/// Seals a text, of at least one byte, under a key, for a key usage (RFC 3961 section 5.3, RFC 3962
+/// section 6): the confounder and the text, enciphered, and then their checksum, 28 bytes more than the
+/// text. It fails only where memory does.
 #[tactic(auto, unfolding(crate::specs::Sealing::sealed, crate::specs::Sealing::enciphered))]
 pub fn seal(
     alloc: Global,
@@ -92,21 +93,21 @@ pub fn seal(
     ensures value { IfOk result (λ text. text.items ≡ sealed key.now usage confounder plain.now) }
     ensures len { IfOk result (λ text. length text.items ≡ length plain.now + 28) }
 {
-    let mut text = Vec::with_capacity(alloc, CONFOUNDER_LEN + plain.len() + CODE_LEN)?;
+    let mut text = Vec::with_capacity(alloc, CONFOUNDER_LEN + plain.len() + CHECKSUM_LEN)?;
     text.extend_from_slice(&confounder)?;
     text.extend_from_slice(plain)?;
-    let code = code_of(key, usage, &text);
+    let checksum = checksum_of(key, usage, &text);
     cts_encrypt(&encryption_cipher(key, usage), &mut text);
-    text.extend_from_slice(&code)?;
+    text.extend_from_slice(&checksum)?;
     Ok(text)
 }
 
-// Whether `code` is the code of a text.
-fn is_code(key: &Key, usage: u32, text: &[u8], code: &[u8]) -> bool
-    ensures value { result ≡ bytes_eq (code_of key.now usage text.now) code.now }
+// Whether `checksum` is the checksum of a text.
+fn is_checksum(key: &Key, usage: u32, text: &[u8], checksum: &[u8]) -> bool
+    ensures value { result ≡ bytes_eq (checksum_of key.now usage text.now) checksum.now }
     ensures bytes { AreBytes text.now }
 {
-    code_of(key, usage, text).as_slice() == code
+    checksum_of(key, usage, text).as_slice() == checksum
 }
 
 // The confounder and the plain text that `body` was enciphered from.
@@ -130,24 +131,25 @@ fn without_confounder(mut text: Vec<u8>) -> Vec<u8>
     text
 }
 
-/// Opens a text that was sealed under a key, for a key usage: the plain text, 28 bytes shorter.
+/// Opens a text that was sealed under a key, for a key usage: the plain text, 28 bytes shorter. A text
+/// seals at most one plain text under a key and a usage (`laws::one_plain_text`).
 ///
-/// A text seals at most one plain text under a key and a usage, and that is found.
+/// A text of 28 bytes or fewer is refused as `TooShort`, any other that seals nothing as `BadMac`.
 pub fn unseal(alloc: Global, key: &Key, usage: u32, cipher: &[u8]) -> Result<Vec<u8>, UnsealFault>
     ensures first { IsErrOf result UnsealFault.TooShort ↔ length cipher.now ≤ 28 }
-    ensures bad_mac { IsErrOf result UnsealFault.BadMac
-        → (plain : List ℕ) → IsSealed key.now usage cipher.now plain → ⊥ }
+    ensures too_short { IsErrOf result UnsealFault.TooShort → SealsNothing key.now usage cipher.now }
+    ensures bad_mac { IsErrOf result UnsealFault.BadMac → SealsNothing key.now usage cipher.now }
     ensures found { IfOk result (λ plain. IsSealed key.now usage cipher.now plain.items) }
     ensures only { (plain : List ℕ) → IsSealed key.now usage cipher.now plain
         → IfOk result (λ found. found.items ≡ plain) }
     ensures len { IfOk result (λ plain. length plain.items + 28 ≡ length cipher.now) }
 {
-    if cipher.len() <= CONFOUNDER_LEN + CODE_LEN {
+    if cipher.len() <= CONFOUNDER_LEN + CHECKSUM_LEN {
         return Err(UnsealFault::TooShort);
     }
-    let (body, code) = cipher.split_at(cipher.len() - CODE_LEN);
+    let (body, checksum) = cipher.split_at(cipher.len() - CHECKSUM_LEN);
     let text = deciphered(alloc, key, usage, body).map_err(|_| UnsealFault::Memory)?;
-    if !is_code(key, usage, &text, code) {
+    if !is_checksum(key, usage, &text, checksum) {
         return Err(UnsealFault::BadMac);
     }
     Ok(without_confounder(text))

@@ -1,5 +1,5 @@
 //! A change of one principal's keys.
-ghost use Rattle.std.specs.Prelude.{[], ◌∷◌, ◌≡◌, ◌≢◌, ℕ, ◌+◌, ◌<◌, ◌≤◌, IfOk, IfSome, IfNone, if◌then◌else◌, true, false, length, map, take, position, is_none, unwrap_or, Some};
+ghost use Rattle.std.specs.Prelude.{[], ◌∷◌, ◌≡◌, ◌≢◌, ◌<◌, ◌≤◌, IfOk, IfSome, IfNone, true, false, length, map, take, position, is_none, unwrap_or};
 ghost use Rattle.chpw_rules.specs.Names.{is_same_name};
 ghost use Rattle.chpw_table.specs.State.{keys_held, new_count, kept_count};
 ghost use Rattle.chpw_table.specs.Requests.{target_of, digest_of};
@@ -11,9 +11,10 @@ ghost use Rattle.chpw_table.specs.Holding.{are_holders};
 ghost use Rattle.chpw_table.specs.Entering.{with_keys_at, IsAt};
 ghost use Rattle.chpw_table.specs.Journal.{record_bytes as record_bytes_spec};
 
-use super::{KeyRow, Principal, Table, kept_by, kvno_of, newest};
-use crate::decision::Opened;
+use super::{Principal, Table, kept_by};
 use crate::journal::record_bytes;
+use crate::key::{KeyRow, kvno_of, newest};
+use crate::request::Opened;
 use chpw_rules::{Items, Name};
 use std::alloc::{AllocError, Global};
 
@@ -35,10 +36,13 @@ impl Table {
         requires derived { has_count (digest_of opened.now).derived (new_count self.now.state) ≡ true }
         ensures place { IfOk result (λ c. c.place < length self.now.state.principals) }
         ensures keys { IfOk result (λ c.
-            map (with_key (kept_count self.now.state) (target_of opened.now).name (new_key self.now.state opened.now)) self.now.state.principals
+            map (with_key (kept_count self.now.state) (target_of opened.now).name
+            (new_key self.now.state opened.now)) self.now.state.principals
             ≡ with_keys_at c.place c.keys self.now.state.principals) }
-        ensures holders { IfOk result (λ c. are_holders (with_keys_at c.place c.keys self.now.state.principals) ≡ true) }
-        ensures record_of { IfOk result (λ c. c.record.items ≡ record_bytes_spec (target_of opened.now).name (new_key self.now.state opened.now)) }
+        ensures holders { IfOk result (λ c.
+            are_holders (with_keys_at c.place c.keys self.now.state.principals) ≡ true) }
+        ensures record_of { IfOk result (λ c. c.record.items
+            ≡ record_bytes_spec (target_of opened.now).name (new_key self.now.state opened.now)) }
     {
         let name = opened.target_name();
         let Some((place, principal)) = self.find(name) else {

@@ -10,8 +10,8 @@ loop-i-init c = search rules
 
 pub loop-i-preserved : goal.loop-i-preserved
 loop-i-preserved c =
-    blocks_more c.args.password.now c.args.salt.now c.block_of-block.result c.loop-i.out c.copy_from_slice.new.self c.args.n c.loop-i.i _ c.min-end.result
-    (length c.args.out.now) c.loop-i.auto.out c.loop-i.invariant (c.block_of-block.ensures _ c.new-mac.ensures) (omega arith) c.min-end.ensures refl
+    blocks_more c.args.password.now c.args.salt.now c.pbkdf2_block-block.result c.loop-i.out c.copy_from_slice.new.self c.args.n c.loop-i.i _ c.min-end.result
+    (length c.args.out.now) c.loop-i.auto.out c.loop-i.invariant (c.pbkdf2_block-block.ensures _ c.new-keyed.ensures) (omega arith) c.min-end.ensures refl
     c.copy_from_slice.ensures.after
 
 pub returns : goal.returns

@@ -9,6 +9,6 @@ returns c =
     let same : length c.cts_decrypt.new.text ≡ length c.in_ok-text.text.items = search rules in
     record {
       found =
-          deciphered_in_place c.args.key.now c.args.usage _ _ _ _ _ c.encryption_cipher.ensures.value c.encryption_cipher.ensures.key items len same
+          deciphered_in_place c.args.key.now c.args.usage _ _ _ _ _ c.encryption_cipher.ensures c.cts_decrypt.ensures.key items len same
           (search rules) (search rules);
     }

@@ -2,18 +2,22 @@ use Rattle.std.proofs.Common.{rules, ◌≡◌, ℕ, ◌-◌, true, false, List,
 use Rattle.std.proofs.lemmas.List.{length-take-le}
 use Rattle.std.proofs.lemmas.Slice.Eq.{bytes_eq-Decides}
 use Rattle.std.specs.Str.{bytes_eq}
-use Rattle.krb_keys.specs.Sealing.{code_of, IsDeciphered}
-use Rattle.krb_keys.proofs.SealingLemmas.{sealed_from, opened, length_of_deciphered}
+use Rattle.krb_keys.specs.Sealing.{checksum_of}
+use Rattle.krb_keys.specs.Deciphering.{IsDeciphered}
+use Rattle.krb_keys.proofs.SealingLemmas.{sealed_from, opened, length_of_deciphered, short_seals_nothing}
 use Rattle.krb_keys.proofs.sealing.unseal.Goals as goal
 
-pub returns-then-not-is_code-clause-bad_mac : goal.returns-then-not-is_code-clause-bad_mac
-returns-then-not-is_code-clause-bad_mac c = λ e plain is_sealed.
+pub returns-then-cipher-clause-too_short : goal.returns-then-cipher-clause-too_short
+returns-then-cipher-clause-too_short c = λ e. short_seals_nothing c.args.key.now c.args.usage c.args.cipher.now (omega arith)
+
+pub returns-then-not-is_checksum-clause-bad_mac : goal.returns-then-not-is_checksum-clause-bad_mac
+returns-then-not-is_checksum-clause-bad_mac c = λ e plain is_sealed.
     let n : ℕ = length c.args.cipher.now - 12 in
     let text : List ℕ = c.in_ok-text.text.items in
     let h : IsDeciphered c.args.key.now c.args.usage (take n c.args.cipher.now) text = search rules in
     let code = (opened c.args.key.now c.args.usage c.args.cipher.now plain text is_sealed h).0 in
-    let no : bytes_eq (code_of c.args.key.now c.args.usage text) (drop n c.args.cipher.now) ≡ false = search rules in
-    let yes = (bytes_eq-Decides (code_of c.args.key.now c.args.usage text) (drop n c.args.cipher.now)).1 code in
+    let no : bytes_eq (checksum_of c.args.key.now c.args.usage text) (drop n c.args.cipher.now) ≡ false = search rules in
+    let yes = (bytes_eq-Decides (checksum_of c.args.key.now c.args.usage text) (drop n c.args.cipher.now)).1 code in
     cc
 
 pub without_confounder-requires : goal.without_confounder-requires
@@ -27,8 +31,8 @@ returns-clause-found c =
     let n : ℕ = length c.args.cipher.now - 12 in
     let text : List ℕ = c.in_ok-text.text.items in
     let h : IsDeciphered c.args.key.now c.args.usage (take n c.args.cipher.now) text = search rules in
-    let yes : bytes_eq (code_of c.args.key.now c.args.usage text) (drop n c.args.cipher.now) ≡ true = search rules in
-    let code = (bytes_eq-Decides (code_of c.args.key.now c.args.usage text) (drop n c.args.cipher.now)).0 yes in
+    let yes : bytes_eq (checksum_of c.args.key.now c.args.usage text) (drop n c.args.cipher.now) ≡ true = search rules in
+    let code = (bytes_eq-Decides (checksum_of c.args.key.now c.args.usage text) (drop n c.args.cipher.now)).0 yes in
     rw c.without_confounder.ensures
     (sealed_from c.args.key.now c.args.usage n c.args.cipher.now text h (omega arith) (omega arith) code (search rules))
 

@@ -1,4 +1,0 @@
-mod faults;
-mod names;
-mod passwords;
-mod settings;

@@ -1,9 +1,0 @@
-use Rattle.sha1.specs.Sha1.{Holds}
-use Rattle.krb_keys.specs.Hmac.{padded_key, IsKeyed}
-use Rattle.krb_keys.proofs.mac.Mac.code.Goals as goal
-
-pub returns : goal.returns
-unfolding IsKeyed
-returns c = λ key held.
-    let first : Holds c.copy_of-first.result (padded_key 0x36 key) = rw c.copy_of-first.ensures held.0 in
-    c.outer_code.ensures key c.args.text.now held (c.update.ensures _ first)

@@ -1,0 +1,15 @@
+-- For the proofs of `unseal` alone: what its steps hand to one another.
+use Rattle.std.specs.Prelude.{◌≡◌, ℕ, List, length}
+use Rattle.krb_aes.specs.KeyExpansion.{IsKey}
+use Rattle.krb_aes.specs.Aes.{unaes}
+use Rattle.krb_aes.specs.Cts.{uncts}
+use Rattle.krb_keys.specs.Keys.{bytes_of}
+use Rattle.krb_keys.specs.Sealing.{encryption_key, enciphered}
+use Rattle.krb_keys.specs.declared.key.Key.{Key}
+
+-- a text of which a body was enciphered under Ke, as it is got back from the body
+unfoldable pub IsDeciphered : Key → ℕ → List ℕ → List ℕ → Type 0
+IsDeciphered key usage body text =
+    let ke : List ℕ = bytes_of (encryption_key key usage) in
+    IsKey ke × (length text ≡ length body)
+    × (text ≡ uncts (unaes ke) body) × (enciphered key usage text ≡ body)
