@@ -1,13 +1,10 @@
 -- A request completed for its password.
-use Rattle.std.proofs.Common.{◌≡◌, ℕ, List, [], ◌∷◌, ◌++◌, map, Bool, true, false, not, ◌&&◌, ◌||◌, ◌==◌, if◌then◌else◌, refl, sym, ◌∙◌, ap, subst, arith, append-nil}
+use Rattle.std.proofs.Common.{◌≡◌, ℕ, List, [], ◌∷◌, ◌++◌, map, Bool, true, false, not, ◌||◌, ◌==◌, if◌then◌else◌, refl, sym, ◌∙◌, ap, arith, append-nil}
 use Rattle.std.specs.Prelude.{filter, Result, Ok, Err, IfErr}
 use Rattle.std.specs.List.{list_any}
 use Rattle.std.proofs.lemmas.Bool.Decides.{nat_tests}
-use Rattle.krb_keys.specs.declared.key.Key.{Key}
-use Rattle.chpw_rules.specs.declared.name.Name.{Name}
 use Rattle.chpw_table.specs.declared.times.Moment.{Moment}
 use Rattle.chpw_table.specs.declared.request.Opened.{Opened}
-use Rattle.chpw_table.specs.declared.request.Target.{Target}
 use Rattle.chpw_table.specs.declared.request.Body.{Body}
 use Rattle.chpw_table.specs.declared.request.Body.TheVariants.{Ask, BadPrivate, BadData}
 use Rattle.chpw_table.specs.declared.verdict.Verdict.{Verdict}
@@ -15,11 +12,10 @@ use Rattle.chpw_table.specs.declared.verdict.Verdict.TheVariants.{Skew, Replay, 
 use Rattle.chpw_table.specs.declared.verdict.Verdict.TheVariants as row
 use Rattle.chpw_table.specs.declared.outcome.DecideFault.{DecideFault}
 use Rattle.chpw_table.specs.declared.outcome.DecideFault.TheVariants.{Full, NeedKeys, Memory}
-use Rattle.chpw_table.specs.Agreement.{Held}
-use Rattle.chpw_table.specs.Refusals.{IsFirst}
+use Rattle.chpw_decider.specs.Entered.{AsksFor}
 use Rattle.chpw_decider.specs.Deciding.{IsFinal}
 use Rattle.chpw_table.specs.State.{State}
-use Rattle.chpw_table.specs.Requests.{target_of, digest_of, body_target, client_of}
+use Rattle.chpw_table.specs.Requests.{target_of, digest_of, client_of}
 use Rattle.chpw_table.specs.Digests.{Derivation, has_count}
 use Rattle.chpw_table.specs.Derivations.{with_counts, keys_from, each_once, new_counts}
 use Rattle.chpw_table.specs.Wanted.{wanted, lacking}
@@ -148,11 +144,15 @@ lacks_by s now o password true e = lacks_in s now o password (salt_of (target_of
 pub completed_lacks_nothing : (s : State) (now : Moment) (o : Opened) (password : List ℕ) → missing s now (completed password (missing s now o) o) ≡ []
 completed_lacks_nothing s now o password = lacks_by s now o password (reads_keys (verdict s now o false)) refl
 
-pub no_need : (t : Held) (counts : List ℕ) (f : Fault) → counts ≡ [] → IsFirst t counts f → IsNoNeed f
-no_need t counts Full e h = tt
-no_need t counts (NeedKeys given) e h = absurd (h.1 e)
-no_need t counts Memory e h = tt
+pub no_need : (counts : List ℕ) (f : DecideFault) → counts ≡ [] → AsksFor counts f → IsFinal f
+no_need counts Full e h = tt
+no_need counts (NeedKeys given) e h = absurd (h.0 e)
+no_need counts Memory e h = tt
 
 pub err_implies : {A B : Type 0} (P Q : B → Type 0) → ((e : B) → P e → Q e) → (r : Result A B) → IfErr r P → IfErr r Q
 err_implies P Q f (Ok x) h = tt
 err_implies P Q f (Err e) h = f e h
+
+pub err_both : {A B : Type 0} (P Q : B → Type 0) (r : Result A B) → IfErr r P → IfErr r Q → IfErr r (λ e. P e × Q e)
+err_both P Q (Ok x) h g = tt
+err_both P Q (Err e) h g = (h, g)

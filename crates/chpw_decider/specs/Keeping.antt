@@ -1,10 +1,8 @@
 -- What a table that one thread has alone keeps: its receipts are a history that leads from its opening
 -- to it.
 use Rattle.std.specs.Prelude.{◌≡◌, ℕ, ◌+◌, List, [], ◌∷◌, map, length, Option, IfSome}
-use Rattle.chpw_table.specs.declared.times.Moment.{Moment}
 use Rattle.chpw_table.specs.declared.history.Entry.{Entry}
 use Rattle.chpw_table.specs.declared.history.Receipt.{Receipt}
-use Rattle.chpw_table.specs.declared.outcome.Outcome.{Outcome}
 use Rattle.chpw_table.specs.Agreement.{Held, Agrees}
 use Rattle.chpw_table.specs.History.{IsLegal, outcome, next_basis, calls}
 use Rattle.chpw_table.specs.Journal.{journal}

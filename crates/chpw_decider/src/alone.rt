@@ -150,12 +150,7 @@ impl<S: JournalSink> Decider for Alone<S> {
 }
 
 /// Puts the receipt of an outcome at the end.
-fn note(
-    receipts: &mut Vec<Receipt>,
-    changes: &mut u32,
-    now: Moment,
-    outcome: Outcome,
-) -> Verdict
+fn note(receipts: &mut Vec<Receipt>, changes: &mut u32, now: Moment, outcome: Outcome) -> Verdict
     requires room { vec_len receipts.old < vec_capacity receipts.old }
     requires few { length receipts.old.items + 1 < 2 ^ 32 }
     requires changes { changes.old ≡ basis_after 0 receipts.old.items }
