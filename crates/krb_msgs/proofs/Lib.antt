@@ -1,0 +1,5 @@
+pub mod AnswerLemmas
+pub mod PartLemmas
+pub mod LengthLemmas
+pub mod FittingLemmas
+pub mod OpenedLemmas

@@ -1,0 +1,16 @@
+pub mod Checks
+pub mod Answers
+pub mod Codes
+pub mod Parts
+pub mod ServiceKeys
+pub mod Presented
+pub mod Tickets
+pub mod Authenticators
+pub mod Accepted
+pub mod ApExchange
+pub mod PrivateMessages
+pub mod Replies
+pub mod Making
+pub mod Laws
+pub mod Lengths
+pub mod Fitting

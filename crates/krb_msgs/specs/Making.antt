@@ -1,0 +1,65 @@
+-- The messages that are made (RFC 4120 sections 5.3, 5.5, 5.7). A text that is sealed is that of
+-- its record.
+use Rattle.std.specs.Prelude.{ℕ, List, Some, None}
+use Rattle.krb_keys.specs.declared.key.Key.{Key}
+use Rattle.krb_keys.specs.KeyUsages.{usage_ticket, usage_ap_req_authenticator, usage_ap_rep_enc_part, usage_krb_priv}
+use Rattle.krb_elements.specs.Grammar.{Spells}
+use Rattle.krb_der.specs.Protocol as protocol
+use Rattle.krb_der.specs.Types.{ticket, enc_ticket_part, authenticator, enc_ap_rep_part, enc_krb_priv_part}
+use Rattle.krb_der.specs.Values.{ticket_value, enc_ticket_part_value, authenticator_value, enc_ap_rep_part_value, enc_krb_priv_part_value}
+use Rattle.krb_elements.specs.Texts.{text}
+use Rattle.krb_der.specs.declared.principal_name.PrincipalName.{PrincipalName}
+use Rattle.krb_der.specs.declared.ticket.Ticket.{Ticket}
+use Rattle.krb_der.specs.declared.enc_ticket_part.EncTicketPart.{EncTicketPart}
+use Rattle.krb_der.specs.declared.ap_req.ApReq.{ApReq}
+use Rattle.krb_der.specs.declared.authenticator.Authenticator.{Authenticator}
+use Rattle.krb_der.specs.declared.ap_rep.ApRep.{ApRep}
+use Rattle.krb_der.specs.declared.ap_rep.EncApRepPart.{EncApRepPart}
+use Rattle.krb_der.specs.declared.krb_priv.KrbPriv.{KrbPriv}
+use Rattle.krb_der.specs.declared.krb_priv.EncKrbPrivPart.{EncKrbPrivPart}
+use Rattle.krb_msgs.specs.Parts.{sealed_part}
+use Rattle.krb_msgs.specs.Presented.{change_service}
+use Rattle.krb_msgs.specs.declared.service_keys.ServiceKey.{ServiceKey}
+
+-- kadmin/changepw, a service and its instance (section 6.2)
+abbrev pub service_name : PrincipalName
+service_name = record { name_type = protocol.nt_srv_inst; name_string = change_service }
+
+abbrev pub ticket_of : List ℕ → EncTicketPart → ServiceKey → List ℕ → Ticket
+ticket_of realm part service confounder = record {
+  tkt_vno = protocol.pvno;
+  realm = realm;
+  sname = service_name;
+  enc_part = sealed_part service.key usage_ticket (Some service.kvno) confounder
+      (text enc_ticket_part (enc_ticket_part_value part));
+}
+
+-- a text spells a ticket, as an AP-REQ takes it
+abbrev pub SpellsTicket : List ℕ → Ticket → Type 0
+SpellsTicket bytes t = Spells ticket bytes (ticket_value t)
+
+abbrev pub ap_req_of : Ticket → ℕ → Authenticator → Key → List ℕ → ApReq
+ap_req_of ticket options a session confounder = record {
+  pvno = protocol.pvno;
+  msg_type = protocol.krb_ap_req;
+  ap_options = record { 0 = options };
+  ticket = ticket;
+  authenticator = sealed_part session usage_ap_req_authenticator None confounder
+      (text authenticator (authenticator_value a));
+}
+
+abbrev pub ap_rep_of : EncApRepPart → Key → List ℕ → ApRep
+ap_rep_of part session confounder = record {
+  pvno = protocol.pvno;
+  msg_type = protocol.krb_ap_rep;
+  enc_part = sealed_part session usage_ap_rep_enc_part None confounder
+      (text enc_ap_rep_part (enc_ap_rep_part_value part));
+}
+
+abbrev pub priv_of : EncKrbPrivPart → Key → List ℕ → KrbPriv
+priv_of part subkey confounder = record {
+  pvno = protocol.pvno;
+  msg_type = protocol.krb_priv;
+  enc_part = sealed_part subkey usage_krb_priv None confounder
+      (text enc_krb_priv_part (enc_krb_priv_part_value part));
+}

@@ -1,0 +1,44 @@
+-- What a KRB-PRIV opens to (RFC 4120 section 3.5.1): the checks in their order.
+use Rattle.std.specs.Prelude.{◌≡◌, ℕ, List, Option, Some, None, Result, option_map}
+use Rattle.krb_keys.specs.declared.key.Key.{Key}
+use Rattle.krb_keys.specs.KeyUsages.{usage_krb_priv}
+use Rattle.krb_der.specs.Protocol as protocol
+use Rattle.krb_der.specs.Types.{krb_priv, enc_krb_priv_part}
+use Rattle.krb_der.specs.Values.{krb_priv_value, enc_krb_priv_part_value}
+use Rattle.krb_der.specs.declared.krb_priv.KrbPriv.{KrbPriv}
+use Rattle.krb_der.specs.declared.krb_priv.EncKrbPrivPart.{EncKrbPrivPart}
+use Rattle.krb_elements.specs.declared.numbers.SeqNumber.{SeqNumber}
+use Rattle.krb_elements.specs.declared.kerberos_time.KerberosTime.{KerberosTime}
+use Rattle.krb_msgs.specs.Checks.{Held, Then, Passed}
+use Rattle.krb_msgs.specs.Parts.{Reads, OpensPart}
+use Rattle.krb_msgs.specs.declared.private_message.Private.{Private}
+use Rattle.krb_msgs.specs.declared.fault.PrivFault.{PrivFault}
+use Rattle.krb_msgs.specs.declared.fault.PrivFault.TheVariants as fault
+
+-- version and message type (section 5.7.1)
+abbrev pub IsPrivate : KrbPriv → Type 0
+IsPrivate m = (m.pvno ≡ protocol.pvno) × (m.msg_type ≡ protocol.krb_priv)
+
+-- the sequence numbers of authenticator and message are equal, where both are there
+abbrev pub MayFollow : Option SeqNumber → Option SeqNumber → Type 0
+MayFollow None second = Unit {0}
+MayFollow (Some first) None = Unit {0}
+MayFollow (Some first) (Some second) = first ≡ second
+
+-- user-data, and the timestamp in seconds
+abbrev pub private_of : EncKrbPrivPart → Private
+private_of part = record {
+  user_bytes = part.user_data;
+  stamp = option_map (λ (t : KerberosTime). t.0) part.timestamp;
+}
+
+-- of the subkey, the authenticator's sequence number and the bytes of the KRB-PRIV
+unfoldable pub OpensPriv : Key → Option SeqNumber → List ℕ
+    → Result Private PrivFault → Type 0
+OpensPriv subkey seq_number bytes =
+    Then (Reads krb_priv krb_priv_value bytes fault.Malformed) (λ (m : KrbPriv).
+    Held (IsPrivate m) fault.WrongMessage (
+    Then (OpensPart enc_krb_priv_part enc_krb_priv_part_value subkey usage_krb_priv m.enc_part
+    fault.NotSealed fault.Malformed) (λ (part : EncKrbPrivPart).
+    Held (MayFollow seq_number part.seq_number) fault.WrongSeqNumber (
+    Passed (private_of part)))))

@@ -1,0 +1,153 @@
+//! Messages, made of their parts (RFC 4120 sections 3.2, 3.5, 5.3 and 5.9). A message is for
+//! Kerberos 5, of the message type that is its application number.
+
+ghost use Rattle.std.specs.Prelude.{◌≡◌, true, IfOk};
+ghost use Rattle.krb_elements.specs.Texts.{fits, text};
+ghost use Rattle.krb_der.specs.Types as types;
+ghost use Rattle.krb_der.specs.Types.{enc_ap_rep_part, enc_krb_priv_part, enc_ticket_part, krb_error};
+ghost use Rattle.krb_der.specs.Values.{ap_rep_value, ap_req_value, authenticator_value, enc_ap_rep_part_value, enc_krb_priv_part_value, enc_ticket_part_value, krb_error_value, krb_priv_value, ticket_value};
+ghost use Rattle.krb_der.specs.declared.ticket.Ticket.{Ticket};
+ghost use Rattle.krb_msgs.specs.Making.{SpellsTicket, ap_rep_of, ap_req_of, priv_of, service_name, ticket_of};
+
+use crate::sealed_part::seal_part;
+use crate::service_keys::ServiceKey;
+use krb_der::{
+    ApRep, ApReq, Authenticator, Bytes, EncApRepPart, EncKrbPrivPart, EncTicketPart, GeneralString,
+    KRB_AP_REP, KRB_AP_REQ, KRB_PRIV, KerberosFlags, KrbError, KrbPriv, NT_SRV_INST, PVNO,
+    PrincipalName, ReadError, SequenceOf, Ticket, read_ticket, write_ap_rep, write_ap_req,
+    write_krb_error, write_krb_priv, write_ticket,
+};
+use krb_keys::{
+    CONFOUNDER_LEN, Key, USAGE_AP_REP_ENC_PART, USAGE_AP_REQ_AUTHENTICATOR, USAGE_KRB_PRIV,
+    USAGE_TICKET,
+};
+use std::alloc::{AllocError, Global};
+
+fn component(alloc: Global, text: &[u8]) -> Result<GeneralString, AllocError>
+    ensures { IfOk result (λ c. c ≡ text.now) }
+{
+    Ok(Bytes::of(Vec::from_slice(alloc, text)?))
+}
+
+// kadmin/changepw.
+fn service_name(alloc: Global) -> Result<PrincipalName, AllocError>
+    ensures { IfOk result (λ n. n ≡ service_name) }
+{
+    let mut components = Vec::with_capacity(alloc, 2)?;
+    components.push(component(alloc, b"kadmin")?)?;
+    components.push(component(alloc, b"changepw")?)?;
+    Ok(PrincipalName {
+        name_type: NT_SRV_INST,
+        name_string: SequenceOf::of(components),
+    })
+}
+
+/// A ticket of a realm's kadmin/changepw with this part, sealed under the service's key (RFC 4120
+/// section 5.3).
+pub fn make_ticket(
+    alloc: Global,
+    realm: &[u8],
+    part: &EncTicketPart,
+    service: &ServiceKey,
+    confounder: [u8; CONFOUNDER_LEN],
+) -> Result<Vec<u8>, AllocError>
+    requires part { fits enc_ticket_part (enc_ticket_part_value part.now) ≡ true }
+    requires message { fits types.ticket
+        (ticket_value (ticket_of realm.now part.now service.now confounder)) ≡ true }
+    ensures text { IfOk result (λ v. v.items ≡ text types.ticket
+        (ticket_value (ticket_of realm.now part.now service.now confounder))) }
+{
+    let kvno = Some(service.kvno);
+    let ticket = Ticket {
+        tkt_vno: PVNO,
+        realm: component(alloc, realm)?,
+        sname: service_name(alloc)?,
+        enc_part: seal_part(alloc, &service.key, USAGE_TICKET, kvno, confounder, part)?,
+    };
+    write_ticket(alloc, &ticket)
+}
+
+/// An AP-REQ of a ticket's text and this authenticator, sealed under the session key (RFC 4120
+/// section 5.5.1). `options` are all 32 bits, the first the highest.
+pub fn make_ap_req(
+    alloc: Global,
+    ticket: &[u8],
+    options: u32,
+    authenticator: &Authenticator,
+    session: &Key,
+    confounder: [u8; CONFOUNDER_LEN],
+) -> Result<Vec<u8>, AllocError>
+    requires ticket { (t : Ticket) × SpellsTicket ticket.now t }
+    requires part { fits types.authenticator (authenticator_value authenticator.now) ≡ true }
+    requires message { (t : Ticket) → SpellsTicket ticket.now t → fits types.ap_req
+        (ap_req_value (ap_req_of t options authenticator.now session.now confounder)) ≡ true }
+    ensures text { IfOk result (λ v. (t : Ticket) × SpellsTicket ticket.now t
+        × (v.items ≡ text types.ap_req
+        (ap_req_value (ap_req_of t options authenticator.now session.now confounder)))) }
+{
+    let usage = USAGE_AP_REQ_AUTHENTICATOR;
+    let ticket = match read_ticket(alloc, ticket) {
+        Ok(ticket) => ticket,
+        Err(ReadError::Memory) => return Err(AllocError),
+        Err(ReadError::Fault(_)) => unreachable!(),
+    };
+    let message = ApReq {
+        pvno: PVNO,
+        msg_type: KRB_AP_REQ,
+        ap_options: KerberosFlags(options),
+        ticket,
+        authenticator: seal_part(alloc, session, usage, None, confounder, authenticator)?,
+    };
+    write_ap_req(alloc, &message)
+}
+
+/// An AP-REP with this part, sealed under the session key (RFC 4120 section 5.5.2).
+pub fn make_ap_rep(
+    alloc: Global,
+    part: &EncApRepPart,
+    session: &Key,
+    confounder: [u8; CONFOUNDER_LEN],
+) -> Result<Vec<u8>, AllocError>
+    requires part { fits enc_ap_rep_part (enc_ap_rep_part_value part.now) ≡ true }
+    requires message { fits types.ap_rep
+        (ap_rep_value (ap_rep_of part.now session.now confounder)) ≡ true }
+    ensures text { IfOk result (λ v. v.items ≡ text types.ap_rep
+        (ap_rep_value (ap_rep_of part.now session.now confounder))) }
+{
+    let usage = USAGE_AP_REP_ENC_PART;
+    let message = ApRep {
+        pvno: PVNO,
+        msg_type: KRB_AP_REP,
+        enc_part: seal_part(alloc, session, usage, None, confounder, part)?,
+    };
+    write_ap_rep(alloc, &message)
+}
+
+/// A KRB-PRIV with this part, sealed under the subkey (RFC 4120 section 3.5.1).
+pub fn make_priv(
+    alloc: Global,
+    part: &EncKrbPrivPart,
+    subkey: &Key,
+    confounder: [u8; CONFOUNDER_LEN],
+) -> Result<Vec<u8>, AllocError>
+    requires part { fits enc_krb_priv_part (enc_krb_priv_part_value part.now) ≡ true }
+    requires message { fits types.krb_priv
+        (krb_priv_value (priv_of part.now subkey.now confounder)) ≡ true }
+    ensures text { IfOk result (λ v. v.items ≡ text types.krb_priv
+        (krb_priv_value (priv_of part.now subkey.now confounder))) }
+{
+    let message = KrbPriv {
+        pvno: PVNO,
+        msg_type: KRB_PRIV,
+        enc_part: seal_part(alloc, subkey, USAGE_KRB_PRIV, None, confounder, part)?,
+    };
+    write_krb_priv(alloc, &message)
+}
+
+/// A KRB-ERROR (RFC 4120 section 5.9.1).
+pub fn make_error(alloc: Global, error: &KrbError) -> Result<Vec<u8>, AllocError>
+    requires fits { fits krb_error (krb_error_value error.now) ≡ true }
+    ensures text { IfOk result (λ v. v.items ≡ text krb_error (krb_error_value error.now)) }
+{
+    write_krb_error(alloc, error)
+}

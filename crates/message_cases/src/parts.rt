@@ -1,0 +1,61 @@
+//! Sealed parts that the makers don't make.
+
+use crate::refusal::Refusal;
+use crate::world::CONFOUNDER;
+use krb_der::{Bytes, EncryptedData};
+use krb_elements::{Write, write_all};
+use krb_keys::{Key, seal};
+use std::alloc::Global;
+
+/// A part that seals bytes under a key, for any usage.
+pub fn sealed_bytes(
+    alloc: Global,
+    key: &Key,
+    usage: u32,
+    plain: &[u8],
+) -> Result<EncryptedData, Refusal> {
+    if plain.is_empty() {
+        return Err(Refusal::NoMessage);
+    }
+    Ok(EncryptedData {
+        etype: key.etype().number(),
+        kvno: None,
+        cipher: Bytes::of(seal(alloc, key, usage, CONFOUNDER, plain)?),
+    })
+}
+
+/// A part that seals a record's text under a key, for any usage.
+pub fn sealed_record<T: Write>(
+    alloc: Global,
+    key: &Key,
+    usage: u32,
+    content: &T,
+) -> Result<EncryptedData, Refusal> {
+    let plain = write_all(alloc, content)?;
+    sealed_bytes(alloc, key, usage, &plain)
+}
+
+/// Puts another first byte into a text.
+pub fn change_first(text: &mut [u8], byte: u8) {
+    if let Some(first) = text.first_mut() {
+        *first = byte;
+    }
+}
+
+/// The same part with its cipher's first byte changed.
+pub fn forged(part: EncryptedData) -> EncryptedData {
+    let EncryptedData {
+        etype,
+        kvno,
+        cipher,
+    } = part;
+    let mut bytes = cipher.into_vec();
+    if let [first, ..] = bytes.as_mut_slice() {
+        *first ^= 1;
+    }
+    EncryptedData {
+        etype,
+        kvno,
+        cipher: Bytes::of(bytes),
+    }
+}

@@ -1,0 +1,151 @@
+//! A small world: realm EXAMPLE.COM, service kadmin/changepw, client alice at 127.0.0.1.
+
+use krb_der::{
+    ADDR_TYPE_IPV4, Authenticator, Bytes, EncApRepPart, EncKrbPrivPart, EncTicketPart,
+    EncryptionKey, HostAddress, KRB_ERROR, KerberosFlags, KerberosTime, KrbError, Microseconds,
+    NT_PRINCIPAL, NT_SRV_INST, PVNO, PrincipalName, SeqNumber, SequenceOf, TransitedEncoding,
+};
+use krb_keys::{AES256_CTS_HMAC_SHA1_96, CONFOUNDER_LEN, Key};
+use krb_msgs::ServiceKey;
+use std::alloc::{AllocError, Global};
+
+pub const REALM: &[u8] = b"EXAMPLE.COM";
+
+pub const SERVICE: ServiceKey = ServiceKey {
+    kvno: 3,
+    key: Key::Aes256([0x5a; 32]),
+};
+
+pub const SESSION: Key = Key::Aes256([0x33; 32]);
+
+pub const SUBKEY: Key = Key::Aes256([0x44; 32]);
+
+pub const CONFOUNDER: [u8; CONFOUNDER_LEN] = [1; CONFOUNDER_LEN];
+
+pub const PEER: [u8; 4] = [127, 0, 0, 1];
+
+/// The option mutual-required alone.
+pub const OPTIONS: u32 = 0x2000_0000;
+
+/// The flag initial alone.
+const FLAGS: u32 = 0x0040_0000;
+
+pub const CTIME: KerberosTime = KerberosTime(1_000_100);
+
+pub const CUSEC: Microseconds = Microseconds(1);
+
+pub fn bytes<const TAG: u8>(alloc: Global, text: &[u8]) -> Result<Bytes<TAG>, AllocError> {
+    Ok(Bytes::of(Vec::from_slice(alloc, text)?))
+}
+
+/// Bytes as they are printed.
+pub fn text_of(bytes: &[u8]) -> &str {
+    str::from_utf8(bytes).unwrap_or("no UTF-8")
+}
+
+pub fn name(alloc: Global, name_type: i32, parts: &[&[u8]]) -> Result<PrincipalName, AllocError> {
+    let mut components = Vec::new(alloc);
+    for part in parts {
+        components.push(bytes(alloc, part)?)?;
+    }
+    Ok(PrincipalName {
+        name_type,
+        name_string: SequenceOf::of(components),
+    })
+}
+
+pub fn client(alloc: Global, component: &[u8]) -> Result<PrincipalName, AllocError> {
+    name(alloc, NT_PRINCIPAL, &[component])
+}
+
+pub fn service_name(alloc: Global, instance: &[u8]) -> Result<PrincipalName, AllocError> {
+    name(alloc, NT_SRV_INST, &[b"kadmin".as_slice(), instance])
+}
+
+pub fn key(alloc: Global, byte: u8) -> Result<EncryptionKey, AllocError> {
+    Ok(EncryptionKey {
+        keytype: AES256_CTS_HMAC_SHA1_96,
+        keyvalue: bytes(alloc, &[byte; 32])?,
+    })
+}
+
+pub fn address(alloc: Global, last: u8) -> Result<HostAddress, AllocError> {
+    Ok(HostAddress {
+        addr_type: ADDR_TYPE_IPV4,
+        address: bytes(alloc, &[127, 0, 0, last])?,
+    })
+}
+
+pub fn ticket_part(alloc: Global) -> Result<EncTicketPart, AllocError> {
+    Ok(EncTicketPart {
+        flags: KerberosFlags(FLAGS),
+        key: key(alloc, 0x33)?,
+        crealm: bytes(alloc, REALM)?,
+        cname: client(alloc, b"alice")?,
+        transited: TransitedEncoding {
+            tr_type: 0,
+            contents: bytes(alloc, &[])?,
+        },
+        authtime: KerberosTime(1_000_000),
+        starttime: None,
+        endtime: KerberosTime(1_003_600),
+        renew_till: None,
+        caddr: None,
+        authorization_data: None,
+    })
+}
+
+pub fn authenticator(alloc: Global) -> Result<Authenticator, AllocError> {
+    Ok(Authenticator {
+        authenticator_vno: PVNO,
+        crealm: bytes(alloc, REALM)?,
+        cname: client(alloc, b"alice")?,
+        cksum: None,
+        cusec: CUSEC,
+        ctime: CTIME,
+        subkey: Some(key(alloc, 0x44)?),
+        seq_number: Some(SeqNumber(5)),
+        authorization_data: None,
+    })
+}
+
+/// The sealed part of a KRB-PRIV with this user-data.
+pub fn private_part(alloc: Global, user_data: &[u8]) -> Result<EncKrbPrivPart, AllocError> {
+    Ok(EncKrbPrivPart {
+        user_data: bytes(alloc, user_data)?,
+        timestamp: None,
+        usec: None,
+        seq_number: Some(SeqNumber(5)),
+        s_address: address(alloc, 1)?,
+        r_address: None,
+    })
+}
+
+/// The sealed part of the AP-REP that answers the authenticator.
+pub fn ap_rep_part() -> EncApRepPart {
+    EncApRepPart {
+        ctime: CTIME,
+        cusec: CUSEC,
+        subkey: None,
+        seq_number: Some(SeqNumber(5)),
+    }
+}
+
+/// A KRB-ERROR of the service with this e-data.
+pub fn krb_error(alloc: Global, e_data: &[u8]) -> Result<KrbError, AllocError> {
+    Ok(KrbError {
+        pvno: PVNO,
+        msg_type: KRB_ERROR,
+        ctime: None,
+        cusec: None,
+        stime: CTIME,
+        susec: CUSEC,
+        error_code: 34,
+        crealm: None,
+        cname: None,
+        realm: bytes(alloc, REALM)?,
+        sname: service_name(alloc, b"changepw")?,
+        e_text: None,
+        e_data: Some(bytes(alloc, e_data)?),
+    })
+}
