@@ -2,3 +2,4 @@ pub mod Requests
 pub mod Holding
 pub mod Answers
 pub mod Trying
+pub mod Judging

@@ -5,6 +5,7 @@ mod answering;
 mod completing;
 mod deciding;
 mod gate;
+pub mod laws;
 mod messages;
 
 pub use answering::{Answered, answer, answer_message};
