@@ -1,0 +1,2 @@
+pub mod CompletingLemmas
+pub mod JudgingLemmas

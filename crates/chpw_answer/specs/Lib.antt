@@ -1,0 +1,5 @@
+pub mod Requests
+pub mod Holding
+pub mod Answers
+pub mod Trying
+pub mod Judging

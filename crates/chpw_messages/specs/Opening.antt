@@ -1,0 +1,92 @@
+-- What a message to the service opens to (RFC 3244 section 2, RFC 4120 sections 3.2.3 and 3.5.1): the
+-- frame, the AP-REQ, the KRB-PRIV and its ChangePasswdData in turn.
+use Rattle.std.specs.Prelude.{◌≡◌, ℕ, ℤ, List, Bool, false, Option, Some, None, Result, Ok, Err, option_map, unwrap_or}
+use Rattle.krb_elements.specs.BitStrings.{is_set}
+use Rattle.krb_der.specs.Protocol as protocol
+use Rattle.krb_der.specs.declared.principal_name.PrincipalName.{PrincipalName}
+use Rattle.krb_msgs.specs.declared.service_keys.ServiceKey.{ServiceKey}
+use Rattle.krb_msgs.specs.declared.ap_exchange.ApOpened.{ApOpened}
+use Rattle.krb_msgs.specs.declared.private_message.Private.{Private}
+use Rattle.krb_msgs.specs.declared.fault.ApFault.{ApFault}
+use Rattle.krb_msgs.specs.declared.fault.PrivFault.{PrivFault}
+use Rattle.krb_msgs.specs.declared.fault.PrivFault.TheVariants as priv
+use Rattle.krb_msgs.specs.ApExchange.{OpensAp}
+use Rattle.krb_msgs.specs.PrivateMessages.{OpensPriv}
+use Rattle.krb_msgs.specs.Codes as ap
+use Rattle.chpw_frame.specs.declared.change_data.Change.{Change}
+use Rattle.chpw_frame.specs.declared.change_data.ChangeTarget.{ChangeTarget}
+use Rattle.chpw_frame.specs.Framing.{request_versions, first_fault, version_of, ap_of, tail_of}
+use Rattle.chpw_frame.specs.ChangeData.{IsChange}
+use Rattle.chpw_frame.specs.Faults as frame
+use Rattle.chpw_rules.specs.declared.name.Name.{Name}
+use Rattle.chpw_table.specs.declared.request.Target.{Target}
+use Rattle.chpw_table.specs.Replies.{Answer, by_error}
+use Rattle.chpw_answer.specs.Requests.{Content, new_password, bad_private, bad_data, Request, Opens, refused, opened}
+
+-- ---- the new password
+
+-- the components; the name-type is no part of a name
+abbrev pub name_in : PrincipalName → Name
+name_in name = record { parts = name.name_string }
+
+-- a target without a realm is in the service's
+abbrev pub target_in : List ℕ → ChangeTarget → Target
+target_in realm target = record { realm = unwrap_or target.realm realm; name = name_in target.name }
+
+-- the user-data of a request of this version; there is one version so far
+abbrev pub IsAsked : List ℕ → ℕ → List ℕ → Content → Type 0
+IsAsked realm version bytes (new_password target password) =
+    (change : Change) × IsChange bytes change × (target ≡ option_map (target_in realm) change.target) × (password ≡ change.password)
+IsAsked realm version bytes bad_data = (change : Change) → IsChange bytes change → ⊥
+IsAsked realm version bytes bad_private = ⊥
+
+-- ---- the KRB-PRIV
+
+abbrev pub IsContent : List ℕ → ℕ → Result Private PrivFault → Content → Type 0
+IsContent realm version (Ok p) content = IsAsked realm version p.user_bytes content
+IsContent realm version (Err priv.Malformed) content = content ≡ bad_data
+IsContent realm version (Err priv.WrongMessage) content = content ≡ bad_private
+IsContent realm version (Err priv.NotSealed) content = content ≡ bad_private
+IsContent realm version (Err priv.WrongSeqNumber) content = content ≡ bad_private
+
+-- the timestamp of one that opened
+abbrev pub stamp_in : Result Private PrivFault → Option ℤ
+stamp_in (Ok p) = p.stamp
+stamp_in (Err fault) = None
+
+-- ---- the AP-REQ
+
+abbrev pub request_of : ApOpened → Option ℤ → Content → Request
+request_of a stamp content = record {
+  crealm = a.crealm;
+  client = name_in a.cname;
+  initial = is_set a.flags.0 protocol.ticket_initial;
+  invalid = is_set a.flags.0 protocol.ticket_invalid;
+  starts = a.starts.0;
+  ends = a.ends.0;
+  ctime = a.ctime.0;
+  cusec = a.cusec.0;
+  stamp = stamp;
+  seal = record { session = a.session; subkey = a.subkey; ctime = a.ctime.0; cusec = a.cusec.0 };
+  content = content;
+}
+
+abbrev pub OpensAs : List ℕ → ℕ → List ℕ → Result ApOpened ApFault → Opens → Type 0
+OpensAs realm version tail (Err fault) o =
+    o ≡ refused (by_error (ap.refusal_of fault).code (ap.refusal_of fault).error (ap.refusal_of fault).text)
+OpensAs realm version tail (Ok a) o =
+    (private : Result Private PrivFault) × OpensPriv a.subkey a.seq_number tail private
+    × ((content : Content) × IsContent realm version private content × (o ≡ opened (request_of a (stamp_in private) content)))
+
+-- ---- the message
+
+abbrev pub OpensParts : List ℕ → List ServiceKey → List ℕ → ℕ → List ℕ → List ℕ → Opens → Type 0
+OpensParts realm keys peer version ap_req tail o =
+    (a : Result ApOpened ApFault) × OpensAp realm keys ap_req peer a × OpensAs realm version tail a o
+
+-- of the service's realm and keys, the peer's address and the message
+abbrev pub OpensTo : List ℕ → List ServiceKey → List ℕ → List ℕ → Opens → Type 0
+OpensTo realm keys peer bytes o = elim (first_fault request_versions false bytes) [
+  | Some fault ↦ o ≡ refused (by_error (frame.refusal_of fault).code (frame.refusal_of fault).error (frame.refusal_of fault).text)
+  | None ↦ OpensParts realm keys peer (version_of bytes) (ap_of bytes) (tail_of bytes) o
+]

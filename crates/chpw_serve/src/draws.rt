@@ -1,0 +1,62 @@
+//! Where moments and random words come from.
+ghost use Rattle.std.specs.Prelude.{ℕ, ◌<◌};
+ghost use Rattle.chpw_table.specs.declared.times.Moment.{Moment};
+ghost use Rattle.chpw_table.specs.Times.{IsMoment};
+ghost use Rattle.chpw_serve.specs.Draws.{Drawn};
+
+use chpw_table::Moment;
+
+/// A clock.
+pub trait Clock {
+    /// In a state it may give this moment, and is in the other state then.
+    ghost gives: { Self → Moment → Self → Type 0 };
+
+    /// The moment: seconds from 0 to `chpw_table::LAST_SECOND`, microseconds below 1,000,000.
+    fn now(&mut self) -> Moment
+        ensures range { IsMoment result × (result.micros < 1000000) }
+        ensures given { gives self.old result self.new };
+}
+
+/// Random words.
+pub trait Words {
+    /// In a state it may give this word, and is in the other state then.
+    ghost gives: { Self → ℕ → Self → Type 0 };
+
+    /// The next word.
+    fn next(&mut self) -> u32
+        ensures given { gives self.old result self.new };
+}
+
+/// The moment and the nine words of a message.
+#[derive(Clone, Copy, Drop)]
+pub(crate) struct Drawing {
+    pub now: Moment,
+    pub words: [u32; 9],
+}
+
+/// Draws them.
+pub(crate) fn draw_both<C: Clock, X: Words>(clock: &mut C, words: &mut X) -> Drawing
+    ensures range { IsMoment result.now }
+    ensures moment { C.gives clock.old result.now clock.new }
+    ensures words { Drawn X.gives words.old result.words words.new }
+{
+    let now = clock.now();
+    let words = next_nine(words);
+    Drawing { now, words }
+}
+
+/// Nine words in turn.
+fn next_nine<X: Words>(words: &mut X) -> [u32; 9]
+    ensures words { Drawn X.gives words.old result words.new }
+{
+    let w0 = words.next();
+    let w1 = words.next();
+    let w2 = words.next();
+    let w3 = words.next();
+    let w4 = words.next();
+    let w5 = words.next();
+    let w6 = words.next();
+    let w7 = words.next();
+    let w8 = words.next();
+    [w0, w1, w2, w3, w4, w5, w6, w7, w8]
+}

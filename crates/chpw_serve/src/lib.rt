@@ -1,0 +1,8 @@
+//! The service on one stream: message after message is read, answered and written.
+#![tactic(auto)]
+
+mod draws;
+mod serving;
+
+pub use draws::{Clock, Words};
+pub use serving::{Ended, MAX_MESSAGES, serve_alone, serve_stream};
