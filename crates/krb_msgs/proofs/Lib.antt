@@ -3,3 +3,7 @@ pub mod PartLemmas
 pub mod LengthLemmas
 pub mod FittingLemmas
 pub mod OpenedLemmas
+pub mod InverseLemmas
+pub mod UniqueLemmas
+pub mod OneAnswerLemmas
+pub mod ReplyFittingLemmas

@@ -35,17 +35,17 @@ ok_is v w e = ap (value_of v) e
 ok_err : {A F : Type 0} {v : A} {e : F} → Ok v ≡ Err e → ⊥
 ok_err h = search rules
 
-then_passes : {A X F : Type 0} {first : Result A F → Type 0} {next : A → Result X F → Type 0} {x : X}
+pub then_passes : {A X F : Type 0} {first : Result A F → Type 0} {next : A → Result X F → Type 0} {x : X}
     → Then first next (Ok x) → (v : A) × first (Ok v) × next v (Ok x)
 then_passes (goes_on v h rest) = (v, h, rest)
 then_passes (stops f h e) = absurd (ok_err e)
 
-held_passes : {X F : Type 0} {fact : Type 0} {fault : F} {next : Result X F → Type 0} {x : X}
+pub held_passes : {X F : Type 0} {fact : Type 0} {fault : F} {next : Result X F → Type 0} {x : X}
     → Held fact fault next (Ok x) → fact × next (Ok x)
 held_passes (met h rest) = (h, rest)
 held_passes (unmet h e) = absurd (ok_err e)
 
-found_passes : {A X F : Type 0} {fact : A → Type 0} {fault : F} {next : A → Result X F → Type 0} {x : X}
+pub found_passes : {A X F : Type 0} {fact : A → Type 0} {fault : F} {next : A → Result X F → Type 0} {x : X}
     → Found fact fault next (Ok x) → (v : A) × fact v × next v (Ok x)
 found_passes (of_one v h rest) = (v, h, rest)
 found_passes (of_none h e) = absurd (ok_err e)

@@ -12,5 +12,7 @@ pub mod PrivateMessages
 pub mod Replies
 pub mod Making
 pub mod Laws
+pub mod OneAnswer
 pub mod Lengths
 pub mod Fitting
+pub mod ReplyFitting

@@ -1,13 +1,22 @@
 //! Laws of the definitions alone.
 
 ghost use Rattle.krb_msgs.specs.Laws.{ApReqsOpen, PrivsOpen};
+ghost use Rattle.krb_msgs.specs.OneAnswer.{ApReqsOpenOnce, PrivsOpenOnce, RepliesOpenOnce};
 ghost use Rattle.krb_msgs.specs.Lengths.{ShortTextsFit, TextsAreShort};
+ghost use Rattle.krb_msgs.specs.ReplyFitting.{ApRepPartsFit, ErrorsFit, PrivPartsFit};
 ghost use Rattle.krb_msgs.specs.Fitting.{ApRepsFit, ApReqsFit, OpenedTimesFit, PrivsFit, TicketsAreShort, TicketsFit};
 
 /// What is made of a request opens to that request.
 pub fn openings()
     ensures ap_req { ApReqsOpen }
     ensures krb_priv { PrivsOpen }
+{}
+
+/// A message opens to one answer, so what a call answers is all that its relation allows.
+pub fn one_answer()
+    ensures ap_req { ApReqsOpenOnce }
+    ensures krb_priv { PrivsOpenOnce }
+    ensures reply { RepliesOpenOnce }
 {}
 
 /// A text is no longer than a sum over its value, and a value in its range whose text is short
@@ -26,4 +35,11 @@ pub fn messages_fit()
     ensures ap_rep { ApRepsFit }
     ensures krb_priv { PrivsFit }
     ensures times { OpenedTimesFit }
+{}
+
+/// What a service replies with fits: an AP-REP's part, a KRB-PRIV's, a KRB-ERROR.
+pub fn replies_fit()
+    ensures ap_rep_part { ApRepPartsFit }
+    ensures krb_priv_part { PrivPartsFit }
+    ensures krb_error { ErrorsFit }
 {}

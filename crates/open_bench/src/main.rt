@@ -1,4 +1,5 @@
-//! Opens an AP-REQ of a usual client with its KRB-PRIV, to be measured from outside (`bench/open.sh`).
+//! Opens an AP-REQ of a usual client with its KRB-PRIV, to be measured from outside
+//! (`bench/open.sh`).
 //!
 //! Standard input has both in hexadecimal, a line each. It prints their lengths and that of the
 //! user-data; with `open N` it opens them N times.
@@ -59,5 +60,6 @@ fn main(rt: HostRuntime) -> io::Result<()> {
     let Some(user) = run(alloc, &ap_req, &krb_priv, count) else {
         return Err(invalid());
     };
-    println!(rt; "AP-REQ of {} bytes, KRB-PRIV of {}, user-data of {user}", ap_req.len(), krb_priv.len())
+    let (first, second) = (ap_req.len(), krb_priv.len());
+    println!(rt; "AP-REQ of {first} bytes, KRB-PRIV of {second}, user-data of {user}")
 }

@@ -1,0 +1,32 @@
+-- A message opens to one answer: what a relation says of an answer leaves no other.
+use Rattle.std.specs.Prelude.{◌≡◌, ℕ, List, Option}
+use Rattle.std.specs.List.{AllByRecursion}
+use Rattle.krb_keys.specs.Keys.{IsProtocolKey}
+use Rattle.krb_keys.specs.declared.key.Key.{Key}
+use Rattle.krb_elements.specs.declared.kerberos_time.KerberosTime.{KerberosTime}
+use Rattle.krb_elements.specs.declared.numbers.Microseconds.{Microseconds}
+use Rattle.krb_elements.specs.declared.numbers.SeqNumber.{SeqNumber}
+use Rattle.krb_msgs.specs.ApExchange.{OpensAp}
+use Rattle.krb_msgs.specs.PrivateMessages.{OpensPriv}
+use Rattle.krb_msgs.specs.Replies.{OpensReply}
+use Rattle.krb_msgs.specs.declared.service_keys.ServiceKey.{ServiceKey}
+
+abbrev pub IsOne : {A : Type 0} → (A → Type 0) → Type 0
+IsOne {A} fact = (one other : A) → fact one → fact other → one ≡ other
+
+-- each key has as many bytes as its encryption type says
+abbrev pub AreProtocolKeys : List ServiceKey → Type 0
+AreProtocolKeys keys = AllByRecursion (λ (k : ServiceKey). IsProtocolKey k.key) keys
+
+abbrev pub ApReqsOpenOnce : Type 0
+ApReqsOpenOnce = (realm : List ℕ) (keys : List ServiceKey) (bytes peer : List ℕ)
+    → AreProtocolKeys keys → IsOne (OpensAp realm keys bytes peer)
+
+abbrev pub PrivsOpenOnce : Type 0
+PrivsOpenOnce = (subkey : Key) (seq_number : Option SeqNumber) (bytes : List ℕ)
+    → IsProtocolKey subkey → IsOne (OpensPriv subkey seq_number bytes)
+
+abbrev pub RepliesOpenOnce : Type 0
+RepliesOpenOnce = (session subkey : Key) (ctime : KerberosTime) (cusec : Microseconds)
+    (bytes tail : List ℕ) → IsProtocolKey session → IsProtocolKey subkey
+    → IsOne (OpensReply session subkey ctime cusec bytes tail)
