@@ -1,7 +1,6 @@
 -- A verdict and a step depend on a digest at its wanted counts alone.
-use Rattle.std.proofs.Common.{◌≡◌, ℕ, List, [], ◌∷◌, ◌++◌, Bool, true, false, not, ◌&&◌, ◌||◌, if◌then◌else◌, Option, refl, sym, ◌∙◌, ap, subst, map, arith}
-use Rattle.std.specs.Prelude.{◌==◌, filter, bytes_eq}
-use Rattle.std.specs.List.{list_any}
+use Rattle.std.proofs.Common.{◌≡◌, ℕ, List, [], ◌∷◌, Bool, true, false, ◌||◌, if◌then◌else◌, Option, refl, sym, ◌∙◌, ap, subst, map, arith}
+use Rattle.std.specs.Prelude.{◌==◌, bytes_eq}
 use Rattle.std.proofs.lemmas.Bool.Decides.{nat_tests}
 use Rattle.krb_keys.specs.declared.etype.Etype.TheVariants as etype
 use Rattle.krb_keys.specs.Keys.{s2k, bytes_of}

@@ -1,6 +1,6 @@
 -- What a message to the service opens to (RFC 3244 section 2, RFC 4120 sections 3.2.3 and 3.5.1): the
 -- frame, the AP-REQ, the KRB-PRIV and its ChangePasswdData in turn.
-use Rattle.std.specs.Prelude.{◌≡◌, ℕ, ℤ, List, Bool, false, Option, Some, None, Result, Ok, Err, option_map, unwrap_or}
+use Rattle.std.specs.Prelude.{◌≡◌, ℕ, ℤ, List, false, Option, Some, None, Result, Ok, Err, option_map, unwrap_or}
 use Rattle.krb_elements.specs.BitStrings.{is_set}
 use Rattle.krb_der.specs.Protocol as protocol
 use Rattle.krb_der.specs.declared.principal_name.PrincipalName.{PrincipalName}
@@ -20,7 +20,7 @@ use Rattle.chpw_frame.specs.ChangeData.{IsChange}
 use Rattle.chpw_frame.specs.Faults as frame
 use Rattle.chpw_rules.specs.declared.name.Name.{Name}
 use Rattle.chpw_table.specs.declared.request.Target.{Target}
-use Rattle.chpw_table.specs.Replies.{Answer, by_error}
+use Rattle.chpw_table.specs.Replies.{by_error}
 use Rattle.chpw_answer.specs.Requests.{Content, new_password, bad_private, bad_data, Request, Opens, refused, opened}
 
 -- ---- the new password

@@ -1,5 +1,5 @@
 -- The reply to a message (RFC 3244 section 2): an AP-REP and a KRB-PRIV, or a KRB-ERROR alone.
-use Rattle.std.specs.Prelude.{ℕ, ℤ, pos, ◌%◌, ◌^◌, List, [], ◌∷◌, ◌++◌, Option, Some, None, take, drop, slice_index, unwrap_or}
+use Rattle.std.specs.Prelude.{ℕ, pos, ◌%◌, ◌^◌, List, [], ◌∷◌, ◌++◌, Some, None, take, drop, slice_index, unwrap_or}
 use Rattle.std.specs.List.{flat_map}
 use Rattle.std.specs.Int.{to_be_bytes, to_le_bytes, w16, w32}
 use Rattle.krb_elements.specs.Texts.{text}

@@ -1,5 +1,5 @@
 -- Serving a stream: message after message is taken, answered and written.
-use Rattle.std.specs.Prelude.{◌≡◌, ℕ, List, ◌++◌, length, Option, Some, None, ◌⊎◌, codes, pos}
+use Rattle.std.specs.Prelude.{◌≡◌, ℕ, List, length, Option, Some, None, ◌⊎◌, codes, pos}
 use Rattle.std.specs.Io.KnownBytes.{Appends}
 use Rattle.chpw_frame.specs.Stream.{message, ended, cut_off, too_long, sent}
 use Rattle.chpw_frame.specs.Receiving.{TakesPiece, ConsumesSome, AppendsFront}
