@@ -10,6 +10,7 @@ ghost use Rattle.chpw_table.specs.Lookups.{lookup_of};
 mod changing;
 mod decision;
 mod opening;
+mod restoring;
 mod step;
 mod wanted;
 
@@ -18,6 +19,7 @@ use crate::key::{KeyRow, counts_of, kvno_of};
 use crate::request::RequestId;
 use chpw_rules::{Config, Items, Name, Policy, Rules};
 use opening::opening_principals;
+pub use restoring::KeyFault;
 use std::alloc::{AllocError, Global};
 use std::marker::Model;
 
