@@ -1,0 +1,5 @@
+pub mod ListLemmas
+pub mod PartsLemmas
+pub mod VersionLemmas
+pub mod RecordLemmas
+pub mod ReaderLemmas

@@ -1,0 +1,5 @@
+pub mod Memory
+pub mod Records
+pub mod Versions
+pub mod Reading
+pub mod Receiving
