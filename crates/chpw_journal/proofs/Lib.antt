@@ -3,3 +3,8 @@ pub mod PartsLemmas
 pub mod VersionLemmas
 pub mod RecordLemmas
 pub mod ReaderLemmas
+pub mod CutLemmas
+pub mod RecordsLemmas
+pub mod RestoringLemmas
+pub mod StopLemmas
+pub mod RunLemmas

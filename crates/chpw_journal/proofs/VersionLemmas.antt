@@ -50,10 +50,10 @@ key_back k v c a b =
     let z : take 32 (drop 16 (k.aes128 ++ k.aes256)) ≡ k.aes256 = ap (take 32) y ∙ take_all 32 k.aes256 (omega (arith, b)) in
     λ i. record { kvno = n i; count = m i; aes128 = x i; aes256 = z i }
 
-kvno_short : (n : ℕ) → is_in kvnos n ≡ true → n < 2 ^ 32
+pub kvno_short : (n : ℕ) → is_in kvnos n ≡ true → n < 2 ^ 32
 kvno_short n h = grind (arith, nat_tests)
 
-count_short : (n : ℕ) → is_in iteration_counts n ≡ true → n < 2 ^ 32
+pub count_short : (n : ℕ) → is_in iteration_counts n ≡ true → n < 2 ^ 32
 count_short n h = grind (arith, nat_tests)
 
 -- a text that is a key's version and more, cut behind the version

@@ -3,3 +3,7 @@ pub mod Records
 pub mod Versions
 pub mod Reading
 pub mod Receiving
+pub mod Restoring
+pub mod Taking
+pub mod Runs
+pub mod Laws

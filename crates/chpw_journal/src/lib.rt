@@ -2,11 +2,15 @@
 #![tactic(auto)]
 
 mod change;
+mod fault;
 mod file_sink;
 mod filling;
+pub mod laws;
 mod memory_sink;
 mod reading;
+mod restoring;
 
-pub use change::Change;
+pub use fault::RestoreFault;
 pub use file_sink::FileSink;
 pub use memory_sink::MemorySink;
+pub use restoring::{Restored, restore};

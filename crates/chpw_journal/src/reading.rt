@@ -1,5 +1,6 @@
 //! A journal's records, read one after the other.
 ghost use Rattle.std.specs.Prelude.{◌≡◌, ◌≤◌, IfOk, length};
+ghost use Rattle.std.specs.Int.{from_be_bytes, to_be_bytes, w16};
 ghost use Rattle.chpw_journal.specs.Receiving.{IsNext, IsBody, IsFill, CountsDown};
 
 use crate::filling::{Filled, fill};
@@ -48,11 +49,22 @@ pub fn next_record<R: Read>(
         Filled::Short(_) => return Ok(Next::Torn),
         Filled::Fault(_) => return Ok(Next::CannotRead),
     }
-    let length = usize::from(u16::from_be_bytes(header));
+    let length = length_in(&header);
     if !RECORD_LENGTHS.allow(length) {
         return Ok(Next::BadLength);
     }
     read_body(alloc, reader, length, reads)
+}
+
+// The length in two bytes, high byte first.
+fn length_in(header: &[u8]) -> usize
+    requires two { length header.now ≡ 2 }
+    ensures value { result ≡ from_be_bytes w16 header.now }
+    ensures header { header.now ≡ to_be_bytes w16 result }
+{
+    let mut bytes = [0; 2];
+    bytes.copy_from_slice(header);
+    usize::from(u16::from_be_bytes(bytes))
 }
 
 // Reads a record behind its length.
