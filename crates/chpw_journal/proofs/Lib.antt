@@ -8,3 +8,4 @@ pub mod RecordsLemmas
 pub mod RestoringLemmas
 pub mod StopLemmas
 pub mod RunLemmas
+pub mod OpeningLemmas

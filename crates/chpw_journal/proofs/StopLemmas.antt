@@ -55,7 +55,7 @@ low_component n h = grind (arith, nat_tests)
 low_parts : (parts : List (List ℕ)) → (is_in component_counts (length parts) && list_all is_component parts) ≡ true → 2 ≤ length (flat_map part_bytes parts)
 low_parts [] h = cc
 low_parts (p ∷ ps) h =
-    let one : 1 ≤ length p = low_component (length p) (and_left _ _ (and_right _ _ h)) in
+    let one : 1 ≤ length p = low_component (length p) (and_left (is_component p) (list_all is_component ps) (and_right (is_in component_counts (length (p ∷ ps))) (list_all is_component (p ∷ ps)) h)) in
     omega (arith, length-append p (flat_map part_bytes ps), one)
 
 in_range : (n : ℕ) → 60 ≤ n → n ≤ 1090 → is_in record_lengths n ≡ true

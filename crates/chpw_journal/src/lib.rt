@@ -7,10 +7,12 @@ mod file_sink;
 mod filling;
 pub mod laws;
 mod memory_sink;
+mod quiet;
 mod reading;
 mod restoring;
 
 pub use fault::RestoreFault;
 pub use file_sink::FileSink;
 pub use memory_sink::MemorySink;
+pub use quiet::quiet_after;
 pub use restoring::{Restored, restore};
