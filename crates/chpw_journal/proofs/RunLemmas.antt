@@ -1,31 +1,30 @@
 -- The journal of a run gives the keys that the run left.
-use Rattle.std.proofs.Common.{◌≡◌, ◌≢◌, ℕ, suc, ◌+◌, ◌≤◌, List, [], ◌∷◌, ◌++◌, length, Bool, true, false, ◌&&◌, if◌then◌else◌, Option, Some, None, is_none, unwrap_or, refl, sym, ◌∙◌, ap, subst, arith, rules, append_assoc, append-nil, map}
+use Rattle.std.proofs.Common.{◌≡◌, ◌≢◌, ℕ, suc, ◌+◌, ◌≤◌, List, [], ◌∷◌, ◌++◌, length, Bool, true, false, ◌&&◌, if◌then◌else◌, Option, Some, None, is_none, unwrap_or, refl, sym, ◌∙◌, ap, subst, arith, rules}
 use Rattle.std.specs.Prelude.{option_map, IsSome, IfSome}
 use Rattle.std.proofs.lemmas.Bool.Decides.{nat_tests}
 use Rattle.chpw_rules.specs.declared.name.Name.{Name}
-use Rattle.chpw_rules.specs.Names.{is_same_name, is_name}
-use Rattle.chpw_rules.specs.Limits.{is_in, kvnos, iteration_counts}
+use Rattle.chpw_rules.specs.Names.{is_same_name}
+use Rattle.chpw_rules.specs.Limits.{is_in, kvnos}
 use Rattle.chpw_table.specs.declared.verdict.Verdict.{Verdict}
 use Rattle.chpw_table.specs.declared.verdict.Verdict.TheVariants.{Skew, Replay, NotYet, Expired, BadPrivate, BadBody, Denied, NeedInitial, Unknown, Short, Classes, Reused, LastVersion, Broken, Done}
 use Rattle.chpw_table.specs.declared.history.Entry.{Entry}
 use Rattle.chpw_table.specs.declared.key.KeyRow.{KeyRow}
 use Rattle.chpw_table.specs.Requests.{target_of}
-use Rattle.chpw_table.specs.State.{State, keys_held, kept_count, new_count}
+use Rattle.chpw_table.specs.State.{State, keys_held, kept_count}
 use Rattle.chpw_table.specs.Verdicts.{is_done}
 use Rattle.chpw_table.specs.Decision.{verdict, key_row, newest_kvno}
 use Rattle.chpw_table.specs.Step.{new_key}
 use Rattle.chpw_table.specs.History.{step_entry, outcome, IsLegal, IsDecided}
-use Rattle.chpw_table.specs.Journal.{journal, appended, record_bytes}
+use Rattle.chpw_table.specs.Journal.{journal, record_bytes}
 use Rattle.chpw_table.specs.Entering.{with_append}
 use Rattle.chpw_table.specs.Restoring.{with_kept_key, IsNextKey}
 use Rattle.chpw_table.proofs.AppendLemmas.{verdict_written}
 use Rattle.chpw_table.proofs.DoneLemmas.{done_key_row, done_held, done_version}
 use Rattle.chpw_table.proofs.KeyLemmas.{keys_after, keys_put, put, kept_some, newest_put}
-use Rattle.chpw_table.proofs.NameLemmas.{is_same_name-Decides}
 use Rattle.chpw_journal.specs.declared.change.Change.{Change}
 use Rattle.chpw_journal.specs.Records.{ChangeFits, record_text, records_text}
-use Rattle.chpw_journal.specs.Reading.{restored, AreNext, is_cut_off, Begins}
-use Rattle.chpw_journal.specs.Runs.{entry_changes, changes_of, SameKeys, IsSound, AreWhole, Run, AreRuns, journals, changes_in, last_state}
+use Rattle.chpw_journal.specs.Reading.{restored, AreNext, Begins}
+use Rattle.chpw_journal.specs.Runs.{changes_of, SameKeys, IsSound, AreWhole, Run, AreRuns, journals, changes_in, last_state}
 use Rattle.chpw_journal.specs.Laws.{ReadsJournals, RecordsAreJournals, RestoresKeys}
 use Rattle.chpw_journal.proofs.RecordsLemmas.{records_joined, restored_joined, next_joined}
 use Rattle.chpw_journal.proofs.StopLemmas.{reads_one}

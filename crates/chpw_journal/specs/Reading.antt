@@ -1,13 +1,13 @@
 -- What a journal's text comes to: the changes of its whole records, in their order, and behind them a
 -- record that is cut off; or its first fault. Records are counted from 1, and each is tested as J1, J3, J2.
-use Rattle.std.specs.Prelude.{◌≡◌, ◌≢◌, ℕ, ◌+◌, ◌≤◌, List, [], ◌∷◌, ◌++◌, length, Bool, true, false, ◌&&◌, ◌||◌, nat_lt, ◌⊎◌, Option, Some, None}
+use Rattle.std.specs.Prelude.{◌≡◌, ◌≢◌, ℕ, ◌+◌, ◌≤◌, List, [], ◌∷◌, ◌++◌, length, Bool, true, false, ◌&&◌, ◌||◌, nat_lt, ◌⊎◌, Some, None}
 use Rattle.chpw_rules.specs.Limits.{is_in}
 use Rattle.chpw_table.specs.declared.key.KeyRow.{KeyRow}
 use Rattle.chpw_table.specs.State.{State, keys_held}
 use Rattle.chpw_table.specs.Decision.{newest_kvno}
 use Rattle.chpw_table.specs.Restoring.{with_kept_key, IsNextKey}
 use Rattle.chpw_journal.specs.declared.change.Change.{Change}
-use Rattle.chpw_journal.specs.Records.{ChangeFits, change_text, record_text, records_text, stated_length, record_lengths}
+use Rattle.chpw_journal.specs.Records.{ChangeFits, record_text, records_text, stated_length, record_lengths}
 
 -- the state after these changes, each of which does to its principal what an accepted request did
 abbrev pub restored : State → List Change → State
