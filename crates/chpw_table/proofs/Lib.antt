@@ -19,3 +19,4 @@ pub mod VersionLemmas
 pub mod AppendLemmas
 pub mod DecideLemmas
 pub mod WorkedEdges
+pub mod RestoringLemmas

@@ -9,6 +9,7 @@ ghost use Rattle.chpw_table.specs.Lookups.{lookup_of};
 mod changing;
 mod decision;
 mod opening;
+mod restoring;
 mod step;
 mod wanted;
 
@@ -17,6 +18,7 @@ use crate::key::{KeyRow, counts_of, kvno_of};
 use crate::request::RequestId;
 use chpw_rules::{Config, Items, Name, Policy, Rules};
 use opening::opening_principals;
+pub use restoring::KeyFault;
 use std::alloc::{AllocError, Global};
 use std::marker::Model;
 

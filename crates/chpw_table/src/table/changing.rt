@@ -88,7 +88,7 @@ impl Table {
     }
 
     // A name's principal and its place.
-    fn find(&self, name: &Name) -> Option<(usize, &Principal)>
+    pub(super) fn find(&self, name: &Name) -> Option<(usize, &Principal)>
         ensures at { IfSome result (λ r. IsAt self.now.state name.now r.0 r.1.now) }
         ensures none { IfNone result (is_none (keys_held self.now.state name.now) ≡ true) }
     {
@@ -107,7 +107,7 @@ impl Table {
 }
 
 // The key in front of these, of which the newest are kept.
-fn with_front(
+pub(super) fn with_front(
     alloc: Global,
     key: KeyRow,
     held: &[KeyRow],

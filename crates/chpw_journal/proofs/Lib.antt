@@ -1,0 +1,11 @@
+pub mod ListLemmas
+pub mod PartsLemmas
+pub mod VersionLemmas
+pub mod RecordLemmas
+pub mod ReaderLemmas
+pub mod CutLemmas
+pub mod RecordsLemmas
+pub mod RestoringLemmas
+pub mod StopLemmas
+pub mod RunLemmas
+pub mod OpeningLemmas

@@ -1,0 +1,148 @@
+-- A table restored record by record.
+use Rattle.std.proofs.Common.{◌≡◌, ◌≢◌, ℕ, ◌+◌, ◌^◌, ◌≤◌, ◌<◌, List, [], ◌∷◌, ◌++◌, length, true, false, inl, inr, Option, refl, sym, ◌∙◌, ap, subst, arith, length-append, append_assoc}
+use Rattle.std.specs.Int.{from_be_bytes, to_be_bytes, w16}
+use Rattle.std.specs.Io.KnownBytes.{Consumes, IsAtEnd}
+use Rattle.std.proofs.lemmas.List.{take-append-le}
+use Rattle.chpw_rules.specs.Limits.{is_in}
+use Rattle.chpw_table.specs.State.{State}
+use Rattle.chpw_table.specs.Agreement.{Held, Agrees}
+use Rattle.chpw_journal.specs.declared.change.Change.{Change}
+use Rattle.chpw_journal.specs.declared.fault.RestoreFault.{RestoreFault}
+use Rattle.chpw_journal.specs.declared.fault.RestoreFault.TheVariants.{BadRecord, WrongVersion, UnknownPrincipal, CannotRead, Memory}
+use Rattle.chpw_journal.specs.declared.restoring.Restored.{Restored}
+use Rattle.chpw_journal.specs.Records.{ChangeFits, change_text, record_text, records_text, stated_length, record_lengths}
+use Rattle.chpw_journal.specs.Reading.{restored, is_cut_off, HasBadLength, HasBadBody, Begins}
+use Rattle.chpw_journal.specs.Receiving.{framed}
+use Rattle.chpw_journal.specs.Restoring.{is_there, IsRestored, IsRefused}
+use Rattle.chpw_journal.specs.Taking.{TakesRecord, IsRecordFault, IsSoFar}
+use Rattle.chpw_journal.proofs.CutLemmas.{header_states, length_short}
+use Rattle.chpw_journal.proofs.ReaderLemmas.{consumes_none, consumes_more}
+use Rattle.chpw_journal.proofs.RecordsLemmas.{records_more, restored_joined, next_more, text_short, framed_same}
+
+abbrev pub start_of : Held → Restored
+start_of before = record { table = before; records = 0; kept = 0; torn = false }
+
+pub so_far_start : (before : Held) (old : Option (List ℕ)) → IsSoFar before old old (start_of before)
+so_far_start before old = record {
+  changes = [];
+  read = consumes_none old;
+  table = λ s a. (tt, a);
+  events = refl;
+  seen = refl;
+  max_entries = refl;
+  records = refl;
+  kept = refl;
+  torn = refl;
+}
+
+pub so_far_next : (before : Held) (old now new : Option (List ℕ)) (r later : Restored) (body : List ℕ) → IsSoFar before old now r → Consumes now new (framed body) → TakesRecord r later body → IsSoFar before old new later
+so_far_next before old now new r later body h d t =
+    let text : framed body ≡ record_text t.change = ap framed t.text in
+    let more : records_text (h.changes ++ t.change ∷ []) ≡ records_text h.changes ++ framed body = records_more h.changes t.change ∙ ap (λ (xs : List ℕ). records_text h.changes ++ xs) (sym text) in
+    let size : length (framed body) ≡ 2 + length body = length-append (to_be_bytes w16 (length body)) body in
+    record {
+      changes = h.changes ++ t.change ∷ [];
+      read = subst (Consumes old new) (sym more) (consumes_more old now new (records_text h.changes) (framed body) h.read d);
+      table = λ s a.
+          let g = h.table s a in
+          let u = t.table (restored s h.changes) g.1 in
+          (next_more s h.changes t.change g.0 t.fits u.0, subst (Agrees later.table.state) (sym (restored_joined s h.changes (t.change ∷ []))) u.1);
+      events = t.events ∙ h.events;
+      seen = t.seen ∙ h.seen;
+      max_entries = t.max_entries ∙ h.max_entries;
+      records = t.records ∙ (ap (λ n. n + 1) h.records ∙ sym (length-append h.changes (t.change ∷ [])));
+      kept = t.kept ∙ (ap (λ n. n + (2 + length body)) h.kept ∙ (ap (λ n. length (records_text h.changes) + n) (sym size) ∙ (sym (length-append (records_text h.changes) (framed body)) ∙ ap length (sym more))));
+      torn = t.torn ∙ h.torn;
+    }
+
+-- the end, with this behind the last whole record
+pub ended_with : (before : Held) (old now new : Option (List ℕ)) (r : Restored) (rest : List ℕ) → IsSoFar before old now r → Consumes now new rest → IsAtEnd new → is_cut_off rest ≡ true → IsRestored before old new (record r { torn = is_there rest })
+ended_with before old now new r rest h d e cut = record {
+  changes = h.changes;
+  rest = rest;
+  read = consumes_more old now new (records_text h.changes) rest h.read d;
+  end = e;
+  reading = λ s a. (record { text_is = refl; next = (h.table s a).0 }, cut);
+  table = λ s a. (h.table s a).1;
+  events = h.events;
+  seen = h.seen;
+  max_entries = h.max_entries;
+  records = h.records;
+  kept = h.kept;
+  torn = refl;
+}
+
+pub ended : (before : Held) (old now new : Option (List ℕ)) (r : Restored) → IsSoFar before old now r → Consumes now new [] → IsAtEnd new → IsRestored before old new r
+ended before old now new r h d e =
+    let same : record r { torn = false } ≡ r = λ i. record r { torn = sym h.torn i } in
+    subst (IsRestored before old new) same (ended_with before old now new r [] h d e refl)
+
+there : (rest : List ℕ) → 1 ≤ length rest → is_there rest ≡ true
+there [] h = absurd (none h)
+  where
+    none : 1 ≤ 0 → ⊥
+    none k = omega arith
+there (x ∷ xs) h = refl
+
+pub ended_torn : (before : Held) (old now new : Option (List ℕ)) (r : Restored) (rest : List ℕ) → IsSoFar before old now r → Consumes now new rest → IsAtEnd new → is_cut_off rest ≡ true → 1 ≤ length rest → IsRestored before old new (record r { torn = true })
+ended_torn before old now new r rest h d e cut some =
+    let same : record r { torn = is_there rest } ≡ record r { torn = true } = λ i. record r { torn = there rest some i } in
+    subst (IsRestored before old new) same (ended_with before old now new r rest h d e cut)
+
+pub cannot_read : (before : Held) (old now new : Option (List ℕ)) (r : Restored) (rest : List ℕ) → IsSoFar before old now r → Consumes now new rest → is_cut_off rest ≡ true → IsRefused before old new CannotRead
+cannot_read before old now new r rest h d cut =
+    (h.changes, rest, consumes_more old now new (records_text h.changes) rest h.read d, λ s a. (record { text_is = refl; next = (h.table s a).0 }, cut))
+
+-- what was read, and more behind it
+begins : (before : Held) (old now : Option (List ℕ)) (r : Restored) (h : IsSoFar before old now r) (s : State) (a : Agrees before.state s) (rest more : List ℕ) → Begins s ((records_text h.changes ++ rest) ++ more) h.changes (rest ++ more)
+begins before old now r h s a rest more = record { text_is = append_assoc (records_text h.changes) rest more; next = (h.table s a).0 }
+
+length_stays : (header more : List ℕ) → HasBadLength header → HasBadLength (header ++ more)
+length_stays header more h =
+    let same : stated_length (header ++ more) ≡ stated_length header = ap (from_be_bytes w16) (take-append-le 2 header more h.0) in
+    let size = length-append header more in
+    (omega (arith, size, h.0), ap (is_in record_lengths) same ∙ h.1)
+
+pub bad_length : (before : Held) (old now new : Option (List ℕ)) (r : Restored) (header : List ℕ) → IsSoFar before old now r → Consumes now new header → HasBadLength header → IsRefused before old new (BadRecord (r.records + 1))
+bad_length before old now new r header h d bad = (
+  records_text h.changes ++ header,
+  consumes_more old now new (records_text h.changes) header h.read d,
+  λ s more a. (h.changes, header ++ more, begins before old now r h s a header more, inl (length_stays header more bad), ap (λ n. n + 1) h.records),
+)
+
+bad_body : (body more : List ℕ) → is_in record_lengths (length body) ≡ true → ((c : Change) → ChangeFits c → body ≢ change_text c) → HasBadBody (framed body ++ more)
+bad_body body more range none =
+    let st : stated_length (framed body ++ more) ≡ length body = header_states (to_be_bytes w16 (length body)) (length body) (body ++ more) (refl, range) in
+    let size : length (framed body ++ more) ≡ (2 + length body) + length more = length-append (framed body) more ∙ ap (λ n. n + length more) (length-append (to_be_bytes w16 (length body)) body) in
+    (omega (arith, st, size), λ c left f e. none c f (framed_same body more (change_text c) left (length_short (length body) range) (small c f) e).0)
+  where
+    small : (c : Change) → ChangeFits c → length (change_text c) < 2 ^ 16
+    small c f = omega (arith, text_short c f)
+
+-- the text of a record that is that of a change
+of_change : (before : Held) (old now : Option (List ℕ)) (r : Restored) (h : IsSoFar before old now r) (s : State) (a : Agrees before.state s) (body more : List ℕ) (c : Change) → body ≡ change_text c
+    → Begins s ((records_text h.changes ++ framed body) ++ more) h.changes (record_text c ++ more)
+of_change before old now r h s a body more c e =
+    subst (λ (xs : List ℕ). Begins s ((records_text h.changes ++ framed body) ++ more) h.changes (xs ++ more)) (ap framed e) (begins before old now r h s a (framed body) more)
+
+-- a record's fault
+pub record_fault : (before : Held) (old now new : Option (List ℕ)) (r : Restored) (body : List ℕ) (fault : RestoreFault) → IsSoFar before old now r → Consumes now new (framed body) → is_in record_lengths (length body) ≡ true → IsRecordFault r body fault → IsRefused before old new fault
+record_fault before old now new r body (BadRecord n) h d range f = (
+  records_text h.changes ++ framed body,
+  consumes_more old now new (records_text h.changes) (framed body) h.read d,
+  λ s more a. (h.changes, framed body ++ more, begins before old now r h s a (framed body) more, inr (bad_body body more range f.1), f.0 ∙ ap (λ k. k + 1) h.records),
+)
+record_fault before old now new r body (UnknownPrincipal n) h d range f = (
+  records_text h.changes ++ framed body,
+  consumes_more old now new (records_text h.changes) (framed body) h.read d,
+  λ s more a. (h.changes, f.1, record { left = more; begins = of_change before old now r h s a body more f.1 f.3; fits = f.2 }, f.4 (restored s h.changes) (h.table s a).1, f.0 ∙ ap (λ k. k + 1) h.records),
+)
+record_fault before old now new r body (WrongVersion n) h d range f = (
+  records_text h.changes ++ framed body,
+  consumes_more old now new (records_text h.changes) (framed body) h.read d,
+  λ s more a.
+      let k = f.4 (restored s h.changes) (h.table s a).1 in
+      (h.changes, f.1, k.0, record { left = more; begins = of_change before old now r h s a body more f.1 f.3; fits = f.2 }, k.1, k.2, f.0 ∙ ap (λ m. m + 1) h.records),
+)
+record_fault before old now new r body CannotRead h d range f = absurd f
+record_fault before old now new r body Memory h d range f = tt

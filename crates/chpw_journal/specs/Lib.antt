@@ -1,0 +1,9 @@
+pub mod Memory
+pub mod Records
+pub mod Versions
+pub mod Reading
+pub mod Receiving
+pub mod Restoring
+pub mod Taking
+pub mod Runs
+pub mod Laws

@@ -1,0 +1,58 @@
+-- For the proofs: what was read of a journal.
+use Rattle.std.specs.Prelude.{◌≡◌, ℕ, ◌≤◌, ◌<◌, List, [], ◌++◌, length, take, true, Option}
+use Rattle.std.specs.Int.{to_be_bytes, w16}
+use Rattle.std.specs.Io.KnownBytes.{Consumes, Keeps, IsAtEnd}
+use Rattle.chpw_rules.specs.Limits.{is_in}
+use Rattle.chpw_journal.specs.declared.reading.Next.{Next}
+use Rattle.chpw_journal.specs.declared.reading.Next.TheVariants as next
+use Rattle.chpw_journal.specs.declared.filling.Filled.{Filled}
+use Rattle.chpw_journal.specs.declared.filling.Filled.TheVariants as filled
+use Rattle.chpw_journal.specs.declared.filling.Step.{Step}
+use Rattle.chpw_journal.specs.declared.filling.Step.TheVariants as step
+use Rattle.chpw_journal.specs.Records.{record_lengths}
+use Rattle.chpw_journal.specs.Reading.{is_cut_off, HasBadLength}
+
+-- a record from behind its length, and the length before it
+abbrev pub framed : List ℕ → List ℕ
+framed body = to_be_bytes w16 (length body) ++ body
+
+-- the two bytes of a length that a record may have
+abbrev pub IsHeader : List ℕ → ℕ → Type 0
+IsHeader header n = (header ≡ to_be_bytes w16 n) × (is_in record_lengths n ≡ true)
+
+-- known bytes begin with what was read, and lose it
+abbrev pub IsNext : Next → Option (List ℕ) → Option (List ℕ) → Type 0
+IsNext (next.Record body) old new = Consumes old new (framed body.items) × (is_in record_lengths (length body.items) ≡ true)
+IsNext next.BadLength old new = (header : List ℕ) × Consumes old new header × HasBadLength header
+IsNext next.Ended old new = Consumes old new [] × IsAtEnd new
+IsNext next.Torn old new = (rest : List ℕ) × Consumes old new rest × IsAtEnd new × (is_cut_off rest ≡ true) × (1 ≤ length rest)
+IsNext next.CannotRead old new = (rest : List ℕ) × Consumes old new rest × (is_cut_off rest ≡ true)
+
+-- the same, where a length was read before
+abbrev pub IsBody : ℕ → Next → Option (List ℕ) → Option (List ℕ) → Type 0
+IsBody n found old new = (before : Option (List ℕ)) (header : List ℕ) → IsHeader header n → Consumes before old header → IsNext found before new
+
+-- a record took a read at least
+abbrev pub CountsDown : Next → ℕ → ℕ → Type 0
+CountsDown (next.Record body) old new = new < old
+CountsDown next.BadLength old new = new ≤ old
+CountsDown next.Ended old new = new ≤ old
+CountsDown next.Torn old new = new ≤ old
+CountsDown next.CannotRead old new = new ≤ old
+
+-- what stands in a buffer that was filled
+abbrev pub IsFill : Filled → List ℕ → Option (List ℕ) → Option (List ℕ) → Type 0
+IsFill filled.Whole buffer old new = Consumes old new buffer
+IsFill (filled.Short count) buffer old new = Consumes old new (take count buffer) × IsAtEnd new × (count < length buffer)
+IsFill (filled.Fault count) buffer old new = Consumes old new (take count buffer) × (count < length buffer)
+
+-- some bytes took a read at least
+abbrev pub FillCounts : Filled → ℕ → ℕ → ℕ → Type 0
+FillCounts filled.Whole n old new = (new ≤ old) × (0 < n → new < old)
+FillCounts (filled.Short count) n old new = new ≤ old
+FillCounts (filled.Fault count) n old new = new ≤ old
+
+abbrev pub IsRead : Step → List ℕ → Option (List ℕ) → Option (List ℕ) → Type 0
+IsRead (step.Read count) buffer old new = Consumes old new (take count buffer) × (count ≤ length buffer)
+IsRead step.Ended buffer old new = Keeps old new × IsAtEnd new
+IsRead step.Fault buffer old new = Keeps old new

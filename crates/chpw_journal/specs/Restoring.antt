@@ -1,0 +1,54 @@
+-- What restoring gives: the table after a journal's changes, how many there are, how many bytes their
+-- records have, and whether a torn record stands behind them; or the journal's first fault.
+use Rattle.std.specs.Prelude.{◌≡◌, ℕ, List, [], ◌∷◌, ◌++◌, length, Bool, true, false, Option, codes}
+use Rattle.std.specs.Fmt.{decimal}
+use Rattle.std.specs.Io.KnownBytes.{Consumes, IsAtEnd}
+use Rattle.chpw_table.specs.State.{State}
+use Rattle.chpw_table.specs.Agreement.{Held, Agrees}
+use Rattle.chpw_journal.specs.declared.change.Change.{Change}
+use Rattle.chpw_journal.specs.declared.fault.RestoreFault.{RestoreFault}
+use Rattle.chpw_journal.specs.declared.fault.RestoreFault.TheVariants.{BadRecord, WrongVersion, UnknownPrincipal, CannotRead, Memory}
+use Rattle.chpw_journal.specs.declared.restoring.Restored.{Restored}
+use Rattle.chpw_journal.specs.Records.{records_text}
+use Rattle.chpw_journal.specs.Reading.{restored, Reading, whole, bad_record, unknown_principal, wrong_version, IsReading}
+
+-- there is something
+abbrev pub is_there : List ℕ → Bool
+is_there [] = false
+is_there (x ∷ xs) = true
+
+-- a table restored from all that a reader had
+pub record IsRestored (before : Held) (old new : Option (List ℕ)) (r : Restored) : Type 0 where
+  pub changes : List Change
+  pub rest : List ℕ
+  pub read : Consumes old new (records_text changes ++ rest)
+  pub end : IsAtEnd new
+  pub reading : (s : State) → Agrees before.state s → IsReading s (records_text changes ++ rest) (whole changes rest)
+  pub table : (s : State) → Agrees before.state s → Agrees r.table.state (restored s changes)
+  pub events : r.table.events ≡ before.events
+  pub seen : r.table.seen ≡ before.seen
+  pub max_entries : r.table.max_entries ≡ before.max_entries
+  pub records : r.records ≡ length changes
+  pub kept : r.kept ≡ length (records_text changes)
+  pub torn : r.torn ≡ is_there rest
+
+-- each text that begins with what was read has this fault
+abbrev pub AlwaysReads : Held → List ℕ → Reading → Type 0
+AlwaysReads before read reading = (s : State) (more : List ℕ) → Agrees before.state s → IsReading s (read ++ more) reading
+
+-- J1, J2 and J3 are the text's first fault; where it can't be read on, what was read has none
+abbrev pub IsRefused : Held → Option (List ℕ) → Option (List ℕ) → RestoreFault → Type 0
+IsRefused before old new (BadRecord n) = (read : List ℕ) × Consumes old new read × AlwaysReads before read (bad_record n)
+IsRefused before old new (WrongVersion n) = (read : List ℕ) × Consumes old new read × AlwaysReads before read (wrong_version n)
+IsRefused before old new (UnknownPrincipal n) = (read : List ℕ) × Consumes old new read × AlwaysReads before read (unknown_principal n)
+IsRefused before old new CannotRead = (changes : List Change) × (rest : List ℕ) × Consumes old new (records_text changes ++ rest)
+    × ((s : State) → Agrees before.state s → IsReading s (records_text changes ++ rest) (whole changes rest))
+IsRefused before old new Memory = Unit {0}
+
+-- a fault as it is printed
+abbrev pub fault_text : RestoreFault → List ℕ
+fault_text (BadRecord n) = codes "J1 at " ++ decimal n
+fault_text (WrongVersion n) = codes "J2 at " ++ decimal n
+fault_text (UnknownPrincipal n) = codes "J3 at " ++ decimal n
+fault_text CannotRead = codes "J4"
+fault_text Memory = codes "memory"

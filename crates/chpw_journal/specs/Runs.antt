@@ -1,0 +1,64 @@
+-- The journals of runs of the service, one after the other, and the changes in them.
+use Rattle.std.specs.Prelude.{◌≡◌, ℕ, ◌≤◌, List, [], ◌∷◌, ◌++◌, length, true, IsSome, IfSome, if◌then◌else◌}
+use Rattle.chpw_rules.specs.declared.name.Name.{Name}
+use Rattle.chpw_rules.specs.Names.{is_name}
+use Rattle.chpw_rules.specs.Limits.{is_in, kvnos, iteration_counts, aes128_length, aes256_length}
+use Rattle.chpw_table.specs.declared.history.Entry.{Entry}
+use Rattle.chpw_table.specs.Requests.{target_of}
+use Rattle.chpw_table.specs.State.{State, keys_held, kept_count, new_count}
+use Rattle.chpw_table.specs.Verdicts.{is_done}
+use Rattle.chpw_table.specs.Decision.{newest_kvno}
+use Rattle.chpw_table.specs.Step.{new_key}
+use Rattle.chpw_table.specs.History.{step_entry, outcome, IsLegal}
+use Rattle.chpw_table.specs.Journal.{journal}
+use Rattle.chpw_journal.specs.declared.change.Change.{Change}
+
+-- the change of an accepted entry
+abbrev pub entry_changes : State → Entry → List Change
+entry_changes s e = if is_done e.verdict then record { name = (target_of e.opened).name; key = new_key s e.opened } ∷ [] else []
+
+-- the changes of all accepted entries, in their order
+abbrev pub changes_of : State → List Entry → List Change
+changes_of s [] = []
+changes_of s (e ∷ es) = entry_changes s e ++ changes_of (step_entry s e) es
+
+-- the same principals with the same keys, of which as many are kept
+pub record SameKeys (s t : State) : Type 0 where
+  pub kept : kept_count s ≡ kept_count t
+  pub keys : (name : Name) → keys_held s name ≡ keys_held t name
+
+-- what a state within the limits holds: a configuration's opening does, and what comes of it
+pub record IsSound (s : State) : Type 0 where
+  pub count : is_in iteration_counts (new_count s) ≡ true
+  pub names : (name : Name) → IsSome (keys_held s name) → is_name name ≡ true
+  pub versions : (name : Name) → IfSome (keys_held s name) (λ keys. newest_kvno keys ≤ kvnos.high)
+
+-- the keys that an accepted entry makes have as many bytes as the types of keys say
+abbrev pub AreWhole : State → List Entry → Type 0
+AreWhole s [] = Unit {0}
+AreWhole s (e ∷ es) =
+    (is_done e.verdict ≡ true → (length (new_key s e.opened).aes128 ≡ aes128_length) × (length (new_key s e.opened).aes256 ≡ aes256_length))
+    × AreWhole (step_entry s e) es
+
+-- a run of the service: the state that it opened with, and its history
+pub record Run : Type 0 where
+  pub opening : State
+  pub history : List Entry
+
+-- each run opens with the principals that the one before it left, the first with those of a state, and has a legal history
+abbrev pub AreRuns : State → List Run → Type 0
+AreRuns s [] = Unit {0}
+AreRuns s (r ∷ rs) = SameKeys s r.opening × IsSound r.opening × IsLegal r.opening r.history × AreWhole r.opening r.history × AreRuns (outcome r.opening r.history) rs
+
+-- what the runs left behind: a journal, its changes, and a state with the principals
+abbrev pub journals : List Run → List ℕ
+journals [] = []
+journals (r ∷ rs) = journal r.opening r.history ++ journals rs
+
+abbrev pub changes_in : List Run → List Change
+changes_in [] = []
+changes_in (r ∷ rs) = changes_of r.opening r.history ++ changes_in rs
+
+abbrev pub last_state : State → List Run → State
+last_state s [] = s
+last_state s (r ∷ rs) = last_state (outcome r.opening r.history) rs

@@ -1,0 +1,47 @@
+-- For the proofs: what one record, from behind its length, does to a table that is being restored.
+use Rattle.std.specs.Prelude.{◌≡◌, ◌≢◌, ℕ, ◌+◌, List, length, false, Option, Some, None}
+use Rattle.std.specs.Io.KnownBytes.{Consumes}
+use Rattle.chpw_table.specs.declared.key.KeyRow.{KeyRow}
+use Rattle.chpw_table.specs.State.{State, keys_held}
+use Rattle.chpw_table.specs.Decision.{newest_kvno}
+use Rattle.chpw_table.specs.Agreement.{Held, Agrees}
+use Rattle.chpw_table.specs.Restoring.{with_kept_key, IsNextKey}
+use Rattle.chpw_journal.specs.declared.change.Change.{Change}
+use Rattle.chpw_journal.specs.declared.fault.RestoreFault.{RestoreFault}
+use Rattle.chpw_journal.specs.declared.fault.RestoreFault.TheVariants.{BadRecord, WrongVersion, UnknownPrincipal, CannotRead, Memory}
+use Rattle.chpw_journal.specs.declared.restoring.Restored.{Restored}
+use Rattle.chpw_journal.specs.Records.{ChangeFits, change_text, records_text}
+use Rattle.chpw_journal.specs.Reading.{AreNext, restored}
+
+pub record TakesRecord (before later : Restored) (body : List ℕ) : Type 0 where
+  pub change : Change
+  pub fits : ChangeFits change
+  pub text : body ≡ change_text change
+  pub table : (s : State) → Agrees before.table.state s → IsNextKey s change.name change.key × Agrees later.table.state (with_kept_key change.name change.key s)
+  pub events : later.table.events ≡ before.table.events
+  pub seen : later.table.seen ≡ before.table.seen
+  pub max_entries : later.table.max_entries ≡ before.table.max_entries
+  pub records : later.records ≡ before.records + 1
+  pub kept : later.kept ≡ before.kept + (2 + length body)
+  pub torn : later.torn ≡ before.torn
+
+abbrev pub IsRecordFault : Restored → List ℕ → RestoreFault → Type 0
+IsRecordFault before body (BadRecord n) = (n ≡ before.records + 1) × ((c : Change) → ChangeFits c → body ≢ change_text c)
+IsRecordFault before body (UnknownPrincipal n) = (n ≡ before.records + 1) × (c : Change) × ChangeFits c × (body ≡ change_text c)
+    × ((s : State) → Agrees before.table.state s → keys_held s c.name ≡ None)
+IsRecordFault before body (WrongVersion n) = (n ≡ before.records + 1) × (c : Change) × ChangeFits c × (body ≡ change_text c)
+    × ((s : State) → Agrees before.table.state s → (keys : List KeyRow) × (keys_held s c.name ≡ Some keys) × (c.key.kvno ≢ newest_kvno keys + 1))
+IsRecordFault before body CannotRead = ⊥
+IsRecordFault before body Memory = Unit {0}
+
+-- a table restored from the records read so far
+pub record IsSoFar (before : Held) (old now : Option (List ℕ)) (r : Restored) : Type 0 where
+  pub changes : List Change
+  pub read : Consumes old now (records_text changes)
+  pub table : (s : State) → Agrees before.state s → AreNext s changes × Agrees r.table.state (restored s changes)
+  pub events : r.table.events ≡ before.events
+  pub seen : r.table.seen ≡ before.seen
+  pub max_entries : r.table.max_entries ≡ before.max_entries
+  pub records : r.records ≡ length changes
+  pub kept : r.kept ≡ length (records_text changes)
+  pub torn : r.torn ≡ false

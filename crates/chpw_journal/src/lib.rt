@@ -1,0 +1,18 @@
+//! The journal: where its records go, and how a table is restored from them.
+#![tactic(auto)]
+
+mod change;
+mod fault;
+mod file_sink;
+mod filling;
+pub mod laws;
+mod memory_sink;
+mod quiet;
+mod reading;
+mod restoring;
+
+pub use fault::RestoreFault;
+pub use file_sink::FileSink;
+pub use memory_sink::MemorySink;
+pub use quiet::quiet_after;
+pub use restoring::{Restored, restore};

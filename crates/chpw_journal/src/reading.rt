@@ -1,0 +1,95 @@
+//! A journal's records, read one after the other.
+ghost use Rattle.std.specs.Prelude.{◌≡◌, ◌≤◌, IfOk, length};
+ghost use Rattle.std.specs.Int.{from_be_bytes, to_be_bytes, w16};
+ghost use Rattle.chpw_journal.specs.Receiving.{IsNext, IsBody, IsFill, CountsDown};
+
+use crate::filling::{Filled, fill};
+use chpw_rules::Limits;
+use std::alloc::{AllocError, Global};
+use std::io::Read;
+
+/// Reads for a journal, at the most, interrupted ones counted.
+pub const MAX_READS: u64 = 4_294_967_296;
+
+/// The lengths of records: 58 bytes, and 1 to 8 components of 1 to 128 bytes, each behind its length.
+const RECORD_LENGTHS: Limits = Limits {
+    low: 60,
+    high: 1090,
+};
+
+/// What comes next in a journal.
+#[derive(Drop)]
+pub enum Next {
+    /// A whole record, without its length.
+    Record(Vec<u8>),
+    /// A record whose length is none that a record has; nothing more of it was read.
+    BadLength,
+    /// The journal's end.
+    Ended,
+    /// The journal's end within a record.
+    Torn,
+    /// A read failed, or there were too many.
+    CannotRead,
+}
+
+/// Reads the next record of a journal. An interrupted read is tried again; the reads are counted down.
+/// After `AllocError` the record's length was read, and no byte behind it.
+pub fn next_record<R: Read>(
+    alloc: Global,
+    reader: &mut R,
+    reads: &mut u64,
+) -> Result<Next, AllocError>
+    ensures next { IfOk result (λ next. IsNext next (R.remaining reader.old) (R.remaining reader.new)) }
+    ensures count { IfOk result (λ next. CountsDown next reads.old reads.new) }
+{
+    let mut header = [0; 2];
+    match fill(reader, &mut header, reads) {
+        Filled::Whole => {}
+        Filled::Short(0) => return Ok(Next::Ended),
+        Filled::Short(_) => return Ok(Next::Torn),
+        Filled::Fault(_) => return Ok(Next::CannotRead),
+    }
+    let length = length_in(&header);
+    if !RECORD_LENGTHS.allow(length) {
+        return Ok(Next::BadLength);
+    }
+    read_body(alloc, reader, length, reads)
+}
+
+// The length in two bytes, high byte first.
+fn length_in(header: &[u8]) -> usize
+    requires two { length header.now ≡ 2 }
+    ensures value { result ≡ from_be_bytes w16 header.now }
+    ensures header { header.now ≡ to_be_bytes w16 result }
+{
+    let mut bytes = [0; 2];
+    bytes.copy_from_slice(header);
+    usize::from(u16::from_be_bytes(bytes))
+}
+
+// Reads a record behind its length.
+fn read_body<R: Read>(
+    alloc: Global,
+    reader: &mut R,
+    length: usize,
+    reads: &mut u64,
+) -> Result<Next, AllocError>
+    ensures body { IfOk result (λ next. IsBody length next (R.remaining reader.old) (R.remaining reader.new)) }
+    ensures count { reads.new ≤ reads.old }
+{
+    let mut body = vec![in alloc; 0; length]?;
+    match fill_body(reader, &mut body, reads) {
+        Filled::Whole => Ok(Next::Record(body)),
+        Filled::Short(_) => Ok(Next::Torn),
+        Filled::Fault(_) => Ok(Next::CannotRead),
+    }
+}
+
+// Fills a record's body.
+fn fill_body<R: Read>(reader: &mut R, body: &mut Vec<u8>, reads: &mut u64) -> Filled
+    ensures bytes { IsFill result body.new.items (R.remaining reader.old) (R.remaining reader.new) }
+    ensures length { length body.new.items ≡ length body.old.items }
+    ensures count { reads.new ≤ reads.old }
+{
+    fill(reader, body.as_mut_slice(), reads)
+}

@@ -1,0 +1,83 @@
+//! A table restored from its journal.
+ghost use Rattle.std.specs.Prelude.{◌≡◌, ◌+◌, ◌-◌, ◌*◌, ◌≤◌, ◌<◌, ◌^◌, IfOk, IfErr, OnOk, OnErr, length};
+ghost use Rattle.chpw_rules.specs.Limits.{is_in};
+ghost use Rattle.chpw_journal.specs.Restoring.{IsRestored, IsRefused};
+ghost use Rattle.chpw_journal.specs.Taking.{TakesRecord, IsRecordFault};
+
+use crate::change::Change;
+use crate::fault::RestoreFault;
+use crate::reading::{MAX_READS, Next, next_record};
+use chpw_table::{KeyFault, Table};
+use std::alloc::Global;
+use std::io::Read;
+
+/// A table with the changes of a journal.
+#[derive(Drop)]
+pub struct Restored {
+    pub table: Table,
+    /// How many changes there were.
+    pub records: u64,
+    /// The bytes of their records.
+    pub kept: u64,
+    /// Whether a record stands behind them of which not all is there.
+    pub torn: bool,
+}
+
+/// Puts the changes of a journal back into a table, each as the accepted request did that made it. What
+/// stands behind the last whole record is torn; it is dropped and not tested, but for its length.
+///
+/// The journal is read to its end, in no more than 4,294,967,296 reads; an interrupted one is tried
+/// again. A fault in a record that was read whole comes before that of a later read.
+pub fn restore<R: Read>(
+    alloc: Global,
+    table: Table,
+    reader: &mut R,
+) -> Result<Restored, RestoreFault>
+    ensures restored { IfOk result (λ r. IsRestored table (R.remaining reader.old) (R.remaining reader.new) r) }
+    ensures first { IfErr result (λ fault. IsRefused table (R.remaining reader.old) (R.remaining reader.new) fault) }
+{
+    let mut restored = Restored {
+        table,
+        records: 0,
+        kept: 0,
+        torn: false,
+    };
+    let mut reads = MAX_READS;
+    loop {
+        match next_record(alloc, reader, &mut reads)? {
+            Next::Record(body) => restored.take_record(alloc, body.as_slice())?,
+            Next::BadLength => return Err(RestoreFault::BadRecord(restored.records + 1)),
+            Next::CannotRead => return Err(RestoreFault::CannotRead),
+            Next::Ended => return Ok(restored),
+            Next::Torn => {
+                restored.torn = true;
+                return Ok(restored);
+            }
+        }
+    }
+}
+
+impl Restored {
+    // Puts the change of a record back, from behind the record's length.
+    fn take_record(&mut self, alloc: Global, body: &[u8]) -> Result<(), RestoreFault>
+        requires few { self.old.records < 2 ^ 32 }
+        requires short { self.old.kept ≤ 1092 * self.old.records }
+        requires length { length body.now ≤ 1090 }
+        ensures step { OnOk result (TakesRecord self.old self.new body.now) }
+        ensures fault { IfErr result (λ fault. IsRecordFault self.old body.now fault) }
+    {
+        let number = self.records + 1;
+        let Some(change) = Change::read(alloc, body)? else {
+            return Err(RestoreFault::BadRecord(number));
+        };
+        match self.table.restore_key(&change.name, change.key) {
+            Ok(()) => {}
+            Err(KeyFault::UnknownPrincipal) => return Err(RestoreFault::UnknownPrincipal(number)),
+            Err(KeyFault::WrongVersion) => return Err(RestoreFault::WrongVersion(number)),
+            Err(KeyFault::Memory) => return Err(RestoreFault::Memory),
+        }
+        self.records = number;
+        self.kept += 2 + body.len() as u64;
+        Ok(())
+    }
+}
