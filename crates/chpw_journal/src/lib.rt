@@ -5,6 +5,7 @@ mod change;
 mod fault;
 mod file_sink;
 mod filling;
+mod journal_file;
 pub mod laws;
 mod memory_sink;
 mod quiet;
@@ -13,6 +14,7 @@ mod restoring;
 
 pub use fault::RestoreFault;
 pub use file_sink::FileSink;
+pub use journal_file::{Journal, OpenFault, open_journal};
 pub use memory_sink::MemorySink;
 pub use quiet::quiet_after;
 pub use restoring::{Restored, restore};
