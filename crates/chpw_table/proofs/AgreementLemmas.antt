@@ -34,14 +34,17 @@ same_fresh t s clock o io f k b = simp (k, f, b)
 pub not_old : (clock now ctime : ℤ) → is_far (int_max clock now) ctime ≡ false → is_later clock ctime ≡ false
 not_old clock now ctime h = grind (arith, ints, clamps)
 
+-- where the request is not too old, whether its id was used and the later rows decide alike
 pub same_judged : (a b c d : Bool) (v w : Verdict) → (a ≡ false → b ≡ d) → (a ≡ false → v ≡ w) → (if a then Skew else if b then Replay else v) ≡ (if a then Skew else if d then Replay else w)
 same_judged true b c d v w g h = refl
 same_judged false b c d v w g h = ap (λ (x : Bool). if x then Replay else v) (g refl) ∙ ap (λ (x : Verdict). if d then Replay else x) (h refl)
 
+-- neither of two tests holds
 pub near_both : (a b : Bool) → (a || b) ≡ false → a ≡ false
 near_both true b h = h
 near_both false b h = refl
 
+-- the same verdict
 pub same_verdict : (t s : State) (now : Moment) (o : Opened) (io : Bool) → Agrees t s → verdict t now o io ≡ verdict s now o io
 same_verdict t s now o io a =
     let skew : (is_far (clock_at t now) o.ctime || int_le o.ctime t.fixed.quiet_until) ≡ (is_far (clock_at s now) o.ctime || int_le o.ctime s.fixed.quiet_until) = simp (a.clock, a.fixed) in
@@ -52,9 +55,11 @@ same_verdict t s now o io a =
     (λ h. a.ids (id_of o) (not_old s.clock now.seconds o.ctime (near_both _ _ h)))
     (λ h. fresh)
 
+-- the same new key
 pub same_new_key : (t s : State) (o : Opened) → t.fixed ≡ s.fixed → keys_held t (target_of o).name ≡ keys_held s (target_of o).name → new_key t o ≡ new_key s o
 same_new_key t s o f k = let c : new_count t ≡ new_count s = ap (λ (x : Fixed). x.policy.iterations) f in simp (k, c)
 
+-- the same keys of each name after an event
 pub agrees_keys : (t s : State) (v : Verdict) (now : Moment) (o : Opened) (io : Bool) → Agrees t s → (name : Name) → keys_held (after v t now o io) name ≡ keys_held (after v s now o io) name
 agrees_keys t s v now o io a name =
     keys_after t v now o io name
@@ -71,6 +76,7 @@ used_alike : (b : Bool) (x id : RequestId) (xs ys : List RequestId) → list_any
 used_alike true x id xs ys h = used_more xs x id ∙ (ap (λ b. b || is_same_id x id) h ∙ sym (used_more ys x id))
 used_alike false x id xs ys h = h
 
+-- they agree after an event of the same verdict
 pub agrees_after : (t s : State) (v : Verdict) (now : Moment) (o : Opened) (io : Bool) → Agrees t s → Agrees (after v t now o io) (after v s now o io)
 agrees_after t s v now o io a = record {
   fixed = a.fixed;
@@ -85,12 +91,14 @@ pub agrees_step : (t s : State) (now : Moment) (o : Opened) (io : Bool) → Agre
 agrees_step t s now o io a =
     subst (λ (v : Verdict). Agrees (step t now o io) (after v s now o io)) (same_verdict t s now o io a) (agrees_after t s (verdict t now o io) now o io a)
 
+-- the same counts are missing
 pub same_missing : (t s : State) (now : Moment) (o : Opened) → Agrees t s → missing t now o ≡ missing s now o
 same_missing t s now o a =
     let c : new_count t ≡ new_count s = ap (λ (x : Fixed). x.policy.iterations) a.fixed in
     ap (λ (v : Verdict). if reads_keys v then lacking (digest_of o).derived (wanted t (target_of o).name) else []) (same_verdict t s now o false a)
     ∙ ap (λ (ns : List ℕ). if reads_keys (verdict s now o false) then lacking (digest_of o).derived ns else []) (simp (a.principals (target_of o).name, a.fixed, c))
 
+-- a state agrees with itself
 pub agrees_itself : (s : State) → Agrees s s
 agrees_itself s = record { fixed = refl; principals = λ name. refl; clock = refl; broken = refl; ids = λ id h. refl }
 
@@ -123,6 +131,7 @@ swept t = record {
   broken = t.broken;
 }
 
+-- a table that forgets the ids too old to be judged agrees as before
 pub agrees_swept : (t s : State) → Agrees t s → Agrees (swept t) s
 agrees_swept t s a = record {
   fixed = a.fixed;

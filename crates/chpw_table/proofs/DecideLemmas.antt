@@ -16,6 +16,7 @@ use Rattle.chpw_table.specs.Agreement.{Held, Agrees}
 use Rattle.chpw_table.specs.Refusals.{IsFirst}
 use Rattle.chpw_table.proofs.AgreementLemmas.{same_verdict, same_missing, same_new_key, agrees_step}
 
+-- the verdict
 pub decided_for_all : (t s : State) (now : Moment) (o : Opened) (io : Bool) (v : Verdict) → IsDecided t now o io v → Agrees t s → IsDecided s now o io v
 decided_for_all t s now o io v d a = record {
   verdict_is = d.verdict_is ∙ same_verdict t s now o io a;
@@ -23,14 +24,18 @@ decided_for_all t s now o io v d a = record {
   append = λ h. ((d.append h).0, sym a.broken ∙ (d.append h).1);
 }
 
+-- the state after
 pub stepped_for_all : (t u s : State) (now : Moment) (o : Opened) (io : Bool) → u ≡ step t now o io → Agrees t s → Agrees u (step s now o io)
 stepped_for_all t u s now o io e a = subst (λ (w : State). Agrees w (step s now o io)) (sym e) (agrees_step t s now o io a)
 
+-- what is appended
 pub same_appended : (t s : State) (o : Opened) (v : Verdict) → Agrees t s → appended t o v ≡ appended s o v
 same_appended t s o v a = ap (λ (k : KeyRow). if is_done v then record_bytes (target_of o).name k else []) (same_new_key t s o a.fixed (a.principals (target_of o).name))
 
+-- what the sink tells
 pub told_for_all : (t s : State) (o : Opened) (v : Verdict) (before after : Option (List ℕ)) → after ≡ option_map (λ xs. xs ++ appended t o v) before → Agrees t s → after ≡ option_map (λ xs. xs ++ appended s o v) before
 told_for_all t s o v before after h a = h ∙ ap (λ (ys : List ℕ). option_map (λ (xs : List ℕ). xs ++ ys) before) (same_appended t s o v a)
 
+-- the first refusal
 pub first_for_all : (t : Held) (s : State) (now : Moment) (o : Opened) (fault : DecideFault) → IsFirst t (missing t.state now o) fault → Agrees t.state s → IsFirst t (missing s now o) fault
 first_for_all t s now o fault h a = subst (λ (counts : List ℕ). IsFirst t counts fault) (same_missing t.state s now o a) h

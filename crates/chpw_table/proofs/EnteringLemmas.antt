@@ -31,6 +31,7 @@ entered_append t u now o row v io e r h =
       done_whole t.state o (done_key_row t.state now o (sym r ∙ done)),
     )
 
+-- and it is decided as a history asks
 pub entered_decided : (t u : Held) (now : Moment) (o : Opened) (row v : Verdict) (io : Bool) → IsEntered t u now o row v io → row ≡ verdict t.state now o false → missing t.state now o ≡ [] → IsDecided t.state now o io v
 entered_decided t u now o row v io e r m = record {
   verdict_is = entered_verdict t u now o row v io e r;

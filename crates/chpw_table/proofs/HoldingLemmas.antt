@@ -1,6 +1,6 @@
 -- What stays true of a table's principals.
-use Rattle.std.proofs.Common.{◌≡◌, ℕ, zero, suc, ◌+◌, ◌<◌, ◌≤◌, min, max, List, [], ◌∷◌, ◌++◌, map, take, length, get_or, set, Bool, true, false, not, ◌&&◌, ◌||◌, if◌then◌else◌, Option, Some, None, Bor, find, refl, sym, ◌∙◌, ap, subst, arith, length-take}
-use Rattle.std.specs.Prelude.{IfSome, IsTrue, option_map, option_copied, nat_le}
+use Rattle.std.proofs.Common.{◌≡◌, ℕ, zero, suc, ◌≤◌, min, max, List, [], ◌∷◌, ◌++◌, map, take, length, Bool, true, false, not, ◌&&◌, ◌||◌, if◌then◌else◌, Option, Some, None, Bor, find, refl, sym, ◌∙◌, ap, subst, arith, length-take}
+use Rattle.std.specs.Prelude.{IfSome, option_map, option_copied}
 use Rattle.std.specs.List.{list_all, list_any}
 use Rattle.std.proofs.lemmas.Bool.Decides.{nat_tests}
 use Rattle.chpw_rules.specs.declared.name.Name.{Name}
@@ -9,7 +9,7 @@ use Rattle.chpw_rules.specs.declared.config.Config.{Config}
 use Rattle.chpw_rules.specs.declared.config.KeyBytes.{KeyBytes}
 use Rattle.chpw_rules.specs.declared.config.PrincipalRow.{PrincipalRow}
 use Rattle.chpw_rules.specs.Limits.{is_in, depths, entry_counts, key_counts, iteration_counts}
-use Rattle.chpw_rules.specs.Names.{is_same_name, is_name}
+use Rattle.chpw_rules.specs.Names.{is_same_name}
 use Rattle.chpw_rules.specs.Fitting.{config_fits, principal_fits, principals_fit, policy_fits, key_fits, are_distinct, none_again}
 use Rattle.chpw_rules.specs.Fitting as rules
 use Rattle.chpw_table.specs.declared.request.Opened.{Opened}
@@ -28,6 +28,7 @@ found_at : {A : Type 0} (t : A → Bool) (x : A) (r : Option A) (b : Bool) → t
 found_at t x r true h ih = h
 found_at t x r false h ih = ih
 
+-- what is found passes too
 pub find-all : {A : Type 0} (t p : A → Bool) (xs : List A) → list_all t xs ≡ true → IfSome (find p xs) (λ y. t y ≡ true)
 find-all t p [] h = tt
 find-all t p (x ∷ xs) h = found_at t x (find p xs) (p x) (and_left _ _ h) (find-all t p xs (and_right _ _ h))
@@ -58,6 +59,7 @@ none_again-map s t f g before (x ∷ xs) =
     ∙ (ap (λ ys. not (list_any (s x) before) && none_again t ys (map f xs)) (map-push f before x)
     ∙ ap (λ b. not (list_any (s x) before) && b) (none_again-map s t f g (before ++ x ∷ []) xs))
 
+-- elements that differ still differ
 pub are_distinct-map : {A B : Type 0} (s : A → A → Bool) (t : B → B → Bool) (f : A → B) → ((x y : A) → t (f x) (f y) ≡ s x y) → (xs : List A) → are_distinct t (map f xs) ≡ are_distinct s xs
 are_distinct-map s t f g xs = none_again-map s t f g [] xs
 
@@ -100,6 +102,7 @@ opening_holder kept a b row h =
     (rw (length-map key_row_of (take kept row.keys)) (kept_in_range kept row.keys a b (range_low (length row.keys) many)))
     (all-map key_fits is_count_in_range key_row_of count_in_range (take kept row.keys) (all-take key_fits kept row.keys keys)))
 
+-- the principals of an opening
 pub opening_holders : (kept : ℕ) → 1 ≤ kept → kept ≤ 16 → (rows : List PrincipalRow) → principals_fit rows ≡ true → are_holders (map (opening_principal kept) rows) ≡ true
 opening_holders kept a b rows h =
     both (all-map principal_fits is_holder (opening_principal kept) (opening_holder kept a b) rows (and_right _ _ (and_left _ _ h)))
@@ -115,13 +118,16 @@ keys_of_holder : (found : Option Principal) → IfSome found (λ p. is_holder p 
 keys_of_holder None h = tt
 keys_of_holder (Some p) h = (and_left _ _ (and_right _ _ h), and_right _ _ (and_right _ _ h))
 
+-- the keys of a name
 pub held : (s : State) (name : Name) → are_holders s.principals ≡ true → IfSome (keys_held s name) AreHeld
 held s name h = keys_of_holder (find (λ (p : Principal). is_same_name p.name name) s.principals) (find-all is_holder (λ (p : Principal). is_same_name p.name name) s.principals (and_left _ _ h))
 
+-- a weaker fact of what is there
 pub IfSome-weaker : {A : Type 0} (P Q : A → Type 0) → ((x : A) → P x → Q x) → (o : Option A) → IfSome o P → IfSome o Q
 IfSome-weaker P Q f None h = tt
 IfSome-weaker P Q f (Some x) h = f x h
 
+-- 1 to 16 of them
 pub few_keys : (keys : List KeyRow) → AreHeld keys → (1 ≤ length keys) × (length keys ≤ 16)
 few_keys keys h = (range_low (length keys) h.0, range_high (length keys) h.0)
 
@@ -144,6 +150,7 @@ same_name kept name key p = at (is_same_name p.name name)
 same_principal : (kept : ℕ) (name : Name) (key : KeyRow) (x y : Principal) → is_same_principal (with_key kept name key x) (with_key kept name key y) ≡ is_same_principal x y
 same_principal kept name key x y = ap (λ n. is_same_name n (with_key kept name key y).name) (same_name kept name key x) ∙ ap (λ n. is_same_name x.name n) (same_name kept name key y)
 
+-- the principals after a change
 pub new_holders : (kept : ℕ) (name : Name) (key : KeyRow) → 1 ≤ kept → kept ≤ 16 → is_count_in_range key ≡ true → (ps : List Principal) → are_holders ps ≡ true → are_holders (map (with_key kept name key) ps) ≡ true
 new_holders kept name key a b k ps h =
     both (all-map is_holder is_holder (with_key kept name key) (new_holder kept name key a b k) ps (and_left _ _ h))
@@ -156,15 +163,18 @@ pub IfSome-copied : {A : Type 0} (P : A → Type 0) (r : Option (Bor A)) (o : Op
 IfSome-copied {A = A} P None o e h = tt
 IfSome-copied {A = A} P (Some x) o e h = let Q : Option A → Type 0 = λ v. IfSome v P in subst Q (sym e) h
 
+-- at least one key is kept
 pub kept_at_least : (depth : ℕ) → 1 ≤ max depth 1
 kept_at_least depth = omega arith
 
+-- and 16 at most
 pub kept_at_most : (depth : ℕ) → depth ≤ 16 → max depth 1 ≤ 16
 kept_at_most depth h = omega arith
 
 in_depths : (depth : ℕ) → is_in depths depth ≡ true → depth ≤ 16
 in_depths depth h = grind (arith, nat_tests)
 
+-- under a policy that fits
 pub depth_at_most : (policy : Policy) → policy_fits policy ≡ true → max policy.depth 1 ≤ 16
 depth_at_most policy h = kept_at_most policy.depth (in_depths policy.depth (and_right _ _ (and_left _ _ h)))
 

@@ -30,6 +30,7 @@ keys_in ps name = option_map (λ (p : Principal). p.keys) (find (λ (p : Princip
 same_test : (a b name : Name) → is_same_name a b ≡ true → is_same_name a name ≡ is_same_name b name
 same_test a b name h = ap (λ (n : Name). is_same_name n name) ((is_same_name-Decides a b).0 h)
 
+-- a key in front of others, of which the newest are kept
 abbrev pub put : ℕ → KeyRow → List KeyRow → List KeyRow
 put kept key keys = take kept (key ∷ keys)
 
@@ -77,6 +78,7 @@ and_false : (b : Bool) → (b && false) ≡ false
 and_false true = refl
 and_false false = refl
 
+-- the law on the other names
 pub others_stay : OthersStay
 others_stay s now o io name h =
     keys_after s (verdict s now o io) now o io name
@@ -101,10 +103,12 @@ held_at_fresh_done s clock o io h =
 held_at_verdict : (s : State) (now : Moment) (o : Opened) (io : Bool) → verdict s now o io ≡ Done → is_none (keys_held s (target_of o).name) ≡ false
 held_at_verdict s now o io h = held_at_fresh_done s (clock_at s now) o io (past _ Replay _ refl (past _ Skew _ refl h).1).1
 
+-- at least one key is kept
 pub kept_some : (depth : ℕ) → (k : ℕ) × (max depth 1 ≡ suc k)
 kept_some zero = (0, refl)
 kept_some (suc n) = (n, omega arith)
 
+-- the key put in front is the newest
 pub newest_put : (kept k : ℕ) (key : KeyRow) (keys : List KeyRow) → kept ≡ suc k → newest_kvno (put kept key keys) ≡ key.kvno
 newest_put kept k key keys h = rw h refl
 
@@ -113,6 +117,7 @@ raised : (kept k : ℕ) (key : KeyRow) (held : Option (List KeyRow)) → kept �
 raised kept k key None h there e = absurd (let x : true ≡ false = there in cc)
 raised kept k key (Some keys) h there e = (search rules, ap Some (newest_put kept k key keys h ∙ e))
 
+-- the law on the target of Done
 pub done_raises_target : DoneRaisesTarget
 done_raises_target s now o io h =
     let some = kept_some s.fixed.policy.depth in
@@ -152,6 +157,7 @@ kept_all : (kept : ℕ) (held : Option (List KeyRow)) → IfSome held (λ keys. 
 kept_all kept None few = refl
 kept_all kept (Some keys) few = ap Some (sym (take_all kept keys few))
 
+-- the law on the newest keys
 pub keeps_newest : KeepsNewest
 keeps_newest s [] name legal few = kept_all (kept_count s) (keys_held s name) (few name)
 keeps_newest s (e ∷ es) name legal few =

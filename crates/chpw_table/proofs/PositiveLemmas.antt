@@ -1,5 +1,5 @@
 -- Counts that are held or wanted are at least 1.
-use Rattle.std.proofs.Common.{◌≡◌, ℕ, zero, suc, ◌≤◌, List, [], ◌∷◌, map, take, length, Bool, true, false, not, ◌&&◌, if◌then◌else◌, Option, Some, None, refl, arith}
+use Rattle.std.proofs.Common.{◌≡◌, ℕ, zero, suc, ◌≤◌, List, [], ◌∷◌, map, take, Bool, true, false, not, if◌then◌else◌, Option, Some, None, refl, arith}
 use Rattle.std.specs.Prelude.{IfSome, All, unwrap_or, filter, nat_le, nat_lt, ◌==◌}
 use Rattle.std.specs.List.{list_all}
 use Rattle.std.proofs.lemmas.List.Sums.{AllPass-from_list_all}
@@ -50,6 +50,7 @@ counts_positive (suc n) (k ∷ keys) h = both (and_left _ _ (and_left _ _ h)) (c
 new_positive : (policy : Policy) → policy_fits policy ≡ true → is_positive policy.iterations ≡ true
 new_positive policy h = let r : is_in iteration_counts policy.iterations ≡ true = and_right _ _ h in and_left _ _ r
 
+-- as a number
 pub new_at_least : (policy : Policy) → policy_fits policy ≡ true → 1 ≤ policy.iterations
 new_at_least policy h = at_least policy.iterations (new_positive policy h)
 

@@ -37,6 +37,7 @@ not_done Reused h = refl
 not_done LastVersion h = refl
 not_done Broken h = refl
 
+-- the law on other verdicts than Done
 pub refusal_keeps_keys : RefusalKeepsKeys
 refusal_keeps_keys s now o io h = rw (not_done (verdict s now o io) h) refl
 
@@ -81,6 +82,7 @@ used_now s v now o io h = rw h (used_more s.used (id_of o) (id_of o) ∙ (ap (λ
     or_true true = refl
     or_true false = refl
 
+-- the law on used ids
 pub used_for_good : UsedForGood
 used_for_good s before used failed es now o io h same =
     let next : State = step s before used failed in
@@ -118,6 +120,7 @@ quiet_skew true b v h = refl
 quiet_skew false true v h = refl
 quiet_skew false false v h = cc
 
+-- the law on a restarted service
 pub quiet_refuses_former : QuietRefusesFormer
 quiet_refuses_former opening es before used failed start a b d h next now o io quiet same =
     let clock = clock_by (outcome opening es) before start (clock_throughout opening es start a b) d in

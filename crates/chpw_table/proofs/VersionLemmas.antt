@@ -48,6 +48,7 @@ entry_shown s e name more legal =
         (change_shown (kept_count s) (kept_some s.fixed.policy.depth).0 (target_of e.opened).name (new_key s e.opened) (keys_held s name) (is_same_name (target_of e.opened).name name) (kept_some s.fixed.policy.depth).1 ∙ ap (λ (x : Option (List KeyRow)). option_map shown_keys x) (sym h))
     by false held h = ap (λ (x : Option (List KeyRow)). fold (change_row (kept_count s) name) (option_map shown_keys x) more) (sym h)
 
+-- the law on what the changes show
 pub shows_held : ShowsHeld
 shows_held s [] name legal = refl
 shows_held s (e ∷ es) name legal = entry_shown s e name (accepted (step_entry s e) es) legal.0.verdict_is ∙ shows_held (step_entry s e) es name legal.1

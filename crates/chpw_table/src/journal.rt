@@ -1,5 +1,5 @@
 //! The records of the journal.
-ghost use Rattle.std.specs.Prelude.{◌≡◌, ◌++◌, ◌+◌, ◌≤◌, true, IfOk, OnOk, length};
+ghost use Rattle.std.specs.Prelude.{◌≡◌, ◌++◌, true, IfOk, OnOk, length};
 ghost use Rattle.chpw_rules.specs.Names.{is_component, is_name};
 ghost use Rattle.chpw_table.specs.Journal.{part_bytes, name_bytes, version_bytes, record_bytes as record_bytes_spec};
 
@@ -11,8 +11,9 @@ use std::alloc::{AllocError, Global};
 pub const CHANGE_KIND: u8 = 1;
 
 /// The record of a change: its length, two bytes, high byte first, and then the kind 1, kvno and
-/// iteration count, four bytes each, the keys of etype 17 and 18, and the name: how many components,
-/// and each behind its length, one byte. The name has 1 to 8 components of 1 to 128 bytes.
+/// iteration count, four bytes each, the keys of etype 17 and 18, and the name: how many
+/// components, and each behind its length, one byte. The name has 1 to 8 components of 1 to 128
+/// bytes.
 pub fn record_bytes(alloc: Global, name: &Name, key: &KeyRow) -> Result<Vec<u8>, AllocError>
     requires name { is_name name.now ≡ true }
     ensures value { IfOk result (λ r. r.items ≡ record_bytes_spec name.now key.now) }

@@ -1,4 +1,5 @@
-//! The decision machine of the service: one request, one row of the decision, one step of the table.
+//! The decision machine of the service: one request, one row of the decision, one step of the
+//! table.
 #![tactic(auto)]
 
 mod counts;

@@ -1,6 +1,5 @@
 //! The table: the principals with their keys, and the ids used.
-ghost use Rattle.std.specs.Prelude.{◌≡◌, ℕ, ◌≤◌, ◌<◌, ◌^◌, length, All, MatchBool, IfOk, IfSome, true, option_map, find, max, option_copied};
-ghost use Rattle.chpw_rules.specs.Names.{is_same_name};
+ghost use Rattle.std.specs.Prelude.{◌≡◌, ◌≤◌, ◌<◌, length, All, MatchBool, IfOk, IfSome, true, find, max, option_copied};
 ghost use Rattle.chpw_rules.specs.Limits.{entry_counts};
 ghost use Rattle.chpw_rules.specs.Fitting.{config_fits};
 ghost use Rattle.chpw_table.specs.Agreement.{Agrees};
@@ -43,9 +42,10 @@ pub struct Lookup {
 
 /// The principals in the order of the configuration, and the used ids in the order of use.
 ///
-/// Contracts see a table as a `Held`: a state, how many events were decided, how many changes accepted,
-/// and how many events there may be. A table may forget ids that are too old to be judged again; so its
-/// contracts speak of each state that it agrees with (`Agrees`), in which all used ids may stand.
+/// Contracts see a table as a `Held`: a state, how many events were decided, how many changes
+/// accepted, and how many events there may be. A table may forget ids that are too old to be judged
+/// again; so its contracts speak of each state that it agrees with (`Agrees`), in which all used
+/// ids may stand.
 #[derive(Drop)]
 pub struct Table {
     realm: Items<u8>,
@@ -73,7 +73,12 @@ impl Model for Table {
 
     ghost view = { λ t. record {
       state = record {
-        fixed = record { realm = t.realm; policy = t.policy; rules = t.rules; quiet_until = t.quiet_until };
+        fixed = record {
+          realm = t.realm;
+          policy = t.policy;
+          rules = t.rules;
+          quiet_until = t.quiet_until;
+        };
         principals = t.principals.items;
         used = t.used.items;
         clock = t.clock;
@@ -91,9 +96,9 @@ impl Model for Table {
 
 impl Table {
     /// The table that a configuration opens with: of each principal the newest keys, as many as the
-    /// policy's depth and at least one; clock 0, no id used, no event decided. The configuration fits
-    /// (`Config::fits`). A request whose ctime is not after `quiet_until`, seconds since 1970, will be
-    /// refused; -1 refuses none.
+    /// policy's depth and at least one; clock 0, no id used, no event decided. The configuration
+    /// fits (`Config::fits`). A request whose ctime is not after `quiet_until`, seconds since 1970,
+    /// will be refused; -1 refuses none.
     pub fn start(alloc: Global, config: Config, quiet_until: i64) -> Result<Table, AllocError>
         requires fits { config_fits config ≡ true }
         ensures opening { IfOk result (λ t. Agrees t.state (opening_of config quiet_until)) }
@@ -127,8 +132,8 @@ impl Table {
         self.events == self.max_entries
     }
 
-    /// What the table shows of a name; none for an unknown one. The counts are at least 1, and 1 to 16
-    /// of them are held.
+    /// What the table shows of a name; none for an unknown one. The counts are at least 1, and 1 to
+    /// 16 of them are held.
     pub fn lookup(&self, name: &Name) -> Option<Lookup>
         ensures value { result ≡ lookup_of self.now name.now }
         ensures few { IfSome result (λ l. (1 ≤ length l.held) × (length l.held ≤ 16)) }

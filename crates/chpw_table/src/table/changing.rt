@@ -33,7 +33,8 @@ impl Table {
     // The change that a request makes which no row refuses.
     pub(super) fn change(&self, opened: &Opened) -> Result<Change, AllocError>
         requires done { is_done (key_row self.now.state opened.now false) ≡ true }
-        requires derived { has_count (digest_of opened.now).derived (new_count self.now.state) ≡ true }
+        requires derived { has_count (digest_of opened.now).derived (new_count self.now.state)
+            ≡ true }
         ensures place { IfOk result (λ c. c.place < length self.now.state.principals) }
         ensures keys { IfOk result (λ c.
             map (with_key (kept_count self.now.state) (target_of opened.now).name
@@ -62,9 +63,11 @@ impl Table {
 
     // The key that the request makes, in front of these.
     fn new_key(&self, held: &[KeyRow], opened: &Opened) -> KeyRow
-        requires held { unwrap_or (keys_held self.now.state (target_of opened.now).name) [] ≡ held.now }
+        requires held { unwrap_or (keys_held self.now.state (target_of opened.now).name) []
+            ≡ held.now }
         requires version { newest_kvno held.now ≢ 4294967295 }
-        requires derived { has_count (digest_of opened.now).derived (new_count self.now.state) ≡ true }
+        requires derived { has_count (digest_of opened.now).derived (new_count self.now.state)
+            ≡ true }
         ensures value { result ≡ new_key self.now.state opened.now }
     {
         let Some(digest) = opened.digest() else {
@@ -96,7 +99,8 @@ impl Table {
     }
 
     fn place_of(&self, name: &Name) -> Option<usize>
-        ensures value { result ≡ position (λ p. is_same_name p.name name.now) self.now.state.principals }
+        ensures value { result
+            ≡ position (λ p. is_same_name p.name name.now) self.now.state.principals }
     {
         self.principals.iter().position(|p| p.name.is_same(name))
     }

@@ -26,14 +26,14 @@ use std::alloc::AllocError;
 impl Table {
     /// One step of the machine: the verdict on this request at this moment, and what it does.
     ///
-    /// `now` has seconds from 0 to `LAST_SECOND`; the table's clock never goes back, whatever is handed
-    /// in. Fewer than 2^64 - 1 appends to the sink have failed, or the table is broken. The journal is
-    /// appended to only where no row before `Broken` applies and no append has failed; all growths come
-    /// before that.
+    /// `now` has seconds from 0 to `LAST_SECOND`; the table's clock never goes back, whatever is
+    /// handed in. Fewer than 2^64 - 1 appends to the sink have failed, or the table is broken. The
+    /// journal is appended to only where no row before `Broken` applies and no append has failed;
+    /// all growths come before that.
     ///
-    /// Refused, and then nothing has changed: `Full` where the table has decided as many events as it
-    /// may; `NeedKeys` where the new password's keys are to be looked at and the digest lacks some of
-    /// the wanted counts, which are named; `Memory`.
+    /// Refused, and then nothing has changed: `Full` where the table has decided as many events as
+    /// it may; `NeedKeys` where the new password's keys are to be looked at and the digest lacks
+    /// some of the wanted counts, which are named; `Memory`.
     pub fn decide<S: JournalSink>(
         &mut self,
         now: Moment,
@@ -49,7 +49,8 @@ impl Table {
         ensures io { IfOk result (λ r. S.failed sink.new
             ≡ (if r.io_failed then S.failed sink.old + 1 else S.failed sink.old)) }
         ensures told { IfOk result (λ r. (s : State) → Agrees self.old.state s
-            → S.told sink.new ≡ option_map (λ xs. xs ++ appended s opened r.verdict) (S.told sink.old)) }
+            → S.told sink.new
+            ≡ option_map (λ xs. xs ++ appended s opened r.verdict) (S.told sink.old)) }
         ensures opened { IfOk result (λ r. r.opened ≡ opened) }
         ensures counts { IfOk result (λ r. (self.new.events ≡ self.old.events + 1)
             × (self.new.seen ≡ (if is_done r.verdict then self.old.seen + 1 else self.old.seen))
@@ -93,8 +94,8 @@ impl Table {
         }
     }
 
-    // What this row does, for a request whose wanted counts are all derived. Nothing has changed after a
-    // refusal.
+    // What this row does, for a request whose wanted counts are all derived. Nothing has changed
+    // after a refusal.
     fn enter<S: JournalSink>(
         &mut self,
         now: Moment,
@@ -107,7 +108,8 @@ impl Table {
         requires room { self.old.events < self.old.max_entries }
         requires row { row ≡ verdict self.old.state now opened.now false }
         requires derived { missing self.old.state now opened.now ≡ [] }
-        ensures entered { IfOk result (λ r. IsEntered self.old self.new now opened.now row r.0 r.1) }
+        ensures entered { IfOk result (λ r.
+            IsEntered self.old self.new now opened.now row r.0 r.1) }
         ensures io { IfOk result (λ r. S.failed sink.new
             ≡ (if r.1 then S.failed sink.old + 1 else S.failed sink.old)) }
         ensures told { IfOk result (λ r. S.told sink.new
@@ -134,7 +136,8 @@ impl Table {
         requires room { self.old.events < self.old.max_entries }
         requires row { verdict self.old.state now opened.now false ≡ Done }
         requires derived { missing self.old.state now opened.now ≡ [] }
-        ensures entered { IfOk result (λ r. IsEntered self.old self.new now opened.now Done r.0 r.1) }
+        ensures entered { IfOk result (λ r.
+            IsEntered self.old self.new now opened.now Done r.0 r.1) }
         ensures io { IfOk result (λ r. S.failed sink.new
             ≡ (if r.1 then S.failed sink.old + 1 else S.failed sink.old)) }
         ensures told { IfOk result (λ r. S.told sink.new

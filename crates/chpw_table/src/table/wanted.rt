@@ -14,8 +14,8 @@ use crate::times::Moment;
 use crate::verdict::Verdict;
 
 impl Table {
-    /// The counts with which `decide`, were the table not full, would answer `NeedKeys`: each at least
-    /// 1, ascending, each once; none where it would not.
+    /// The counts with which `decide`, were the table not full, would answer `NeedKeys`: each at
+    /// least 1, ascending, each once; none where it would not.
     pub fn missing(&self, now: Moment, opened: &Opened) -> Counts
         ensures value { result ≡ missing self.now.state now opened.now }
         ensures positive { All (λ n. 1 ≤ n) result }

@@ -1,0 +1,31 @@
+use super::realm::name;
+use chpw_table::{KeyRow, Verdict, record_bytes, replies};
+use std::alloc::AllocError;
+
+#[test]
+fn record_of_a_change(rt: HostRuntime) -> Result<(), AllocError> {
+    let alice = name(rt.alloc(), "alice")?;
+    assert!(rt; alice.fits());
+    let key = KeyRow {
+        kvno: 2,
+        count: 4096,
+        aes128: [0xa2; 16],
+        aes256: [0xa2; 32],
+    };
+    let record = record_bytes(rt.alloc(), &alice, &key)?;
+    let record = record.as_slice();
+    assert!(rt; record.len() == 66);
+    let front: [u8; 11] = [0, 0x40, 1, 0, 0, 0, 2, 0, 0, 0x10, 0];
+    let end: [u8; 7] = [1, 5, 0x61, 0x6c, 0x69, 0x63, 0x65];
+    assert!(rt; record.starts_with(&front) && record.ends_with(&end));
+    assert!(rt; record[11..59].iter().all(|byte| *byte == 0xa2));
+    Ok(())
+}
+
+#[test]
+fn answers(rt: HostRuntime) {
+    assert!(rt; Verdict::Replay.code() == replies::KRB5_KPASSWD_AUTHERROR);
+    assert!(rt; Verdict::Replay.error() == Some(replies::KRB_AP_ERR_REPEAT));
+    assert!(rt; Verdict::Denied.error().is_none() && Verdict::Classes.text().len() == 25);
+    assert!(rt; Verdict::Expired.adds_id() && !Verdict::Expired.reads_keys());
+}
