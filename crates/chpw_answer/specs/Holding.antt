@@ -1,0 +1,21 @@
+-- What the program holds of a message that was opened.
+use Rattle.std.specs.Prelude.{◌≡◌, [], Some}
+use Rattle.chpw_table.specs.Replies.{Answer}
+use Rattle.chpw_answer.specs.declared.messages.Refusal.{Refusal}
+use Rattle.chpw_answer.specs.declared.messages.Incoming.{Incoming}
+use Rattle.chpw_answer.specs.declared.messages.Opening.{Opening}
+use Rattle.chpw_answer.specs.declared.messages.Opening.TheVariants as program
+use Rattle.chpw_answer.specs.Requests.{Request, Opens, refused, opened, opened_under, password_in}
+
+abbrev pub answer_in : Refusal → Answer
+answer_in r = record { code = r.code; error = Some r.error; text = r.text.now }
+
+-- the program holds this request, its digest with no keys yet
+abbrev pub IsIncoming : Request → Incoming → Type 0
+IsIncoming q i = (i.opened ≡ opened_under [] q) × (i.password ≡ password_in q.content) × (i.seal ≡ q.seal)
+
+abbrev pub IsOpening : Opens → Opening → Type 0
+IsOpening (refused a) (program.Refused r) = a ≡ answer_in r
+IsOpening (opened q) (program.Opened i) = IsIncoming q i
+IsOpening (refused a) (program.Opened i) = ⊥
+IsOpening (opened q) (program.Refused r) = ⊥

@@ -1,0 +1,4 @@
+pub mod Requests
+pub mod Holding
+pub mod Answers
+pub mod Trying

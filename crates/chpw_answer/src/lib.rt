@@ -1,0 +1,12 @@
+//! How a message is answered, over whoever opens and makes messages and whoever decides.
+#![tactic(auto)]
+
+mod answering;
+mod completing;
+mod deciding;
+mod gate;
+mod messages;
+
+pub use answering::{Answered, answer, answer_message};
+pub use gate::{Gate, NoGate, Spot};
+pub use messages::{Incoming, Messages, Opening, Refusal, Seal};

@@ -1,0 +1,17 @@
+//! The framing of RFC 3244 section 2: requests, replies, messages over TCP, and what a request asks.
+#![tactic(auto)]
+
+mod change_data;
+mod fault;
+pub mod laws;
+mod parts;
+mod reply;
+mod request;
+mod stream;
+
+pub use change_data::{Change, ChangeFault, ChangeTarget, read_change_data};
+pub use fault::FrameFault;
+pub use parts::Parts;
+pub use reply::{REPLY_VERSION, join_reply, split_reply};
+pub use request::{REQUEST_VERSION, REQUEST_VERSIONS, join_request, split_request};
+pub use stream::{LONGEST_MESSAGE, MAX_READS, Received, WriteFault, read_tcp, write_tcp};
