@@ -42,6 +42,7 @@ pub fn answer<M: Messages, D: Decider, G: Gate>(
         words now (D.gathered decider.old) (D.gathered decider.new) bytes.items) }
     ensures fits { IfOk result (λ bytes. length bytes.items ≤ 65535) }
     ensures refused { OnErr result (AddsAtMostOne (D.gathered decider.old) (D.gathered decider.new)) }
+    ensures follows { D.follows decider.old decider.new }
 {
     let answer = answer_message(alloc, service, peer, message, decider, gate, words, now)?;
     Ok(answer.bytes)
@@ -64,6 +65,7 @@ pub fn answer_message<M: Messages, D: Decider, G: Gate>(
         words now (D.gathered decider.old) (D.gathered decider.new) a.bytes.items) }
     ensures fits { IfOk result (λ a. length a.bytes.items ≤ 65535) }
     ensures refused { OnErr result (AddsAtMostOne (D.gathered decider.old) (D.gathered decider.new)) }
+    ensures follows { D.follows decider.old decider.new }
 {
     match service.open(alloc, peer, message)? {
         Opening::Refused(refusal) => Ok(Answered {
@@ -94,6 +96,7 @@ fn answer_opened<M: Messages, D: Decider, G: Gate>(
         (D.gathered decider.old) (D.gathered decider.new) bytes.items) }
     ensures fits { IfOk result (λ bytes. length bytes.items ≤ 65535) }
     ensures refused { OnErr result (AddsAtMostOne (D.gathered decider.old) (D.gathered decider.new)) }
+    ensures follows { D.follows decider.old decider.new }
 {
     let Incoming {
         opened,

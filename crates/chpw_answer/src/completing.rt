@@ -18,6 +18,7 @@ pub(crate) fn derive_shown<D: Decider>(
 ) -> Result<Opened, AllocError>
     ensures derived { IfOk result (λ ready. IsCompletedFrom password.now opened ready) }
     ensures receipts { D.gathered decider.new ≡ D.gathered decider.old }
+    ensures follows { D.follows decider.old decider.new }
 {
     let mut opened = opened;
     if let Some(shown) = look_up(realm, decider, &opened) {
@@ -53,6 +54,7 @@ pub(crate) fn derive_more(
 /// What is shown of the target of a new password.
 fn look_up<D: Decider>(realm: &[u8], decider: &mut D, opened: &Opened) -> Option<Lookup>
     ensures receipts { D.gathered decider.new ≡ D.gathered decider.old }
+    ensures follows { D.follows decider.old decider.new }
     ensures positive { IfSome result (λ l. (1 ≤ l.policy) × All (λ n. 1 ≤ n) l.held) }
 {
     let (target_realm, name) = match &opened.body {

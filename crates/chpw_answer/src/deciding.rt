@@ -39,6 +39,7 @@ pub(crate) fn decide<D: Decider>(
     ensures decision { IfOk result (λ d. IsDecision (D.may_be_full decider.new (D.gathered decider.new))
         d password.now opened now (D.gathered decider.old) (D.gathered decider.new)) }
     ensures refused { OnErr result (D.gathered decider.new ≡ D.gathered decider.old) }
+    ensures follows { D.follows decider.old decider.new }
 {
     let mut opened = opened;
     for _ in 0..TRIES {
@@ -68,6 +69,7 @@ fn try_once<D: Decider>(
     ensures tried { IfOk result (λ t. IsTry (D.may_be_full decider.new (D.gathered decider.new))
         t password.now opened now (D.gathered decider.old) (D.gathered decider.new)) }
     ensures refused { OnErr result (D.gathered decider.new ≡ D.gathered decider.old) }
+    ensures follows { D.follows decider.old decider.new }
 {
     let Refused {
         fault,

@@ -120,11 +120,15 @@ impl<S: JournalSink> Alone<S> {
 }
 
 impl<S: JournalSink> Decider for Alone<S> {
-    ghost use Rattle.chpw_decider.specs.Keeping.{IsFullAt};
+    ghost use Rattle.std.specs.Prelude.{refl};
+    ghost use Rattle.std.proofs.Common.{◌∙◌};
+    ghost use Rattle.chpw_decider.specs.Keeping.{IsFullAt, IsOpenedLike, stays_full};
 
     ghost gathered = { λ a. a.receipts };
 
     ghost may_be_full = { IsFullAt };
+
+    ghost follows = { IsOpenedLike };
 
     fn lookup(&mut self, name: &Name) -> Option<Lookup> {
         self.journaled.lookup(name)
@@ -147,6 +151,12 @@ impl<S: JournalSink> Decider for Alone<S> {
     fn receipts(&self) -> &[Receipt] {
         &self.receipts
     }
+
+    ghost stays = { λ a. refl };
+
+    ghost goes_on = { λ a b c h g. g ∙ h };
+
+    ghost still_full = { stays_full };
 }
 
 /// Puts the receipt of an outcome at the end.
