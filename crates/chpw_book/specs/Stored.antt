@@ -1,5 +1,5 @@
 -- What lies under the lock: what is always true of it, and what a decision adds.
-use Rattle.std.specs.Prelude.{◌≡◌, ℕ, ◌+◌, ◌≤◌, List, [], ◌∷◌, ◌++◌, length, Option, IfSome, slice_index, slice_set}
+use Rattle.std.specs.Prelude.{◌≡◌, ℕ, ◌+◌, ◌≤◌, List, [], ◌∷◌, ◌++◌, length, Option, IfSome, slice_set}
 use Rattle.chpw_table.specs.declared.times.Moment.{Moment}
 use Rattle.chpw_table.specs.declared.request.Opened.{Opened}
 use Rattle.chpw_table.specs.declared.verdict.Verdict.{Verdict}
@@ -8,7 +8,7 @@ use Rattle.chpw_table.specs.State.{State}
 use Rattle.chpw_table.specs.History.{IsLegal, outcome}
 use Rattle.chpw_table.specs.Journal.{journal}
 use Rattle.chpw_table.specs.Agreement.{Held, Agrees}
-use Rattle.chpw_book.specs.Receipts.{IsNumbered, IsCounted, changes_of, receipt_of}
+use Rattle.chpw_book.specs.Receipts.{IsNumbered, IsCounted, entries_of, changes_of, receipt_of}
 use Rattle.chpw_book.specs.Passes.{Carried}
 
 -- the table, the history, each worker's count, the accepted changes, the ledger's total, and what the sink tells
@@ -37,12 +37,12 @@ pub record Replays (opening : State) (workers : ℕ) (b : Stored) : Type 0 where
 pub record Adds (before later : Stored) (mine more : Carried) (now : Moment) (o : Opened) (v : Verdict) : Type 0 where
   pub entry : Entry
   pub worker : entry.worker ≡ mine.worker
-  pub number : entry.number ≡ slice_index before.counts mine.worker + 1
+  pub number : entry.number ≡ length (entries_of mine.worker before.history) + 1
   pub now_is : entry.now ≡ now
   pub opened_is : entry.opened ≡ o
   pub verdict_is : entry.verdict ≡ v
   pub history : later.history ≡ before.history ++ entry ∷ []
-  pub counts : later.counts ≡ slice_set before.counts mine.worker (slice_index before.counts mine.worker + 1)
+  pub counts : later.counts ≡ slice_set before.counts mine.worker entry.number
   pub events : later.table.events ≡ before.table.events + 1
   pub limit : later.table.max_entries ≡ before.table.max_entries
   pub receipts : more.receipts ≡ mine.receipts ++ receipt_of before.history entry ∷ []

@@ -2,8 +2,8 @@
 ghost use Rattle.std.specs.Prelude.{◌≡◌, ◌-◌, ◌^◌, ◌<◌, ◌≤◌, [], IfOk, IfSome, IfNone, All, false, replicate};
 ghost use Rattle.chpw_table.specs.Lookups.{lookup_of};
 ghost use Rattle.chpw_book.specs.Closing.{IsRefusal, IsWhole, is_full};
-ghost use Rattle.chpw_book.specs.Receipts.{IsCounted};
 ghost use Rattle.chpw_book.specs.Stored.{Replays};
+ghost use Rattle.chpw_book.specs.Calls.{IsShown};
 
 use crate::closing::{CloseFault, Closed, close_fault};
 use crate::naming::DeskName;
@@ -99,7 +99,7 @@ impl<D: DeskName, S: JournalSink> Book<D, S> {
     pub fn lookup(&self, name: &Name) -> Option<Lookup>
         ensures value { result ≡ lookup_of self.now.table name.now }
         ensures positive { IfSome result (λ l. (1 ≤ l.policy) × All (λ n. 1 ≤ n) l.held) }
-        ensures replays { Replays D.opening D.workers self.now }
+        ensures shown { IsShown D.opening name.now result }
     {
         self.journaled.lookup(name)
     }

@@ -8,7 +8,8 @@ ghost use Rattle.chpw_table.specs.Completing.{salt_of, completed};
 ghost use Rattle.chpw_table.specs.Refusals.{IsFirst, AsksPositive};
 ghost use Rattle.chpw_table.specs.Verdicts.{is_done};
 ghost use Rattle.chpw_decider.specs.Deciding.{IsCompletedFrom, IsFinal};
-ghost use Rattle.chpw_book.specs.Stored.{Adds, Replays};
+ghost use Rattle.chpw_book.specs.Stored.{Adds};
+ghost use Rattle.chpw_book.specs.Calls.{Notes, AsksAfter};
 
 use crate::book::Book;
 use crate::naming::DeskName;
@@ -35,8 +36,8 @@ impl<D: DeskName, S: JournalSink> Book<D, S> {
         ensures positive { IfErr result (λ r. AsksPositive r.fault) }
         ensures unchanged { IfErr result (λ r.
             (self.new ≡ self.old) × (pass.new ≡ pass.old) × (r.opened ≡ opened)) }
-        ensures replays { Replays D.opening D.workers self.old
-            × Replays D.opening D.workers self.new }
+        ensures notes { IfOk result (λ v. Notes D.opening pass.old pass.new now opened v) }
+        ensures asks { IfErr result (λ r. AsksAfter D.opening now opened r.fault) }
     {
         if self.journaled.table().is_full() {
             return refused(DecideFault::Full, opened);
@@ -95,8 +96,8 @@ impl<D: DeskName, S: JournalSink> Book<D, S> {
             r.fault ≡ Full → self.old.table.events ≡ self.old.table.max_entries) }
         ensures unchanged { IfErr result (λ r. (self.new ≡ self.old) × (pass.new ≡ pass.old)
             × IsCompletedFrom password.now opened r.opened) }
-        ensures replays { Replays D.opening D.workers self.old
-            × Replays D.opening D.workers self.new }
+        ensures notes { IfOk result (λ v. (counts : _)
+            × Notes D.opening pass.old pass.new now (completed password.now counts opened) v) }
     {
         let mut opened = opened;
         if self.journaled.table().is_full() {

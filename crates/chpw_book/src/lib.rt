@@ -3,6 +3,7 @@
 #![tactic(auto)]
 
 mod agreeing;
+mod at_desk;
 mod book;
 mod closing;
 mod deciding;
@@ -11,6 +12,7 @@ mod naming;
 mod pass;
 
 pub use agreeing::agree;
+pub use at_desk::AtDesk;
 pub use book::Book;
 pub use closing::{CloseFault, CloseRefused, Closed};
 pub use desk::Desk;

@@ -4,7 +4,7 @@ use Rattle.chpw_table.specs.declared.history.Entry.{Entry}
 use Rattle.chpw_table.specs.declared.history.Receipt.{Receipt}
 use Rattle.chpw_table.specs.State.{State}
 use Rattle.chpw_table.specs.History.{outcome}
-use Rattle.chpw_book.specs.Receipts.{changes_of, receipt_of}
+use Rattle.chpw_book.specs.Receipts.{changes_of, entries_of, receipt_of}
 use Rattle.chpw_book.specs.Stored.{Stored, Replays, Adds}
 use Rattle.chpw_book.specs.Passes.{Carried}
 use Rattle.chpw_book.proofs.GrowsLemmas.{put_entry_as, put_receipt_as, kept_next, short, short_count, short_changes}
@@ -75,15 +75,20 @@ returns-clause-adds g c =
     let added : c.put_receipt.new.receipts.items ≡ c.pass.inside.receipts.items ++ receipt_of b.history e ∷ [] =
     put_receipt_as made_receipt c.put_receipt.new.receipts.items c.make_room.new.receipts.items c.pass.inside.receipts.items c.len-position.result (length b.history) c.self.inside.changes (changes_of b.history) c.in-Ok.copy c.args.opened
     c.put_receipt.ensures.value c.in-Ok.ensures.same.1 position kept.changes c.in-Ok.ensures.copy in
+    let below : c.pass.inside.worker < length b.counts = let many = kept.all in let mine = c.pass.invariant.2 in omega (arith, many, mine) in
+    let number : c.count_call-number.result ≡ length (entries_of c.pass.inside.worker b.history) + 1 =
+    c.count_call-number.ensures.number ∙ ap (λ (n : ℕ). n + 1) (kept.counted.counts_are c.pass.inside.worker below) in
+    let counted : c.count_call-number.new.counts.items ≡ slice_set b.counts c.pass.inside.worker c.count_call-number.result =
+    c.count_call-number.ensures.counts ∙ ap (λ (n : ℕ). slice_set b.counts c.pass.inside.worker n) (sym c.count_call-number.ensures.number) in
     record {
       entry = e;
       worker = worker;
-      number = rw (← counts, ← worker) c.count_call-number.ensures.number;
+      number = rw (← history, ← worker) number;
       now_is = refl;
       opened_is = refl;
       verdict_is = refl;
       history = rw (← history) pushed;
-      counts = rw (← counts, ← worker) c.count_call-number.ensures.counts;
+      counts = rw (← counts, ← worker) counted;
       events = rw (← events) c.in_ok-outcome.ensures.counts.0;
       limit = rw (← limit) c.in_ok-outcome.ensures.counts.1;
       receipts = rw (← mine, ← history) added;
