@@ -1,5 +1,6 @@
 //! Tests of chpw_table.
 
+mod copies;
 mod counts;
 mod decisions;
 mod digests;

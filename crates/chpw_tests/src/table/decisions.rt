@@ -1,6 +1,7 @@
 use super::realm::{Tally, change, name, request, table};
-use chpw_table::{Body, DecideFault, Entry, JournalSink, Moment, Opened, Receipt, Table, Verdict};
+use chpw_table::{Body, DecideFault, Moment, Opened, Table, Verdict};
 use krb_keys::Key;
+use std::alloc::Global;
 use std::process::Abort;
 use std::test::Fail;
 
@@ -16,97 +17,103 @@ fn verdict(
     sink: &mut Tally,
     opened: Opened,
 ) -> Result<Verdict, Fail> {
-    assert!(rt; sink.failures() < u64::MAX);
+    assert!(rt; sink.failed < u64::MAX);
     match table.decide(NOW, opened, sink) {
         Ok(outcome) => Ok(outcome.verdict),
         Err(_) => Err(Fail::new("refused")),
     }
 }
 
-#[test]
-fn a_change_and_its_receipt(rt: HostRuntime) -> Result<(), Fail> {
-    let alloc = rt.alloc();
-    let mut table = table(&rt, alloc, 1)?;
-    let mut sink = Tally::failing_at(0);
-    let opened = change(alloc, 1, Vec::new(alloc))?;
-    let missing = table.missing(NOW, &opened);
-    assert!(rt; missing.as_slice() == [4].as_slice());
-    let Err(refused) = table.decide(NOW, opened, &mut sink) else {
-        return Err(Fail::new("decided without keys"));
-    };
-    assert!(rt; matches!(refused.fault, DecideFault::NeedKeys(_)) && !table.is_full());
-
-    let mut opened = refused.opened;
-    let salt = opened.salt()?;
-    assert!(rt; salt.as_slice() == b"EXAMPLE.COMalice".as_slice());
-    opened.complete(b"New-pass2", salt.as_slice(), &missing)?;
-    let copy = opened.clone()?;
-    assert!(rt; copy.is_same(&opened));
-    assert!(rt; verdict(&rt, &mut table, &mut sink, opened)? == Verdict::Done);
-    assert!(rt; table.is_full() && sink.appends == 1 && sink.bytes == 66);
-
-    let alice = name(alloc, "alice")?;
-    let held: [u32; 2] = [4, 4];
-    assert!(rt;
-        table.lookup(&alice).is_some_and(|l| l.kvno == 2
-            && l.policy == 4
-            && l.seen == 1
-            && l.held.as_slice() == held.as_slice())
-    );
-    assert!(rt; table.keys_of(&alice).is_some_and(|keys| keys.len() == 2));
-    assert!(rt; table.lookup(&name(alloc, "zoe")?).is_none());
-
-    let entry = Entry {
-        worker: 0,
-        number: 1,
-        now: NOW,
-        opened: copy,
-        io_failed: false,
-        verdict: Verdict::Done,
-    };
-    let receipt = Receipt {
-        worker: 0,
-        number: 1,
-        position: 0,
-        basis: 0,
-        entry: entry.clone()?,
-    };
-    assert!(rt; receipt.entry.is_same(&entry) && receipt.is_same(&receipt));
-
-    match table.decide(NOW, entry.opened, &mut sink) {
-        Err(refused) => assert!(rt; matches!(refused.fault, DecideFault::Full)),
-        Ok(_) => assert!(rt; false, "one event too many"),
+// The fault of a request that is refused.
+fn fault(
+    rt: &impl Abort,
+    table: &mut Table,
+    sink: &mut Tally,
+    opened: Opened,
+) -> Result<DecideFault, Fail> {
+    assert!(rt; sink.failed < u64::MAX);
+    match table.decide(NOW, opened, sink) {
+        Ok(_) => Err(Fail::new("decided")),
+        Err(refused) => Ok(refused.fault),
     }
+}
+
+// Alice asks, with the key that is wanted.
+fn whole(alloc: Global, cusec: u32) -> Result<Opened, Fail> {
+    let keys = vec![in alloc; (4, Key::Aes128([0xb1; 16]), Key::Aes256([0xb1; 32]))]?;
+    change(alloc, cusec, keys)
+}
+
+// Alice sends bad user-data, with a timestamp.
+fn stamped(alloc: Global, cusec: u32, stamp: i64) -> Result<Opened, Fail> {
+    let mut opened = request(alloc, cusec, Body::BadData)?;
+    opened.stamp = Some(stamp);
+    Ok(opened)
+}
+
+#[test]
+fn keys_are_wanting(rt: HostRuntime) -> Result<(), Fail> {
+    let mut table = table(&rt, rt.alloc(), 1)?;
+    let opened = change(rt.alloc(), 1, Vec::new(rt.alloc()))?;
+    assert!(rt; table.missing(NOW, &opened).as_slice() == [4].as_slice());
+    let fault = fault(&rt, &mut table, &mut Tally::failing_at(0), opened)?;
+    assert!(rt; matches!(fault, DecideFault::NeedKeys(_)));
     Ok(())
 }
 
 #[test]
-fn timestamps_and_a_failing_journal(rt: HostRuntime) -> Result<(), Fail> {
-    let alloc = rt.alloc();
-    let mut table = table(&rt, alloc, 10)?;
+fn one_change_of_one(rt: HostRuntime) -> Result<(), Fail> {
+    let mut table = table(&rt, rt.alloc(), 1)?;
+    let mut sink = Tally::failing_at(0);
+    assert!(rt; !table.is_full());
+    let opened = whole(rt.alloc(), 1)?;
+    assert!(rt; verdict(&rt, &mut table, &mut sink, opened)? == Verdict::Done);
+    assert!(rt; table.is_full() && sink.appends == 1 && sink.bytes == 66);
+    let opened = whole(rt.alloc(), 2)?;
+    let fault = fault(&rt, &mut table, &mut sink, opened)?;
+    assert!(rt; matches!(fault, DecideFault::Full));
+    Ok(())
+}
+
+#[test]
+fn shown_of_a_name(rt: HostRuntime) -> Result<(), Fail> {
+    let mut table = table(&rt, rt.alloc(), 1)?;
+    let opened = whole(rt.alloc(), 1)?;
+    assert!(rt; verdict(&rt, &mut table, &mut Tally::failing_at(0), opened)? == Verdict::Done);
+    let alice = name(rt.alloc(), "alice")?;
+    match (table.lookup(&alice), table.keys_of(&alice)) {
+        (Some(shown), Some(keys)) => {
+            assert!(rt; shown.kvno == 2 && shown.policy == 4 && shown.seen == 1);
+            assert!(rt; shown.held.as_slice() == [4, 4].as_slice() && keys.len() == 2);
+        }
+        _ => return Err(Fail::new("no such name")),
+    }
+    Ok(())
+}
+
+// A timestamp may be 300 seconds from the clock, and not 301, whatever the body.
+#[test]
+fn timestamps(rt: HostRuntime) -> Result<(), Fail> {
+    let mut table = table(&rt, rt.alloc(), 10)?;
+    let mut sink = Tally::failing_at(0);
+    let late = stamped(rt.alloc(), 1, 1301)?;
+    assert!(rt; verdict(&rt, &mut table, &mut sink, late)? == Verdict::BadPrivate);
+    let early = stamped(rt.alloc(), 2, 699)?;
+    assert!(rt; verdict(&rt, &mut table, &mut sink, early)? == Verdict::BadPrivate);
+    let near = stamped(rt.alloc(), 3, 1300)?;
+    assert!(rt; verdict(&rt, &mut table, &mut sink, near)? == Verdict::BadBody);
+    Ok(())
+}
+
+// The first append fails, and none is made after it.
+#[test]
+fn failing_journal(rt: HostRuntime) -> Result<(), Fail> {
+    let mut table = table(&rt, rt.alloc(), 10)?;
     let mut sink = Tally::failing_at(1);
-    // A timestamp may be 300 seconds from the clock, and not 301, whatever the body.
-    for (cusec, stamp, want) in [
-        (1, 1301, Verdict::BadPrivate),
-        (2, 699, Verdict::BadPrivate),
-        (3, 1300, Verdict::BadBody),
-        (4, 700, Verdict::BadBody),
-    ] {
-        let opened = Opened {
-            stamp: Some(stamp),
-            ..request(alloc, cusec, Body::BadData)?
-        };
-        assert!(rt;
-            verdict(&rt, &mut table, &mut sink, opened)? == want,
-            "at {stamp}"
-        );
-    }
-    // The first append fails, and none is made after it.
-    for cusec in [5_u32, 6] {
-        let keys = vec![in alloc; (4, Key::Aes128([0xb1; 16]), Key::Aes256([0xb1; 32]))]?;
-        let opened = change(alloc, cusec, keys)?;
-        assert!(rt; verdict(&rt, &mut table, &mut sink, opened)? == Verdict::Broken);
-    }
-    assert!(rt; sink.appends == 1 && sink.failures() == 1 && sink.bytes == 0);
+    let first = whole(rt.alloc(), 1)?;
+    assert!(rt; verdict(&rt, &mut table, &mut sink, first)? == Verdict::Broken);
+    let second = whole(rt.alloc(), 2)?;
+    assert!(rt; verdict(&rt, &mut table, &mut sink, second)? == Verdict::Broken);
+    assert!(rt; sink.appends == 1 && sink.failed == 1 && sink.bytes == 0);
     Ok(())
 }
