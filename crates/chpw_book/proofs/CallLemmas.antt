@@ -30,11 +30,11 @@ final_of_first t counts Memory e h = tt
 
 -- the entry stands behind a history that replays
 pub notes_of_adds : (opening : State) (before later : Stored) (mine more : Carried) (now : Moment) (o : Opened) (v : Verdict)
-    → IsLegal opening later.history → Adds before later mine more now o v → Notes opening mine more now o v
-notes_of_adds opening before later mine more now o v legal a = record {
+    → (a : Adds before later mine more now o v) → IsLegal opening (before.history ++ a.entry ∷ []) → Notes opening mine more now o v
+notes_of_adds opening before later mine more now o v a legal = record {
   before = before.history;
   entry = a.entry;
-  legal = subst (λ (es : List Entry). IsLegal opening es) a.history legal;
+  legal = legal;
   worker = a.worker;
   number = a.number;
   now_is = a.now_is;

@@ -7,8 +7,10 @@ use Rattle.chpw_table.specs.History.{outcome}
 use Rattle.chpw_book.specs.Receipts.{changes_of, entries_of, receipt_of}
 use Rattle.chpw_book.specs.Stored.{Stored, Replays, Adds}
 use Rattle.chpw_book.specs.Passes.{Carried}
+use Rattle.chpw_decider.proofs.KeepingLemmas.{legal_on}
+use Rattle.chpw_book.proofs.CallLemmas.{notes_of_adds, asks_of_first}
 use Rattle.chpw_book.proofs.GrowsLemmas.{put_entry_as, put_receipt_as, kept_next, short, short_count, short_changes}
-use Rattle.chpw_book.proofs.deciding.Book.decide.Goals as goal
+use Rattle.chpw_book.proofs.book.Book.decide.Goals as goal
 
 pub count_call-number-requires-clause-room : goal.count_call-number-requires-clause-room
 count_call-number-requires-clause-room g c =
@@ -17,22 +19,6 @@ count_call-number-requires-clause-room g c =
     let kept : Replays opening g.D.DeskName.workers b = c.self.invariant.0 in
     let below : c.pass.inside.worker < length b.counts = let many = kept.all in let mine = c.pass.invariant.2 in omega (arith, many, mine) in
     short_count opening g.D.DeskName.workers b c.pass.inside.worker kept below (short opening g.D.DeskName.workers b c.decide.new.self.table.events kept c.in_ok-outcome.ensures.counts.0 c.in_ok-outcome.ensures.few)
-
-pub overflow_cast-position : goal.overflow_cast-position
-overflow_cast-position g c =
-    let opening : State = g.D.DeskName.opening in
-    let b : Stored = record { table = c.self.inside.journaled.table; history = c.self.inside.history.items; counts = c.self.inside.counts.items; changes = c.self.inside.changes; total = c.self.inside.totals.total; told = g.S.JournalSink.told c.self.inside.journaled.sink } in
-    let kept : Replays opening g.D.DeskName.workers b = c.self.invariant.0 in
-    let few : length c.self.inside.history.items < 2 ^ 32 - 1 = short opening g.D.DeskName.workers b c.decide.new.self.table.events kept c.in_ok-outcome.ensures.counts.0 c.in_ok-outcome.ensures.few in
-    let position : c.len-position.result ≡ length c.self.inside.history.items = search rules in
-    omega (arith, few, position)
-
-pub changes_after-self-inside-requires : goal.changes_after-self-inside-requires
-changes_after-self-inside-requires g c =
-    let opening : State = g.D.DeskName.opening in
-    let b : Stored = record { table = c.self.inside.journaled.table; history = c.self.inside.history.items; counts = c.self.inside.counts.items; changes = c.self.inside.changes; total = c.self.inside.totals.total; told = g.S.JournalSink.told c.self.inside.journaled.sink } in
-    let kept : Replays opening g.D.DeskName.workers b = c.self.invariant.0 in
-    record { room = short_changes opening g.D.DeskName.workers b kept (short opening g.D.DeskName.workers b c.decide.new.self.table.events kept c.in_ok-outcome.ensures.counts.0 c.in_ok-outcome.ensures.few) }
 
 pub invariant_of-self-2 : goal.invariant_of-self-2
 invariant_of-self-2 g c =
@@ -95,3 +81,19 @@ returns-clause-adds g c =
       share = rw (← share) c.add.ensures.amount;
       same = (worker, was_full);
     }
+
+pub returns-clause-notes : goal.returns-clause-notes
+returns-clause-notes g c =
+    let opening : State = g.D.DeskName.opening in
+    let b : Stored = record { table = c.self.inside.journaled.table; history = c.self.inside.history.items; counts = c.self.inside.counts.items; changes = c.self.inside.changes; total = c.self.inside.totals.total; told = g.S.JournalSink.told c.self.inside.journaled.sink } in
+    let kept : Replays opening g.D.DeskName.workers b = c.self.invariant.0 in
+    let made = c.in_ok-outcome.outcome in
+    let e : Entry = record { worker = c.pass.inside.worker; number = c.count_call-number.result; now = c.args.now; opened = c.args.opened; io_failed = made.io_failed; verdict = made.verdict } in
+    let history = ap (λ (x : Stored). x.history) c.self.view_is in
+    let legal = legal_on opening b.history e kept.legal (c.in_ok-outcome.ensures.legal (outcome opening b.history) kept.agrees) in
+    notes_of_adds opening _ _ _ _ _ _ _ (returns-clause-adds g c) (rw (← history) legal)
+
+pub returns-then-not-is_empty-clause-asks : goal.returns-then-not-is_empty-clause-asks
+returns-then-not-is_empty-clause-asks g c =
+    let b : Stored = record { table = c.self.inside.journaled.table; history = c.self.inside.history.items; counts = c.self.inside.counts.items; changes = c.self.inside.changes; total = c.self.inside.totals.total; told = g.S.JournalSink.told c.self.inside.journaled.sink } in
+    asks_of_first g.D.DeskName.opening g.D.DeskName.workers b c.args.now c.args.opened _ c.self.invariant.0 (search rules)

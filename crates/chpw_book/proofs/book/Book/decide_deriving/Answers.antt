@@ -7,7 +7,7 @@ use Rattle.chpw_table.specs.Completing.{completed}
 use Rattle.chpw_decider.specs.Deciding.{IsFinal}
 use Rattle.chpw_decider.proofs.CompletingLemmas.{completed_lacks_nothing, err_implies}
 use Rattle.chpw_book.proofs.CallLemmas.{final_of_first}
-use Rattle.chpw_book.proofs.deciding.Book.decide_deriving.Goals as goal
+use Rattle.chpw_book.proofs.book.Book.decide_deriving.Goals as goal
 
 -- with the missing keys derived none is asked for
 pub returns-clause-never : goal.returns-clause-never
@@ -18,3 +18,7 @@ returns-clause-never g c =
     let none : missing t.state c.args.now o' ≡ [] = ap (λ (x : Opened). missing t.state c.args.now x) made ∙ completed_lacks_nothing t.state c.args.now c.args.opened c.args.password.now in
     err_implies (λ (r : Refused). IsFirst t (missing t.state c.args.now o') r.fault) (λ (r : Refused). IsFinal r.fault)
     (λ r h. final_of_first t (missing t.state c.args.now o') r.fault none h) c.decide.result c.decide.ensures.first
+
+-- nothing was derived
+pub returns-then-is_err-clause-unchanged : goal.returns-then-is_err-clause-unchanged
+returns-then-is_err-clause-unchanged g c = ?
