@@ -1,10 +1,9 @@
 -- What a call under the lock tells its caller.
-use Rattle.std.proofs.Common.{◌≡◌, ◌≢◌, ◌++◌, ◌∷◌, ℕ, List, [], sym, ◌∙◌, subst}
+use Rattle.std.proofs.Common.{◌≡◌, ◌++◌, ◌∷◌, ℕ, List, [], ◌∙◌}
 use Rattle.std.specs.Prelude.{Option}
 use Rattle.chpw_rules.specs.declared.name.Name.{Name}
 use Rattle.chpw_table.specs.declared.times.Moment.{Moment}
 use Rattle.chpw_table.specs.declared.request.Opened.{Opened}
-use Rattle.chpw_table.specs.declared.history.Entry.{Entry}
 use Rattle.chpw_table.specs.declared.table.Lookup.{Lookup}
 use Rattle.chpw_table.specs.declared.verdict.Verdict.{Verdict}
 use Rattle.chpw_table.specs.declared.outcome.DecideFault.{DecideFault}
@@ -15,9 +14,9 @@ use Rattle.chpw_table.specs.Refusals.{IsFirst}
 use Rattle.chpw_table.specs.Lookups.{lookup_of}
 use Rattle.chpw_table.specs.History.{IsLegal, missing, outcome}
 use Rattle.chpw_table.proofs.AgreementLemmas.{same_missing}
-use Rattle.chpw_decider.specs.Deciding.{AddsReceipt, MayBe, IsFinal}
+use Rattle.chpw_decider.specs.Deciding.{AddsReceipt, IsFinal}
 use Rattle.chpw_decider.specs.Entered.{AsksFor}
-use Rattle.chpw_book.specs.Passes.{Carried, refused_with}
+use Rattle.chpw_book.specs.Passes.{Carried}
 use Rattle.chpw_book.specs.Receipts.{receipt_of}
 use Rattle.chpw_book.specs.Stored.{Stored, Replays, Adds}
 use Rattle.chpw_book.specs.Calls.{Notes, AsksAfter, IsShown}

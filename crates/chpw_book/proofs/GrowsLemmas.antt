@@ -1,6 +1,6 @@
 -- One more entry keeps what a book's type says.
-use Rattle.std.proofs.Common.{◌≡◌, ◌≢◌, ℕ, zero, suc, ◌+◌, ◌-◌, ◌^◌, ◌<◌, ◌≤◌, List, [], ◌∷◌, ◌++◌, length, map, Bool, true, false, ◌||◌, ◌&&◌, ◌==◌, if◌then◌else◌, Option, Some, None, refl, sym, ◌∙◌, ap, subst, arith, append_assoc, append-nil, length-append, slice_index, slice_set, length-set, add-zero, zero-add}
-use Rattle.std.specs.Prelude.{IfSome, All, count_by, filter}
+use Rattle.std.proofs.Common.{◌≡◌, ◌≢◌, ℕ, zero, suc, ◌+◌, ◌-◌, ◌^◌, ◌<◌, ◌≤◌, List, [], ◌∷◌, ◌++◌, length, map, Bool, true, false, ◌==◌, if◌then◌else◌, Option, refl, sym, ◌∙◌, ap, subst, arith, append-nil, length-append, slice_index, slice_set, length-set, add-zero, zero-add}
+use Rattle.std.specs.Prelude.{IfSome, All, count_by}
 use Rattle.std.specs.Option.{option_map}
 use Rattle.std.specs.List.{range_with_len}
 use Rattle.std.proofs.lemmas.Bool.Decides.{nat_tests}
@@ -8,20 +8,16 @@ use Rattle.std.proofs.lemmas.Grind.{get_or-set_at}
 use Rattle.std.proofs.lemmas.List.{get_or-set_other, map-append}
 use Rattle.std.proofs.lemmas.List.Elements.{filter-append, All-append, All-cons, All-nil}
 use Rattle.std.proofs.lemmas.List.Sums.{sum_by-append, count_by-le-length}
-use Rattle.chpw_table.specs.declared.times.Moment.{Moment}
 use Rattle.chpw_table.specs.declared.request.Opened.{Opened}
-use Rattle.chpw_table.specs.declared.verdict.Verdict.{Verdict}
-use Rattle.chpw_table.specs.declared.verdict.Verdict.TheVariants.{Broken}
 use Rattle.chpw_table.specs.declared.history.Entry.{Entry}
 use Rattle.chpw_table.specs.declared.history.Receipt.{Receipt}
 use Rattle.chpw_table.specs.State.{State}
-use Rattle.chpw_table.specs.Verdicts.{is_done, is_broken}
-use Rattle.chpw_table.specs.Decision.{verdict}
+use Rattle.chpw_table.specs.Verdicts.{is_done}
 use Rattle.chpw_table.specs.Step.{step}
-use Rattle.chpw_table.specs.History.{IsDecided, IsLegal, step_entry, outcome}
+use Rattle.chpw_table.specs.History.{IsDecided, outcome}
 use Rattle.chpw_table.specs.Journal.{journal, appended}
 use Rattle.chpw_table.specs.Agreement.{Held, Agrees}
-use Rattle.chpw_book.specs.Receipts.{IsNumbered, IsCounted, is_of, is_accepted, entries_of, changes_of, receipt_of}
+use Rattle.chpw_book.specs.Receipts.{IsNumbered, IsCounted, is_of, is_accepted, entries_of}
 use Rattle.chpw_book.specs.Stored.{Stored, Replays}
 use Rattle.chpw_decider.proofs.KeepingLemmas.{legal_on, outcome_on, journal_on, journal_goes_on}
 

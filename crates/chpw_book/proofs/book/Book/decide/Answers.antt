@@ -1,15 +1,17 @@
-use Rattle.std.proofs.Common.{rules, arith, ap, sym, refl, subst, ℕ, ◌∙◌, ◌≡◌, ◌+◌, ◌-◌, ◌^◌, ◌<◌, ◌≤◌, ◌++◌, ◌∷◌, List, [], length, length-set, slice_index, slice_set, w32, Fits}
+use Rattle.std.proofs.Common.{rules, arith, ap, sym, refl, subst, ℕ, ◌∙◌, ◌≡◌, ◌+◌, ◌<◌, ◌++◌, ◌∷◌, List, [], length, slice_set}
 use Rattle.chpw_table.specs.declared.request.Opened.{Opened}
 use Rattle.chpw_table.specs.declared.history.Entry.{Entry}
 use Rattle.chpw_table.specs.declared.history.Receipt.{Receipt}
 use Rattle.chpw_table.specs.State.{State}
-use Rattle.chpw_table.specs.History.{outcome}
+use Rattle.chpw_table.specs.History.{IsLegal, missing, outcome}
+use Rattle.chpw_table.specs.Refusals.{IsFirst}
+use Rattle.chpw_table.specs.declared.outcome.DecideFault.TheVariants.{NeedKeys}
 use Rattle.chpw_book.specs.Receipts.{changes_of, entries_of, receipt_of}
-use Rattle.chpw_book.specs.Stored.{Stored, Replays, Adds}
+use Rattle.chpw_book.specs.Stored.{Stored, Replays}
 use Rattle.chpw_book.specs.Passes.{Carried}
 use Rattle.chpw_decider.proofs.KeepingLemmas.{legal_on}
 use Rattle.chpw_book.proofs.CallLemmas.{notes_of_adds, asks_of_first}
-use Rattle.chpw_book.proofs.GrowsLemmas.{put_entry_as, put_receipt_as, kept_next, short, short_count, short_changes}
+use Rattle.chpw_book.proofs.GrowsLemmas.{put_entry_as, put_receipt_as, kept_next, short, short_count}
 use Rattle.chpw_book.proofs.book.Book.decide.Goals as goal
 
 pub count_call-number-requires-clause-room : goal.count_call-number-requires-clause-room
@@ -83,6 +85,7 @@ returns-clause-adds g c =
     }
 
 pub returns-clause-notes : goal.returns-clause-notes
+unfolding returns-clause-adds
 returns-clause-notes g c =
     let opening : State = g.D.DeskName.opening in
     let b : Stored = record { table = c.self.inside.journaled.table; history = c.self.inside.history.items; counts = c.self.inside.counts.items; changes = c.self.inside.changes; total = c.self.inside.totals.total; told = g.S.JournalSink.told c.self.inside.journaled.sink } in
@@ -91,9 +94,10 @@ returns-clause-notes g c =
     let e : Entry = record { worker = c.pass.inside.worker; number = c.count_call-number.result; now = c.args.now; opened = c.args.opened; io_failed = made.io_failed; verdict = made.verdict } in
     let history = ap (λ (x : Stored). x.history) c.self.view_is in
     let legal = legal_on opening b.history e kept.legal (c.in_ok-outcome.ensures.legal (outcome opening b.history) kept.agrees) in
-    notes_of_adds opening _ _ _ _ _ _ _ (returns-clause-adds g c) (rw (← history) legal)
+    notes_of_adds opening _ _ _ _ _ _ _ (returns-clause-adds g c) (subst (λ (es : List Entry). IsLegal opening (es ++ e ∷ [])) history legal)
 
 pub returns-then-not-is_empty-clause-asks : goal.returns-then-not-is_empty-clause-asks
 returns-then-not-is_empty-clause-asks g c =
     let b : Stored = record { table = c.self.inside.journaled.table; history = c.self.inside.history.items; counts = c.self.inside.counts.items; changes = c.self.inside.changes; total = c.self.inside.totals.total; told = g.S.JournalSink.told c.self.inside.journaled.sink } in
-    asks_of_first g.D.DeskName.opening g.D.DeskName.workers b c.args.now c.args.opened _ c.self.invariant.0 (search rules)
+    let first : IsFirst b.table (missing b.table.state c.args.now c.args.opened) (NeedKeys c.missing-missing.result) = search rules in
+    rw c.refused-then-not-is_empty.ensures.value (asks_of_first g.D.DeskName.opening g.D.DeskName.workers b c.args.now c.args.opened (NeedKeys c.missing-missing.result) c.self.invariant.0 first)

@@ -1,11 +1,11 @@
-use Rattle.std.proofs.Common.{◌≡◌, [], rules, ◌∙◌, ap}
+use Rattle.std.proofs.Common.{◌≡◌, [], rules, ◌∙◌, ap, sym}
 use Rattle.chpw_table.specs.declared.request.Opened.{Opened}
 use Rattle.chpw_table.specs.declared.outcome.Refused.{Refused}
 use Rattle.chpw_table.specs.History.{missing}
 use Rattle.chpw_table.specs.Refusals.{IsFirst}
 use Rattle.chpw_table.specs.Completing.{completed}
 use Rattle.chpw_decider.specs.Deciding.{IsFinal}
-use Rattle.chpw_decider.proofs.CompletingLemmas.{completed_lacks_nothing, err_implies}
+use Rattle.chpw_decider.proofs.CompletingLemmas.{completed_by_none, completed_lacks_nothing, err_implies}
 use Rattle.chpw_book.proofs.CallLemmas.{final_of_first}
 use Rattle.chpw_book.proofs.book.Book.decide_deriving.Goals as goal
 
@@ -21,4 +21,6 @@ returns-clause-never g c =
 
 -- nothing was derived
 pub returns-then-is_err-clause-unchanged : goal.returns-then-is_err-clause-unchanged
-returns-then-is_err-clause-unchanged g c = ?
+returns-then-is_err-clause-unchanged g c =
+    let same : c.complete.new.self ≡ c.args.opened = search rules in
+    rw c.refused-then-is_err.ensures.value (search rules, search rules, ([], same ∙ sym (completed_by_none c.args.password.now c.args.opened)))
