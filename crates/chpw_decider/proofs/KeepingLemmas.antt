@@ -16,15 +16,15 @@ use Rattle.chpw_table.specs.Verdicts.{is_done}
 use Rattle.chpw_decider.specs.Keeping.{Kept, IsKept, AreOwn, OwnAreCalls, entries, basis_after}
 use Rattle.chpw_decider.specs.Entered.{receipt_behind}
 
-legal_on : (s : State) (es : List Entry) (e : Entry) → IsLegal s es → IsDecided (outcome s es) e.now e.opened e.io_failed e.verdict → IsLegal s (es ++ e ∷ [])
+pub legal_on : (s : State) (es : List Entry) (e : Entry) → IsLegal s es → IsDecided (outcome s es) e.now e.opened e.io_failed e.verdict → IsLegal s (es ++ e ∷ [])
 legal_on s [] e h d = (d, tt)
 legal_on s (x ∷ xs) e h d = (h.0, legal_on (step_entry s x) xs e h.1 d)
 
-outcome_on : (s : State) (es : List Entry) (e : Entry) → outcome s (es ++ e ∷ []) ≡ step_entry (outcome s es) e
+pub outcome_on : (s : State) (es : List Entry) (e : Entry) → outcome s (es ++ e ∷ []) ≡ step_entry (outcome s es) e
 outcome_on s [] e = refl
 outcome_on s (x ∷ xs) e = outcome_on (step_entry s x) xs e
 
-journal_on : (s : State) (es : List Entry) (e : Entry) → journal s (es ++ e ∷ []) ≡ journal s es ++ appended (outcome s es) e.opened e.verdict
+pub journal_on : (s : State) (es : List Entry) (e : Entry) → journal s (es ++ e ∷ []) ≡ journal s es ++ appended (outcome s es) e.opened e.verdict
 journal_on s [] e = append-nil (appended s e.opened e.verdict)
 journal_on s (x ∷ xs) e =
     ap (λ (ys : List ℕ). appended s x.opened x.verdict ++ ys) (journal_on (step_entry s x) xs e)
@@ -81,7 +81,7 @@ basis_few_from basis (x ∷ xs) =
 pub basis_few : (rs : List Receipt) → basis_after 0 rs ≤ length rs
 basis_few rs = let h = basis_few_from 0 rs in omega (arith, h)
 
-journal_goes_on : (old new : Option (List ℕ)) (js more : List ℕ) → IfSome old (λ bytes. bytes ≡ js) → new ≡ option_map (λ xs. xs ++ more) old → IfSome new (λ bytes. bytes ≡ js ++ more)
+pub journal_goes_on : (old new : Option (List ℕ)) (js more : List ℕ) → IfSome old (λ bytes. bytes ≡ js) → new ≡ option_map (λ xs. xs ++ more) old → IfSome new (λ bytes. bytes ≡ js ++ more)
 journal_goes_on None new js more h e = subst (λ (o : Option (List ℕ)). IfSome o (λ bytes. bytes ≡ js ++ more)) (sym e) tt
 journal_goes_on (Some xs) new js more h e = subst (λ (o : Option (List ℕ)). IfSome o (λ bytes. bytes ≡ js ++ more)) (sym e) (ap (λ (ys : List ℕ). ys ++ more) h)
 

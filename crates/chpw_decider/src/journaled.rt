@@ -62,4 +62,19 @@ impl<S: JournalSink> JournaledTable<S> {
     {
         self.table.lookup(name)
     }
+
+    /// The table.
+    pub fn table(&self) -> &Table
+        ensures value { result.now ≡ self.now.table }
+    {
+        &self.table
+    }
+
+    /// Both apart.
+    pub fn into_parts(self) -> (Table, S)
+        ensures value { result ≡ (self.table, self.sink) }
+    {
+        let JournaledTable { table, sink } = self;
+        (table, sink)
+    }
 }

@@ -5,5 +5,5 @@ mod copies;
 mod counts;
 mod decisions;
 mod digests;
-mod realm;
+pub(crate) mod realm;
 mod records;

@@ -1,0 +1,159 @@
+-- One more entry keeps what a book's type says.
+use Rattle.std.proofs.Common.{◌≡◌, ◌≢◌, ℕ, zero, suc, ◌+◌, ◌-◌, ◌^◌, ◌<◌, ◌≤◌, List, [], ◌∷◌, ◌++◌, length, map, Bool, true, false, ◌==◌, if◌then◌else◌, Option, refl, sym, ◌∙◌, ap, subst, arith, append-nil, length-append, slice_index, slice_set, length-set, add-zero, zero-add}
+use Rattle.std.specs.Prelude.{IfSome, All, count_by}
+use Rattle.std.specs.Option.{option_map}
+use Rattle.std.specs.List.{range_with_len}
+use Rattle.std.proofs.lemmas.Bool.Decides.{nat_tests}
+use Rattle.std.proofs.lemmas.Grind.{get_or-set_at}
+use Rattle.std.proofs.lemmas.List.{get_or-set_other, map-append}
+use Rattle.std.proofs.lemmas.List.Elements.{filter-append, All-append, All-cons, All-nil}
+use Rattle.std.proofs.lemmas.List.Sums.{sum_by-append, count_by-le-length}
+use Rattle.chpw_table.specs.declared.request.Opened.{Opened}
+use Rattle.chpw_table.specs.declared.history.Entry.{Entry}
+use Rattle.chpw_table.specs.declared.history.Receipt.{Receipt}
+use Rattle.chpw_table.specs.State.{State}
+use Rattle.chpw_table.specs.Verdicts.{is_done}
+use Rattle.chpw_table.specs.Step.{step}
+use Rattle.chpw_table.specs.History.{IsDecided, outcome}
+use Rattle.chpw_table.specs.Journal.{journal, appended}
+use Rattle.chpw_table.specs.Agreement.{Held, Agrees}
+use Rattle.chpw_book.specs.Receipts.{IsNumbered, IsCounted, is_of, is_accepted, entries_of}
+use Rattle.chpw_book.specs.Stored.{Stored, Replays}
+use Rattle.chpw_decider.proofs.KeepingLemmas.{legal_on, outcome_on, journal_on, journal_goes_on}
+
+-- ---- the workers' entries
+
+entries_more : (w : ℕ) (es : List Entry) (e : Entry) → entries_of w (es ++ e ∷ []) ≡ (if is_of w e then entries_of w es ++ e ∷ [] else entries_of w es)
+entries_more w es e = filter-append (is_of w) es (e ∷ []) ∙ at (is_of w e)
+  where
+    at : (b : Bool) → entries_of w es ++ (if b then e ∷ [] else []) ≡ (if b then entries_of w es ++ e ∷ [] else entries_of w es)
+    at true = refl
+    at false = append-nil (entries_of w es)
+
+mine_more : (w : ℕ) (es : List Entry) (e : Entry) → (e.worker == w) ≡ true → entries_of w (es ++ e ∷ []) ≡ entries_of w es ++ e ∷ []
+mine_more w es e is = entries_more w es e ∙ ap (λ (b : Bool). if b then entries_of w es ++ e ∷ [] else entries_of w es) is
+
+others_stay : (w : ℕ) (es : List Entry) (e : Entry) → (e.worker == w) ≡ false → entries_of w (es ++ e ∷ []) ≡ entries_of w es
+others_stay w es e is = entries_more w es e ∙ ap (λ (b : Bool). if b then entries_of w es ++ e ∷ [] else entries_of w es) is
+
+one_longer : {A : Type 0} (xs : List A) (x : A) → length (xs ++ x ∷ []) ≡ length xs + 1
+one_longer xs x = length-append xs (x ∷ [])
+
+range_more : (a n : ℕ) → range_with_len a (n + 1) ≡ range_with_len a n ++ (a + n) ∷ []
+range_more a zero = ap (λ k. k ∷ []) (sym (add-zero a))
+range_more a (suc n) =
+    let same : (a + 1) + n ≡ a + suc n = omega arith in
+    let more : suc n + 1 ≡ suc (n + 1) = omega arith in
+    ap (range_with_len a) more ∙ ap (λ xs. a ∷ xs) (range_more (a + 1) n ∙ ap (λ k. range_with_len (a + 1) n ++ k ∷ []) same)
+
+numbers_more : (es : List Entry) (e : Entry) → map (λ (x : Entry). x.number) es ≡ range_with_len 1 (length es) → e.number ≡ length es + 1
+    → map (λ (x : Entry). x.number) (es ++ e ∷ []) ≡ range_with_len 1 (length (es ++ e ∷ []))
+numbers_more es e h n =
+    let next : e.number ≡ 1 + length es = omega (arith, n) in
+    map-append (λ (x : Entry). x.number) es (e ∷ [])
+    ∙ (ap (λ xs. xs ++ e.number ∷ []) h
+    ∙ (ap (λ k. range_with_len 1 (length es) ++ k ∷ []) next
+    ∙ (sym (range_more 1 (length es)) ∙ ap (range_with_len 1) (sym (one_longer es e)))))
+
+pub numbered_more : (es : List Entry) (e : Entry) → IsNumbered es → e.number ≡ length (entries_of e.worker es) + 1 → IsNumbered (es ++ e ∷ [])
+numbered_more es e h n w = at (e.worker == w) refl
+  where
+    at : (b : Bool) → (e.worker == w) ≡ b → map (λ (x : Entry). x.number) (entries_of w (es ++ e ∷ [])) ≡ range_with_len 1 (length (entries_of w (es ++ e ∷ [])))
+    at true is =
+        let same : e.worker ≡ w = grind (arith, nat_tests) in
+        let number : e.number ≡ length (entries_of w es) + 1 = n ∙ ap (λ v. length (entries_of v es) + 1) same in
+        rw (mine_more w es e is) (numbers_more (entries_of w es) e (h w) number)
+    at false is = rw (others_stay w es e is) (h w)
+
+count_at : (counts : List ℕ) (es : List Entry) (e : Entry) (w : ℕ) → IsCounted counts es → e.worker < length counts → w < length counts → (b : Bool) → (e.worker == w) ≡ b
+    → slice_index (slice_set counts e.worker (slice_index counts e.worker + 1)) w ≡ length (entries_of w (es ++ e ∷ []))
+count_at counts es e w h l below true is =
+    let same : w ≡ e.worker = grind (arith, nat_tests) in
+    get_or-set_at counts e.worker w (slice_index counts e.worker + 1) 0 same l
+    ∙ (ap (λ n. n + 1) (h.counts_are e.worker l ∙ ap (λ v. length (entries_of v es)) (sym same))
+    ∙ (sym (one_longer (entries_of w es) e) ∙ ap (λ (xs : List Entry). length xs) (sym (mine_more w es e is))))
+count_at counts es e w h l below false is =
+    let apart : w ≢ e.worker = grind (arith, nat_tests) in
+    get_or-set_other counts e.worker w (slice_index counts e.worker + 1) 0 apart ∙ (h.counts_are w below ∙ ap (λ (xs : List Entry). length xs) (sym (others_stay w es e is)))
+
+pub counted_more : (counts : List ℕ) (es : List Entry) (e : Entry) → IsCounted counts es → e.worker < length counts → IsCounted (slice_set counts e.worker (slice_index counts e.worker + 1)) (es ++ e ∷ [])
+counted_more counts es e h l = record {
+  counts_are = λ w below. count_at counts es e w h l (simp length-set at below) (e.worker == w) refl;
+  workers =
+      let P : Entry → Type 0 = λ x. x.worker < length counts in
+      let all : All P (es ++ e ∷ []) = All-append P es (e ∷ []) h.workers (All-cons P e [] l (All-nil P)) in
+      subst (λ (n : ℕ). All (λ (x : Entry). x.worker < n) (es ++ e ∷ [])) (sym (length-set counts e.worker (slice_index counts e.worker + 1))) all;
+}
+
+-- a worker has no more entries than there are
+pub few_entries : (w : ℕ) (es : List Entry) → length (entries_of w es) ≤ length es
+few_entries w [] = omega arith
+few_entries w (e ∷ es) = at (is_of w e) (few_entries w es)
+  where
+    at : (b : Bool) → length (entries_of w es) ≤ length es → length (if b then e ∷ entries_of w es else entries_of w es) ≤ length (e ∷ es)
+    at true h = omega (arith, h)
+    at false h = omega (arith, h)
+
+count_more : (p : Entry → Bool) (es : List Entry) (e : Entry) → count_by p (es ++ e ∷ []) ≡ (if p e then count_by p es + 1 else count_by p es)
+count_more p es e =
+    sum_by-append (λ x. if p x then 1 else 0) es (e ∷ [])
+    ∙ (ap (λ n. count_by p es + n) (zero-add (if p e then 1 else 0))
+    ∙ elim (p e) as (λ b. count_by p es + (if b then 1 else 0) ≡ (if b then count_by p es + 1 else count_by p es)) [ true ↦ refl | false ↦ add-zero (count_by p es) ])
+
+-- ---- all together
+
+pub kept_more : (opening : State) (workers : ℕ) (b : Stored) (e : Entry) (t : Held) (n : ℕ) (told : Option (List ℕ))
+    → Replays opening workers b
+    → IsDecided (outcome opening b.history) e.now e.opened e.io_failed e.verdict
+    → Agrees t.state (step (outcome opening b.history) e.now e.opened e.io_failed)
+    → told ≡ option_map (λ xs. xs ++ appended (outcome opening b.history) e.opened e.verdict) b.told
+    → e.worker < length b.counts → e.number ≡ slice_index b.counts e.worker + 1
+    → t.events ≡ b.table.events + 1 → n ≡ b.total + 1
+    → Replays opening workers (record { table = t; history = b.history ++ e ∷ []; counts = slice_set b.counts e.worker (slice_index b.counts e.worker + 1); changes = if is_done e.verdict then b.changes + 1 else b.changes; total = n; told = told })
+kept_more opening workers b e t n told k decided agrees tells below number events total = record {
+  legal = legal_on opening b.history e k.legal decided;
+  agrees = subst (λ (z : State). Agrees t.state z) (sym (outcome_on opening b.history e)) agrees;
+  numbered = numbered_more b.history e k.numbered (number ∙ ap (λ c. c + 1) (k.counted.counts_are e.worker below));
+  counted = counted_more b.counts b.history e k.counted below;
+  all = length-set b.counts e.worker (slice_index b.counts e.worker + 1) ∙ k.all;
+  changes = ap (λ c. if is_done e.verdict then c + 1 else c) k.changes ∙ sym (count_more is_accepted b.history e);
+  total = total ∙ (ap (λ c. c + 1) k.total ∙ sym (one_longer b.history e));
+  journal =
+      subst (λ (js : List ℕ). IfSome told (λ bytes. bytes ≡ js)) (sym (journal_on opening b.history e))
+      (journal_goes_on b.told told (journal opening b.history) (appended (outcome opening b.history) e.opened e.verdict) k.journal tells);
+  room = let a = one_longer b.history e in let r = k.room in omega (arith, a, r, events);
+}
+
+pub kept_next : (opening : State) (workers : ℕ) (b : Stored) (e : Entry) (t : Held) (es : List Entry) (counts : List ℕ) (changes n : ℕ) (told : Option (List ℕ))
+    → Replays opening workers b
+    → IsDecided (outcome opening b.history) e.now e.opened e.io_failed e.verdict
+    → Agrees t.state (step (outcome opening b.history) e.now e.opened e.io_failed)
+    → told ≡ option_map (λ xs. xs ++ appended (outcome opening b.history) e.opened e.verdict) b.told
+    → e.worker < length b.counts → e.number ≡ slice_index b.counts e.worker + 1
+    → t.events ≡ b.table.events + 1
+    → es ≡ b.history ++ e ∷ [] → counts ≡ slice_set b.counts e.worker (slice_index b.counts e.worker + 1) → changes ≡ (if is_done e.verdict then b.changes + 1 else b.changes) → n ≡ b.total + 1
+    → Replays opening workers (record { table = t; history = es; counts = counts; changes = changes; total = n; told = told })
+kept_next opening workers b e t es counts changes n told k decided agrees tells below number events h c d total =
+    rw (h, c, d) (kept_more opening workers b e t n told k decided agrees tells below number events total)
+
+-- a book's numbers stay below 2 ^ 32 while its table's do
+pub short : (opening : State) (workers : ℕ) (b : Stored) (later : ℕ) → Replays opening workers b → later ≡ b.table.events + 1 → later < 2 ^ 32 → length b.history < 2 ^ 32 - 1
+short opening workers b later k next few = let r = k.room in omega (arith, r, next, few)
+
+pub short_count : (opening : State) (workers : ℕ) (b : Stored) (w : ℕ) → Replays opening workers b → w < length b.counts → length b.history < 2 ^ 32 - 1 → slice_index b.counts w < 2 ^ 32 - 1
+short_count opening workers b w k below h = let c = k.counted.counts_are w below in let f = few_entries w b.history in omega (arith, c, f, h)
+
+pub short_changes : (opening : State) (workers : ℕ) (b : Stored) → Replays opening workers b → length b.history < 2 ^ 32 - 1 → b.changes < 2 ^ 32 - 1
+short_changes opening workers b k h = let c = k.changes in let f = count_by-le-length is_accepted b.history in omega (arith, c, f, h)
+
+-- ---- what is put behind, with its parts named otherwise
+
+pub put_entry_as : (made : Opened → Entry) (later now before : List Entry) (o u : Opened) → later ≡ now ++ made o ∷ [] → now ≡ before → o ≡ u → later ≡ before ++ made u ∷ []
+put_entry_as made later now before o u h same is = h ∙ (ap (λ (xs : List Entry). xs ++ made o ∷ []) same ∙ ap (λ (x : Opened). before ++ made x ∷ []) is)
+
+pub put_receipt_as : (made : ℕ → ℕ → Opened → Receipt) (later now before : List Receipt) (p q n m : ℕ) (o u : Opened) → later ≡ now ++ made p n o ∷ [] → now ≡ before → p ≡ q → n ≡ m → o ≡ u → later ≡ before ++ made q m u ∷ []
+put_receipt_as made later now before p q n m o u h same position basis is =
+    h ∙ (ap (λ (xs : List Receipt). xs ++ made p n o ∷ []) same
+    ∙ (ap (λ (k : ℕ). before ++ made k n o ∷ []) position
+    ∙ (ap (λ (k : ℕ). before ++ made q k o ∷ []) basis
+    ∙ ap (λ (x : Opened). before ++ made q m x ∷ []) is)))

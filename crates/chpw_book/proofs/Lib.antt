@@ -1,0 +1,4 @@
+pub mod GrowsLemmas
+pub mod AgreeLemmas
+pub mod CloseLemmas
+pub mod CallLemmas

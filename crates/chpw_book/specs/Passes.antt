@@ -1,0 +1,22 @@
+-- What a worker holds of a desk.
+use Rattle.std.specs.Prelude.{ℕ, List, [], Bool, true, false}
+use Rattle.chpw_table.specs.declared.history.Receipt.{Receipt}
+use Rattle.chpw_table.specs.declared.outcome.DecideFault.{DecideFault}
+use Rattle.chpw_table.specs.declared.outcome.DecideFault.TheVariants.{Full, NeedKeys, Memory}
+
+-- its worker, its receipts, its share of the ledger, and whether it was told that the history is full
+pub record Carried : Type 0 where
+  pub worker : ℕ
+  pub receipts : List Receipt
+  pub share : ℕ
+  pub was_full : Bool
+
+-- a worker's pass at the start
+abbrev pub new_pass : ℕ → Carried
+new_pass w = record { worker = w; receipts = []; share = 0; was_full = false }
+
+-- of the refusals only Full is noted
+abbrev pub refused_with : DecideFault → Carried → Carried
+refused_with Full p = record p { was_full = true }
+refused_with (NeedKeys counts) p = p
+refused_with Memory p = p

@@ -1,0 +1,20 @@
+//! The book that several workers share under a lock, and the desk at which each decides with a pass of
+//! its own.
+#![tactic(auto)]
+
+mod agreeing;
+mod at_desk;
+mod book;
+mod closing;
+mod deciding;
+mod desk;
+mod naming;
+mod pass;
+
+pub use agreeing::agree;
+pub use at_desk::AtDesk;
+pub use book::Book;
+pub use closing::{CloseFault, CloseRefused, Closed};
+pub use desk::Desk;
+pub use naming::DeskName;
+pub use pass::Pass;
