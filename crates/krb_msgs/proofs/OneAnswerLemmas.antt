@@ -36,7 +36,8 @@ use Rattle.krb_msgs.specs.OneAnswer.{ApReqsOpenOnce, AreProtocolKeys, IsOne, Pri
 use Rattle.krb_msgs.specs.declared.service_keys.ServiceKey.{ServiceKey}
 use Rattle.krb_msgs.proofs.InverseLemmas.{TellsApart, ap_rep_apart, ap_rep_part_apart, ap_req_apart, authenticator_apart, error_apart, krb_priv_apart, priv_part_apart, ticket_part_apart}
 use Rattle.krb_msgs.proofs.OpenedLemmas.{found_passes, held_passes, then_passes}
-use Rattle.krb_msgs.proofs.UniqueLemmas.{ok_is, one_found, one_held, one_passed, one_some, one_then, some_is}
+use Rattle.krb_msgs.proofs.AnswerLemmas.{ok_is}
+use Rattle.krb_msgs.proofs.UniqueLemmas.{one_found, one_held, one_passed, one_some, one_then, some_is}
 
 -- ---- parts
 

@@ -1,5 +1,5 @@
 -- What follows where checks pass: the time of the authenticator can be written again.
-use Rattle.std.proofs.Common.{◌≡◌, ℕ, true, List, Option, Some, None, option_map, rules, sym, subst, ap, ◌∙◌, ℤ, pos, Result, Ok, Err}
+use Rattle.std.proofs.Common.{◌≡◌, ℕ, true, List, Option, Some, None, option_map, sym, subst, ap, ◌∙◌, ℤ, pos, Result, Ok}
 use Rattle.std.specs.Prelude.{is_some}
 use Rattle.krb_elements.specs.Shapes.{Shape, Value, ◌&◌, field, option, nothing, tagged, kerberos_time, microseconds, seq_number}
 use Rattle.krb_elements.specs.Grammar.{IsElement, IsOptional, Spells}
@@ -17,23 +17,10 @@ use Rattle.krb_msgs.specs.ApExchange.{OpensAp}
 use Rattle.krb_msgs.specs.Fitting.{OpenedTimesFit}
 use Rattle.krb_msgs.specs.declared.ap_exchange.ApOpened.{ApOpened}
 use Rattle.krb_elements.specs.declared.numbers.SeqNumber.{SeqNumber}
+use Rattle.krb_msgs.proofs.AnswerLemmas.{ok_err, ok_is}
 use Rattle.krb_msgs.proofs.LengthLemmas.{between}
 
 -- ---- checks that pass
-
-value_of : {A F : Type 0} → A → Result A F → A
-value_of other (Ok v) = v
-value_of other (Err e) = other
-
-abbrev done : {A : Type 0} (F : Type 0) → A → Result A F
-done F v = Ok v
-
-ok_is : {A F : Type 0} (v w : A) → done F v ≡ done F w → v ≡ w
-unfolding value_of
-ok_is v w e = ap (value_of v) e
-
-ok_err : {A F : Type 0} {v : A} {e : F} → Ok v ≡ Err e → ⊥
-ok_err h = search rules
 
 pub then_passes : {A X F : Type 0} {first : Result A F → Type 0} {next : A → Result X F → Type 0} {x : X}
     → Then first next (Ok x) → (v : A) × first (Ok v) × next v (Ok x)

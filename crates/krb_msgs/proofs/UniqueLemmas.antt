@@ -1,32 +1,8 @@
 -- Checks in a row leave one answer, where each leaves one value.
-use Rattle.std.proofs.Common.{◌≡◌, rules, sym, subst, ap, ◌∙◌, Result, Ok, Err, Option, Some, None}
+use Rattle.std.proofs.Common.{◌≡◌, sym, subst, ap, ◌∙◌, Result, Ok, Err, Option, Some, None}
 use Rattle.krb_msgs.specs.Checks.{Held, met, unmet, Found, of_one, of_none, Then, goes_on, stops, Passed}
 use Rattle.krb_msgs.specs.OneAnswer.{IsOne}
-
-abbrev good : {A : Type 0} (F : Type 0) → A → Result A F
-good F v = Ok v
-
-abbrev bad : {F : Type 0} (A : Type 0) → F → Result A F
-bad A e = Err e
-
-value_of : {A F : Type 0} → A → Result A F → A
-value_of other (Ok v) = v
-value_of other (Err e) = other
-
-fault_of : {A F : Type 0} → F → Result A F → F
-fault_of other (Ok v) = other
-fault_of other (Err e) = e
-
-pub ok_is : {A F : Type 0} (v w : A) → good F v ≡ good F w → v ≡ w
-unfolding value_of
-ok_is v w e = ap (value_of v) e
-
-err_is : {A F : Type 0} (e f : F) → bad A e ≡ bad A f → e ≡ f
-unfolding fault_of
-err_is e f same = ap (fault_of e) same
-
-pub ok_err : {A F : Type 0} {v : A} {e : F} → Ok v ≡ Err e → ⊥
-ok_err h = search rules
+use Rattle.krb_msgs.proofs.AnswerLemmas.{err_is, ok_err, ok_is}
 
 some_of : {A : Type 0} → A → Option A → A
 some_of other None = other

@@ -1,4 +1,4 @@
-use Rattle.std.proofs.Common.{rules, ◌≡◌, ℕ, true, subst, sym, ap, ◌∙◌, Result, Ok, Err}
+use Rattle.std.proofs.Common.{◌≡◌, ℕ, true, subst, sym, ap, ◌∙◌, Result, Ok, Err}
 use Rattle.std.specs.Result.{IfOk}
 use Rattle.krb_elements.specs.Reading.{Gives}
 use Rattle.krb_elements.specs.Texts.{text, fits}
@@ -10,6 +10,7 @@ use Rattle.krb_der.specs.Values.{ticket_value, ap_req_value}
 use Rattle.krb_der.specs.declared.ap_req.ApReq.{ApReq}
 use Rattle.krb_der.specs.declared.ticket.Ticket.{Ticket}
 use Rattle.krb_der.specs.declared.encrypted_data.EncryptedData.{EncryptedData}
+use Rattle.krb_msgs.proofs.AnswerLemmas.{ok_err}
 use Rattle.krb_msgs.proofs.making.make_ap_req.Goals as goal
 
 -- the message of a ticket and a sealed part
@@ -21,10 +22,6 @@ message_of ticket options part = record {
   ticket = ticket;
   authenticator = part;
 }
-
--- an answer isn't both
-ok_err : {A F : Type 0} {v : A} {e : F} → Ok v ≡ Err e → ⊥
-ok_err h = search rules
 
 -- a text that spells a value isn't refused
 not_refused : {X Y : Type 0} (view : X → Y) (f : DerFault) (v : Y) → Gives view (Err (errors.Fault f)) (Ok v) → ⊥
