@@ -13,67 +13,130 @@ use krb_der::{
 };
 use std::alloc::Global;
 
+// A small function for each record, since a check takes far longer for one function with all of them.
 macro_rules! again {
     ($alloc:expr, $text:expr, $read:ident, $write:ident) => {{
         let value = $read($alloc, $text)?;
         if fits(&value) {
-            encode($alloc, $write($alloc, &value)?)?
+            Ok(encode($alloc, $write($alloc, &value)?)?)
         } else {
-            String::from_str($alloc, "does not fit")?
+            Ok(String::from_str($alloc, "does not fit")?)
         }
     }};
+}
+
+fn principal_name(alloc: Global, text: &[u8]) -> Result<String, ReadError> {
+    again!(alloc, text, read_principal_name, write_principal_name)
+}
+
+fn encrypted_data(alloc: Global, text: &[u8]) -> Result<String, ReadError> {
+    again!(alloc, text, read_encrypted_data, write_encrypted_data)
+}
+
+fn encryption_key(alloc: Global, text: &[u8]) -> Result<String, ReadError> {
+    again!(alloc, text, read_encryption_key, write_encryption_key)
+}
+
+fn host_address(alloc: Global, text: &[u8]) -> Result<String, ReadError> {
+    again!(alloc, text, read_host_address, write_host_address)
+}
+
+fn checksum(alloc: Global, text: &[u8]) -> Result<String, ReadError> {
+    again!(alloc, text, read_checksum, write_checksum)
+}
+
+fn transited_encoding(alloc: Global, text: &[u8]) -> Result<String, ReadError> {
+    again!(
+        alloc,
+        text,
+        read_transited_encoding,
+        write_transited_encoding
+    )
+}
+
+fn authorization_data(alloc: Global, text: &[u8]) -> Result<String, ReadError> {
+    again!(
+        alloc,
+        text,
+        read_authorization_data,
+        write_authorization_data
+    )
+}
+
+fn change_passwd_data(alloc: Global, text: &[u8]) -> Result<String, ReadError> {
+    again!(
+        alloc,
+        text,
+        read_change_passwd_data,
+        write_change_passwd_data
+    )
+}
+
+fn ticket(alloc: Global, text: &[u8]) -> Result<String, ReadError> {
+    again!(alloc, text, read_ticket, write_ticket)
+}
+
+fn enc_ticket_part(alloc: Global, text: &[u8]) -> Result<String, ReadError> {
+    again!(alloc, text, read_enc_ticket_part, write_enc_ticket_part)
+}
+
+fn authenticator(alloc: Global, text: &[u8]) -> Result<String, ReadError> {
+    again!(alloc, text, read_authenticator, write_authenticator)
+}
+
+fn ap_req(alloc: Global, text: &[u8]) -> Result<String, ReadError> {
+    again!(alloc, text, read_ap_req, write_ap_req)
+}
+
+fn ap_rep(alloc: Global, text: &[u8]) -> Result<String, ReadError> {
+    again!(alloc, text, read_ap_rep, write_ap_rep)
+}
+
+fn enc_ap_rep_part(alloc: Global, text: &[u8]) -> Result<String, ReadError> {
+    again!(alloc, text, read_enc_ap_rep_part, write_enc_ap_rep_part)
+}
+
+fn krb_priv(alloc: Global, text: &[u8]) -> Result<String, ReadError> {
+    again!(alloc, text, read_krb_priv, write_krb_priv)
+}
+
+fn enc_krb_priv_part(alloc: Global, text: &[u8]) -> Result<String, ReadError> {
+    again!(alloc, text, read_enc_krb_priv_part, write_enc_krb_priv_part)
+}
+
+fn krb_error(alloc: Global, text: &[u8]) -> Result<String, ReadError> {
+    again!(alloc, text, read_krb_error, write_krb_error)
 }
 
 /// The text of the value that a text spells, if there is such a record.
 pub fn again(alloc: Global, record: &str, text: &[u8]) -> Result<Option<String>, ReadError> {
     let written = match record {
-        "principal_name" => again!(alloc, text, read_principal_name, write_principal_name),
-        "encrypted_data" => again!(alloc, text, read_encrypted_data, write_encrypted_data),
-        "encryption_key" => again!(alloc, text, read_encryption_key, write_encryption_key),
-        "host_address" => again!(alloc, text, read_host_address, write_host_address),
-        "checksum" => again!(alloc, text, read_checksum, write_checksum),
-        "transited_encoding" => {
-            again!(
-                alloc,
-                text,
-                read_transited_encoding,
-                write_transited_encoding
-            )
-        }
-        "authorization_data" => {
-            again!(
-                alloc,
-                text,
-                read_authorization_data,
-                write_authorization_data
-            )
-        }
-        "change_passwd_data" => {
-            again!(
-                alloc,
-                text,
-                read_change_passwd_data,
-                write_change_passwd_data
-            )
-        }
+        "principal_name" => principal_name(alloc, text),
+        "encrypted_data" => encrypted_data(alloc, text),
+        "encryption_key" => encryption_key(alloc, text),
+        "host_address" => host_address(alloc, text),
+        "checksum" => checksum(alloc, text),
+        "transited_encoding" => transited_encoding(alloc, text),
+        "authorization_data" => authorization_data(alloc, text),
+        "change_passwd_data" => change_passwd_data(alloc, text),
         _ => return message_again(alloc, record, text),
     };
-    Ok(Some(written))
+    written.map(Some)
 }
 
 /// The same, of messages and their sealed parts.
 fn message_again(alloc: Global, record: &str, text: &[u8]) -> Result<Option<String>, ReadError> {
     let written = match record {
-        "ticket" => again!(alloc, text, read_ticket, write_ticket),
-        "enc_ticket_part" => again!(alloc, text, read_enc_ticket_part, write_enc_ticket_part),
-        "authenticator" => again!(alloc, text, read_authenticator, write_authenticator),
-        "ap_req" => again!(alloc, text, read_ap_req, write_ap_req),
-        "ap_rep" => again!(alloc, text, read_ap_rep, write_ap_rep),
-        "enc_ap_rep_part" => again!(alloc, text, read_enc_ap_rep_part, write_enc_ap_rep_part),
-        "krb_priv" => again!(alloc, text, read_krb_priv, write_krb_priv),
-        "enc_krb_priv_part" => again!(alloc, text, read_enc_krb_priv_part, write_enc_krb_priv_part),
-        "krb_error" => again!(alloc, text, read_krb_error, write_krb_error),
+        "ticket" => ticket(alloc, text),
+        "enc_ticket_part" => enc_ticket_part(alloc, text),
+        "authenticator" => authenticator(alloc, text),
+        "ap_req" => ap_req(alloc, text),
+        "ap_rep" => ap_rep(alloc, text),
+        "enc_ap_rep_part" => enc_ap_rep_part(alloc, text),
+        "krb_priv" => krb_priv(alloc, text),
+        "enc_krb_priv_part" => enc_krb_priv_part(alloc, text),
+        "krb_error" => krb_error(alloc, text),
         _ => return Ok(None),
     };
-    Ok(Some(written))
+    written.map(Some)
 }
