@@ -7,7 +7,7 @@ set -euo pipefail
 cd "$(dirname "$0")/../crates/der_bench"
 export PYTHONPATH=../../bench PYTHONDONTWRITEBYTECODE=1
 rt run >/dev/null
-exec python3 - out/der_bench "${1:-7}" <<'END2'
+exec python3 - out/der_bench "${1:-7}" <<'END'
 import subprocess
 import sys
 
