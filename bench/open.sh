@@ -6,7 +6,7 @@
 set -euo pipefail
 cd "$(dirname "$0")/../crates/open_bench"
 export PYTHONPATH=../../bench PYTHONDONTWRITEBYTECODE=1
-[ -x out/open_bench ] || rt run <stdin >/dev/null
+rt run <stdin >/dev/null
 out/open_bench <stdin
 exec python3 - out/open_bench stdin "${1:-15}" <<'END'
 import sys
