@@ -1,7 +1,8 @@
 //! Serving a stream.
 ghost use Rattle.chpw_answer.specs.Answers.{IsAnswer};
 ghost use Rattle.chpw_serve.specs.Serving.{Answering, AddsOne, message_too_long, IsServed, GoesOn, IsAnswered, IsRefused};
-ghost use Rattle.std.specs.Prelude.{◌≡◌, pos, codes};
+ghost use Rattle.chpw_serve.specs.ServedAlone.{AnsweringAlone, AddsOneAlone, IsServedAlone};
+ghost use Rattle.std.specs.Prelude.{◌≡◌, pos, codes, IfSome};
 ghost use Rattle.chpw_table.specs.Replies.{by_error};
 ghost use Rattle.chpw_answer.specs.Holding.{answer_in};
 
@@ -89,8 +90,33 @@ pub fn serve_alone<R: Read, W: Write, M: Messages, S: JournalSink, C: Clock, X: 
     alone: &mut Alone<S>,
     clock: &mut C,
     words: &mut X,
-) -> Ended {
-    serve_stream(
+) -> Ended
+    ensures served { IsServed (AnsweringAlone (M.error_frame service.now) (M.private_frame service.now) (M.opens service.now peer))
+        AddsOneAlone (λ now. M.error_frame service.now message_too_long now) C.gives X.gives result
+        (record {
+          left = R.remaining reader.old;
+          decider = alone.old;
+          around = record { out = W.contents writer.old; clock = clock.old; words = words.old };
+        })
+        (record {
+          left = R.remaining reader.new;
+          decider = alone.new;
+          around = record { out = W.contents writer.new; clock = clock.new; words = words.new };
+        }) }
+    ensures replies { IfSome (R.remaining reader.old) (λ stream. IsServedAlone (M.error_frame service.now) (M.private_frame service.now)
+        (M.opens service.now peer) C.gives X.gives result stream
+        (record {
+          left = R.remaining reader.old;
+          decider = alone.old;
+          around = record { out = W.contents writer.old; clock = clock.old; words = words.old };
+        })
+        (record {
+          left = R.remaining reader.new;
+          decider = alone.new;
+          around = record { out = W.contents writer.new; clock = clock.new; words = words.new };
+        })) }
+{
+    let ended = serve_stream(
         alloc,
         service,
         peer,
@@ -100,7 +126,10 @@ pub fn serve_alone<R: Read, W: Write, M: Messages, S: JournalSink, C: Clock, X: 
         &mut NoGate,
         clock,
         words,
-    )
+    );
+    // Only `table` and `is_full` show what the history kept is: legal, and no longer than it may be.
+    let _full = alone.table().is_full();
+    ended
 }
 
 /// Reads and answers one message, or ends.
