@@ -1,5 +1,5 @@
-pub mod DrawLemmas
-pub mod ServingLemmas
 pub mod RepliesLemmas
 pub mod ChainLemmas
 pub mod ServedAloneLemmas
+pub mod DrawLemmas
+pub mod ServingLemmas

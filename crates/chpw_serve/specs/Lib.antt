@@ -1,4 +1,4 @@
-pub mod Draws
-pub mod Serving
 pub mod Replies
 pub mod ServedAlone
+pub mod Draws
+pub mod Serving
