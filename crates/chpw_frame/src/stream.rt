@@ -1,5 +1,6 @@
 //! Messages over TCP.
-ghost use Rattle.std.specs.Prelude.{◌≡◌, ◌==◌, ℕ, ◌≤◌, ◌<◌, List, length, drop, if◌then◌else◌, Option, IfOk, OnOk, OnErr};
+ghost use Rattle.std.specs.Prelude.{◌≡◌, ◌==◌, ℕ, ◌≤◌, ◌<◌, List, ◌++◌, length, drop, if◌then◌else◌, Option, IfOk, OnOk, OnErr};
+ghost use Rattle.std.specs.Int.{to_be_bytes, w32};
 ghost use Rattle.std.specs.Io.KnownBytes.{Appends, Consumes, Keeps};
 ghost use Rattle.chpw_frame.specs.Stream.{sent};
 ghost use Rattle.chpw_frame.specs.declared.stream.Received.TheVariants.{Ended, CutOff};
@@ -28,6 +29,10 @@ pub enum Received {
     /// A read failed, or the message took too many.
     ReadFault,
 }
+
+/// Bytes of a message that go out with its length in one write, at the most. There are clients that
+/// take what their first read gives for the whole of a reply, and a reply is shorter than this.
+const FRONT_LEN: usize = 1_020;
 
 /// A write failed, was interrupted or took nothing.
 #[derive(Clone, Copy, PartialEq, Eq, Debug, Drop)]
@@ -153,8 +158,24 @@ pub fn write_tcp<W: Write>(writer: &mut W, bytes: &[u8]) -> Result<(), WriteFaul
     ensures whole { OnOk result (Appends (W.contents writer.old) (W.contents writer.new) (sent bytes.now)) }
     ensures front { OnErr result (AppendsFront (W.contents writer.old) (W.contents writer.new) (sent bytes.now)) }
 {
-    put(writer, &(bytes.len() as u32).to_be_bytes())?;
-    put(writer, bytes)
+    let (front, rest) = bytes.split_at(FRONT_LEN.min(bytes.len()));
+    put_front(writer, bytes.len() as u32, front)?;
+    put(writer, rest)
+}
+
+/// Writes a length and the first bytes of its message, in one write where the writer takes all.
+fn put_front<W: Write>(writer: &mut W, size: u32, front: &[u8]) -> Result<(), WriteFault>
+    requires few { length front.now ≤ 1020 }
+    ensures whole { OnOk result (Appends (W.contents writer.old) (W.contents writer.new)
+        (to_be_bytes w32 size ++ front.now)) }
+    ensures front { OnErr result (AppendsFront (W.contents writer.old) (W.contents writer.new)
+        (to_be_bytes w32 size ++ front.now)) }
+{
+    let mut buffer = [0; 4 + FRONT_LEN];
+    let end = 4 + front.len();
+    buffer[..4].copy_from_slice(&size.to_be_bytes());
+    buffer[4..end].copy_from_slice(front);
+    put(writer, &buffer[..end])
 }
 
 /// Writes all bytes; a write that fails, is interrupted or takes nothing ends it.
