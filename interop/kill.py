@@ -3,11 +3,12 @@
 
     kill.py [--server PROGRAM] [--runs N] [--clients N] [COMMAND WORD ..]
 
-Each of N runs (100) begins with an empty journal. As many clients as there are principals (4) run
-the command again and again, each for a principal of its own, until `kill -9` ends the server at a
-moment drawn at random, up to half a second after the first answer. Then the server is started again on that journal. A change counts as answered
-where the command printed a line that begins with `0 ` or `code 0 `. Each of those has to be in the
-journal, kvno after kvno from 2 on; a client may have one more there, whose answer was lost.
+Each of N runs (100) begins with an empty journal. N clients (4) run the command again and again, each
+for a principal of its own, until `kill -9` ends the server at a moment drawn at random, up to half a
+second after the first answer. Then the server is started again on that journal. A change counts as
+answered where the command printed a line that begins with `0 ` or `code 0 `. Each of those has to be
+in the journal, version after version from 2 on; a client may have one more there, whose answer was
+lost.
 
 In the command's words {config}, {seed}, {port}, {client} and {password} are replaced; the default is
 the service's own client, which needs no KDC. A command may make several changes and print a line

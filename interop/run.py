@@ -3,8 +3,8 @@
 
     run.py [--server PROGRAM] [--keep]
 
-prints a line for each run, `ok: ..` or `FAILED: ..`, and ends with status 1 where any failed. PROGRAM
-is crates/chpw_server/out/chpw_server where it isn't given; --keep leaves the realm's folder.
+prints a line for each run, `ok: ..` or `FAILED: ..`, and ends with status 1 where any failed.
+PROGRAM is crates/chpw_server/out/chpw_server where it isn't given; --keep leaves the realm's folder.
 """
 
 import argparse
@@ -88,8 +88,14 @@ CASES = [
     ),
 ]
 # after the KDC has a new key for the service
-STALE = mit("a key that the service lacks", "alice", "alice", "Mit-pass6", "3 authentication failed",
-            entries=0)
+STALE = mit(
+    "a key that the service lacks",
+    "alice",
+    "alice",
+    "Mit-pass6",
+    "3 authentication failed",
+    entries=0,
+)
 
 
 class Report:
@@ -107,7 +113,7 @@ class Report:
 
 
 def ask(realm, client, case):
-    """What the client prints, its status where it refuses, and what it says of that."""
+    """What the client prints; None where Heimdal's was refused."""
     if case.project == "mit":
         done = realm.run(realm.mit, [client, *case.arguments], variant=case.variant)
         return (done.stdout + done.stderr).strip()
