@@ -3,16 +3,16 @@
 
     kill.py [--server PROGRAM] [--runs N] [--clients N] [COMMAND WORD ..]
 
-Each of N runs (100) begins with an empty journal. N clients (4) run the command again and again, each
-for a principal of its own, until `kill -9` ends the server at a moment drawn at random, up to half a
-second after the first answer. Then the server is started again on that journal. A change counts as
-answered where the command printed a line that begins with `0 ` or `code 0 `. Each of those has to be
-in the journal, version after version from 2 on; a client may have one more there, whose answer was
-lost.
+Each of N runs (100) begins with an empty journal. N clients (4) run the command again and again,
+each for a principal of its own, until `kill -9` ends the server at a moment drawn at random, up to
+half a second after the first answer. Then the server is started again on that journal. A change
+counts as answered where the command printed a line that begins with `0 ` or `code 0 `. Each of
+those has to be in the journal, version after version from 2 on; a client may have one more there,
+whose answer was lost.
 
-In the command's words {config}, {seed}, {port}, {client} and {password} are replaced; the default is
-the service's own client, which needs no KDC. A command may make several changes and print a line
-for each, as soon as it has the answer. Its status is 0 where all were accepted.
+In the command's words {config}, {seed}, {port}, {client} and {password} are replaced; the default
+is the service's own client, which needs no KDC. A command may make several changes and print a
+line for each, as soon as it has the answer. Its status is 0 where all were accepted.
 """
 
 import argparse
@@ -107,7 +107,7 @@ class Changes(threading.Thread):
 
 
 def killed(server, command, names):
-    """The clients, once the server was killed under them."""
+    """The clients, once the server was killed under them, and what went wrong before."""
     server.start(connections=1_000_000)
     clients = [Changes(server, command, name) for name in names]
     for client in clients:
@@ -119,21 +119,23 @@ def killed(server, command, names):
     server.end()
     for client in clients:
         client.join()
-    for client in early:
-        raise RuntimeError(f"{client.name}'s command failed before the kill: {client.last}")
-    return clients
+    faults = [f"{client.name}'s command failed before the kill: {client.last}" for client in early]
+    return clients, faults
 
 
 def restarted(server):
-    """The bytes of a torn tail before the restart, the records after it, and what serve says."""
+    """The records after the restart, whether there was a torn tail, and what is wrong."""
     _, torn = read_journal(server.journal.read_bytes())
     server.start(connections=1)
     server.connect()
     words = server.last_words()
     records, tail = read_journal(server.journal.read_bytes())
+    faults = []
+    if words != "entries 0 changes 0":
+        faults.append(f"after the restart: {words}")
     if tail:
-        raise RuntimeError(f"{len(tail)} bytes of a torn tail after the restart")
-    return torn, records, words
+        faults.append(f"after the restart: {len(tail)} bytes of a torn tail")
+    return records, bool(torn), faults
 
 
 def lost(clients, records):
@@ -154,19 +156,17 @@ def lost(clients, records):
 
 
 def one_run(program, command, names):
-    """How many changes were answered, how many are in the journal, and whether a tail was torn."""
+    """How many changes were answered and are in the journal, torn tails, and what is wrong."""
     with tempfile.TemporaryDirectory(prefix="chpw-kill-") as folder:
         server = Server(program, pathlib.Path(folder), WORKERS)
         write_configuration(server.configuration, names)
         try:
-            clients = killed(server, command, names)
-            torn, records, words = restarted(server)
+            clients, early = killed(server, command, names)
+            records, torn, late = restarted(server)
         finally:
             server.end()
-    faults = list(lost(clients, records))
-    if words != "entries 0 changes 0":
-        faults.append(f"after the restart: {words}")
-    return sum(client.answered for client in clients), len(records), bool(torn), faults
+    answered = sum(client.answered for client in clients)
+    return answered, len(records), torn, [*early, *lost(clients, records), *late]
 
 
 def main():

@@ -4,7 +4,8 @@
     run.py [--server PROGRAM] [--keep]
 
 prints a line for each run, `ok: ..` or `FAILED: ..`, and ends with status 1 where any failed.
-PROGRAM is crates/chpw_server/out/chpw_server where it isn't given; --keep leaves the realm's folder.
+PROGRAM is crates/chpw_server/out/chpw_server where it isn't given; --keep leaves the realm's
+folder.
 """
 
 import argparse
