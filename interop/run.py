@@ -15,7 +15,8 @@ import unicodedata
 
 import configuration
 from journal import read_journal
-from realm import REALM, SERVICE, Realm
+from realm import SERVICE, Realm
+from report import Report
 from server import PROGRAM, Server
 
 # what the KDC knows all the time: the service keeps the changes to itself
@@ -99,20 +100,6 @@ STALE = mit(
 )
 
 
-class Report:
-    """Prints a line for each run."""
-
-    def __init__(self):
-        self.failures = 0
-
-    def tell(self, what, found, wanted):
-        if found == wanted:
-            print(f"ok: {what}: {found}", flush=True)
-        else:
-            self.failures += 1
-            print(f"FAILED: {what}: {found!r} and not {wanted!r}", flush=True)
-
-
 def ask(realm, client, case):
     """What the client prints; None where Heimdal's was refused."""
     if case.project == "mit":
@@ -180,8 +167,7 @@ def main():
             run(realm, server, report)
         finally:
             server.end()
-    print(f"{report.failures} failed" if report.failures else f"all ok: {REALM}")
-    sys.exit(1 if report.failures else 0)
+    sys.exit(report.status())
 
 
 if __name__ == "__main__":

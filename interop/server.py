@@ -24,17 +24,21 @@ class Server:
         self.seed.write_bytes(os.urandom(32))
         self.process = None
 
-    def start(self, connections):
+    def command(self, connections):
+        files = ["--config", self.configuration, "--journal", self.journal, "--seed", self.seed]
+        numbers = ["--port", self.port, "--workers", self.workers, "--connections", connections]
+        return [self.program, "serve", *files, *map(str, numbers)]
+
+    def start(self, connections, **options):
         """Until it says that it listens; what it says instead is raised."""
         self.process = subprocess.Popen(
-            [self.program, "serve", "--config", self.configuration, "--journal", self.journal]
-            + ["--seed", self.seed, "--port", str(self.port), "--workers", str(self.workers)]
-            + ["--connections", str(connections)],
+            self.command(connections),
             stdin=subprocess.DEVNULL,
             stdout=subprocess.PIPE,
             stderr=subprocess.PIPE,
             text=True,
             start_new_session=True,
+            **options,
         )
         line = self.process.stdout.readline()
         if line != f"listening on 127.0.0.1:{self.port}\n":
