@@ -39,7 +39,7 @@ def said(server):
 
 
 def at_start(report, server):
-    """Each fault is added to those before it and hides them: the last one is the first looked for."""
+    """Each fault is added to those before it and hides them: it is looked for earlier."""
 
     def wrong(line):
         return f"{line} (status 1)"
