@@ -15,12 +15,14 @@ use Rattle.krb_msgs.specs.PrivateMessages.{OpensPriv}
 use Rattle.krb_msgs.specs.Codes as ap
 use Rattle.chpw_frame.specs.declared.change_data.Change.{Change}
 use Rattle.chpw_frame.specs.declared.change_data.ChangeTarget.{ChangeTarget}
+use Rattle.chpw_frame.specs.declared.fault.FrameFault.{FrameFault}
 use Rattle.chpw_frame.specs.Framing.{request_versions, first_fault, version_of, ap_of, tail_of}
 use Rattle.chpw_frame.specs.ChangeData.{IsChange}
 use Rattle.chpw_frame.specs.Faults as frame
 use Rattle.chpw_rules.specs.declared.name.Name.{Name}
 use Rattle.chpw_table.specs.declared.request.Target.{Target}
 use Rattle.chpw_table.specs.Replies.{by_error}
+use Rattle.chpw_answer.specs.declared.messages.Seal.{Seal}
 use Rattle.chpw_answer.specs.Requests.{Content, new_password, bad_private, bad_data, Request, Opens, refused, opened}
 
 -- ---- the new password
@@ -56,6 +58,10 @@ stamp_in (Err fault) = None
 
 -- ---- the AP-REQ
 
+-- what the reply is made with
+abbrev pub seal_of : ApOpened → Seal
+seal_of a = record { session = a.session; subkey = a.subkey; ctime = a.ctime.0; cusec = a.cusec.0 }
+
 abbrev pub request_of : ApOpened → Option ℤ → Content → Request
 request_of a stamp content = record {
   crealm = a.crealm;
@@ -67,7 +73,7 @@ request_of a stamp content = record {
   ctime = a.ctime.0;
   cusec = a.cusec.0;
   stamp = stamp;
-  seal = record { session = a.session; subkey = a.subkey; ctime = a.ctime.0; cusec = a.cusec.0 };
+  seal = seal_of a;
   content = content;
 }
 
@@ -84,9 +90,14 @@ abbrev pub OpensParts : List ℕ → List ServiceKey → List ℕ → ℕ → Li
 OpensParts realm keys peer version ap_req tail o =
     (a : Result ApOpened ApFault) × OpensAp realm keys ap_req peer a × OpensAs realm version tail a o
 
+-- of one whose frame has this first fault, or none
+abbrev pub OpensFramed : List ℕ → List ServiceKey → List ℕ → List ℕ → Option FrameFault → Opens → Type 0
+OpensFramed realm keys peer bytes (Some fault) o =
+    o ≡ refused (by_error (frame.refusal_of fault).code (frame.refusal_of fault).error (frame.refusal_of fault).text)
+OpensFramed realm keys peer bytes None o =
+    OpensParts realm keys peer (version_of bytes) (ap_of bytes) (tail_of bytes) o
+
 -- of the service's realm and keys, the peer's address and the message
 abbrev pub OpensTo : List ℕ → List ServiceKey → List ℕ → List ℕ → Opens → Type 0
-OpensTo realm keys peer bytes o = elim (first_fault request_versions false bytes) [
-  | Some fault ↦ o ≡ refused (by_error (frame.refusal_of fault).code (frame.refusal_of fault).error (frame.refusal_of fault).text)
-  | None ↦ OpensParts realm keys peer (version_of bytes) (ap_of bytes) (tail_of bytes) o
-]
+OpensTo realm keys peer bytes o =
+    OpensFramed realm keys peer bytes (first_fault request_versions false bytes) o
