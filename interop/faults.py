@@ -1,0 +1,107 @@
+#!/usr/bin/env python3
+"""What `serve` says where something is wrong, and what it does where its journal can't be written.
+
+    faults.py [--server PROGRAM]
+
+prints a line for each case, `ok: ..` or `FAILED: ..`, and ends with status 1 where any failed. It
+needs no packages: the service's own client makes the changes.
+"""
+
+import argparse
+import pathlib
+import resource
+import socket
+import subprocess
+import sys
+import tempfile
+
+from journal import read_journal
+from kill import write_configuration
+from report import Report
+from server import PROGRAM, Server
+
+NAME = "user0"
+# of a change of user0
+RECORD = 66
+
+
+def record(name, kvno):
+    """A record of the journal."""
+    body = b"\1" + kvno.to_bytes(4, "big") + (4096).to_bytes(4, "big") + bytes(48)
+    body += b"\1" + bytes([len(name)]) + name.encode()
+    return len(body).to_bytes(2, "big") + body
+
+
+def said(server):
+    """Standard error and status of a `serve` that ends at once."""
+    done = subprocess.run(server.command(1), capture_output=True, text=True, timeout=30)
+    return f"{done.stderr.strip()} (status {done.returncode})"
+
+
+def at_start(report, server):
+    """Each fault is added to those before it and hides them: it is looked for earlier."""
+
+    def wrong(line):
+        return f"{line} (status 1)"
+
+    with socket.create_server(("127.0.0.1", server.port)):
+        report.tell("a port in use", said(server), wrong("cannot listen"))
+        server.journal.write_bytes(record("zoe", 2))
+        report.tell("a journal of another realm", said(server), wrong("journal: J3 at 1"))
+        server.journal.write_bytes(record(NAME, 2) + record(NAME, 2))
+        report.tell("a record that stands twice", said(server), wrong("journal: J2 at 2"))
+        server.seed.write_bytes(bytes(31))
+        report.tell("a short seed", said(server), wrong(f"cannot read {server.seed}"))
+        text = server.configuration.read_text()
+        server.configuration.write_text(text.replace("depth = 3", "depth = 17"))
+        report.tell("a policy out of range", said(server), wrong("config: C4 policy 0"))
+        server.configuration.unlink()
+        report.tell("no configuration", said(server), wrong(f"cannot read {server.configuration}"))
+
+
+def change(server, number):
+    """What the client prints."""
+    words = ["--config", server.configuration, "--seed", server.seed, "--port", str(server.port)]
+    words += ["--client", NAME, "--password", f"New-pass{number}"]
+    done = subprocess.run([server.program, "client", *words], capture_output=True, text=True)
+    return (done.stdout + done.stderr).strip()
+
+
+def full_disk(report, server):
+    """The journal takes three records and a part of the fourth, by a limit on the file's length."""
+    server.journal.unlink(missing_ok=True)
+    resource.setrlimit(resource.RLIMIT_FSIZE, (3 * RECORD + 20, resource.RLIM_INFINITY))
+    # this process ignores the signal of that limit, and serve does with it
+    server.start(connections=6, restore_signals=False)
+    resource.setrlimit(resource.RLIMIT_FSIZE, (resource.RLIM_INFINITY, resource.RLIM_INFINITY))
+    answers = [change(server, number) for number in range(6)]
+    wanted = ["code 0 password changed"] * 3 + ["code 2 journal failed"] * 3
+    report.tell("six changes and a disk for three", answers, wanted)
+    report.tell("serve's last line", server.last_words(), "entries 6 changes 3")
+    records, torn = read_journal(server.journal.read_bytes())
+    report.tell("in the journal", ([r.kvno for r in records], len(torn)), ([2, 3, 4], 20))
+    server.start(connections=1)
+    server.connect()
+    report.tell("started again", server.last_words(), "entries 0 changes 0")
+    size = server.journal.stat().st_size
+    report.tell("the journal's bytes, its torn tail cut off", size, 3 * RECORD)
+
+
+def main():
+    parser = argparse.ArgumentParser()
+    parser.add_argument("--server", default=PROGRAM)
+    arguments = parser.parse_args()
+    report = Report()
+    for cases in (full_disk, at_start):
+        with tempfile.TemporaryDirectory(prefix="chpw-faults-") as folder:
+            server = Server(arguments.server, pathlib.Path(folder), workers=1)
+            write_configuration(server.configuration, [NAME])
+            try:
+                cases(report, server)
+            finally:
+                server.end()
+    sys.exit(report.status())
+
+
+if __name__ == "__main__":
+    main()

@@ -1,0 +1,56 @@
+#!/usr/bin/env python3
+"""Reads a journal of format 1 (docs/JOURNAL.md).
+
+    journal.py FILE
+
+prints kvno, iteration count and name of each record, and whether the tail is torn; no keys.
+"""
+
+import dataclasses
+import pathlib
+import sys
+
+
+@dataclasses.dataclass(frozen=True)
+class Record:
+    name: str
+    kvno: int
+    iterations: int
+    aes128: bytes
+    aes256: bytes
+
+
+def components(rest):
+    while rest:
+        size = rest[0]
+        yield rest[1 : 1 + size].decode(errors="replace")
+        rest = rest[1 + size :]
+
+
+def read_journal(data):
+    """The whole records, and the bytes of a torn tail."""
+    records = []
+    while len(data) >= 2:
+        size = int.from_bytes(data[:2], "big")
+        body = data[2 : 2 + size]
+        if len(body) < size:
+            break
+        kvno = int.from_bytes(body[1:5], "big")
+        iterations = int.from_bytes(body[5:9], "big")
+        name = "/".join(components(body[58:]))
+        records.append(Record(name, kvno, iterations, body[9:25], body[25:57]))
+        data = data[2 + size :]
+    return records, data
+
+
+def main():
+    if len(sys.argv) != 2:
+        sys.exit("usage: journal.py FILE")
+    records, torn = read_journal(pathlib.Path(sys.argv[1]).read_bytes())
+    for record in records:
+        print(record.kvno, record.iterations, record.name)
+    print(f"torn tail: {len(torn)} bytes" if torn else "whole")
+
+
+if __name__ == "__main__":
+    main()

@@ -1,0 +1,65 @@
+"""The service as a process: started on a port of loopback, and ended."""
+
+import os
+import pathlib
+import signal
+import socket
+import subprocess
+
+from ports import free_ports
+
+PROGRAM = pathlib.Path(__file__).resolve().parent.parent / "crates/chpw_server/out/chpw_server"
+
+
+class Server:
+    """`serve` in a folder with its configuration; the journal and the seed are made there."""
+
+    def __init__(self, program, folder, workers):
+        self.program = program
+        self.configuration = folder / "realm.toml"
+        self.journal = folder / "journal"
+        self.seed = folder / "seed"
+        self.workers = workers
+        [self.port] = free_ports(1)
+        self.seed.write_bytes(os.urandom(32))
+        self.process = None
+
+    def command(self, connections):
+        files = ["--config", self.configuration, "--journal", self.journal, "--seed", self.seed]
+        numbers = ["--port", self.port, "--workers", self.workers, "--connections", connections]
+        return [self.program, "serve", *files, *map(str, numbers)]
+
+    def start(self, connections, **options):
+        """Until it says that it listens; what it says instead is raised."""
+        self.process = subprocess.Popen(
+            self.command(connections),
+            stdin=subprocess.DEVNULL,
+            stdout=subprocess.PIPE,
+            stderr=subprocess.PIPE,
+            text=True,
+            start_new_session=True,
+            **options,
+        )
+        line = self.process.stdout.readline()
+        if line != f"listening on 127.0.0.1:{self.port}\n":
+            self.end()
+            raise RuntimeError(f"serve says: {line}{self.process.stderr.read()}")
+
+    def connect(self):
+        """A connection without a message."""
+        socket.create_connection(("127.0.0.1", self.port)).close()
+
+    def last_words(self, seconds=10):
+        """What it prints once its connections are over."""
+        try:
+            out, errors = self.process.communicate(timeout=seconds)
+        except subprocess.TimeoutExpired:
+            self.end()
+            return "nothing: it waits for connections"
+        return (out + errors).strip()
+
+    def end(self):
+        """Kill -9, where it still runs."""
+        if self.process is not None and self.process.poll() is None:
+            self.process.send_signal(signal.SIGKILL)
+            self.process.wait()
