@@ -80,7 +80,9 @@ impl Messages for Service {
 
     ghost private_frame = { λ s seal a words. krb_priv_reply seal a words };
 
-    fn realm(&self) -> &[u8] {
+    fn realm(&self) -> &[u8]
+        ensures value { result.now ≡ self.now.realm }
+    {
         self.realm.as_slice()
     }
 
