@@ -1,5 +1,6 @@
 pub mod RepliesLemmas
 pub mod ChainLemmas
 pub mod ServedAloneLemmas
+pub mod WorkedReplies
 pub mod DrawLemmas
 pub mod ServingLemmas
