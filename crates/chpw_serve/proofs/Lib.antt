@@ -1,6 +1,7 @@
 pub mod RepliesLemmas
 pub mod ChainLemmas
 pub mod ServedAloneLemmas
+pub mod WorkedReplies
 pub mod DrawLemmas
 pub mod ServingLemmas
 pub mod WordStreamLemmas
