@@ -1,7 +1,8 @@
-"""Requests of a change-password client (RFC 3244), made with nothing but Python's own library.
+"""Requests of a change-password client and the replies to them (RFC 3244), made with nothing but
+Python's own library.
 
 Realm EXAMPLE.COM; the service's key of etype 18 and kvno 3 is 32 bytes 5a, the session key 32 bytes 33,
-the subkey 32 bytes 44, each confounder 16 bytes 01, the client's address 127.0.0.1. Encryption is that of
+the subkey 32 bytes 44, each confounder of a request 16 bytes 01, both addresses 127.0.0.1. Encryption is that of
 RFC 3962, the messages are those of RFC 4120 section 5.
 
     python3 interop/changepw_client.py        # the messages of crates/stream_cases, a line each
@@ -117,12 +118,12 @@ def cts(cipher, text):
 _derived = {}
 
 
-def seal(key, usage, plain):
+def seal(key, usage, plain, confounder=CONFOUNDER):
     if (key, usage) not in _derived:
         number = usage.to_bytes(4, "big")
         _derived[key, usage] = Aes(derive(key, number + b"\xaa")), derive(key, number + b"\x55")
     cipher, integrity = _derived[key, usage]
-    text = CONFOUNDER + plain
+    text = confounder + plain
     return cts(cipher, text) + hmac.new(integrity, text, "sha1").digest()[:12]
 
 
@@ -180,9 +181,9 @@ def address(last):
     return sequence((0, integer(2)), (1, octets(bytes([127, 0, 0, last]))))
 
 
-def sealed(key, usage, plain, kvno=None):
+def sealed(key, usage, plain, kvno=None, confounder=CONFOUNDER):
     kvno = None if kvno is None else integer(kvno)
-    return sequence((0, integer(18)), (1, kvno), (2, octets(seal(key, usage, plain))))
+    return sequence((0, integer(18)), (1, kvno), (2, octets(seal(key, usage, plain, confounder))))
 
 
 # RFC 4120 section 5, RFC 3244 section 2
@@ -241,6 +242,11 @@ def krb_priv(password, target, forged):
     return application(21, sequence((0, integer(5)), (1, integer(21)), (3, enc_part)))
 
 
+def framed(version, ap, tail):
+    length = 6 + len(ap) + len(tail)
+    return b"".join(n.to_bytes(2, "big") for n in (length, version, len(ap))) + ap + tail
+
+
 def request(
     client,
     password,
@@ -257,8 +263,36 @@ def request(
     ap = ap_req(client, ctime, cusec, initial, service, subkey)
     ap = bytes([ap_first]) + ap[1:]
     tail = krb_priv(password, target, forged)
-    length = 6 + len(ap) + len(tail)
-    return b"".join(n.to_bytes(2, "big") for n in (length, 0xFF80, len(ap))) + ap + tail
+    return framed(0xFF80, ap, tail)
+
+
+def reply(code, text, ctime, cusec, words):
+    """A reply of AP-REP and KRB-PRIV, by the nine words that were drawn for it."""
+    confounders = [b"".join(w.to_bytes(4, "little") for w in words[i : i + 4]) for i in (0, 5)]
+    number = integer(words[4] % 2**31)
+    part = sequence((0, moment(ctime)), (1, integer(cusec)), (3, number))
+    enc_part = sealed(SESSION, 12, application(27, part), None, confounders[0])
+    ap_rep = application(15, sequence((0, integer(5)), (1, integer(15)), (2, enc_part)))
+    said = code.to_bytes(2, "big") + text
+    part = sequence((0, octets(said)), (3, number), (4, address(1)))
+    enc_part = sealed(SUBKEY, 13, application(28, part), None, confounders[1])
+    tail = application(21, sequence((0, integer(5)), (1, integer(21)), (3, enc_part)))
+    return framed(1, ap_rep, tail)
+
+
+def error_reply(code, error, text, seconds):
+    """A reply that is a KRB-ERROR of this second."""
+    message = sequence(
+        (0, integer(5)),
+        (1, integer(30)),
+        (4, moment(seconds)),
+        (5, integer(0)),
+        (6, integer(error)),
+        (9, string(REALM)),
+        (10, CHANGEPW),
+        (12, octets(code.to_bytes(2, "big") + text)),
+    )
+    return framed(1, b"", application(30, message))
 
 
 def cases():

@@ -9,12 +9,11 @@
 //! - `fail HOW: HEX`: that message is written with a fault behind each byte in turn.
 //! - A line that begins with `#`, or is empty, is passed on.
 //!
-//! HOW is how the reader or writer does, with commas between: see [`peer`].
+//! HOW is how the reader or writer does, with commas between: see fake_streams.
 #![tactic(auto)]
 
 mod change;
 mod framing;
-mod peer;
 mod streams;
 
 use std::alloc::Global;

@@ -1,7 +1,7 @@
 //! Messages over TCP.
 
 use crate::framing::{bytes, shown};
-use crate::peer::{Course, Giver, Taker, Way};
+use fake_streams::{Course, Giver, Taker, Way};
 use chpw_frame::{LONGEST_MESSAGE, Received, read_tcp, write_tcp};
 use std::alloc::Global;
 use std::io;

@@ -1,18 +1,18 @@
 //! The cases, line by line.
 
 use crate::deciding;
-use crate::messages::{Message, bytes_of, message, no_case};
+use crate::messages::{Message, bytes_of, no_case, read_message};
 use crate::serving::{How, ended_text, serve, served, stream_of};
 use crate::words;
 use crate::world::{World, shown, start};
 use hex::encode;
 use std::alloc::Global;
-use std::rt::Files;
-use std::{fs, io};
+use std::io;
 
 /// What the lines before have set.
 #[derive(Drop)]
 pub struct Cases {
+    base: String,
     config: String,
     quiet_until: i64,
     messages: Vec<Message>,
@@ -21,6 +21,7 @@ pub struct Cases {
 impl Cases {
     pub fn new(alloc: Global) -> Cases {
         Cases {
+            base: String::new(alloc),
             config: String::new(alloc),
             quiet_until: -1,
             messages: Vec::new(alloc),
@@ -28,18 +29,22 @@ impl Cases {
     }
 
     /// The answer to a line.
-    pub fn answer<R: Files + AllocGlobal>(&mut self, rt: &R, line: &str) -> io::Result<String> {
-        let alloc = rt.alloc();
+    pub fn answer(&mut self, alloc: Global, line: &str) -> io::Result<String> {
         if line.is_empty() || line.starts_with('#') {
             return Ok(String::from_str(alloc, line)?);
         }
         match line.split_once(' ') {
+            Some(("|", text)) => {
+                self.base.push_str(text)?;
+                self.base.push_str("\n")?;
+                Ok(String::from_str(alloc, line)?)
+            }
             Some(("world", text)) => {
-                self.read_world(rt, text)?;
+                self.set_world(alloc, text)?;
                 Ok(String::from_str(alloc, line)?)
             }
             Some(("message", text)) => {
-                self.messages.push(message(alloc, text)?)?;
+                self.messages.push(read_message(alloc, text)?)?;
                 Ok(String::from_str(alloc, "a message")?)
             }
             Some(("words", text)) => words::answer(alloc, text),
@@ -47,11 +52,16 @@ impl Cases {
         }
     }
 
-    /// `FILE` or `FILE quiet N`.
-    fn read_world<R: Files + AllocGlobal>(&mut self, rt: &R, text: &str) -> io::Result<()> {
-        let (file, quiet) = text.split_once(" quiet ").unwrap_or((text, "-1"));
-        self.config = fs::read_to_string(rt, file)?;
-        self.quiet_until = quiet.parse().unwrap_or(-1);
+    /// `quiet N`, and `OLD -> NEW`.
+    fn set_world(&mut self, alloc: Global, text: &str) -> io::Result<()> {
+        self.quiet_until = -1;
+        self.config = String::from_str(alloc, self.base.as_str())?;
+        if let Some((old, new)) = text.split_once(" -> ") {
+            self.config = self.base.as_str().replace(alloc, old, new)?;
+        }
+        if let Some(second) = text.strip_prefix("quiet ") {
+            self.quiet_until = second.parse().unwrap_or(-1);
+        }
         Ok(())
     }
 

@@ -1,8 +1,9 @@
 //! Cases of the service on one stream, a line each on standard input, with the answer of each on
 //! standard output.
 //!
-//! - `world FILE` and `world FILE quiet N`: what follows is done with the configuration of that file,
-//!   and from its start the service refuses requests up to the second N.
+//! - `| TEXT`: a line of a configuration.
+//! - `world as it is`, `world OLD -> NEW`, `world quiet N`: what follows is done with that configuration;
+//!   with another text in it; with a service that refuses requests up to the second N.
 //! - `message NAME CTIME.CUSEC HEX`: a message, by the authenticator's time in it.
 //! - `served HOW: NAME NAME ..`: these messages are served as one stream by a table that one thread
 //!   has alone. The answer is each reply, how the stream ended, how many events there were, and the
@@ -24,7 +25,6 @@ mod cases;
 mod clock;
 mod deciding;
 mod messages;
-mod peer;
 mod serving;
 mod watched;
 mod words;
@@ -38,7 +38,7 @@ fn main(rt: HostRuntime) -> io::Result<()> {
     let mut cases = Cases::new(alloc);
     let mut out = BufWriter::new(alloc, io::writer(&rt))?;
     for line in BufReader::new(alloc, rt.reader())?.lines(alloc) {
-        let answer = cases.answer(&rt, line?.as_str())?;
+        let answer = cases.answer(alloc, line?.as_str())?;
         writeln!(out, "{answer}")?;
     }
     out.flush()

@@ -34,7 +34,7 @@ pub fn bytes_of(alloc: Global, text: &str) -> io::Result<Vec<u8>> {
 }
 
 /// `NAME CTIME.CUSEC HEX`.
-pub fn message(alloc: Global, text: &str) -> io::Result<Message> {
+pub fn read_message(alloc: Global, text: &str) -> io::Result<Message> {
     let (name, rest) = text.split_once(' ').ok_or(no_case())?;
     let (time, hex) = rest.split_once(' ').ok_or(no_case())?;
     let (ctime, cusec) = time.split_once('.').ok_or(no_case())?;
