@@ -1,8 +1,8 @@
 //! Messages over TCP.
 
 use crate::framing::{bytes, shown};
-use fake_streams::{Course, Giver, Taker, Way};
 use chpw_frame::{LONGEST_MESSAGE, Received, read_tcp, write_tcp};
+use fake_streams::{Course, Giver, Taker, Way};
 use std::alloc::Global;
 use std::io;
 
