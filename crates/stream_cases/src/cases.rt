@@ -1,10 +1,9 @@
 //! The cases, line by line.
 
-use crate::deciding;
 use crate::messages::{Message, bytes_of, no_case, read_message};
 use crate::serving::{How, ended_text, serve, served, stream_of};
-use crate::words;
 use crate::world::{World, shown, start};
+use crate::{deciding, words};
 use hex::encode;
 use std::alloc::Global;
 use std::io;
@@ -114,8 +113,12 @@ impl Cases {
         let mut fronts = 0u32;
         for count in 0..whole.len() {
             let writer = how.writer.failing_after(count);
-            let (written, ended) =
-                serve(alloc, &mut self.start(alloc)?, How { writer, ..how }, &stream)?;
+            let (written, ended) = serve(
+                alloc,
+                &mut self.start(alloc)?,
+                How { writer, ..how },
+                &stream,
+            )?;
             if ended_text(ended) == "write fault" && written.as_slice() == &whole[..count] {
                 fronts = fronts.saturating_add(1);
             }

@@ -59,7 +59,9 @@ pub fn answered(
 fn shown_calls(alloc: Global, decider: &Watched<MemorySink>) -> io::Result<String> {
     let (decides, derivings) = (decider.decides, decider.derivings);
     let counts = shown_counts(alloc, &decider.counts)?;
-    Ok(format!(in alloc; "decide {decides}, the last with counts{counts}, decide_deriving {derivings}")?)
+    Ok(format!(in alloc;
+        "decide {decides}, the last with counts{counts}, decide_deriving {derivings}"
+    )?)
 }
 
 fn shown_counts(alloc: Global, counts: &Counts) -> io::Result<String> {
@@ -94,11 +96,7 @@ pub fn alone(
 }
 
 /// A message's request, with no keys derived, and its password.
-fn opened(
-    alloc: Global,
-    service: &Service,
-    message: &Message,
-) -> io::Result<(Opened, Vec<u8>)> {
+fn opened(alloc: Global, service: &Service, message: &Message) -> io::Result<(Opened, Vec<u8>)> {
     match service.open(alloc, PEER, &message.bytes)? {
         Opening::Refused(_) => Err(no_case()),
         Opening::Opened(incoming) => Ok((incoming.opened, incoming.password.into_vec())),
@@ -124,11 +122,14 @@ fn with_keys(
 /// What keys a decision needs.
 fn needed(decided: Result<Verdict, Refused>) -> io::Result<(Opened, Counts)> {
     match decided {
-        Err(Refused {
-            fault: DecideFault::NeedKeys(counts),
-            opened,
-        }) => Ok((opened, counts)),
-        _ => Err(no_case()),
+        Ok(_) => Err(no_case()),
+        Err(refused) => {
+            let Refused { fault, opened } = refused;
+            match fault {
+                DecideFault::NeedKeys(counts) => Ok((opened, counts)),
+                DecideFault::Full | DecideFault::Memory => Err(no_case()),
+            }
+        }
     }
 }
 

@@ -2,10 +2,10 @@
 
 use crate::clock::{Counting, Standing};
 use crate::messages::{Message, no_case, shown_reply};
-use fake_streams::{Course, Giver, Taker, Way};
 use crate::world::{self, World};
 use chpw_frame::{Received, read_tcp, write_tcp};
 use chpw_serve::{Ended, serve_alone};
+use fake_streams::{Course, Giver, Taker, Way};
 use std::alloc::Global;
 use std::io;
 

@@ -1,6 +1,6 @@
 //! A worker's words.
 
-use chpw_serve::{WorkerWords, Words};
+use chpw_serve::{Words, WorkerWords};
 use hex::encode;
 use std::alloc::Global;
 use std::io;
