@@ -18,7 +18,7 @@
 //! - A line that begins with `#`, or is empty, is passed on.
 //!
 //! HOW has words with commas between: the moment, as `at 1000100`, and how the reader does, see
-//! [`peer`].
+//! fake_streams.
 #![tactic(auto)]
 
 mod cases;

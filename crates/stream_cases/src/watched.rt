@@ -1,5 +1,5 @@
 //! A decider that watches what a table is asked, and may refuse.
-ghost use Rattle.std.specs.Prelude.{[]};
+ghost use Rattle.std.specs.Prelude.{◌≡◌};
 
 use chpw_decider::{Alone, Decider};
 use chpw_rules::Name;
@@ -69,10 +69,6 @@ fn four() -> Counts {
 }
 
 impl<S: JournalSink> Decider for Watched<S> {
-    ghost use Rattle.std.specs.Prelude.{refl};
-    ghost use Rattle.std.proofs.Common.{◌∙◌};
-    ghost use Rattle.chpw_decider.specs.Keeping.{IsFullAt, IsOpenedLike, stays_full};
-
     ghost gathered = { λ w. w.alone.receipts };
 
     ghost may_be_full = { λ _ _. Unit {0} };
