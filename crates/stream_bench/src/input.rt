@@ -13,11 +13,7 @@ pub struct Input {
 }
 
 /// The lines of a configuration, and the first messages, so many at the most.
-pub fn read_input<R: BufRead + Drop>(
-    alloc: Global,
-    reader: R,
-    count: usize,
-) -> io::Result<Input> {
+pub fn read_input<R: BufRead + Drop>(alloc: Global, reader: R, count: usize) -> io::Result<Input> {
     let mut input = Input {
         config: String::new(alloc),
         stream: Vec::new(alloc),

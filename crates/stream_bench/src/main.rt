@@ -18,8 +18,8 @@ use chpw_serve::serve_alone;
 use chpw_table::{Table, Verdict};
 use input::{Input, read_input};
 use std::alloc::Global;
-use std::io::{self, BufReader, Error, ErrorKind};
 use std::env;
+use std::io::{self, BufReader, Error, ErrorKind};
 use still::{Still, Words};
 
 /// Bytes of the journal here.
@@ -69,7 +69,9 @@ fn serve(alloc: Global, world: &mut World, stream: &[u8]) -> usize {
 /// How many passwords were changed.
 fn changes(world: &World) -> usize {
     let receipts = world.alone.receipts().iter();
-    receipts.filter(|r| r.entry.verdict == Verdict::Done).count()
+    receipts
+        .filter(|r| r.entry.verdict == Verdict::Done)
+        .count()
 }
 
 fn main(rt: HostRuntime) -> io::Result<()> {
