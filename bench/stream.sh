@@ -1,0 +1,38 @@
+#!/usr/bin/env bash
+# Microseconds to answer a message of a stream, from memory to memory, with a table that one thread has
+# alone: 2,000 changes of passwords in one realm, whose keys are derived under an iteration count of 1,
+# so that all but the derivation is seen. First of realms of 1,000 and of 10,000 principals, then of one
+# of 100. A figure is the least of several rounds of processor time (the argument, 5); what it takes to
+# read the configuration and the messages is taken off. The last line is `answered N us a message`.
+set -euo pipefail
+cd "$(dirname "$0")/../crates/stream_bench"
+export PYTHONPATH=../../bench:../../interop PYTHONDONTWRITEBYTECODE=1
+room=$(mktemp -d)
+trap 'rm -rf "$room"' EXIT
+python3 ../../bench/stream_input.py 100 1 >"$room/first"
+rt run <"$room/first" >/dev/null
+out/stream_bench serve 1 <"$room/first"
+python3 - out/stream_bench "$room" "${1:-5}" <<'END'
+import sys
+
+import stream_input
+from timing import spent
+
+program, room, rounds = sys.argv[1], sys.argv[2], int(sys.argv[3])
+MESSAGES = 2_000
+
+
+def least(what, messages):
+    """Processor seconds of the best round."""
+    return min(spent(program, what, MESSAGES, messages) for _ in range(rounds))
+
+
+for principals in (1_000, 10_000, 100):
+    messages = f"{room}/{principals}"
+    with open(messages, "w") as file:
+        file.writelines(line + "\n" for line in stream_input.lines(principals, MESSAGES))
+    micros = (least("serve", messages) - least("read", messages)) / MESSAGES * 1e6
+    if principals > 100:
+        print(f"of {principals} principals {micros:.0f} us")
+print(f"answered {micros:.0f} us a message")
+END
