@@ -34,6 +34,7 @@ pub struct Pool {
 }
 
 /// What all workers share: the service, the desk, and the seed of their random words.
+#[derive(Drop)]
 struct Shared<'a, M, D: DeskName, S: JournalSink> {
     alloc: Global,
     service: &'a M,
@@ -227,7 +228,7 @@ fn peer_of(address: SocketAddr) -> [u8; 4] {
 }
 
 // Serves the connections of a line, until no more come.
-fn work<R: Wait + time::Clock, M: Messages, D: DeskName, S: JournalSink, G: Gate>(
+fn work<R: Wait + time::Clock, M: Messages, D: DeskName, S: JournalSink, G: Gate + Drop>(
     rt: &R,
     shared: &Shared<'_, M, D, S>,
     line: &Line,
