@@ -1,2 +1,3 @@
 pub mod DrawLemmas
 pub mod ServingLemmas
+pub mod WordStreamLemmas

@@ -1,2 +1,3 @@
 pub mod Draws
 pub mod Serving
+pub mod WordStreams
