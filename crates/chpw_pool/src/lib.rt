@@ -4,7 +4,6 @@
 mod clock;
 mod line;
 mod pool;
-mod words;
 
 pub use clock::{MachineClock, machine_moment};
 pub use pool::{Pool, PoolFault, run_pool, run_pool_with};

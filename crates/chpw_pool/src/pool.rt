@@ -3,10 +3,9 @@ ghost use Rattle.std.specs.Prelude.{◌≡◌, ◌<◌, length, vec_len, IfOk};
 
 use crate::clock::MachineClock;
 use crate::line::{Connection, Line};
-use crate::words::WorkerWords;
 use chpw_answer::{Gate, Messages, NoGate};
 use chpw_book::{AtDesk, Desk, DeskName, Pass};
-use chpw_serve::serve_stream;
+use chpw_serve::{WorkerWords, serve_stream};
 use chpw_table::JournalSink;
 use std::alloc::{AllocError, Global};
 use std::net::{SocketAddr, TcpListener};

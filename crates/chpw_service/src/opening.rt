@@ -4,10 +4,10 @@ ghost use Rattle.chpw_rules.specs.Settings.{config_fits};
 ghost use Rattle.chpw_table.specs.Times.{IsTime};
 
 use crate::fault::ServeFault;
-use chpw_journal::{Journal, OpenFault, RestoreFault, open_journal, quiet_after};
+use chpw_journal::{FileSink, Journal, OpenFault, RestoreFault, open_journal, quiet_after};
 use chpw_pool::machine_moment;
 use chpw_rules::Config;
-use chpw_table::Table;
+use chpw_table::{JournalSink, Table};
 use std::alloc::Global;
 use std::fs;
 use std::fs::{File, Files};
@@ -22,7 +22,7 @@ pub(crate) fn open_table<'a, R: Files<File = File> + Clock>(
     path: &'a str,
 ) -> Result<Journal, ServeFault<'a>>
     requires fits { config_fits config ≡ true }
-    ensures fresh { IfOk result (λ j. j.sink.failed ≡ 0) }
+    ensures fresh { IfOk result (λ j. ⟦<FileSink<File> as JournalSink>⟧.failed j.sink ≡ 0) }
 {
     let Ok(found) = fs::exists(rt, path) else {
         return Err(ServeFault::CannotRead(path));

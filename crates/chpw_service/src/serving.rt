@@ -9,7 +9,7 @@ use chpw_book::{Desk, DeskName, Pass};
 use chpw_journal::{FileSink, Journal};
 use chpw_messages::Service;
 use chpw_pool::{Pool, PoolFault, run_pool};
-use chpw_table::Table;
+use chpw_table::{JournalSink, Table};
 use std::alloc::{AllocError, Global};
 use std::fs::{File, Files};
 use std::marker::Brand;
@@ -103,7 +103,7 @@ fn serve_desk<
     requires name { (blank.name ≡ D.name) × (blank.parts ≡ D.parts)
         × (blank.parts ≡ options.workers) }
     requires desk { (D.workers ≡ options.workers) × (D.opening ≡ table.state) }
-    requires fresh { sink.failed ≡ 0 }
+    requires fresh { ⟦<FileSink<File> as JournalSink>⟧.failed sink ≡ 0 }
 {
     let Ok((desk, mut passes)) = start_desk::<D>(rt.alloc(), blank, table, sink, options.workers)
     else {
@@ -137,7 +137,7 @@ fn start_desk<D: DeskName>(
     requires workers { (1 ≤ workers) × (workers ≤ 16) }
     requires name { (blank.name ≡ D.name) × (blank.parts ≡ D.parts) × (blank.parts ≡ workers) }
     requires desk { (D.workers ≡ workers) × (D.opening ≡ table.state) }
-    requires fresh { sink.failed ≡ 0 }
+    requires fresh { ⟦<FileSink<File> as JournalSink>⟧.failed sink ≡ 0 }
     ensures passes { IfOk result (λ r. vec_len r.1 ≡ workers) }
 {
     Desk::start(alloc, blank, table, sink, workers)

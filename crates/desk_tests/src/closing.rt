@@ -46,8 +46,8 @@ fn two_at<D: DeskName + Send + Sync, R: Threads + Wait + Abort + Sync>(
     passes.push(second).ok().expect(rt, "a place");
     let (desk, mut passes) = refused(rt, desk, passes);
     passes.push(first).ok().expect(rt, "a place");
-    let closed = closed(desk, passes).expect(rt, "all agree");
-    assert!(rt; closed.history.len() == 2 && !closed.table.is_full());
+    let (history, full) = closed(desk, passes).expect(rt, "all agree");
+    assert!(rt; history.len() == 2 && !full);
     Ok(())
 }
 

@@ -90,8 +90,8 @@ fn derive_and_fill<D: DeskName, R: Wait + Abort>(
     assert!(rt; is_full(desk.decide(rt, &mut pass, NOW, second)) && pass.was_full());
     show_kvno(rt, alloc, &desk, &mut pass);
     passes.push(pass).ok().expect(rt, "a place");
-    let closed = closed(desk, passes).expect(rt, "all agree");
-    assert!(rt; closed.history.len() == 1 && closed.table.is_full());
+    let (history, full) = closed(desk, passes).expect(rt, "all agree");
+    assert!(rt; history.len() == 1 && full);
     Ok(())
 }
 

@@ -4,7 +4,8 @@ ghost use Rattle.std.specs.Prelude.{◌≡◌, None};
 use chpw_book::{CloseRefused, Closed, Desk, DeskName, Pass};
 use chpw_rules::{Config, Items, KeyBytes, Name, Policy, PrincipalRow, Rules};
 use chpw_table::{
-    Body, DecideFault, Digest, JournalSink, Moment, Opened, Refused, SinkFault, Table, Verdict,
+    Body, DecideFault, Digest, Entry, JournalSink, Moment, Opened, Refused, SinkFault, Table,
+    Verdict,
 };
 use krb_keys::Key;
 use std::alloc::{AllocError, Global};
@@ -140,10 +141,20 @@ pub fn is_full(answer: Result<Verdict, Refused>) -> bool {
     }
 }
 
-/// What a desk leaves that can be closed; one that can't be is given up.
-pub fn closed<D: DeskName>(desk: Desk<D, Quiet>, passes: Vec<Pass<D>>) -> Option<Closed<Quiet>> {
+/// The history of a desk that can be closed, and whether its table is full; a desk that can't be is
+/// given up.
+pub fn closed<D: DeskName>(
+    desk: Desk<D, Quiet>,
+    passes: Vec<Pass<D>>,
+) -> Option<(Vec<Entry>, bool)> {
     match desk.close(passes) {
-        Ok(closed) => Some(closed),
+        Ok(
+            Closed {
+                history,
+                table,
+                sink: _,
+            },
+        ) => Some((history, table.is_full())),
         Err(
             CloseRefused {
                 fault: _,

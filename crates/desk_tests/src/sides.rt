@@ -39,9 +39,9 @@ fn all_at<D: DeskName + Send + Sync, R: Threads + Wait + Abort + Sync>(
             change_own(rt, alloc, shared, pass);
         },
     );
-    let closed = closed(desk, passes).expect(rt, "all agree");
-    assert!(rt; closed.history.len() == 32 && !closed.table.is_full());
-    for entry in &closed.history {
+    let (history, full) = closed(desk, passes).expect(rt, "all agree");
+    assert!(rt; history.len() == 32 && !full);
+    for entry in &history {
         assert!(rt; entry.worker < 16 && (entry.number == 1 || entry.number == 2));
     }
     Ok(())

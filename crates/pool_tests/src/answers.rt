@@ -1,7 +1,6 @@
 //! Answers at a desk: one message of two workers, and a history that is full.
 ghost use Rattle.std.specs.Prelude.{◌≡◌};
 
-use crate::asking::{Asked, CHANGED, Told, request, told};
 use crate::gates::Together;
 use crate::realm::opening;
 use chpw_answer::{Gate, NoGate, answer};
@@ -10,6 +9,7 @@ use chpw_journal::MemorySink;
 use chpw_messages::Service;
 use chpw_rules::Name;
 use chpw_table::{Moment, Table};
+use sample_client::{Asked, CHANGED, Told, request, told};
 use std::alloc::Global;
 use std::marker::Brand;
 use std::process::Abort;
@@ -31,6 +31,7 @@ fn asked(password: &str) -> Asked<'_> {
     Asked {
         client: "alice",
         seconds: NOW.seconds,
+        micros: 1,
         password,
     }
 }
@@ -57,10 +58,7 @@ fn answered<D: DeskName, G: Gate, R: Wait + Abort>(
         NOW,
     );
     let reply = reply.ok().expect(rt, "a reply");
-    match told(alloc, NOW.seconds, &reply) {
-        Ok(told) => told,
-        Err(_) => panic!(rt; "no reply"),
-    }
+    told(alloc, NOW.seconds, 1, &reply).expect(rt, "a reply of its own")
 }
 
 fn closed<D: DeskName>(

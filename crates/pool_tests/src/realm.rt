@@ -9,11 +9,6 @@ use chpw_table::Table;
 use std::alloc::Global;
 use std::test::Fail;
 
-pub const REALM: &[u8] = b"EXAMPLE.COM";
-
-/// Each byte of the service key.
-pub const SERVICE_BYTE: u8 = 0x5a;
-
 const POLICY: &str = "[policy]
 min_length = 6
 min_classes = 2
