@@ -1,0 +1,107 @@
+//! Messages over TCP.
+
+use crate::framing::{bytes, shown};
+use crate::peer::{Course, Giver, Taker, Way};
+use chpw_frame::{LONGEST_MESSAGE, Received, read_tcp, write_tcp};
+use std::alloc::Global;
+use std::io;
+
+/// The answer to a case of a stream.
+pub fn answer(alloc: Global, kind: &str, text: &str) -> io::Result<String> {
+    let (how, hex) = text.split_once(": ").unwrap_or((text, ""));
+    let bytes = stretched(alloc, hex)?;
+    let way = Way::of(how);
+    match kind {
+        "read" => Ok(read(alloc, way, &bytes)?.0),
+        "reads" => {
+            let (shown, calls) = read(alloc, way, &bytes)?;
+            Ok(format!(in alloc; "{shown} in {calls} reads")?)
+        }
+        "write" => written(alloc, way, &bytes),
+        "fail" => failing(alloc, way, &bytes),
+        _ => Ok(String::from_str(alloc, "no such case")?),
+    }
+}
+
+/// The bytes of a text in hexadecimal, or of one with so many zeros behind it, as in `00 * 4`.
+fn stretched(alloc: Global, text: &str) -> io::Result<Vec<u8>> {
+    let (front, count) = text.split_once(" zeros ").unwrap_or((text, "0"));
+    let mut bytes = bytes(alloc, front)?;
+    for _ in 0..count.parse().unwrap_or(0) {
+        bytes.push(0)?;
+    }
+    Ok(bytes)
+}
+
+/// What is read of a stream, what is left of it, and the count of reads.
+fn read(alloc: Global, way: Way, stream: &[u8]) -> io::Result<(String, u32)> {
+    let mut reader = Giver {
+        left: stream,
+        course: Course::start(way),
+    };
+    let piece = shown_piece(alloc, &read_tcp(alloc, &mut reader)?)?;
+    let left = shown_short(alloc, reader.left)?;
+    Ok((
+        format!(in alloc; "{piece}, left {left}")?,
+        reader.course.calls,
+    ))
+}
+
+fn shown_piece(alloc: Global, received: &Received) -> io::Result<String> {
+    let text = match received {
+        Received::Message(message) => {
+            let message = shown_short(alloc, message)?;
+            return Ok(format!(in alloc; "message {message}")?);
+        }
+        Received::Ended => "ended",
+        Received::CutOff => "cut off",
+        Received::TooLong => "too long",
+        Received::ReadFault => "read fault",
+    };
+    Ok(String::from_str(alloc, text)?)
+}
+
+/// Bytes in hexadecimal, or how many, where they are many.
+fn shown_short(alloc: Global, bytes: &[u8]) -> io::Result<String> {
+    if bytes.len() > 100 {
+        return Ok(format!(in alloc; "of {} bytes", bytes.len())?);
+    }
+    shown(alloc, bytes)
+}
+
+/// Writes a message: whether that is done, and what was taken.
+fn write(alloc: Global, way: Way, message: &[u8]) -> io::Result<(bool, Vec<u8>)> {
+    let mut writer = Taker {
+        taken: Vec::new(alloc),
+        course: Course::start(way),
+    };
+    if message.len() > LONGEST_MESSAGE {
+        return Ok((false, writer.taken));
+    }
+    let done = write_tcp(&mut writer, message).is_ok();
+    Ok((done, writer.taken))
+}
+
+fn written(alloc: Global, way: Way, message: &[u8]) -> io::Result<String> {
+    let (done, taken) = write(alloc, way, message)?;
+    let taken = shown_short(alloc, &taken)?;
+    let word = if done { "written" } else { "write fault after" };
+    Ok(format!(in alloc; "{word} {taken}")?)
+}
+
+/// Writes a message with a fault behind each byte in turn; how often just the bytes before the fault
+/// were taken.
+fn failing(alloc: Global, way: Way, message: &[u8]) -> io::Result<String> {
+    let (_, whole) = write(alloc, way, message)?;
+    let mut fronts = 0u32;
+    for count in 0..whole.len() {
+        let (done, taken) = write(alloc, way.failing_after(count), message)?;
+        if !done && taken.as_slice() == &whole[..count] {
+            fronts = fronts.saturating_add(1);
+        }
+    }
+    Ok(format!(in alloc;
+        "{fronts} faults, each behind a front of {} bytes",
+        whole.len()
+    )?)
+}

@@ -1,0 +1,115 @@
+//! The cases, line by line.
+
+use crate::deciding;
+use crate::messages::{Message, bytes_of, message, no_case};
+use crate::serving::{How, ended_text, serve, served, stream_of};
+use crate::words;
+use crate::world::{World, shown, start};
+use hex::encode;
+use std::alloc::Global;
+use std::rt::Files;
+use std::{fs, io};
+
+/// What the lines before have set.
+#[derive(Drop)]
+pub struct Cases {
+    config: String,
+    quiet_until: i64,
+    messages: Vec<Message>,
+}
+
+impl Cases {
+    pub fn new(alloc: Global) -> Cases {
+        Cases {
+            config: String::new(alloc),
+            quiet_until: -1,
+            messages: Vec::new(alloc),
+        }
+    }
+
+    /// The answer to a line.
+    pub fn answer<R: Files + AllocGlobal>(&mut self, rt: &R, line: &str) -> io::Result<String> {
+        let alloc = rt.alloc();
+        if line.is_empty() || line.starts_with('#') {
+            return Ok(String::from_str(alloc, line)?);
+        }
+        match line.split_once(' ') {
+            Some(("world", text)) => {
+                self.read_world(rt, text)?;
+                Ok(String::from_str(alloc, line)?)
+            }
+            Some(("message", text)) => {
+                self.messages.push(message(alloc, text)?)?;
+                Ok(String::from_str(alloc, "a message")?)
+            }
+            Some(("words", text)) => words::answer(alloc, text),
+            _ => self.of_stream(alloc, line),
+        }
+    }
+
+    /// `FILE` or `FILE quiet N`.
+    fn read_world<R: Files + AllocGlobal>(&mut self, rt: &R, text: &str) -> io::Result<()> {
+        let (file, quiet) = text.split_once(" quiet ").unwrap_or((text, "-1"));
+        self.config = fs::read_to_string(rt, file)?;
+        self.quiet_until = quiet.parse().unwrap_or(-1);
+        Ok(())
+    }
+
+    fn start(&self, alloc: Global) -> io::Result<World> {
+        start(alloc, self.config.as_str(), self.quiet_until)
+    }
+
+    /// The answer to a case of streams.
+    fn of_stream(&self, alloc: Global, line: &str) -> io::Result<String> {
+        let (kind, text) = line.split_once(": ").ok_or(no_case())?;
+        let (kind, how) = kind.split_once(' ').unwrap_or((kind, ""));
+        if kind == "written" {
+            return self.written(alloc, How::of(how), &bytes_of(alloc, text)?);
+        }
+        let messages = self.named(alloc, text)?;
+        match kind {
+            "served" => served(alloc, &mut self.start(alloc)?, How::of(how), &messages),
+            "replied" => self.written(alloc, How::of(how), &stream_of(alloc, &messages)?),
+            "broken" => self.broken(alloc, How::of(how), &messages),
+            "answered" => deciding::answered(alloc, self.start(alloc)?, how, &messages),
+            "alone" => deciding::alone(alloc, self.start(alloc)?, self.start(alloc)?, &messages),
+            _ => Err(no_case()),
+        }
+    }
+
+    /// The messages with these names.
+    fn named(&self, alloc: Global, text: &str) -> io::Result<Vec<&Message>> {
+        let mut messages = Vec::new(alloc);
+        for name in text.split(' ') {
+            let found = self.messages.iter().find(|m| m.name.as_str() == name);
+            messages.push(found.ok_or(no_case())?)?;
+        }
+        Ok(messages)
+    }
+
+    /// What is written where these bytes are read, how the stream ends, and what the table is then.
+    fn written(&self, alloc: Global, how: How, stream: &[u8]) -> io::Result<String> {
+        let mut world = self.start(alloc)?;
+        let (written, ended) = serve(alloc, &mut world, how, stream)?;
+        let written = encode(alloc, &written)?;
+        let shown = shown(alloc, &world.alone)?;
+        Ok(format!(in alloc; "[{written}] {}, {shown}", ended_text(ended))?)
+    }
+
+    /// Serves these messages with a write that fails behind each byte of the replies in turn: how
+    /// often just the bytes before the fault were written, and the stream ended for it.
+    fn broken(&self, alloc: Global, how: How, messages: &[&Message]) -> io::Result<String> {
+        let stream = stream_of(alloc, messages)?;
+        let (whole, _) = serve(alloc, &mut self.start(alloc)?, how, &stream)?;
+        let mut fronts = 0u32;
+        for count in 0..whole.len() {
+            let writer = how.writer.failing_after(count);
+            let (written, ended) =
+                serve(alloc, &mut self.start(alloc)?, How { writer, ..how }, &stream)?;
+            if ended_text(ended) == "write fault" && written.as_slice() == &whole[..count] {
+                fronts = fronts.saturating_add(1);
+            }
+        }
+        Ok(format!(in alloc; "{fronts} faults behind each byte of {}", whole.len())?)
+    }
+}

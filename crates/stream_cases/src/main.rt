@@ -1,0 +1,45 @@
+//! Cases of the service on one stream, a line each on standard input, with the answer of each on
+//! standard output.
+//!
+//! - `world FILE` and `world FILE quiet N`: what follows is done with the configuration of that file,
+//!   and from its start the service refuses requests up to the second N.
+//! - `message NAME CTIME.CUSEC HEX`: a message, by the authenticator's time in it.
+//! - `served HOW: NAME NAME ..`: these messages are served as one stream by a table that one thread
+//!   has alone. The answer is each reply, how the stream ended, how many events there were, and the
+//!   kvno of each principal.
+//! - `written HOW: HEX`: the same of a stream with these bytes, `-` for none; the answer has what was
+//!   written. `replied HOW: NAME ..` is that of messages.
+//! - `broken HOW: NAME ..`: the same with a write that fails behind each byte of the replies in turn.
+//! - `answered WHO: NAME ..`: these messages are answered one by one by a decider that watches.
+//! - `alone: NAME`: that message's request is decided, with no keys, derived, and with its keys.
+//! - `words N STREAM PLACE`: the sixteen words of a worker from that place on, as bytes; the seed is of
+//!   zeros but for its last byte, which is N.
+//! - A line that begins with `#`, or is empty, is passed on.
+//!
+//! HOW has words with commas between: the moment, as `at 1000100`, and how the reader does, see
+//! [`peer`].
+#![tactic(auto)]
+
+mod cases;
+mod clock;
+mod deciding;
+mod messages;
+mod peer;
+mod serving;
+mod watched;
+mod words;
+mod world;
+
+use cases::Cases;
+use std::io::{self, BufRead, BufReader, BufWriter, Write};
+
+fn main(rt: HostRuntime) -> io::Result<()> {
+    let alloc = rt.alloc();
+    let mut cases = Cases::new(alloc);
+    let mut out = BufWriter::new(alloc, io::writer(&rt))?;
+    for line in BufReader::new(alloc, rt.reader())?.lines(alloc) {
+        let answer = cases.answer(&rt, line?.as_str())?;
+        writeln!(out, "{answer}")?;
+    }
+    out.flush()
+}

@@ -1,0 +1,120 @@
+//! A decider that watches what a table is asked, and may refuse.
+ghost use Rattle.std.specs.Prelude.{[]};
+
+use chpw_decider::{Alone, Decider};
+use chpw_rules::Name;
+use chpw_table::{
+    Body, Counts, DecideFault, JournalSink, Lookup, Moment, Opened, Receipt, Refused, Verdict,
+};
+
+/// What it does when it is asked to decide.
+#[derive(Clone, Copy, PartialEq, Eq, Drop)]
+pub enum Mood {
+    /// What the table does.
+    Plain,
+    /// It asks for keys under this count, so often.
+    Needs(u32),
+    /// It says that it is full.
+    Full,
+}
+
+/// A table, and what it was asked.
+#[derive(Drop)]
+pub struct Watched<S: JournalSink> {
+    alone: Alone<S>,
+    mood: Mood,
+    /// Calls of `decide`, and of `decide_deriving`.
+    pub decides: u32,
+    pub derivings: u32,
+    /// The counts of the digest of the last `decide`.
+    pub counts: Counts,
+}
+
+impl<S: JournalSink> Watched<S> {
+    pub fn of(alone: Alone<S>, mood: Mood) -> Watched<S> {
+        Watched {
+            alone,
+            mood,
+            decides: 0,
+            derivings: 0,
+            counts: Counts::new(),
+        }
+    }
+
+    /// Notes a call of `decide`.
+    fn note(&mut self, opened: &Opened)
+        ensures alone { self.new.alone ≡ self.old.alone }
+    {
+        self.decides = self.decides.saturating_add(1);
+        self.counts = counts_of(opened);
+    }
+}
+
+/// The counts of a request's digest.
+fn counts_of(opened: &Opened) -> Counts {
+    let mut counts = Counts::new();
+    if let Body::Ask { digest, .. } = &opened.body {
+        for (count, _, _) in digest.derived.as_slice() {
+            let _ = counts.push(*count);
+        }
+    }
+    counts
+}
+
+/// The count 4 alone.
+fn four() -> Counts {
+    let mut counts = Counts::new();
+    let _ = counts.push(4);
+    counts
+}
+
+impl<S: JournalSink> Decider for Watched<S> {
+    ghost use Rattle.std.specs.Prelude.{refl};
+    ghost use Rattle.std.proofs.Common.{◌∙◌};
+    ghost use Rattle.chpw_decider.specs.Keeping.{IsFullAt, IsOpenedLike, stays_full};
+
+    ghost gathered = { λ w. w.alone.receipts };
+
+    ghost may_be_full = { λ _ _. Unit {0} };
+
+    ghost follows = { λ _ _. Unit {0} };
+
+    fn lookup(&mut self, name: &Name) -> Option<Lookup> {
+        self.alone.lookup(name)
+    }
+
+    fn decide(&mut self, now: Moment, opened: Opened) -> Result<Verdict, Refused> {
+        self.note(&opened);
+        match self.mood {
+            Mood::Full => Err(Refused {
+                fault: DecideFault::Full,
+                opened,
+            }),
+            Mood::Needs(times) if self.decides <= times => Err(Refused {
+                fault: DecideFault::NeedKeys(four()),
+                opened,
+            }),
+            Mood::Needs(_) | Mood::Plain => self.alone.decide(now, opened),
+        }
+    }
+
+    fn decide_deriving(
+        &mut self,
+        now: Moment,
+        opened: Opened,
+        password: &[u8],
+    ) -> Result<Verdict, Refused> {
+        self.derivings = self.derivings.saturating_add(1);
+        self.alone.decide_deriving(now, opened, password)
+    }
+
+    fn receipts(&self) -> &[Receipt] {
+        self.alone.receipts()
+    }
+
+    ghost stays = { λ _. tt };
+
+    ghost goes_on = { λ _ _ _ _ _. tt };
+
+    ghost still_full = { λ _ _ _ _ _. tt };
+}
