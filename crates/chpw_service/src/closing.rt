@@ -3,7 +3,7 @@ ghost use Rattle.std.specs.Prelude.{◌≡◌};
 ghost use Rattle.chpw_book.specs.Receipts.{changes_of};
 
 use crate::fault::ServeFault;
-use chpw_book::{CloseRefused, Desk, DeskName, Pass};
+use chpw_book::{CloseRefused, Closed, Desk, DeskName, Pass};
 use chpw_table::{Entry, JournalSink, Verdict};
 
 /// What a service did: its entries, and how many of them are changes.
@@ -19,9 +19,15 @@ pub(crate) fn close_desk<'a, D: DeskName, S: JournalSink + Drop>(
     passes: Vec<Pass<D>>,
 ) -> Result<Tally, ServeFault<'a>> {
     match desk.close(passes) {
-        Ok(closed) => Ok(Tally {
-            entries: closed.history.len(),
-            changes: changes(closed.history.as_slice()),
+        Ok(
+            Closed {
+                history,
+                table: _,
+                sink: _,
+            },
+        ) => Ok(Tally {
+            entries: history.len(),
+            changes: changes(history.as_slice()),
         }),
         Err(refused) => {
             let CloseRefused {

@@ -15,8 +15,9 @@ use std::thread::{Threads, join};
 #[test]
 fn one_request_of_two_workers(rt: HostRuntime) -> Result<(), Fail> {
     let table = table(&rt, rt.alloc(), 9)?;
-    let asked = [change(rt.alloc(), 0, 1)?, change(rt.alloc(), 0, 1)?];
-    two_at::<Brand, _>(&rt, rt.alloc(), Blank::new(2), table, asked)
+    let one = change(rt.alloc(), 0, 1)?;
+    let two = change(rt.alloc(), 0, 1)?;
+    two_at::<Brand, _>(&rt, rt.alloc(), Blank::new(2), table, one, two)
 }
 
 // One of two workers changes the password, and the other's request is a replay.
@@ -25,7 +26,8 @@ fn two_at<D: DeskName + Send + Sync, R: Threads + Wait + Abort + Sync>(
     alloc: Global,
     blank: Blank,
     table: Table,
-    asked: [Opened; 2],
+    one: Opened,
+    two: Opened,
 ) -> Result<(), Fail>
     requires name { (blank.name ≡ D.name) × (blank.parts ≡ D.parts) × (blank.parts ≡ 2)
         × (D.workers ≡ 2) × (D.opening ≡ table.state) }
@@ -33,7 +35,6 @@ fn two_at<D: DeskName + Send + Sync, R: Threads + Wait + Abort + Sync>(
     let (desk, mut passes) = Desk::<D, Quiet>::start(alloc, blank, table, Quiet, 2)?;
     let mut second = passes.pop().expect(rt, "a pass");
     let mut first = passes.pop().expect(rt, "a pass");
-    let [one, two] = asked;
     let shared = &desk;
     let (a, b) = join(
         rt,

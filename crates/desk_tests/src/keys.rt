@@ -62,8 +62,9 @@ fn completed(rt: &impl Abort, refused: Refused) -> Opened {
 #[test]
 fn keys_derived_under_the_lock(rt: HostRuntime) -> Result<(), Fail> {
     let table = table(&rt, rt.alloc(), 1)?;
-    let asked = [change(rt.alloc(), 0, 1)?, change(rt.alloc(), 0, 2)?];
-    derive_and_fill::<Brand, _>(&rt, rt.alloc(), Blank::new(1), table, asked)
+    let first = change(rt.alloc(), 0, 1)?;
+    let second = change(rt.alloc(), 0, 2)?;
+    derive_and_fill::<Brand, _>(&rt, rt.alloc(), Blank::new(1), table, first, second)
 }
 
 // Of a history of one entry the second request is refused, which the pass notes; the desk is closed.
@@ -72,12 +73,12 @@ fn derive_and_fill<D: DeskName, R: Wait + Abort>(
     alloc: Global,
     blank: Blank,
     table: Table,
-    asked: [Opened; 2],
+    first: Opened,
+    second: Opened,
 ) -> Result<(), Fail>
     requires name { (blank.name ≡ D.name) × (blank.parts ≡ D.parts) × (blank.parts ≡ 1)
         × (D.workers ≡ 1) × (D.opening ≡ table.state) }
 {
-    let [first, second] = asked;
     let (desk, mut passes) = Desk::<D, Quiet>::start(alloc, blank, table, Quiet, 1)?;
     let mut pass = passes.pop().expect(rt, "a pass");
     let mut place = AtDesk {

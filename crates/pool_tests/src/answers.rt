@@ -8,8 +8,8 @@ use chpw_book::{AtDesk, CloseRefused, Closed, Desk, DeskName, Pass};
 use chpw_journal::MemorySink;
 use chpw_messages::Service;
 use chpw_rules::Name;
-use chpw_table::{Moment, Table};
-use sample_client::{Asked, CHANGED, Told, request, told};
+use chpw_table::{Entry, Moment, Table};
+use sample_client::{Asked, CHANGED, ReplyCode, request, told};
 use std::alloc::Global;
 use std::marker::Brand;
 use std::process::Abort;
@@ -45,7 +45,7 @@ fn answered<D: DeskName, G: Gate, R: Wait + Abort>(
     pass: &mut Pass<D>,
     gate: &mut G,
     message: &[u8],
-) -> Told {
+) -> ReplyCode {
     let mut place = AtDesk { rt, desk, pass };
     let reply = answer(
         alloc,
@@ -61,12 +61,19 @@ fn answered<D: DeskName, G: Gate, R: Wait + Abort>(
     told(alloc, NOW.seconds, 1, &reply).expect(rt, "a reply of its own")
 }
 
+// The history of a desk that can be closed, and its journal.
 fn closed<D: DeskName>(
     desk: Desk<D, MemorySink>,
     passes: Vec<Pass<D>>,
-) -> Option<Closed<MemorySink>> {
+) -> Option<(Vec<Entry>, MemorySink)> {
     match desk.close(passes) {
-        Ok(closed) => Some(closed),
+        Ok(
+            Closed {
+                history,
+                table: _,
+                sink,
+            },
+        ) => Some((history, sink)),
         Err(
             CloseRefused {
                 fault: _,
@@ -139,13 +146,13 @@ fn two_at<D: DeskName + Send + Sync, R: Threads + Wait + Abort + Sync>(
     assert!(rt; kvno_of_alice(rt, alloc, &desk, changer) == 2);
     passes.push(first).ok().expect(rt, "a place");
     passes.push(second).ok().expect(rt, "a place");
-    let closed = closed(desk, passes).expect(rt, "all agree");
-    assert!(rt; closed.history.len() == 2 && closed.sink.bytes().len() == 66);
+    let (history, journal) = closed(desk, passes).expect(rt, "all agree");
+    assert!(rt; history.len() == 2 && journal.bytes().len() == 66);
     Ok(())
 }
 
 /// KRB_AP_ERR_REPEAT.
-const REPLAYED: Told = Told {
+const REPLAYED: ReplyCode = ReplyCode {
     code: 3,
     error: Some(34),
 };
@@ -197,13 +204,13 @@ fn fill<D: DeskName, R: Wait + Abort>(
     let two = answered(rt, alloc, service, &desk, &mut pass, &mut NoGate, second);
     assert!(rt; two == FULL && pass.was_full());
     passes.push(pass).ok().expect(rt, "a place");
-    let closed = closed(desk, passes).expect(rt, "all agree");
-    assert!(rt; closed.history.len() == 1);
+    let (history, _journal) = closed(desk, passes).expect(rt, "all agree");
+    assert!(rt; history.len() == 1);
     Ok(())
 }
 
 /// KRB_ERR_GENERIC.
-const FULL: Told = Told {
+const FULL: ReplyCode = ReplyCode {
     code: 2,
     error: Some(60),
 };

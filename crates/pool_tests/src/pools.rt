@@ -67,7 +67,7 @@ fn expect_changed<R: Abort>(rt: &R, alloc: Global, seconds: i64, stream: &TcpStr
 }
 
 // Requests of alice and of bob at this second.
-fn requests(alloc: Global, seconds: i64) -> Result<[Vec<u8>; 2], Fail> {
+fn requests(alloc: Global, seconds: i64) -> Result<(Vec<u8>, Vec<u8>), Fail> {
     let alice = request(
         alloc,
         Asked {
@@ -86,7 +86,7 @@ fn requests(alloc: Global, seconds: i64) -> Result<[Vec<u8>; 2], Fail> {
             password: "New-pass2",
         },
     )?;
-    Ok([alice, bob])
+    Ok((alice, bob))
 }
 
 // Of a pool that has served.
@@ -115,7 +115,7 @@ fn pool_of_two<D: DeskName + Send + Sync, R: Machine>(
         × (D.workers ≡ 2) × (D.opening ≡ table.state) }
 {
     let (listener, port, seconds) = listen(rt)?;
-    let [alice, bob] = requests(alloc, seconds)?;
+    let (alice, bob) = requests(alloc, seconds)?;
     let sink = MemorySink::new(alloc, ROOM)?;
     let (desk, mut passes) = Desk::<D, MemorySink>::start(alloc, blank, table, sink, 2)?;
     assert!(rt; !passes.is_empty());
@@ -158,7 +158,7 @@ fn gated_pool<D: DeskName + Send + Sync, R: Machine>(
         × (D.workers ≡ 2) × (D.opening ≡ table.state) }
 {
     let (listener, port, seconds) = listen(rt)?;
-    let [alice, bob] = requests(alloc, seconds)?;
+    let (alice, bob) = requests(alloc, seconds)?;
     let answered = Mutex::new(false);
     let gates = vec![in alloc; gate(rt, true, &answered), gate(rt, false, &answered)]?;
     let sink = MemorySink::new(alloc, ROOM)?;
@@ -215,7 +215,7 @@ fn pool_of_three<D: DeskName + Send + Sync, R: Machine>(
         × (D.workers ≡ 2) × (D.opening ≡ table.state) }
 {
     let (listener, port, seconds) = listen(rt)?;
-    let [alice, bob] = requests(alloc, seconds)?;
+    let (alice, bob) = requests(alloc, seconds)?;
     let sink = MemorySink::new(alloc, ROOM)?;
     let (desk, mut passes) = Desk::<D, MemorySink>::start(alloc, blank, table, sink, 2)?;
     assert!(rt; !passes.is_empty());

@@ -7,4 +7,4 @@ mod reading;
 
 pub use making::{AskFault, Asked, request};
 pub use names::{REALM, SERVICE_BYTE};
-pub use reading::{CHANGED, Told, told};
+pub use reading::{CHANGED, ReplyCode, told};
