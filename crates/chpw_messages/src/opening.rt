@@ -8,7 +8,7 @@ use crate::incoming::incoming_of;
 use crate::refusals::{ap_refusal, frame_refusal};
 use chpw_answer::Opening;
 use chpw_frame::{Parts, split_request};
-use krb_msgs::{OpenError, ServiceKey, laws, open_ap};
+use krb_msgs::{OpenError, ServiceKey, open_ap};
 use std::alloc::{AllocError, Global};
 
 /// What a message from this peer, an IPv4 address, high byte first, opens to.
@@ -40,7 +40,6 @@ fn open_parts(
         parts.entry.version parts.entry.ap.now parts.entry.tail.now) }
     ensures times { IfOk result IsInTime }
 {
-    laws::messages_fit();
     match open_ap(alloc, realm, keys, parts.ap, peer) {
         Err(OpenError::Memory) => Err(AllocError),
         Err(OpenError::Fault(fault)) => Ok(Opening::Refused(ap_refusal(fault))),

@@ -1,5 +1,5 @@
 //! The reply of an AP-REP and a KRB-PRIV (RFC 3244 section 2), made with nine random words.
-ghost use Rattle.std.specs.Prelude.{◌≡◌, ◌≤◌, ◌<◌, ◌++◌, List, ℕ, length, None, IfOk, take, drop};
+ghost use Rattle.std.specs.Prelude.{◌≡◌, ◌≤◌, [], ◌∷◌, length, None, IfOk, take, drop};
 ghost use Rattle.chpw_answer.specs.Holding.{IsReplyTime};
 ghost use Rattle.chpw_messages.specs.Replies.{ap_rep_part, ap_rep_text, confounder as confounder_of, priv_part, priv_text, private_frame, seq_number_of};
 
@@ -10,17 +10,16 @@ use krb_der::{
     ADDR_TYPE_IPV4, Bytes, EncApRepPart, EncKrbPrivPart, HostAddress, KerberosTime, Microseconds,
     SeqNumber,
 };
-use krb_msgs::{laws, make_ap_rep, make_priv};
+use krb_msgs::{make_ap_rep, make_priv};
 use std::alloc::{AllocError, Global};
 
 /// The service's address: it listens on loopback alone.
 const LOOPBACK: [u8; 4] = [127, 0, 0, 1];
 
 /// Four words as 16 bytes, each low byte first.
-fn confounder(words: [u32; 4]) -> [u8; 16]
-    ensures value { result ≡ confounder_of words }
+fn confounder(first: u32, second: u32, third: u32, fourth: u32) -> [u8; 16]
+    ensures value { result ≡ confounder_of (first ∷ second ∷ third ∷ fourth ∷ []) }
 {
-    let [first, second, third, fourth] = words;
     let [a0, a1, a2, a3] = first.to_le_bytes();
     let [b0, b1, b2, b3] = second.to_le_bytes();
     let [c0, c1, c2, c3] = third.to_le_bytes();
@@ -30,11 +29,37 @@ fn confounder(words: [u32; 4]) -> [u8; 16]
     ]
 }
 
+/// The confounder of the first four words.
+fn front_confounder(words: [u32; 9]) -> [u8; 16]
+    ensures value { result ≡ confounder_of (take 4 words) }
+{
+    confounder(words[0], words[1], words[2], words[3])
+}
+
+/// The confounder of the last four words.
+fn back_confounder(words: [u32; 9]) -> [u8; 16]
+    ensures value { result ≡ confounder_of (drop 5 words) }
+{
+    confounder(words[5], words[6], words[7], words[8])
+}
+
 /// The sequence number of both parts, below 2^31.
 fn seq_number(words: [u32; 9]) -> SeqNumber
     ensures value { result.0 ≡ seq_number_of words }
 {
     SeqNumber(words[4] % (1 << 31))
+}
+
+/// The sealed part of the AP-REP.
+fn ap_rep_part(seal: &Seal, words: [u32; 9]) -> EncApRepPart
+    ensures value { result ≡ ap_rep_part seal.now words }
+{
+    EncApRepPart {
+        ctime: KerberosTime(seal.ctime),
+        cusec: Microseconds(seal.cusec),
+        subkey: None,
+        seq_number: Some(seq_number(words)),
+    }
 }
 
 /// The AP-REP, sealed under the session key.
@@ -43,14 +68,9 @@ fn ap_rep(alloc: Global, seal: &Seal, words: [u32; 9]) -> Result<Vec<u8>, AllocE
     ensures text { IfOk result (λ v. v.items ≡ ap_rep_text seal.now words) }
     ensures short { IfOk result (λ v. length v.items ≤ 500) }
 {
-    let part = EncApRepPart {
-        ctime: KerberosTime(seal.ctime),
-        cusec: Microseconds(seal.cusec),
-        subkey: None,
-        seq_number: Some(seq_number(words)),
-    };
-    let [w0, w1, w2, w3, ..] = words;
-    make_ap_rep(alloc, &part, &seal.session, confounder([w0, w1, w2, w3]))
+    let part = ap_rep_part(seal, words);
+    let confounder = front_confounder(words);
+    make_ap_rep(alloc, &part, &seal.session, confounder)
 }
 
 /// The sealed part of the KRB-PRIV.
@@ -90,8 +110,8 @@ fn krb_priv(
     ensures short { IfOk result (λ v. length v.items ≤ 1000) }
 {
     let part = private_part(alloc, code, text, words)?;
-    let [.., w5, w6, w7, w8] = words;
-    make_priv(alloc, &part, &seal.subkey, confounder([w5, w6, w7, w8]))
+    let confounder = back_confounder(words);
+    make_priv(alloc, &part, &seal.subkey, confounder)
 }
 
 /// The reply with this result code and text of at most 100 bytes.

@@ -12,7 +12,7 @@ use chpw_table::Moment;
 use krb_der::{
     Bytes, GeneralString, KRB_ERROR, KerberosTime, KrbError, Microseconds, OctetString, PVNO,
 };
-use krb_msgs::{laws, make_error, service_name};
+use krb_msgs::{make_error, service_name};
 use std::alloc::{AllocError, Global};
 
 /// A result code, high byte first, and a text (RFC 3244 section 2).

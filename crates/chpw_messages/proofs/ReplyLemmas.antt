@@ -1,0 +1,102 @@
+-- Replies can be made: their records fit, and they are short.
+use Rattle.std.proofs.Common.{◌≡◌, ℕ, ◌+◌, ◌≤◌, ◌<◌, ◌^◌, ◌%◌, true, List, ◌++◌, length, length-append, Some, None, ap, arith, refl, ℤ, pos, negsuc, ◌≤ℤ◌}
+use Rattle.std.specs.Prelude.{is_some, slice_index, drop, take}
+use Rattle.std.specs.Int.{to_be_bytes, w16}
+use Rattle.std.proofs.lemmas.Int.{ints}
+use Rattle.krb_keys.specs.KeyUsages.{usage_ap_rep_enc_part, usage_krb_priv}
+use Rattle.krb_keys.specs.Sealing.{sealed}
+use Rattle.krb_elements.specs.Shapes.{int32, kerberos_time, microseconds}
+use Rattle.krb_elements.specs.Texts.{fits, is_in_range, text}
+use Rattle.krb_elements.proofs.TimeLemmas.{time_of_some}
+use Rattle.krb_der.specs.Types.{ap_rep, enc_ap_rep_part, enc_krb_priv_part, krb_error, krb_priv}
+use Rattle.krb_der.specs.Values.{ap_rep_value, enc_ap_rep_part_value, enc_krb_priv_part_value, krb_error_value, krb_priv_value}
+use Rattle.krb_msgs.specs.Making.{ap_rep_of, priv_of}
+use Rattle.krb_msgs.specs.ReplyFitting.{IsShort}
+use Rattle.krb_msgs.proofs.LengthLemmas.{between, texts_are_short}
+use Rattle.krb_msgs.proofs.FittingLemmas.{ap_reps_fit, length-sealed, privs_fit}
+use Rattle.krb_msgs.proofs.PartLemmas.{some_text}
+use Rattle.krb_msgs.proofs.ReplyFittingLemmas.{ap_rep_parts_fit, errors_fit, priv_parts_fit}
+use Rattle.chpw_table.specs.declared.times.Moment.{Moment}
+use Rattle.chpw_table.specs.Times.{IsMoment}
+use Rattle.chpw_table.specs.Replies.{Answer, by_error}
+use Rattle.chpw_answer.specs.declared.messages.Seal.{Seal}
+use Rattle.chpw_answer.specs.Holding.{IsReplyTime}
+use Rattle.chpw_messages.specs.Service.{IsRealm}
+use Rattle.chpw_messages.specs.Replies.{ap_rep_part, ap_rep_text, confounder, error_record, priv_part, priv_text, seq_number_of}
+
+time_range : (t : ℤ) → negsuc 62167219199 ≤ℤ t → t ≤ℤ pos 253402300799 → is_in_range kerberos_time t ≡ true
+time_range t low high = ap is_some (time_of_some t (low, high))
+
+micros_range : (n : ℕ) → n < 1000000 → is_in_range microseconds (pos n) ≡ true
+micros_range n lt =
+    let low : pos 0 ≤ℤ pos n = omega (arith, ints) in
+    let high : pos n ≤ℤ pos 999999 = omega (arith, ints, lt) in
+    between (pos 0) (pos 999999) (pos n) low high
+
+-- ---- a KRB-ERROR
+
+pub error_range : (code : ℤ) → negsuc 2147483647 ≤ℤ code → code ≤ℤ pos 2147483647 → is_in_range int32 code ≡ true
+error_range code low high = between (negsuc 2147483647) (pos 2147483647) code low high
+
+pub error_fits : (realm : List ℕ) (code : ℕ) (error : ℤ) (words : List ℕ) (now : Moment)
+    → IsRealm realm → IsMoment now → now.micros < 1000000 → is_in_range int32 error ≡ true → length words ≤ 100
+    → fits krb_error (krb_error_value (error_record realm (by_error code error words) now)) ≡ true
+error_fits realm code error words now is_realm moment micros range le =
+    let low : negsuc 62167219199 ≤ℤ now.seconds = omega (arith, ints, moment.0) in
+    errors_fit (record { 0 = now.seconds }) (record { 0 = now.micros }) error realm (to_be_bytes w16 code ++ words)
+    (time_range now.seconds low moment.1, micros_range now.micros micros) range
+    (omega (arith, length-append (to_be_bytes w16 code) words, is_realm.1, le))
+
+pub error_short : (realm : List ℕ) (code : ℕ) (error : ℤ) (words : List ℕ) (now : Moment)
+    → IsRealm realm → length words ≤ 100
+    → length (text krb_error (krb_error_value (error_record realm (by_error code error words) now))) ≤ 2000
+error_short realm code error words now is_realm le =
+    let short = texts_are_short krb_error (krb_error_value (error_record realm (by_error code error words) now)) in
+    omega (arith, short, length-append (to_be_bytes w16 code) words, is_realm.1, le)
+
+-- ---- an AP-REP
+
+seq_range : (words : List ℕ) → seq_number_of words < 2 ^ 32
+seq_range words = omega arith
+
+pub ap_rep_part_fits : (seal : Seal) (words : List ℕ) → IsReplyTime seal
+    → IsShort enc_ap_rep_part (enc_ap_rep_part_value (ap_rep_part seal words))
+ap_rep_part_fits seal words times =
+    ap_rep_parts_fit (record { 0 = seal.ctime }) (record { 0 = seal.cusec }) (seq_number_of words)
+    (time_range seal.ctime times.0 times.1, micros_range seal.cusec times.2) (seq_range words)
+
+pub ap_rep_fits : (seal : Seal) (words c : List ℕ) → IsReplyTime seal → length c ≡ 16
+    → fits ap_rep (ap_rep_value (ap_rep_of (ap_rep_part seal words) seal.session c)) ≡ true
+ap_rep_fits seal words c times c16 = ap_reps_fit (ap_rep_part seal words) seal.session c c16 (ap_rep_part_fits seal words times).1
+
+pub ap_rep_short : (seal : Seal) (words c : List ℕ) → length c ≡ 16
+    → length (text ap_rep (ap_rep_value (ap_rep_of (ap_rep_part seal words) seal.session c))) ≤ 500
+ap_rep_short seal words c c16 =
+    let v = enc_ap_rep_part_value (ap_rep_part seal words) in
+    let plain : List ℕ = text enc_ap_rep_part v in
+    let len = length-sealed seal.session usage_ap_rep_enc_part c plain c16 (some_text enc_ap_rep_part v refl) in
+    let part = texts_are_short enc_ap_rep_part v in
+    let short = texts_are_short ap_rep (ap_rep_value (ap_rep_of (ap_rep_part seal words) seal.session c)) in
+    omega (arith, len, part, short)
+
+-- ---- a KRB-PRIV
+
+pub priv_part_fits : (a : Answer) (words : List ℕ) → length a.text ≤ 100
+    → IsShort enc_krb_priv_part (enc_krb_priv_part_value (priv_part a words))
+priv_part_fits a words le =
+    priv_parts_fit (to_be_bytes w16 a.code ++ a.text) (seq_number_of words) _ (seq_range words)
+    (omega (arith, length-append (to_be_bytes w16 a.code) a.text, le))
+
+pub priv_fits : (seal : Seal) (a : Answer) (words c : List ℕ) → length a.text ≤ 100 → length c ≡ 16
+    → fits krb_priv (krb_priv_value (priv_of (priv_part a words) seal.subkey c)) ≡ true
+priv_fits seal a words c le c16 = privs_fit (priv_part a words) seal.subkey c c16 (priv_part_fits a words le).1
+
+pub priv_short : (seal : Seal) (a : Answer) (words c : List ℕ) → length a.text ≤ 100 → length c ≡ 16
+    → length (text krb_priv (krb_priv_value (priv_of (priv_part a words) seal.subkey c))) ≤ 1000
+priv_short seal a words c le c16 =
+    let v = enc_krb_priv_part_value (priv_part a words) in
+    let plain : List ℕ = text enc_krb_priv_part v in
+    let len = length-sealed seal.subkey usage_krb_priv c plain c16 (some_text enc_krb_priv_part v refl) in
+    let part = texts_are_short enc_krb_priv_part v in
+    let short = texts_are_short krb_priv (krb_priv_value (priv_of (priv_part a words) seal.subkey c)) in
+    omega (arith, len, part, short, length-append (to_be_bytes w16 a.code) a.text, le)
