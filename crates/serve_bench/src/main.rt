@@ -27,7 +27,7 @@ struct Wanted {
 }
 
 fn main(rt: HostRuntime) -> io::Result<()> {
-    match wanted(&rt)? {
+    match arguments(&rt)? {
         None => Ok(()),
         Some(wanted) => measure(&rt, wanted),
     }
