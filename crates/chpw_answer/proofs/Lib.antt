@@ -1,2 +1,3 @@
 pub mod CompletingLemmas
 pub mod JudgingLemmas
+pub mod TextLemmas

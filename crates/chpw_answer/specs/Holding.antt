@@ -1,7 +1,8 @@
 -- What the program holds of a message that was opened.
-use Rattle.std.specs.Prelude.{◌≡◌, [], Some}
+use Rattle.std.specs.Prelude.{◌≡◌, ◌<◌, ◌≤ℤ◌, pos, negsuc, [], Some}
 use Rattle.chpw_table.specs.Replies.{Answer}
-use Rattle.chpw_answer.specs.declared.messages.Refusal.{Refusal}
+use Rattle.chpw_answer.specs.declared.refusal.Refusal.{Refusal}
+use Rattle.chpw_answer.specs.declared.messages.Seal.{Seal}
 use Rattle.chpw_answer.specs.declared.messages.Incoming.{Incoming}
 use Rattle.chpw_answer.specs.declared.messages.Opening.{Opening}
 use Rattle.chpw_answer.specs.declared.messages.Opening.TheVariants as program
@@ -19,3 +20,11 @@ IsOpening (refused a) (program.Refused r) = a ≡ answer_in r
 IsOpening (opened q) (program.Opened i) = IsIncoming q i
 IsOpening (refused a) (program.Opened i) = ⊥
 IsOpening (opened q) (program.Refused r) = ⊥
+
+-- a reply can say these times: the years 0 to 9999, and microseconds
+abbrev pub IsReplyTime : Seal → Type 0
+IsReplyTime seal = (negsuc 62167219199 ≤ℤ seal.ctime) × (seal.ctime ≤ℤ pos 253402300799) × (seal.cusec < 1000000)
+
+abbrev pub IsInTime : Opening → Type 0
+IsInTime (program.Refused r) = Unit {0}
+IsInTime (program.Opened i) = IsReplyTime i.seal

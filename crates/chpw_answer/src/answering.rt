@@ -1,14 +1,15 @@
 //! The answer to one message.
-ghost use Rattle.std.specs.Prelude.{◌≡◌, ◌≤◌, length, IfOk, OnErr, pos, codes};
+ghost use Rattle.std.specs.Prelude.{◌≡◌, ◌≤◌, ◌<◌, length, IfOk, OnErr, pos, codes};
 ghost use Rattle.chpw_table.specs.Times.{IsMoment};
 ghost use Rattle.chpw_answer.specs.Requests.{Request};
-ghost use Rattle.chpw_answer.specs.Holding.{IsIncoming};
+ghost use Rattle.chpw_answer.specs.Holding.{IsIncoming, IsReplyTime};
 ghost use Rattle.chpw_answer.specs.Answers.{AddsAtMostOne, IsAnswer, IsAnswerTo, reply as reply_to};
 
 use crate::completing::derive_shown;
 use crate::deciding::{Decision, decide};
 use crate::gate::{Gate, Spot};
-use crate::messages::{Incoming, Messages, Opening, Refusal, Seal};
+use crate::messages::{Incoming, Messages, Opening, Seal};
+use crate::refusal::Refusal;
 use chpw_decider::Decider;
 use chpw_table::{Moment, Verdict};
 use std::alloc::{AllocError, Global};
@@ -24,8 +25,9 @@ pub struct Answered {
 }
 
 /// The reply to a message from this peer, an IPv4 address, high byte first. Its request is judged at
-/// the moment `now`, whose seconds are 0 to `chpw_table::LAST_SECOND`; the words make its confounders
-/// and its sequence number. After `AllocError` there may be a receipt more.
+/// the moment `now`, whose seconds are 0 to `chpw_table::LAST_SECOND`, and microseconds below
+/// 1,000,000; the words make its confounders and its sequence number. After `AllocError` there may be
+/// a receipt more.
 pub fn answer<M: Messages, D: Decider, G: Gate>(
     alloc: Global,
     service: &M,
@@ -37,6 +39,7 @@ pub fn answer<M: Messages, D: Decider, G: Gate>(
     now: Moment,
 ) -> Result<Vec<u8>, AllocError>
     requires moment { IsMoment now }
+    requires micros { now.micros < 1000000 }
     ensures reply { IfOk result (λ bytes. IsAnswer (M.error_frame service.now) (M.private_frame service.now)
         (D.may_be_full decider.new (D.gathered decider.new)) (M.opens service.now peer message.now)
         words now (D.gathered decider.old) (D.gathered decider.new) bytes.items) }
@@ -60,6 +63,7 @@ pub fn answer_message<M: Messages, D: Decider, G: Gate>(
     now: Moment,
 ) -> Result<Answered, AllocError>
     requires moment { IsMoment now }
+    requires micros { now.micros < 1000000 }
     ensures reply { IfOk result (λ a. IsAnswer (M.error_frame service.now) (M.private_frame service.now)
         (D.may_be_full decider.new (D.gathered decider.new)) (M.opens service.now peer message.now)
         words now (D.gathered decider.old) (D.gathered decider.new) a.bytes.items) }
@@ -90,6 +94,8 @@ fn answer_opened<M: Messages, D: Decider, G: Gate>(
     now: Moment,
 ) -> Result<Vec<u8>, AllocError>
     requires moment { IsMoment now }
+    requires micros { now.micros < 1000000 }
+    requires times { IsReplyTime incoming.seal }
     ensures reply { IfOk result (λ bytes. (q : Request) → IsIncoming q incoming
         → IsAnswerTo (M.error_frame service.now) (M.private_frame service.now)
         (D.may_be_full decider.new (D.gathered decider.new)) q words now
@@ -125,6 +131,7 @@ fn history_full() -> Refusal
 }
 
 /// The reply with this verdict.
+#[tactic(auto, using(crate::proofs::TextLemmas::short_text))]
 fn reply<M: Messages>(
     alloc: Global,
     service: &M,
@@ -134,6 +141,8 @@ fn reply<M: Messages>(
     now: Moment,
 ) -> Result<Vec<u8>, AllocError>
     requires moment { IsMoment now }
+    requires micros { now.micros < 1000000 }
+    requires times { IsReplyTime seal.now }
     ensures reply { IfOk result (λ bytes. bytes.items
         ≡ reply_to (M.error_frame service.now) (M.private_frame service.now) seal.now verdict words now) }
     ensures fits { IfOk result (λ bytes. length bytes.items ≤ 65535) }

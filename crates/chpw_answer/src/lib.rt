@@ -7,7 +7,9 @@ mod deciding;
 mod gate;
 pub mod laws;
 mod messages;
+mod refusal;
 
 pub use answering::{Answered, answer, answer_message};
 pub use gate::{Gate, NoGate, Spot};
-pub use messages::{Incoming, Messages, Opening, Refusal, Seal};
+pub use messages::{Incoming, Messages, Opening, Seal};
+pub use refusal::Refusal;

@@ -1,12 +1,13 @@
 //! Whoever opens and makes messages.
-ghost use Rattle.std.specs.Prelude.{◌≡◌, ◌≤◌, ℕ, List, length, IfOk};
+ghost use Rattle.std.specs.Prelude.{◌≡◌, ◌≤◌, ◌<◌, ℕ, List, length, IfOk};
 ghost use Rattle.chpw_table.specs.declared.times.Moment.{Moment};
 ghost use Rattle.chpw_table.specs.Times.{IsMoment};
 ghost use Rattle.chpw_table.specs.Replies.{Answer};
 ghost use Rattle.chpw_answer.specs.declared.messages.Seal.{Seal};
 ghost use Rattle.chpw_answer.specs.Requests.{Opens};
-ghost use Rattle.chpw_answer.specs.Holding.{IsOpening, answer_in};
+ghost use Rattle.chpw_answer.specs.Holding.{IsInTime, IsOpening, IsReplyTime, answer_in};
 
+use crate::refusal::Refusal;
 use chpw_rules::Items;
 use chpw_table::{Moment, Opened};
 use krb_keys::Key;
@@ -19,17 +20,10 @@ pub struct Seal {
     pub session: Key,
     /// The authenticator's, for the KRB-PRIV.
     pub subkey: Key,
-    /// The authenticator's time, in seconds since 1970-01-01T00:00:00Z, and its microseconds.
+    /// The authenticator's time, in seconds since 1970-01-01T00:00:00Z, and its microseconds. A reply
+    /// can say a time of the years 0 to 9999, and 0 to 999999 microseconds.
     pub ctime: i64,
     pub cusec: u32,
-}
-
-/// What a KRB-ERROR says: result code (RFC 3244 section 2), error code (RFC 4120 section 7.5.9), text.
-#[derive(Drop)]
-pub struct Refusal {
-    pub code: u16,
-    pub error: i32,
-    pub text: &'static str,
 }
 
 /// A request that opened, its digest with no keys yet.
@@ -64,9 +58,10 @@ pub trait Messages {
 
     /// Opens a message from this peer, an IPv4 address, high byte first.
     fn open(&self, alloc: Global, peer: [u8; 4], message: &[u8]) -> Result<Opening, AllocError>
-        ensures opening { IfOk result (λ found. (o : Opens) × opens self.now peer message.now o × IsOpening o found) };
+        ensures opening { IfOk result (λ found. (o : Opens) × opens self.now peer message.now o × IsOpening o found) }
+        ensures times { IfOk result IsInTime };
 
-    /// The reply that is a KRB-ERROR of this moment.
+    /// The reply that is a KRB-ERROR of this moment, whose microseconds are below 1,000,000.
     fn make_error(
         &self,
         alloc: Global,
@@ -74,10 +69,11 @@ pub trait Messages {
         now: Moment,
     ) -> Result<Vec<u8>, AllocError>
         requires moment { IsMoment now }
+        requires micros { now.micros < 1000000 }
         ensures frame { IfOk result (λ bytes. bytes.items ≡ error_frame self.now (answer_in refusal) now) }
         ensures fits { IfOk result (λ bytes. length bytes.items ≤ 65535) };
 
-    /// The reply of AP-REP and KRB-PRIV with this result code and text.
+    /// The reply of AP-REP and KRB-PRIV with this result code and text of at most 100 bytes.
     fn make_private(
         &self,
         alloc: Global,
@@ -86,6 +82,8 @@ pub trait Messages {
         text: &str,
         words: [u32; 9],
     ) -> Result<Vec<u8>, AllocError>
+        requires times { IsReplyTime seal.now }
+        requires text { length text.now ≤ 100 }
         ensures frame { IfOk result (λ bytes. bytes.items
             ≡ private_frame self.now seal.now (record { code = code; error = None; text = text.now }) words) }
         ensures fits { IfOk result (λ bytes. length bytes.items ≤ 65535) };

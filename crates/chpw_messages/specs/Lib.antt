@@ -1,3 +1,5 @@
 pub mod Replies
 pub mod Opening
+pub mod Service
+pub mod Asked
 pub mod WorkedReplies

@@ -21,6 +21,7 @@ use Rattle.chpw_frame.specs.Faults as frame
 use Rattle.chpw_rules.specs.declared.name.Name.{Name}
 use Rattle.chpw_table.specs.declared.request.Target.{Target}
 use Rattle.chpw_table.specs.Replies.{by_error}
+use Rattle.chpw_answer.specs.declared.messages.Seal.{Seal}
 use Rattle.chpw_answer.specs.Requests.{Content, new_password, bad_private, bad_data, Request, Opens, refused, opened}
 
 -- ---- the new password
@@ -56,6 +57,10 @@ stamp_in (Err fault) = None
 
 -- ---- the AP-REQ
 
+-- what the reply is made with
+abbrev pub seal_of : ApOpened → Seal
+seal_of a = record { session = a.session; subkey = a.subkey; ctime = a.ctime.0; cusec = a.cusec.0 }
+
 abbrev pub request_of : ApOpened → Option ℤ → Content → Request
 request_of a stamp content = record {
   crealm = a.crealm;
@@ -67,7 +72,7 @@ request_of a stamp content = record {
   ctime = a.ctime.0;
   cusec = a.cusec.0;
   stamp = stamp;
-  seal = record { session = a.session; subkey = a.subkey; ctime = a.ctime.0; cusec = a.cusec.0 };
+  seal = seal_of a;
   content = content;
 }
 

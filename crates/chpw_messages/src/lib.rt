@@ -1,4 +1,15 @@
-//! By definitions, what a message to the service opens to and what its reply is.
+//! What a message to the service opens to, and the replies to it: `Service` opens messages and makes
+//! replies.
 #![tactic(auto)]
 
+mod content;
+mod incoming;
 pub mod laws;
+mod names;
+mod opening;
+mod private_reply;
+mod refusals;
+mod replies;
+mod service;
+
+pub use service::Service;

@@ -36,7 +36,7 @@ pub(crate) struct Drawing {
 
 /// Draws them.
 pub(crate) fn draw_both<C: Clock, X: Words>(clock: &mut C, words: &mut X) -> Drawing
-    ensures range { IsMoment result.now }
+    ensures range { IsMoment result.now × (result.now.micros < 1000000) }
     ensures moment { C.gives clock.old result.now clock.new }
     ensures words { Drawn X.gives words.old result.words words.new }
 {

@@ -24,7 +24,7 @@ use Rattle.krb_msgs.specs.Fitting.{ApRepsFit, ApReqsFit, PrivsFit, TicketsAreSho
 use Rattle.krb_msgs.proofs.LengthLemmas.{between, short_element, short_texts_fit, texts_are_short}
 use Rattle.krb_msgs.proofs.PartLemmas.{some_text}
 
-length-sealed : (key : Key) (usage : ℕ) (confounder plain : List ℕ) → length confounder ≡ 16
+pub length-sealed : (key : Key) (usage : ℕ) (confounder plain : List ℕ) → length confounder ≡ 16
     → 0 < length plain → length (sealed key usage confounder plain) ≡ length plain + 28
 unfolding sealed enciphered
 length-sealed key usage confounder plain c16 some =

@@ -24,7 +24,7 @@ pub use codes::{
     KRB_AP_ERR_NOT_US, KRB_ERR_GENERIC, KRB5_KPASSWD_AUTHERROR, KRB5_KPASSWD_MALFORMED,
 };
 pub use fault::{ApFault, OpenError, PrivFault, ReplyFault};
-pub use making::{make_ap_rep, make_ap_req, make_error, make_priv, make_ticket};
+pub use making::{make_ap_rep, make_ap_req, make_error, make_priv, make_ticket, service_name};
 pub use private_message::{Private, open_priv};
 pub use reply::{Reply, read_reply};
 pub use service_keys::ServiceKey;

@@ -29,8 +29,8 @@ fn component(alloc: Global, text: &[u8]) -> Result<GeneralString, AllocError>
     Ok(Bytes::of(Vec::from_slice(alloc, text)?))
 }
 
-// kadmin/changepw.
-fn service_name(alloc: Global) -> Result<PrincipalName, AllocError>
+/// The name kadmin/changepw (RFC 3244 section 2).
+pub fn service_name(alloc: Global) -> Result<PrincipalName, AllocError>
     ensures { IfOk result (λ n. n ≡ service_name) }
 {
     let mut components = Vec::with_capacity(alloc, 2)?;

@@ -1,0 +1,75 @@
+//! The reply that is a KRB-ERROR (RFC 3244 section 2).
+ghost use Rattle.std.specs.Prelude.{◌≡◌, ◌≤◌, ◌<◌, ◌+◌, ◌++◌, length, Some, IfOk};
+ghost use Rattle.std.specs.Int.{to_be_bytes, w16};
+ghost use Rattle.chpw_table.specs.Times.{IsMoment};
+ghost use Rattle.chpw_answer.specs.Holding.{answer_in};
+ghost use Rattle.chpw_messages.specs.Service.{IsRealm};
+ghost use Rattle.chpw_messages.specs.Replies.{error_frame, error_record};
+
+use chpw_answer::Refusal;
+use chpw_frame::join_reply;
+use chpw_table::Moment;
+use krb_der::{
+    Bytes, GeneralString, KRB_ERROR, KerberosTime, KrbError, Microseconds, OctetString, PVNO,
+};
+use krb_msgs::{laws, make_error, service_name};
+use std::alloc::{AllocError, Global};
+
+/// A result code, high byte first, and a text (RFC 3244 section 2).
+pub(crate) fn user_data(alloc: Global, code: u16, text: &str) -> Result<OctetString, AllocError>
+    ensures value { IfOk result (λ bytes. bytes ≡ to_be_bytes w16 code ++ text.now) }
+{
+    let mut bytes = Vec::from_slice(alloc, &code.to_be_bytes())?;
+    bytes.extend_from_slice(text.as_bytes())?;
+    Ok(Bytes::of(bytes))
+}
+
+/// The KRB-ERROR of this refusal.
+fn error_of(
+    alloc: Global,
+    realm: &[u8],
+    refusal: Refusal,
+    now: Moment,
+) -> Result<KrbError, AllocError>
+    ensures value { IfOk result (λ e. e ≡ error_record realm.now (answer_in refusal) now) }
+{
+    Ok(KrbError {
+        pvno: PVNO,
+        msg_type: KRB_ERROR,
+        ctime: None,
+        cusec: None,
+        stime: KerberosTime(now.seconds),
+        susec: Microseconds(now.micros),
+        error_code: refusal.error,
+        crealm: None,
+        cname: None,
+        realm: realm_of(alloc, realm)?,
+        sname: service_name(alloc)?,
+        e_text: None,
+        e_data: Some(user_data(alloc, refusal.code, refusal.text)?),
+    })
+}
+
+fn realm_of(alloc: Global, realm: &[u8]) -> Result<GeneralString, AllocError>
+    ensures value { IfOk result (λ r. r ≡ realm.now) }
+{
+    Ok(Bytes::of(Vec::from_slice(alloc, realm)?))
+}
+
+/// The reply of a realm of 1 to 255 bytes.
+pub(crate) fn error_reply(
+    alloc: Global,
+    realm: &[u8],
+    refusal: Refusal,
+    now: Moment,
+) -> Result<Vec<u8>, AllocError>
+    requires realm { IsRealm realm.now }
+    requires moment { IsMoment now }
+    requires micros { now.micros < 1000000 }
+    ensures frame { IfOk result (λ bytes. bytes.items ≡ error_frame realm.now (answer_in refusal) now) }
+    ensures fits { IfOk result (λ bytes. length bytes.items ≤ 65535) }
+{
+    let error = error_of(alloc, realm, refusal, now)?;
+    let message = make_error(alloc, &error)?;
+    join_reply(alloc, &[], &message)
+}

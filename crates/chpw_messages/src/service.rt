@@ -1,0 +1,110 @@
+//! The service: its realm and its keys.
+ghost use Rattle.std.specs.Prelude.{◌≡◌, true, map, IfOk};
+ghost use Rattle.std.specs.List.{list_all};
+ghost use Rattle.chpw_rules.specs.Fitting.{config_fits, service_key_fits};
+ghost use Rattle.chpw_messages.specs.Service.{configured, held};
+
+use crate::opening::open_message;
+use crate::private_reply::private_reply;
+use crate::replies::error_reply;
+use chpw_answer::{Messages, Opening, Refusal, Seal};
+use chpw_rules::{Config, Items, ServiceRow};
+use chpw_table::Moment;
+use krb_keys::key_of;
+use krb_msgs::ServiceKey;
+use std::alloc::{AllocError, Global};
+use std::marker::Model;
+
+/// The service kadmin/changepw of a realm (RFC 3244 section 2): it opens messages and makes replies.
+#[derive(Drop)]
+pub struct Service {
+    realm: Items<u8>,
+    keys: Vec<ServiceKey>,
+}
+
+impl Model for Service {
+    ghost use Rattle.chpw_messages.specs.Service.{Identity, IsRealm};
+
+    ghost Value = { Identity };
+
+    ghost view = { λ s. record { realm = s.realm; keys = s.keys.items } };
+
+    ghost invariant = { λ s. IsRealm s.realm };
+}
+
+impl Service {
+    /// The service of a configuration that fits: its realm, and its service keys in their order.
+    pub fn of(alloc: Global, config: &Config) -> Result<Service, AllocError>
+        requires fits { config_fits config.now ≡ true }
+        ensures realm { IfOk result (λ s. s.realm ≡ config.now.realm) }
+        ensures keys { IfOk result (λ s. map held s.keys ≡ map configured config.now.service) }
+    {
+        Ok(Service {
+            realm: Items::of(Vec::from_slice(alloc, config.realm.as_slice())?),
+            keys: service_keys(alloc, config.service.as_slice())?,
+        })
+    }
+}
+
+fn service_keys(alloc: Global, rows: &[ServiceRow]) -> Result<Vec<ServiceKey>, AllocError>
+    requires fit { list_all service_key_fits rows.now ≡ true }
+    ensures value { IfOk result (λ keys. map held keys.items ≡ map configured rows.now) }
+{
+    let mut keys = Vec::with_capacity(alloc, rows.len())?;
+    for row in rows {
+        keys.push(service_key(row))?;
+    }
+    Ok(keys)
+}
+
+fn service_key(row: &ServiceRow) -> ServiceKey
+    requires fits { service_key_fits row.now ≡ true }
+    ensures value { held result ≡ configured row.now }
+{
+    match key_of(row.etype, row.key.as_slice()) {
+        Ok(key) => ServiceKey {
+            kvno: row.kvno,
+            key,
+        },
+        Err(_) => unreachable!(),
+    }
+}
+
+impl Messages for Service {
+    ghost use Rattle.chpw_messages.specs.Opening.{OpensTo};
+    ghost use Rattle.chpw_messages.specs.Replies.{error_frame as krb_error_reply, private_frame as krb_priv_reply};
+
+    ghost opens = { λ s peer bytes o. OpensTo s.realm s.keys peer bytes o };
+
+    ghost error_frame = { λ s a now. krb_error_reply s.realm a now };
+
+    ghost private_frame = { λ s seal a words. krb_priv_reply seal a words };
+
+    fn realm(&self) -> &[u8] {
+        self.realm.as_slice()
+    }
+
+    fn open(&self, alloc: Global, peer: [u8; 4], message: &[u8]) -> Result<Opening, AllocError> {
+        open_message(alloc, self.realm.as_slice(), &self.keys, peer, message)
+    }
+
+    fn make_error(
+        &self,
+        alloc: Global,
+        refusal: Refusal,
+        now: Moment,
+    ) -> Result<Vec<u8>, AllocError> {
+        error_reply(alloc, self.realm.as_slice(), refusal, now)
+    }
+
+    fn make_private(
+        &self,
+        alloc: Global,
+        seal: &Seal,
+        code: u16,
+        text: &str,
+        words: [u32; 9],
+    ) -> Result<Vec<u8>, AllocError> {
+        private_reply(alloc, seal, code, text, words)
+    }
+}
