@@ -4,17 +4,18 @@ use Rattle.std.specs.Prelude.{◌≡◌, ◌≤◌, ℕ, Bool, true, false, List
 use Rattle.std.specs.Str.Parse.{digits_value, without_leading_plus}
 use Rattle.clap.specs.Walk.{Row, Text, first_of, one_of}
 use Rattle.chpw_invocation.specs.declared.invocation.ClientOptions.{ClientOptions}
+use Rattle.chpw_invocation.specs.declared.invocation.ServeOptions.{ServeOptions}
 use Rattle.chpw_invocation.specs.declared.invocation.Invocation.{Invocation}
-use Rattle.chpw_invocation.specs.declared.invocation.Invocation.TheVariants.{Drill, Check, Client}
+use Rattle.chpw_invocation.specs.declared.invocation.Invocation.TheVariants.{Drill, Check, Serve, Client}
 
 -- an option that has to be there has this value
 abbrev pub HasText : List Row → Text → Text → Type 0
 HasText options name text = first_of name options ≡ Some text
 
--- and a port this number
-abbrev pub HasPort : List Row → Text → ℕ → Type 0
-HasPort options name number = (text : Text) × (one_of name options ≡ Some text)
-    × (number ≡ digits_value 10 (without_leading_plus text)) × (1 ≤ number) × (number ≤ 65535)
+-- and this number, within these limits
+abbrev pub HasNumber : ℕ → ℕ → List Row → Text → ℕ → Type 0
+HasNumber low high options name number = (text : Text) × (one_of name options ≡ Some text)
+    × (number ≡ digits_value 10 (without_leading_plus text)) × (low ≤ number) × (number ≤ high)
 
 -- a flag is given or isn't: clap matches true or false for it
 abbrev pub IsGiven : List Row → Text → Bool → Type 0
@@ -22,10 +23,18 @@ IsGiven options name given = (one_of name options ≡ Some (codes "true") → gi
     × (one_of name options ≡ Some (codes "false") → given ≡ false)
     × (one_of name options ≡ None → given ≡ false)
 
+pub record AsksServe (options : List Row) (asked : ServeOptions) : Type 0 where
+  pub config : HasText options (codes "config") asked.config.now
+  pub journal : HasText options (codes "journal") asked.journal.now
+  pub seed : HasText options (codes "seed") asked.seed.now
+  pub port : HasNumber 1 65535 options (codes "port") asked.port
+  pub workers : HasNumber 1 16 options (codes "workers") asked.workers
+  pub connections : HasNumber 1 4294967295 options (codes "connections") asked.connections
+
 pub record AsksClient (options : List Row) (asked : ClientOptions) : Type 0 where
   pub config : HasText options (codes "config") asked.config.now
   pub seed : HasText options (codes "seed") asked.seed.now
-  pub port : HasPort options (codes "port") asked.port
+  pub port : HasNumber 1 65535 options (codes "port") asked.port
   pub client : HasText options (codes "client") asked.client.now
   pub password : HasText options (codes "password") asked.password.now
   pub target : option_map (λ name. name.now) asked.target
@@ -37,4 +46,5 @@ abbrev pub AsksFor : Option (Text × List Row) → Invocation → Type 0
 AsksFor None asked = ⊥
 AsksFor (Some p) Drill = p.0 ≡ codes "drill"
 AsksFor (Some p) (Check config) = (p.0 ≡ codes "check") × HasText p.1 (codes "config") config.now
+AsksFor (Some p) (Serve asked) = (p.0 ≡ codes "serve") × AsksServe p.1 asked
 AsksFor (Some p) (Client asked) = (p.0 ≡ codes "client") × AsksClient p.1 asked

@@ -1,5 +1,5 @@
 -- The forms that options have, as clap's rules.
-use Rattle.std.specs.Prelude.{true, Some, pos, codes}
+use Rattle.std.specs.Prelude.{true, Some, pos, codes, ℕ}
 use Rattle.clap.specs.Walk.{Rule, Text}
 use Rattle.clap.specs.Simple.{new_rule}
 use Rattle.clap.specs.declared.builder.action.ArgAction.TheVariants.{Set, SetTrue}
@@ -17,6 +17,15 @@ required name = record (optional name) { required = true }
 abbrev pub flag : Text → Rule
 flag name = record (new_rule name) { long = Some name; action = Some SetTrue }
 
--- `--port N`, N from 1 to 65535
+-- `--NAME N`, which has to be there, N from 1 to a limit
+abbrev pub numbered : Text → ℕ → Rule
+numbered name limit = record (required name) { parser = Some (parser.Signed (pos 1) (pos limit)) }
+
 abbrev pub port : Rule
-port = record (required (codes "port")) { parser = Some (parser.Signed (pos 1) (pos 65535)) }
+port = numbered (codes "port") 65535
+
+abbrev pub workers : Rule
+workers = numbered (codes "workers") 16
+
+abbrev pub connections : Rule
+connections = numbered (codes "connections") 4294967295

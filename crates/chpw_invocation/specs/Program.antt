@@ -4,7 +4,7 @@ use Rattle.clap.specs.Walk.{Rule, Text}
 use Rattle.clap.specs.Simple.{App, Shape, new_shape}
 use Rattle.clap.specs.declared.builder.command.Command.{Command}
 use Rattle.clap.specs.declared.builder.command.Command.TheViews.{out-Command}
-use Rattle.chpw_invocation.specs.Options.{required, optional, flag, port}
+use Rattle.chpw_invocation.specs.Options.{required, optional, flag, port, workers, connections}
 
 abbrev pub command : Text → List Rule → Shape
 command name options = record (new_shape name) { rules = options }
@@ -24,6 +24,17 @@ drill = command (codes "drill") []
 -- check --config FILE
 abbrev pub check : Shape
 check = command (codes "check") (required (codes "config") ∷ [])
+
+-- serve --config FILE --journal FILE --seed FILE --port N --workers N --connections N
+abbrev pub serve : Shape
+serve = command (codes "serve")
+    (required (codes "config")
+    ∷ required (codes "journal")
+    ∷ required (codes "seed")
+    ∷ port
+    ∷ workers
+    ∷ connections
+    ∷ [])
 
 -- client --config FILE --seed FILE --port N --client NAME --password TEXT [--target NAME]
 -- [--no-initial]
@@ -47,5 +58,5 @@ program = record {
     subcommand_required = true;
     arg_required_else_help = true;
   };
-  subs = drill ∷ check ∷ client ∷ [];
+  subs = drill ∷ check ∷ serve ∷ client ∷ [];
 }

@@ -3,7 +3,7 @@ ghost use Rattle.std.specs.Prelude.{◌≡◌, [], IfOk, IfSome, OnOk, codes, ma
 ghost use Rattle.clap.specs.Faults.{fault_of};
 ghost use Rattle.clap.specs.Words.{first_of, found_of, rows_of, subcommand_of, subcommand_rows_of};
 ghost use Rattle.chpw_invocation.specs.Program.{program};
-ghost use Rattle.chpw_invocation.specs.Asked.{AsksClient, AsksFor, HasPort, IsGiven};
+ghost use Rattle.chpw_invocation.specs.Asked.{AsksClient, AsksFor, AsksServe, HasNumber, IsGiven};
 
 use crate::program::program as new_program;
 use clap::error::ErrorKind;
@@ -29,6 +29,23 @@ pub struct ClientOptions<'a> {
     pub no_initial: bool,
 }
 
+/// What `serve` starts from, where it listens, and how it works.
+#[derive(Clone, Copy, Drop)]
+pub struct ServeOptions<'a> {
+    /// The configuration's file.
+    pub config: &'a str,
+    /// The journal's file.
+    pub journal: &'a str,
+    /// The file with the seed.
+    pub seed: &'a str,
+    /// 1 to 65535.
+    pub port: u16,
+    /// 1 to 16.
+    pub workers: u8,
+    /// After how many connections it ends; at least 1.
+    pub connections: u32,
+}
+
 /// A command, with its options.
 #[derive(Clone, Copy, Drop)]
 pub enum Invocation<'a> {
@@ -36,6 +53,8 @@ pub enum Invocation<'a> {
     Drill,
     /// The check of the configuration in a file.
     Check { config: &'a str },
+    /// The service.
+    Serve(ServeOptions<'a>),
     /// One request.
     Client(ClientOptions<'a>),
 }
@@ -66,6 +85,8 @@ fn asked_of<'a>(matches: &ArgMatches<'a>) -> Option<Invocation<'a>>
         Some(Invocation::Drill)
     } else if name == "check" {
         check_of(options)
+    } else if name == "serve" {
+        serve_of(options).map(Invocation::Serve)
     } else if name == "client" {
         client_of(options).map(Invocation::Client)
     } else {
@@ -78,6 +99,19 @@ fn check_of<'a>(options: &ArgMatches<'a>) -> Option<Invocation<'a>>
 {
     let config = text_of(options, "config")?;
     Some(Invocation::Check { config })
+}
+
+fn serve_of<'a>(options: &ArgMatches<'a>) -> Option<ServeOptions<'a>>
+    ensures asked { IfSome result (AsksServe (rows_of (found_of options.now))) }
+{
+    Some(ServeOptions {
+        config: text_of(options, "config")?,
+        journal: text_of(options, "journal")?,
+        seed: text_of(options, "seed")?,
+        port: port_of(options)?,
+        workers: workers_of(options)?,
+        connections: connections_of(options)?,
+    })
 }
 
 fn client_of<'a>(options: &ArgMatches<'a>) -> Option<ClientOptions<'a>>
@@ -110,10 +144,30 @@ fn is_given(options: &ArgMatches<'_>, name: &str) -> bool
 
 // The port's number.
 fn port_of(options: &ArgMatches<'_>) -> Option<u16>
-    ensures port { IfSome result (HasPort (rows_of (found_of options.now)) (codes "port")) }
+    ensures port { IfSome result (HasNumber 1 65535 (rows_of (found_of options.now)) (codes "port")) }
 {
     match options.get_one::<u16>("port") {
         Some(port) if port > 0 => Some(port),
+        _ => None,
+    }
+}
+
+// How many workers there are.
+fn workers_of(options: &ArgMatches<'_>) -> Option<u8>
+    ensures workers { IfSome result (HasNumber 1 16 (rows_of (found_of options.now)) (codes "workers")) }
+{
+    match options.get_one::<u8>("workers") {
+        Some(workers) if 1 <= workers && workers <= 16 => Some(workers),
+        _ => None,
+    }
+}
+
+// How many connections there are.
+fn connections_of(options: &ArgMatches<'_>) -> Option<u32>
+    ensures connections { IfSome result (HasNumber 1 4294967295 (rows_of (found_of options.now)) (codes "connections")) }
+{
+    match options.get_one::<u32>("connections") {
+        Some(connections) if connections > 0 => Some(connections),
         _ => None,
     }
 }

@@ -6,4 +6,4 @@ mod invocation;
 mod options;
 mod program;
 
-pub use invocation::{ClientOptions, Invocation, command_of};
+pub use invocation::{ClientOptions, Invocation, ServeOptions, command_of};

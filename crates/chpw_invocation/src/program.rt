@@ -3,7 +3,9 @@ ghost use Rattle.std.specs.Prelude.{◌≡◌, [], IfOk};
 ghost use Rattle.clap.specs.Words.{app_of};
 ghost use Rattle.chpw_invocation.specs.Program as specs_of;
 
-use crate::options::{flag_option, optional_option, port_option, required_option};
+use crate::options::{
+    connections_option, flag_option, optional_option, port_option, required_option, workers_option,
+};
 use clap::Command;
 use std::alloc::{AllocError, Global};
 
@@ -38,6 +40,24 @@ Example:
 
 const CONFIG_HELP: &str =
     "The configuration, in TOML: realm, policy, rules, principals, service keys";
+
+const SERVE: &str = "Serves so many connections on a port of this machine, and ends.";
+
+const SERVE_MORE: &str = "\
+Prints 'listening on 127.0.0.1:N' before the first connection is accepted, and at the end
+'entries N changes N': how many requests were decided, and how many of them changed a password.
+Connections go to the workers in turn; a client that is slow or silent holds up its own worker.
+
+Example:
+  chpw_server serve --config samples/realm.toml --journal realm.journal --seed /dev/urandom \\
+      --port 464 --workers 4 --connections 1000000";
+
+const JOURNAL_HELP: &str =
+    "The journal of accepted changes; made where it isn't there, else the keys are restored from it";
+
+const WORKERS_HELP: &str = "How many connections are served at a time, 1 to 16";
+
+const CONNECTIONS_HELP: &str = "After how many connections the service ends, 1 to 4294967295";
 
 const CLIENT: &str = "Sends one request to a service on this machine, with a ticket of its own.";
 
@@ -91,6 +111,19 @@ fn check<'a>(alloc: Global) -> Result<Command<'a>, AllocError>
     ))
 }
 
+fn serve<'a>(alloc: Global) -> Result<Command<'a>, AllocError>
+    ensures shape { IfOk result (λ c. app_of c ≡ specs_of.alone specs_of.serve) }
+    ensures local { IfOk result specs_of.IsLocal }
+{
+    described(alloc, "serve", SERVE, SERVE_MORE)
+        .arg(required_option(alloc, "config", "FILE", CONFIG_HELP))?
+        .arg(required_option(alloc, "journal", "FILE", JOURNAL_HELP))?
+        .arg(required_option(alloc, "seed", "FILE", SEED_HELP))?
+        .arg(port_option(alloc, PORT_HELP))?
+        .arg(workers_option(alloc, WORKERS_HELP))?
+        .arg(connections_option(alloc, CONNECTIONS_HELP))
+}
+
 fn client<'a>(alloc: Global) -> Result<Command<'a>, AllocError>
     ensures shape { IfOk result (λ c. app_of c ≡ specs_of.alone specs_of.client) }
     ensures local { IfOk result specs_of.IsLocal }
@@ -116,5 +149,6 @@ pub(crate) fn program<'a>(alloc: Global) -> Result<Command<'a>, AllocError>
         .arg_required_else_help(true)
         .subcommand(drill(alloc))?
         .subcommand(check(alloc)?)?
+        .subcommand(serve(alloc)?)?
         .subcommand(client(alloc)?)
 }
