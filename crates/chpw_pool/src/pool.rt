@@ -102,7 +102,7 @@ pub fn run_pool_with<
     passes: &mut [Pass<D>],
     seed: [u8; 32],
     connections: u32,
-    gates: Vec<G>,
+    mut gates: Vec<G>,
 ) -> Pool
     requires passes { 0 < length passes.old }
     requires gates { length gates.items ≡ length passes.old }
@@ -124,7 +124,7 @@ pub fn run_pool_with<
             listener,
             lines.as_slice(),
             passes,
-            gates,
+            &mut gates,
             connections,
         ),
     }
@@ -149,11 +149,13 @@ fn run_lines<
     listener: &TcpListener,
     lines: &[Line],
     passes: &mut [Pass<D>],
-    gates: Vec<G>,
+    gates: &mut [G],
     connections: u32,
 ) -> Pool
     requires lines { 0 < length lines.now }
 {
+    let passes = &mut *passes;
+    let gates = &mut *gates;
     thread::scope(
         thread::scope_env(),
         rt,
@@ -161,7 +163,7 @@ fn run_lines<
             requires { 0 < length lines.now }
         {
             let mut started = true;
-            for ((line, pass), gate) in lines.iter().zip(passes.iter_mut()).zip(gates) {
+            for ((line, pass), gate) in lines.iter().zip(passes.iter_mut()).zip(gates.iter_mut()) {
                 if scope
                     .spawn(move || work(rt, shared, line, pass, gate))
                     .is_err()
@@ -227,12 +229,12 @@ fn peer_of(address: SocketAddr) -> [u8; 4] {
 }
 
 // Serves the connections of a line, until no more come.
-fn work<R: Wait + time::Clock, M: Messages, D: DeskName, S: JournalSink, G: Gate + Drop>(
+fn work<R: Wait + time::Clock, M: Messages, D: DeskName, S: JournalSink, G: Gate>(
     rt: &R,
     shared: &Shared<'_, M, D, S>,
     line: &Line,
     pass: &mut Pass<D>,
-    mut gate: G,
+    gate: &mut G,
 ) {
     let mut clock = MachineClock::new(rt);
     let mut words = WorkerWords::new(shared.seed, u64::from(pass.worker()));
@@ -253,7 +255,7 @@ fn work<R: Wait + time::Clock, M: Messages, D: DeskName, S: JournalSink, G: Gate
             &mut &stream,
             &mut &stream,
             &mut decider,
-            &mut gate,
+            gate,
             &mut clock,
             &mut words,
         );
