@@ -14,7 +14,7 @@ use Rattle.chpw_frame.specs.Laws.{FramedIsWhole, WholeIsFramed}
 use Rattle.chpw_frame.proofs.Tests.{is_same, not_zero, not_below, same_is, not_below_is}
 
 module _ (version : ℕ) (xs tail : List ℕ) where
-  framed_length : length (framed version xs tail) ≡ 6 + length xs + length tail
+  pub framed_length : length (framed version xs tail) ≡ 6 + length xs + length tail
   framed_length = let e = length-append xs tail in omega (arith, e)
 
   length_is : 6 + length xs + length tail ≤ longest → number_at (framed version xs tail) 0 ≡ 6 + length xs + length tail

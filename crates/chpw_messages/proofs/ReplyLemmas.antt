@@ -1,5 +1,5 @@
 -- Replies can be made: their records fit, and they are short.
-use Rattle.std.proofs.Common.{◌≡◌, ℕ, ◌+◌, ◌≤◌, ◌<◌, ◌^◌, ◌%◌, true, List, ◌++◌, length, length-append, Some, None, ap, arith, refl, ℤ, pos, negsuc, ◌≤ℤ◌}
+use Rattle.std.proofs.Common.{◌≡◌, ℕ, ◌+◌, ◌≤◌, ◌<◌, ◌^◌, ◌%◌, true, List, ◌++◌, length, length-append, Some, None, sym, ◌∙◌, subst, ap, arith, refl, ℤ, pos, negsuc, ◌≤ℤ◌}
 use Rattle.std.specs.Prelude.{is_some, slice_index, drop, take}
 use Rattle.std.specs.Int.{to_be_bytes, w16}
 use Rattle.std.proofs.lemmas.Int.{ints}
@@ -10,6 +10,7 @@ use Rattle.krb_elements.specs.Texts.{fits, is_in_range, text}
 use Rattle.krb_elements.proofs.TimeLemmas.{time_of_some}
 use Rattle.krb_der.specs.Types.{ap_rep, enc_ap_rep_part, enc_krb_priv_part, krb_error, krb_priv}
 use Rattle.krb_der.specs.Values.{ap_rep_value, enc_ap_rep_part_value, enc_krb_priv_part_value, krb_error_value, krb_priv_value}
+use Rattle.krb_der.specs.declared.krb_error.KrbError.{KrbError}
 use Rattle.krb_msgs.specs.Making.{ap_rep_of, priv_of}
 use Rattle.krb_msgs.specs.ReplyFitting.{IsShort}
 use Rattle.krb_msgs.proofs.LengthLemmas.{between, texts_are_short}
@@ -53,6 +54,14 @@ pub error_short : (realm : List ℕ) (code : ℕ) (error : ℤ) (words : List �
 error_short realm code error words now is_realm le =
     let short = texts_are_short krb_error (krb_error_value (error_record realm (by_error code error words) now)) in
     omega (arith, short, length-append (to_be_bytes w16 code) words, is_realm.1, le)
+
+-- the text of such a record
+pub message_short : (realm : List ℕ) (code : ℕ) (error : ℤ) (words : List ℕ) (now : Moment) (e : KrbError) (message : List ℕ)
+    → IsRealm realm → length words ≤ 100 → e ≡ error_record realm (by_error code error words) now
+    → message ≡ text krb_error (krb_error_value e) → length message ≤ 2000
+message_short realm code error words now e message is_realm le is written =
+    let same = written ∙ ap (λ (x : KrbError). text krb_error (krb_error_value x)) is in
+    subst (λ (t : List ℕ). length t ≤ 2000) (sym same) (error_short realm code error words now is_realm le)
 
 -- ---- an AP-REP
 

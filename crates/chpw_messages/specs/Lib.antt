@@ -2,4 +2,5 @@ pub mod Replies
 pub mod Opening
 pub mod Service
 pub mod Asked
+pub mod Laws
 pub mod WorkedReplies

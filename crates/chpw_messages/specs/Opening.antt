@@ -15,6 +15,7 @@ use Rattle.krb_msgs.specs.PrivateMessages.{OpensPriv}
 use Rattle.krb_msgs.specs.Codes as ap
 use Rattle.chpw_frame.specs.declared.change_data.Change.{Change}
 use Rattle.chpw_frame.specs.declared.change_data.ChangeTarget.{ChangeTarget}
+use Rattle.chpw_frame.specs.declared.fault.FrameFault.{FrameFault}
 use Rattle.chpw_frame.specs.Framing.{request_versions, first_fault, version_of, ap_of, tail_of}
 use Rattle.chpw_frame.specs.ChangeData.{IsChange}
 use Rattle.chpw_frame.specs.Faults as frame
@@ -89,9 +90,14 @@ abbrev pub OpensParts : List ℕ → List ServiceKey → List ℕ → ℕ → Li
 OpensParts realm keys peer version ap_req tail o =
     (a : Result ApOpened ApFault) × OpensAp realm keys ap_req peer a × OpensAs realm version tail a o
 
+-- of one whose frame has this first fault, or none
+abbrev pub OpensFramed : List ℕ → List ServiceKey → List ℕ → List ℕ → Option FrameFault → Opens → Type 0
+OpensFramed realm keys peer bytes (Some fault) o =
+    o ≡ refused (by_error (frame.refusal_of fault).code (frame.refusal_of fault).error (frame.refusal_of fault).text)
+OpensFramed realm keys peer bytes None o =
+    OpensParts realm keys peer (version_of bytes) (ap_of bytes) (tail_of bytes) o
+
 -- of the service's realm and keys, the peer's address and the message
 abbrev pub OpensTo : List ℕ → List ServiceKey → List ℕ → List ℕ → Opens → Type 0
-OpensTo realm keys peer bytes o = elim (first_fault request_versions false bytes) [
-  | Some fault ↦ o ≡ refused (by_error (frame.refusal_of fault).code (frame.refusal_of fault).error (frame.refusal_of fault).text)
-  | None ↦ OpensParts realm keys peer (version_of bytes) (ap_of bytes) (tail_of bytes) o
-]
+OpensTo realm keys peer bytes o =
+    OpensFramed realm keys peer bytes (first_fault request_versions false bytes) o

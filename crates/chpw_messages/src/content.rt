@@ -76,7 +76,8 @@ fn read_asked(alloc: Global, realm: &[u8], bytes: &[u8]) -> Result<Asked, AllocE
 {
     match read_change_data(alloc, bytes) {
         Ok(change) => asked_by(alloc, realm, change),
-        Err(ChangeFault::NotChangeData | ChangeFault::RealmWithoutName) => Ok(Asked::BadData),
+        Err(ChangeFault::NotChangeData) => Ok(Asked::BadData),
+        Err(ChangeFault::RealmWithoutName) => Ok(Asked::BadData),
         Err(ChangeFault::Memory) => Err(AllocError),
     }
 }

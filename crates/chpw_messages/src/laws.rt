@@ -1,5 +1,12 @@
-//! Worked replies.
+//! Laws of the definitions alone, and worked replies.
+ghost use Rattle.chpw_messages.specs.Laws.{RequestsOpen};
 ghost use Rattle.chpw_messages.specs.WorkedReplies.{MalformedReply, VersionReply, TooLongReply};
+
+/// A request for a change of password, made of its records and framed, opens to that request.
+#[tactic(auto, using(crate::proofs::RequestLemmas::requests_open))]
+pub fn openings()
+    ensures request { RequestsOpen }
+{}
 
 /// The replies to a message with an empty AP-REQ, to one of another version, and to one that is too
 /// long.

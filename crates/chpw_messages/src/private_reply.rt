@@ -69,8 +69,7 @@ fn ap_rep(alloc: Global, seal: &Seal, words: [u32; 9]) -> Result<Vec<u8>, AllocE
     ensures short { IfOk result (λ v. length v.items ≤ 500) }
 {
     let part = ap_rep_part(seal, words);
-    let confounder = front_confounder(words);
-    make_ap_rep(alloc, &part, &seal.session, confounder)
+    make_ap_rep(alloc, &part, &seal.session, front_confounder(words))
 }
 
 /// The sealed part of the KRB-PRIV.
@@ -110,8 +109,7 @@ fn krb_priv(
     ensures short { IfOk result (λ v. length v.items ≤ 1000) }
 {
     let part = private_part(alloc, code, text, words)?;
-    let confounder = back_confounder(words);
-    make_priv(alloc, &part, &seal.subkey, confounder)
+    make_priv(alloc, &part, &seal.subkey, back_confounder(words))
 }
 
 /// The reply with this result code and text of at most 100 bytes.

@@ -26,14 +26,14 @@ module _ {C X D : Type 0} (answers : List ℕ → List ℕ → Moment → D → 
     few = omega (arith, less);
   }
 
-  pub so_far_ends : (start now final : Place C X D) (n : ℕ) (e : Ended) → SoFar start now n → GoesOn answers adds refusal moments random (Some e) now final → IsServed answers adds refusal moments random e start final
-  so_far_ends start now final n end.Input h g = record { turns = h.turns; last = now; served = h.served; end_is = g }
-  so_far_ends start now final n end.CutOff h g = record { turns = h.turns; last = now; served = h.served; end_is = g }
-  so_far_ends start now final n end.TooLong h g = record { turns = h.turns; last = now; served = h.served; end_is = g }
-  so_far_ends start now final n end.ReadFault h g = record { turns = h.turns; last = now; served = h.served; end_is = g }
-  so_far_ends start now final n end.WriteFault h g = record { turns = h.turns; last = now; served = h.served; end_is = g }
-  so_far_ends start now final n end.Memory h g = record { turns = h.turns; last = now; served = h.served; end_is = g }
-  so_far_ends start now final n end.Count h g = absurd g
+  pub so_far_ends : (start now final : Place C X D) (n : ℕ) (e : Ended) → SoFar start now n → n < 65536 → GoesOn answers adds refusal moments random (Some e) now final → IsServed answers adds refusal moments random e start final
+  so_far_ends start now final n end.Input h less g = record { turns = h.turns; last = now; served = h.served; end_is = (omega (arith, h.count, less), g) }
+  so_far_ends start now final n end.CutOff h less g = record { turns = h.turns; last = now; served = h.served; end_is = (omega (arith, h.count, less), g) }
+  so_far_ends start now final n end.TooLong h less g = record { turns = h.turns; last = now; served = h.served; end_is = (omega (arith, h.count, less), g) }
+  so_far_ends start now final n end.ReadFault h less g = record { turns = h.turns; last = now; served = h.served; end_is = (omega (arith, h.count, less), g) }
+  so_far_ends start now final n end.WriteFault h less g = record { turns = h.turns; last = now; served = h.served; end_is = (omega (arith, h.count, less), g) }
+  so_far_ends start now final n end.Memory h less g = record { turns = h.turns; last = now; served = h.served; end_is = (omega (arith, h.count, less), g) }
+  so_far_ends start now final n end.Count h less g = absurd g
 
   pub so_far_counted : (start now : Place C X D) (n : ℕ) → SoFar start now n → 65536 ≤ n → IsServed answers adds refusal moments random end.Count start now
   so_far_counted start now n h many = record { turns = h.turns; last = now; served = h.served; end_is = (omega (arith, h.count, h.few, many), refl) }

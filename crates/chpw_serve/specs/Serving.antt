@@ -1,5 +1,5 @@
 -- Serving a stream: message after message is taken, answered and written.
-use Rattle.std.specs.Prelude.{◌≡◌, ℕ, List, length, Option, Some, None, ◌⊎◌, codes, pos}
+use Rattle.std.specs.Prelude.{◌≡◌, ℕ, ◌<◌, List, length, Option, Some, None, ◌⊎◌, codes, pos}
 use Rattle.std.specs.Io.KnownBytes.{Appends}
 use Rattle.chpw_frame.specs.Stream.{message, ended, cut_off, too_long, sent}
 use Rattle.chpw_frame.specs.Receiving.{TakesPiece, ConsumesSome, AppendsFront}
@@ -54,6 +54,7 @@ pub record Refuses {C X : Type 0} (refusal : Moment → List ℕ) (moments : C �
   pub words : List ℕ
   pub moment_is : moments before.clock moment after.clock
   pub words_are : Drawn random before.words words after.words
+  pub nine : length words ≡ 9
   pub bytes_are : bytes ≡ sent (refusal moment)
 
 abbrev pub IsRefused : {C X : Type 0} → (Moment → List ℕ) → (C → Moment → C → Type 0) → (X → ℕ → X → Type 0) → Ended → Around C X → Around C X → Type 0
@@ -70,6 +71,7 @@ module _ {C X D : Type 0} (answers : List ℕ → List ℕ → Moment → D → 
   pub record Answers (before : Place C X D) (t : Turn) (after : Place C X D) : Type 0 where
     pub moment : moments before.around.clock t.moment after.around.clock
     pub words : Drawn random before.around.words t.words after.around.words
+    pub nine : length t.words ≡ 9
     pub reply : answers t.text t.words t.moment before.decider after.decider t.reply
 
   -- a message was taken, answered, and its reply written
@@ -100,10 +102,10 @@ module _ {C X D : Type 0} (answers : List ℕ → List ℕ → Moment → D → 
   GoesOn None before after = (t : Turn) × Serves before t after
   GoesOn (Some e) before after = EndsBy e before after
 
-  -- the end after so many turns
+  -- the end after so many turns; behind the last there is none
   abbrev pub IsEnd : Ended → ℕ → Place C X D → Place C X D → Type 0
   IsEnd end.Count n before after = (n ≡ 65536) × (after ≡ before)
-  IsEnd e n before after = EndsBy e before after
+  IsEnd e n before after = (n < 65536) × EndsBy e before after
 
   -- the whole: turns from the start on, and the end
   pub record IsServed (e : Ended) (start final : Place C X D) : Type 0 where

@@ -1,5 +1,5 @@
 //! Where moments and random words come from.
-ghost use Rattle.std.specs.Prelude.{ℕ, ◌<◌};
+ghost use Rattle.std.specs.Prelude.{◌≡◌, ℕ, ◌<◌, length};
 ghost use Rattle.chpw_table.specs.declared.times.Moment.{Moment};
 ghost use Rattle.chpw_table.specs.Times.{IsMoment};
 ghost use Rattle.chpw_serve.specs.Draws.{Drawn};
@@ -39,6 +39,7 @@ pub(crate) fn draw_both<C: Clock, X: Words>(clock: &mut C, words: &mut X) -> Dra
     ensures range { IsMoment result.now × (result.now.micros < 1000000) }
     ensures moment { C.gives clock.old result.now clock.new }
     ensures words { Drawn X.gives words.old result.words words.new }
+    ensures nine { length result.words ≡ 9 }
 {
     let now = clock.now();
     let words = next_nine(words);
@@ -48,6 +49,7 @@ pub(crate) fn draw_both<C: Clock, X: Words>(clock: &mut C, words: &mut X) -> Dra
 /// Nine words in turn.
 fn next_nine<X: Words>(words: &mut X) -> [u32; 9]
     ensures words { Drawn X.gives words.old result words.new }
+    ensures nine { length result ≡ 9 }
 {
     let w0 = words.next();
     let w1 = words.next();

@@ -1,7 +1,8 @@
 //! Serving a stream.
 ghost use Rattle.chpw_answer.specs.Answers.{IsAnswer};
 ghost use Rattle.chpw_serve.specs.Serving.{Answering, AddsOne, message_too_long, IsServed, GoesOn, IsAnswered, IsRefused};
-ghost use Rattle.std.specs.Prelude.{◌≡◌, pos, codes};
+ghost use Rattle.chpw_serve.specs.ServedAlone.{AnsweringAlone, AddsOneAlone, IsServedAlone};
+ghost use Rattle.std.specs.Prelude.{◌≡◌, pos, codes, IfSome};
 ghost use Rattle.chpw_table.specs.Replies.{by_error};
 ghost use Rattle.chpw_answer.specs.Holding.{answer_in};
 
@@ -38,9 +39,9 @@ pub enum Ended {
     Memory,
 }
 
-/// Answers the messages of a stream in their order, and writes each reply before the next message is
-/// read. The moment and the nine words of a message are drawn once it was read. `peer` is an IPv4
-/// address, high byte first.
+/// Answers the messages of a stream in their order, and writes each reply before the next message
+/// is read. The moment and the nine words of a message are drawn once it was read. `peer` is an
+/// IPv4 address, high byte first.
 #[tactic(auto, using(crate::proofs::ServingLemmas::so_far_start, crate::proofs::ServingLemmas::so_far_on, crate::proofs::ServingLemmas::so_far_ends, crate::proofs::ServingLemmas::so_far_counted))]
 pub fn serve_stream<R: Read, W: Write, M: Messages, D: Decider, G: Gate, C: Clock, X: Words>(
     alloc: Global,
@@ -53,9 +54,10 @@ pub fn serve_stream<R: Read, W: Write, M: Messages, D: Decider, G: Gate, C: Cloc
     clock: &mut C,
     words: &mut X,
 ) -> Ended
-    ensures served { IsServed (Answering (M.error_frame service.now) (M.private_frame service.now) (M.opens service.now peer)
-        D.gathered D.may_be_full D.follows)
-        (AddsOne D.gathered D.follows) (λ now. M.error_frame service.now message_too_long now) C.gives X.gives result
+    ensures served { IsServed (Answering (M.error_frame service.now) (M.private_frame service.now)
+        (M.opens service.now peer) D.gathered D.may_be_full D.follows)
+        (AddsOne D.gathered D.follows) (λ now. M.error_frame service.now message_too_long now)
+        C.gives X.gives result
         (record {
           left = R.remaining reader.old;
           decider = decider.old;
@@ -79,7 +81,9 @@ pub fn serve_stream<R: Read, W: Write, M: Messages, D: Decider, G: Gate, C: Cloc
     Ended::Count
 }
 
-/// The same over a table that one thread has alone.
+/// The same over a table that one thread has alone. Where the reader tells its bytes, the bytes
+/// written are the replies to them, as the machine gives them from the table's state, with the
+/// moments and words drawn and the appends that failed; after a write fault a front of those.
 pub fn serve_alone<R: Read, W: Write, M: Messages, S: JournalSink, C: Clock, X: Words>(
     alloc: Global,
     service: &M,
@@ -89,8 +93,37 @@ pub fn serve_alone<R: Read, W: Write, M: Messages, S: JournalSink, C: Clock, X: 
     alone: &mut Alone<S>,
     clock: &mut C,
     words: &mut X,
-) -> Ended {
-    serve_stream(
+) -> Ended
+    ensures served { IsServed
+        (AnsweringAlone (M.error_frame service.now) (M.private_frame service.now)
+        (M.opens service.now peer))
+        AddsOneAlone (λ now. M.error_frame service.now message_too_long now)
+        C.gives X.gives result
+        (record {
+          left = R.remaining reader.old;
+          decider = alone.old;
+          around = record { out = W.contents writer.old; clock = clock.old; words = words.old };
+        })
+        (record {
+          left = R.remaining reader.new;
+          decider = alone.new;
+          around = record { out = W.contents writer.new; clock = clock.new; words = words.new };
+        }) }
+    ensures replies { IfSome (R.remaining reader.old) (λ stream. IsServedAlone
+        (M.error_frame service.now) (M.private_frame service.now) (M.opens service.now peer)
+        C.gives X.gives result stream
+        (record {
+          left = R.remaining reader.old;
+          decider = alone.old;
+          around = record { out = W.contents writer.old; clock = clock.old; words = words.old };
+        })
+        (record {
+          left = R.remaining reader.new;
+          decider = alone.new;
+          around = record { out = W.contents writer.new; clock = clock.new; words = words.new };
+        })) }
+{
+    let ended = serve_stream(
         alloc,
         service,
         peer,
@@ -100,7 +133,10 @@ pub fn serve_alone<R: Read, W: Write, M: Messages, S: JournalSink, C: Clock, X: 
         &mut NoGate,
         clock,
         words,
-    )
+    );
+    // What `replies` rests on: the history is legal, and no longer than it may be.
+    let _full = alone.table().is_full();
+    ended
 }
 
 /// Reads and answers one message, or ends.
@@ -115,9 +151,10 @@ fn serve_next<R: Read, W: Write, M: Messages, D: Decider, G: Gate, C: Clock, X: 
     clock: &mut C,
     words: &mut X,
 ) -> Option<Ended>
-    ensures turn { GoesOn (Answering (M.error_frame service.now) (M.private_frame service.now) (M.opens service.now peer)
-        D.gathered D.may_be_full D.follows)
-        (AddsOne D.gathered D.follows) (λ now. M.error_frame service.now message_too_long now) C.gives X.gives result
+    ensures turn { GoesOn (Answering (M.error_frame service.now) (M.private_frame service.now)
+        (M.opens service.now peer) D.gathered D.may_be_full D.follows)
+        (AddsOne D.gathered D.follows) (λ now. M.error_frame service.now message_too_long now)
+        C.gives X.gives result
         (record {
           left = R.remaining reader.old;
           decider = decider.old;
@@ -188,9 +225,10 @@ fn answer_one<W: Write, M: Messages, D: Decider, G: Gate, C: Clock, X: Words>(
     clock: &mut C,
     words: &mut X,
 ) -> Option<Ended>
-    ensures turn { IsAnswered (Answering (M.error_frame service.now) (M.private_frame service.now) (M.opens service.now peer)
-        D.gathered D.may_be_full D.follows)
-        (AddsOne D.gathered D.follows) (λ now. M.error_frame service.now message_too_long now) C.gives X.gives result message.now
+    ensures turn { IsAnswered (Answering (M.error_frame service.now) (M.private_frame service.now)
+        (M.opens service.now peer) D.gathered D.may_be_full D.follows)
+        (AddsOne D.gathered D.follows) (λ now. M.error_frame service.now message_too_long now)
+        C.gives X.gives result message.now
         (record {
           left = None;
           decider = decider.old;

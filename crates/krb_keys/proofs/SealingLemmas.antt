@@ -11,7 +11,7 @@ use Rattle.krb_keys.specs.Keys.{bytes_of}
 use Rattle.std.specs.Int.{w32, to_be_bytes}
 use Rattle.krb_keys.specs.Keys.{IsProtocolKey}
 use Rattle.krb_keys.specs.Sealing.{encryption_key, integrity_key, enciphered, checksum_of, sealed, IsSealed, SealsNothing}
-use Rattle.krb_keys.specs.Deciphering.{IsDeciphered}
+use Rattle.krb_keys.specs.Deciphering.{IsDeciphered, plain_part}
 use Rattle.krb_keys.specs.declared.key.Key.{Key}
 use Rattle.krb_aes.proofs.AesInverses.{aes_inverses}
 use Rattle.krb_aes.proofs.CtsInverse.{uncts-cts}
@@ -59,18 +59,23 @@ opened key usage cipher plain text (confounder, c16, some, cb, pb, is) (isKey, l
     let same : text ≡ whole = et ∙ ap (uncts (unaes ke)) front ∙ uncts-cts (aes ke) (unaes ke) (aes_inverses ke isKey.1) whole (All-append (λ (x : ℕ). x < 256) confounder plain cb pb) (omega (arith, length-append confounder plain)) in
     (ap (checksum_of key usage) same ∙ sym back, ap (drop 16) same ∙ drop_at confounder plain 16 c16)
 
--- a text that was deciphered in place
-pub deciphered_in_place : (key : Key) (usage len : ℕ) (cipher body items text : List ℕ) → cipher ≡ bytes_of (encryption_key key usage) → IsKey cipher
-    → items ≡ body → len ≡ length items → length text ≡ length items → text ≡ uncts (unaes cipher) items → cts (aes cipher) text ≡ items
-    → IsDeciphered key usage body (take len (text ++ drop (length text) items))
+-- a body that was deciphered in place
+pub deciphered_in_place : (key : Key) (usage : ℕ) (cipher body text : List ℕ) → cipher ≡ bytes_of (encryption_key key usage) → IsKey cipher
+    → length text ≡ length body → text ≡ uncts (unaes cipher) body → cts (aes cipher) text ≡ body → IsDeciphered key usage body text
 unfolding IsDeciphered enciphered
-deciphered_in_place key usage len cipher body items text ec isKey ei el et value inverse =
-    let whole : take len (text ++ drop (length text) items) ≡ text = take_at text (drop (length text) items) len (omega arith) in
-    rw whole (rw ec at isKey, et ∙ ap length ei, rw (ec, ei) at value, rw (ec, ei) at inverse)
+deciphered_in_place key usage cipher body text ec isKey same value inverse =
+    (rw ec at isKey, same, rw ec at value, rw ec at inverse)
 
-pub length_of_deciphered : (key : Key) (usage : ℕ) (body text : List ℕ) → IsDeciphered key usage body text → length text ≡ length body
-unfolding IsDeciphered
-length_of_deciphered key usage body text h = h.1
+-- what stands between confounder and checksum, where the checksum was left as it was
+pub plain_part_of : (text checksum : List ℕ) → length checksum ≡ 12 → plain_part (text ++ checksum) ≡ drop 16 text
+plain_part_of text checksum twelve =
+    let cut : length text ≡ length (text ++ checksum) - 12 = omega (arith, length-append text checksum) in
+    ap (drop 16) (take_at text checksum (length (text ++ checksum) - 12) cut)
+
+pub length-plain_part : (text : List ℕ) → 28 ≤ length text → length (plain_part text) + 28 ≡ length text
+length-plain_part text long =
+    let body : List ℕ = take (length text - 12) text in
+    omega (arith, length-drop 16 body, length-take-le (length text - 12) text (omega arith))
 
 -- a confounder and a plain text keep their length
 length-enciphered : (key : Key) (usage : ℕ) (text : List ℕ) → 16 < length text → length (enciphered key usage text) ≡ length text

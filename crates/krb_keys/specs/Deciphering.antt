@@ -1,5 +1,5 @@
 -- For the proofs of `unseal` alone: what its steps hand to one another.
-use Rattle.std.specs.Prelude.{◌≡◌, ℕ, List, length}
+use Rattle.std.specs.Prelude.{◌≡◌, ◌-◌, ℕ, List, length, take, drop}
 use Rattle.krb_aes.specs.KeyExpansion.{IsKey}
 use Rattle.krb_aes.specs.Aes.{unaes}
 use Rattle.krb_aes.specs.Cts.{uncts}
@@ -13,3 +13,7 @@ IsDeciphered key usage body text =
     let ke : List ℕ = bytes_of (encryption_key key usage) in
     IsKey ke × (length text ≡ length body)
     × (text ≡ uncts (unaes ke) body) × (enciphered key usage text ≡ body)
+
+-- what stands between confounder and checksum
+abbrev pub plain_part : List ℕ → List ℕ
+plain_part text = drop 16 (take (length text - 12) text)

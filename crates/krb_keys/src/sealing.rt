@@ -1,11 +1,11 @@
 //! Sealed texts (RFC 3961 section 5.3, RFC 3962 section 6).
-ghost use Rattle.std.specs.Prelude.{◌≡◌, ◌+◌, ◌<◌, ◌≤◌, ◌↔◌, ℕ, List, ◌∷◌, ◌++◌, [], IfOk, IsErrOf, length, drop};
+ghost use Rattle.std.specs.Prelude.{◌≡◌, ◌+◌, ◌<◌, ◌≤◌, ◌↔◌, ℕ, List, ◌∷◌, ◌++◌, [], false, IsTrue, IfOk, IsErrOf, length};
 ghost use Rattle.std.specs.Int.{w32, to_be_bytes};
 ghost use Rattle.std.specs.Str.{bytes_eq};
 ghost use Rattle.krb_aes.specs.Bytes.{AreBytes};
 ghost use Rattle.krb_keys.specs.Keys.{dk, bytes_of};
 ghost use Rattle.krb_keys.specs.Sealing.{encryption_key, integrity_key, checksum_of, sealed, IsSealed, SealsNothing};
-ghost use Rattle.krb_keys.specs.Deciphering.{IsDeciphered};
+ghost use Rattle.krb_keys.specs.Deciphering.{plain_part};
 
 use crate::derivation::{cipher_of, derive_key};
 use crate::hmac::hmac_sha1;
@@ -110,31 +110,68 @@ fn is_checksum(key: &Key, usage: u32, text: &[u8], checksum: &[u8]) -> bool
     checksum_of(key, usage, text).as_slice() == checksum
 }
 
-// The confounder and the plain text that `body` was enciphered from.
-fn deciphered(alloc: Global, key: &Key, usage: u32, body: &[u8]) -> Result<Vec<u8>, AllocError>
-    requires { 16 < length body.now }
-    ensures found { IfOk result (λ text. IsDeciphered key.now usage body.now text.items) }
+// Deciphers a text in place, all but its checksum, and tells whether that checksum is the right one.
+// Then the plain text stands between confounder and checksum.
+fn opens_in_place(key: &Key, usage: u32, cipher: &mut [u8]) -> bool
+    requires { 28 < length cipher.old }
+    ensures len { length cipher.new ≡ length cipher.old }
+    ensures found { IsTrue result → IsSealed key.now usage cipher.old (plain_part cipher.new) }
+    ensures nothing { result ≡ false → SealsNothing key.now usage cipher.old }
+    ensures only { (plain : List ℕ) → IsSealed key.now usage cipher.old plain
+        → plain_part cipher.new ≡ plain }
 {
-    let mut text = Vec::from_slice(alloc, body)?;
-    cts_decrypt(&encryption_cipher(key, usage), &mut text);
-    Ok(text)
+    let (body, checksum) = cipher.split_at_mut(cipher.len() - CHECKSUM_LEN);
+    cts_decrypt(&encryption_cipher(key, usage), body);
+    is_checksum(key, usage, body, checksum)
 }
 
-// A text from its byte 16 on.
-fn without_confounder(mut text: Vec<u8>) -> Vec<u8>
-    requires { 16 ≤ length text.items }
-    ensures { result.items ≡ drop 16 text.items }
+// What stands between confounder and checksum.
+fn plain_part(mut text: Vec<u8>) -> Vec<u8>
+    requires { 28 < length text.items }
+    ensures { result.items ≡ plain_part text.items }
 {
     // The confounder goes to the end, where it is cut off: that takes no memory.
+    text.truncate(text.len() - CHECKSUM_LEN);
     text.rotate_left(CONFOUNDER_LEN);
     text.truncate(text.len() - CONFOUNDER_LEN);
     text
 }
 
-/// Opens a text that was sealed under a key, for a key usage: the plain text, 28 bytes shorter. A
-/// text seals at most one plain text under a key and a usage (`laws::one_plain_text`).
+/// Opens a text that was sealed under a key, for a key usage, where it stands: the plain text, 28
+/// bytes shorter, is a part of what the text becomes, and no memory is taken. A text seals at most
+/// one plain text under a key and a usage (`laws::one_plain_text`).
 ///
 /// A text of 28 bytes or fewer is refused as `TooShort`, any other that seals nothing as `BadMac`.
+/// A text that was refused is of no further use: what was deciphered of it is not to be believed.
+pub fn unseal_in_place<'a>(
+    key: &Key,
+    usage: u32,
+    cipher: &'a mut [u8],
+) -> Result<&'a [u8], UnsealFault>
+    ensures first { IsErrOf result UnsealFault.TooShort ↔ length cipher.old ≤ 28 }
+    ensures too_short { IsErrOf result UnsealFault.TooShort
+        → SealsNothing key.now usage cipher.old }
+    ensures bad_mac { IsErrOf result UnsealFault.BadMac
+        → SealsNothing key.now usage cipher.old }
+    ensures no_memory { IsErrOf result UnsealFault.Memory → ⊥ }
+    ensures found { IfOk result (λ plain. IsSealed key.now usage cipher.old plain.now) }
+    ensures only { (plain : List ℕ) → IsSealed key.now usage cipher.old plain
+        → IfOk result (λ found. found.now ≡ plain) }
+    ensures len { IfOk result (λ plain. length plain.now + 28 ≡ length cipher.old) }
+{
+    if cipher.len() <= CONFOUNDER_LEN + CHECKSUM_LEN {
+        return Err(UnsealFault::TooShort);
+    }
+    if !opens_in_place(key, usage, cipher) {
+        return Err(UnsealFault::BadMac);
+    }
+    let text = &cipher[..cipher.len() - CHECKSUM_LEN];
+    Ok(&text[CONFOUNDER_LEN..])
+}
+
+/// Opens a text that was sealed under a key, for a key usage, and leaves it as it is: the plain
+/// text, 28 bytes shorter, in memory of its own. What it gives and refuses is what
+/// [`unseal_in_place`] does, but for memory.
 pub fn unseal(alloc: Global, key: &Key, usage: u32, cipher: &[u8]) -> Result<Vec<u8>, UnsealFault>
     ensures first { IsErrOf result UnsealFault.TooShort ↔ length cipher.now ≤ 28 }
     ensures too_short { IsErrOf result UnsealFault.TooShort
@@ -149,10 +186,9 @@ pub fn unseal(alloc: Global, key: &Key, usage: u32, cipher: &[u8]) -> Result<Vec
     if cipher.len() <= CONFOUNDER_LEN + CHECKSUM_LEN {
         return Err(UnsealFault::TooShort);
     }
-    let (body, checksum) = cipher.split_at(cipher.len() - CHECKSUM_LEN);
-    let text = deciphered(alloc, key, usage, body).map_err(|_| UnsealFault::Memory)?;
-    if !is_checksum(key, usage, &text, checksum) {
+    let mut text = Vec::from_slice(alloc, cipher).map_err(|_| UnsealFault::Memory)?;
+    if !opens_in_place(key, usage, &mut text) {
         return Err(UnsealFault::BadMac);
     }
-    Ok(without_confounder(text))
+    Ok(plain_part(text))
 }

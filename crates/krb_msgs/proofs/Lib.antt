@@ -1,5 +1,6 @@
 pub mod AnswerLemmas
 pub mod PartLemmas
+pub mod OpeningLemmas
 pub mod LengthLemmas
 pub mod FittingLemmas
 pub mod OpenedLemmas

@@ -1,5 +1,5 @@
 -- Messages and their sealed parts (RFC 4120 section 5.2.9).
-use Rattle.std.specs.Prelude.{◌≡◌, ℕ, List, Option, Some, None, Result}
+use Rattle.std.specs.Prelude.{◌≡◌, ℕ, List, Option, Result}
 use Rattle.krb_elements.specs.Shapes.{Shape, Value}
 use Rattle.krb_elements.specs.Grammar.{Spells}
 use Rattle.krb_keys.specs.Keys.{etype_of, number_of}
@@ -13,11 +13,6 @@ use Rattle.krb_msgs.specs.Checks.{Found, Then, Passed}
 abbrev pub IsSealedPart : Key → ℕ → EncryptedData → List ℕ → Type 0
 IsSealedPart key usage part plain =
     (part.etype ≡ number_of (etype_of key)) × IsSealed key usage part.cipher plain
-
--- the plain text, or none where there is none
-abbrev pub IsUnsealed : Key → ℕ → EncryptedData → Option (List ℕ) → Type 0
-IsUnsealed key usage part (Some plain) = IsSealedPart key usage part plain
-IsUnsealed key usage part None = (plain : List ℕ) → IsSealedPart key usage part plain → ⊥
 
 -- the record that a text spells, or a fault
 abbrev pub Reads : {X F : Type 0} (shape : Shape) → (X → Value shape) → List ℕ → F

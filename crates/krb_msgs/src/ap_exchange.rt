@@ -52,7 +52,7 @@ pub fn open_ap(
     ensures opens { Answers (OpensAp realm.now keys.now ap_req.now peer) result }
 {
     let (request, key) = presented(alloc, realm, keys, ap_req)?;
-    let (part, session) = open_ticket(alloc, &key, &request.ticket.enc_part)?;
-    let authenticator = open_authenticator(alloc, &session, &request.authenticator)?;
+    let (part, session) = open_ticket(alloc, &key, request.ticket)?;
+    let authenticator = open_authenticator(alloc, &session, request.authenticator)?;
     accepted(peer, part, session, authenticator)
 }

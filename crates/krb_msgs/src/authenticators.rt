@@ -13,9 +13,9 @@ use std::alloc::Global;
 pub fn open_authenticator(
     alloc: Global,
     session: &Key,
-    sealed: &EncryptedData,
+    sealed: EncryptedData,
 ) -> Result<Authenticator, OpenError<ApFault>>
-    ensures { Answers (OpensAuthenticator session.now sealed.now) result }
+    ensures { Answers (OpensAuthenticator session.now sealed) result }
 {
     let fault = ApFault::BadAuthenticator;
     let usage = USAGE_AP_REQ_AUTHENTICATOR;

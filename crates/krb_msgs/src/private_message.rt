@@ -66,7 +66,7 @@ pub fn open_priv(
         alloc,
         &opened.subkey,
         USAGE_KRB_PRIV,
-        &message.enc_part,
+        message.enc_part,
         PrivFault::NotSealed,
         PrivFault::Malformed,
     )?;

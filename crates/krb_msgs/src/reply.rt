@@ -69,7 +69,7 @@ fn open_ap_rep(
         alloc,
         session,
         USAGE_AP_REP_ENC_PART,
-        &message.enc_part,
+        message.enc_part,
         ReplyFault::NotSealed,
         ReplyFault::Malformed,
     )?;
@@ -91,7 +91,7 @@ fn open_result(alloc: Global, subkey: &Key, bytes: &[u8]) -> Result<Reply, OpenE
         alloc,
         subkey,
         USAGE_KRB_PRIV,
-        &message.enc_part,
+        message.enc_part,
         ReplyFault::NotSealed,
         ReplyFault::Malformed,
     )?;

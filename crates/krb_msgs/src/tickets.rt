@@ -7,7 +7,7 @@ ghost use Rattle.krb_msgs.specs.Tickets.{OpensTicket};
 
 use crate::fault::{ApFault, OpenError};
 use crate::opening::open_part;
-use krb_der::{EncTicketPart, EncryptedData, EncryptionKey};
+use krb_der::{EncTicketPart, EncryptionKey, Ticket};
 use krb_keys::{Key, USAGE_TICKET, key_of};
 use std::alloc::Global;
 
@@ -22,12 +22,12 @@ pub fn key_in(field: &EncryptionKey) -> Option<Key>
 pub fn open_ticket(
     alloc: Global,
     key: &Key,
-    sealed: &EncryptedData,
+    ticket: Ticket,
 ) -> Result<(EncTicketPart, Key), OpenError<ApFault>>
-    ensures { Answers (OpensTicket key.now sealed.now) result }
+    ensures { Answers (OpensTicket key.now ticket.enc_part) result }
 {
     let fault = ApFault::BadTicket;
-    let part: EncTicketPart = open_part(alloc, key, USAGE_TICKET, sealed, fault, fault)?;
+    let part: EncTicketPart = open_part(alloc, key, USAGE_TICKET, ticket.enc_part, fault, fault)?;
     match key_in(&part.key) {
         Some(session) => Ok((part, session)),
         None => Err(OpenError::Fault(ApFault::BadSessionKey)),

@@ -12,7 +12,7 @@ returns-in-Err-write_tcp g c =
       turn = (
         record { text = c.args.message.now; moment = c.draw_both-drawn.result.now; words = c.draw_both-drawn.result.words; reply = c.in-Ok.answer.bytes.items },
         refl,
-        record { moment = c.draw_both-drawn.ensures.moment; words = c.draw_both-drawn.ensures.words; reply = (c.in-Ok.ensures.reply, c.in-Ok.ensures.follows) },
+        record { moment = c.draw_both-drawn.ensures.moment; words = c.draw_both-drawn.ensures.words; nine = c.draw_both-drawn.ensures.nine; reply = (c.in-Ok.ensures.reply, c.in-Ok.ensures.follows) },
         subst (λ (zs : List ℕ). AppendsFront old new (sent zs)) c.as_slice.ensures.value c.in-Err-write_tcp.ensures.front,
       );
     }
@@ -25,7 +25,7 @@ returns g c =
       turn = (
         record { text = c.args.message.now; moment = c.draw_both-drawn.result.now; words = c.draw_both-drawn.result.words; reply = c.in-Ok.answer.bytes.items },
         refl,
-        record { moment = c.draw_both-drawn.ensures.moment; words = c.draw_both-drawn.ensures.words; reply = (c.in-Ok.ensures.reply, c.in-Ok.ensures.follows) },
+        record { moment = c.draw_both-drawn.ensures.moment; words = c.draw_both-drawn.ensures.words; nine = c.draw_both-drawn.ensures.nine; reply = (c.in-Ok.ensures.reply, c.in-Ok.ensures.follows) },
         subst (λ (zs : List ℕ). Appends old new (sent zs)) c.as_slice.ensures.value c.in-Ok-write_tcp.ensures.whole,
       );
     }

@@ -8,7 +8,7 @@ returns-in-Some g c = record {
       (record { left = g.R.Read.remaining c.args.reader.now; decider = c.args.decider.now; around = record { out = g.W.Write.contents c.args.writer.now; clock = c.args.clock.now; words = c.args.words.now } })
       (record { left = g.R.Read.remaining c.loop-served.reader; decider = c.loop-served.decider; around = record { out = g.W.Write.contents c.loop-served.writer; clock = c.loop-served.clock; words = c.loop-served.words } })
       (record { left = g.R.Read.remaining c.serve_next.new.reader; decider = c.serve_next.new.decider; around = record { out = g.W.Write.contents c.serve_next.new.writer; clock = c.serve_next.new.clock; words = c.serve_next.new.words } })
-      c.loop-served.served c.in-Some.ended c.loop-served.invariant c.in-Some.ensures.turn;
+      c.loop-served.served c.in-Some.ended c.loop-served.invariant c.loop-served-test.true c.in-Some.ensures.turn;
 }
 
 pub loop-served-preserved : goal.loop-served-preserved
