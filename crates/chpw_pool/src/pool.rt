@@ -9,7 +9,7 @@ use chpw_serve::{WorkerWords, serve_stream};
 use chpw_table::JournalSink;
 use std::alloc::{AllocError, Global};
 use std::net::{SocketAddr, TcpListener};
-use std::sync::Wait;
+use std::sync::{Mutex, Wait};
 use std::thread::Threads;
 use std::{thread, time};
 
@@ -102,7 +102,7 @@ pub fn run_pool_with<
     passes: &mut [Pass<D>],
     seed: [u8; 32],
     connections: u32,
-    mut gates: Vec<G>,
+    gates: Vec<G>,
 ) -> Pool
     requires passes { 0 < length passes.old }
     requires gates { length gates.items ≡ length passes.old }
@@ -113,31 +113,36 @@ pub fn run_pool_with<
         desk,
         seed,
     };
-    match lines(alloc, passes.len()) {
+    match posts(alloc, gates) {
         Err(_) => Pool {
             served: 0,
             fault: Some(PoolFault::Memory),
         },
-        Ok(lines) => run_lines(
-            rt,
-            &shared,
-            listener,
-            lines.as_slice(),
-            passes,
-            &mut gates,
-            connections,
-        ),
+        Ok(posts) => run_posts(rt, &shared, listener, posts.as_slice(), passes, connections),
     }
 }
 
-fn lines(alloc: Global, count: usize) -> Result<Vec<Line>, AllocError>
-    ensures { IfOk result (λ v. vec_len v ≡ count) }
+// A worker's post: its connections, and its gate, which the worker takes for good.
+#[derive(Drop)]
+struct Post<G> {
+    line: Line,
+    gate: Mutex<G>,
+}
+
+fn posts<G: Drop>(alloc: Global, gates: Vec<G>) -> Result<Vec<Post<G>>, AllocError>
+    ensures { IfOk result (λ v. vec_len v ≡ vec_len gates) }
 {
-    (0..count).map(|_| Line::new(alloc)).collect(alloc)
+    gates
+        .into_iter()
+        .map(|gate| Post {
+            line: Line::new(alloc),
+            gate: Mutex::new(gate),
+        })
+        .collect(alloc)
 }
 
 // A thread for each worker, while this one accepts.
-fn run_lines<
+fn run_posts<
     R: Threads + Wait + time::Clock + Sync,
     M: Messages + Sync,
     D: DeskName + Send + Sync,
@@ -147,41 +152,35 @@ fn run_lines<
     rt: &R,
     shared: &Shared<'_, M, D, S>,
     listener: &TcpListener,
-    lines: &[Line],
+    posts: &[Post<G>],
     passes: &mut [Pass<D>],
-    gates: &mut [G],
     connections: u32,
 ) -> Pool
-    requires lines { 0 < length lines.now }
+    requires posts { 0 < length posts.now }
 {
-    let passes = &mut *passes;
-    let gates = &mut *gates;
     thread::scope(
         thread::scope_env(),
         rt,
         move |scope| -> Pool
-            requires { 0 < length lines.now }
+            requires { 0 < length posts.now }
         {
             let mut started = true;
-            for ((line, pass), gate) in lines.iter().zip(passes.iter_mut()).zip(gates.iter_mut()) {
-                if scope
-                    .spawn(move || work(rt, shared, line, pass, gate))
-                    .is_err()
-                {
+            for (post, pass) in posts.iter().zip(passes.iter_mut()) {
+                if scope.spawn(move || work(rt, shared, post, pass)).is_err() {
                     started = false;
                     break;
                 }
             }
             let pool = if started {
-                accept_all(rt, listener, lines, connections)
+                accept_all(rt, listener, posts, connections)
             } else {
                 Pool {
                     served: 0,
                     fault: Some(PoolFault::Start),
                 }
             };
-            for line in lines {
-                line.close(rt);
+            for post in posts {
+                post.line.close(rt);
             }
             pool
         },
@@ -189,8 +188,13 @@ fn run_lines<
 }
 
 // Hands each connection to its worker.
-fn accept_all<R: Wait>(rt: &R, listener: &TcpListener, lines: &[Line], connections: u32) -> Pool
-    requires lines { 0 < length lines.now }
+fn accept_all<R: Wait, G>(
+    rt: &R,
+    listener: &TcpListener,
+    posts: &[Post<G>],
+    connections: u32,
+) -> Pool
+    requires posts { 0 < length posts.now }
 {
     for served in 0..connections {
         let Ok((stream, address)) = listener.accept() else {
@@ -204,7 +208,8 @@ fn accept_all<R: Wait>(rt: &R, listener: &TcpListener, lines: &[Line], connectio
             stream,
             peer: peer_of(address),
         };
-        if lines[served as usize % lines.len()]
+        if posts[served as usize % posts.len()]
+            .line
             .put(rt, connection)
             .is_err()
         {
@@ -228,14 +233,14 @@ fn peer_of(address: SocketAddr) -> [u8; 4] {
     }
 }
 
-// Serves the connections of a line, until no more come.
+// Serves the connections of a post, until no more come.
 fn work<R: Wait + time::Clock, M: Messages, D: DeskName, S: JournalSink, G: Gate>(
     rt: &R,
     shared: &Shared<'_, M, D, S>,
-    line: &Line,
+    post: &Post<G>,
     pass: &mut Pass<D>,
-    gate: &mut G,
 ) {
+    let mut gate = post.gate.lock(rt);
     let mut clock = MachineClock::new(rt);
     let mut words = WorkerWords::new(shared.seed, u64::from(pass.worker()));
     let mut decider = AtDesk {
@@ -244,7 +249,7 @@ fn work<R: Wait + time::Clock, M: Messages, D: DeskName, S: JournalSink, G: Gate
         pass,
     };
     for _ in rt.forever() {
-        let Some(connection) = line.take(rt) else {
+        let Some(connection) = post.line.take(rt) else {
             return;
         };
         let Connection { stream, peer } = connection;
@@ -255,7 +260,7 @@ fn work<R: Wait + time::Clock, M: Messages, D: DeskName, S: JournalSink, G: Gate
             &mut &stream,
             &mut &stream,
             &mut decider,
-            gate,
+            &mut *gate,
             &mut clock,
             &mut words,
         );

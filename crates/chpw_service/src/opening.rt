@@ -33,9 +33,14 @@ pub(crate) fn open_table<'a, R: Files<File = File> + Clock>(
     };
     match open_journal(rt, alloc, path, table) {
         Err(fault) => Err(journal_fault(path, fault)),
-        // Another process made it meanwhile: this table would be quiet for too short a time.
-        Ok(journal) if journal.found && !found => Err(ServeFault::CannotRead(path)),
-        Ok(journal) => Ok(journal),
+        Ok(journal) => {
+            // Another process made it meanwhile: this table would be quiet for too short a time.
+            if journal.found && !found {
+                Err(ServeFault::CannotRead(path))
+            } else {
+                Ok(journal)
+            }
+        }
     }
 }
 
