@@ -1,8 +1,10 @@
 //! The journal's file.
+ghost use Rattle.std.specs.Prelude.{◌≡◌, IfOk};
+
 use crate::fault::RestoreFault;
 use crate::file_sink::FileSink;
 use crate::restoring::{Restored, restore};
-use chpw_table::Table;
+use chpw_table::{JournalSink, Table};
 use std::alloc::Global;
 use std::fs::{File, Files, OpenOptions};
 use std::io::{BufReader, ErrorKind};
@@ -30,13 +32,16 @@ pub enum OpenFault {
 
 /// Opens the journal at a path and restores the table from it. A torn tail is cut off, so that the
 /// file's length is what was kept and the sink goes on behind it. Where there is no file an empty one is
-/// made, readable and writable by its owner alone. The file is locked against a second process.
+/// made, readable and writable by its owner alone. The file is locked against a second process. No
+/// append has failed.
 pub fn open_journal<R: Files<File = File>>(
     rt: &R,
     alloc: Global,
     path: &str,
     table: Table,
-) -> Result<Journal, OpenFault> {
+) -> Result<Journal, OpenFault>
+    ensures fresh { IfOk result (λ j. ⟦<FileSink<File> as JournalSink>⟧.failed j.sink ≡ 0) }
+{
     match File::options().read(true).append(true).open(rt, path) {
         Ok(file) => go_on(alloc, file, table),
         Err(error) => {
@@ -50,7 +55,9 @@ pub fn open_journal<R: Files<File = File>>(
 }
 
 // The journal in a file that is there.
-fn go_on(alloc: Global, mut file: File, table: Table) -> Result<Journal, OpenFault> {
+fn go_on(alloc: Global, mut file: File, table: Table) -> Result<Journal, OpenFault>
+    ensures fresh { IfOk result (λ j. ⟦<FileSink<File> as JournalSink>⟧.failed j.sink ≡ 0) }
+{
     if file.try_lock().is_err() {
         return Err(OpenFault::CannotRead);
     }
@@ -65,7 +72,9 @@ fn go_on(alloc: Global, mut file: File, table: Table) -> Result<Journal, OpenFau
 }
 
 // Cuts the torn tail off.
-fn cut(file: File, restored: Restored) -> Result<Journal, OpenFault> {
+fn cut(file: File, restored: Restored) -> Result<Journal, OpenFault>
+    ensures fresh { IfOk result (λ j. ⟦<FileSink<File> as JournalSink>⟧.failed j.sink ≡ 0) }
+{
     if restored.torn && file.set_len(restored.kept).is_err() {
         return Err(OpenFault::CannotWrite);
     }
@@ -77,7 +86,9 @@ fn cut(file: File, restored: Restored) -> Result<Journal, OpenFault> {
 }
 
 // An empty journal in a new file.
-fn begin<R: Files<File = File>>(rt: &R, path: &str, table: Table) -> Result<Journal, OpenFault> {
+fn begin<R: Files<File = File>>(rt: &R, path: &str, table: Table) -> Result<Journal, OpenFault>
+    ensures fresh { IfOk result (λ j. ⟦<FileSink<File> as JournalSink>⟧.failed j.sink ≡ 0) }
+{
     let mut how = OpenOptions::new();
     how.append(true).create_new(true).mode(0o600);
     match how.open(rt, path) {

@@ -10,7 +10,8 @@ use rand_core::utils::NextWord;
 use std::marker::Model;
 
 /// The words of ChaCha20 (RFC 8439 section 2.3, with a block counter and a stream number of 64 bits
-/// each) under a seed, in one of its streams. Each worker has a stream of its own.
+/// each) under a seed, in one of its streams. Workers with one seed and streams of their own draw
+/// different words.
 #[derive(Drop)]
 pub struct WorkerWords {
     generator: ChaCha20Rng,

@@ -1,61 +1,130 @@
-//! The service's program. Of its commands there are `drill`, a script of decisions on standard
-//! input and their results on standard output; and `check`, what is found in a configuration file.
+//! The service's program. Its commands are `drill`, a script of decisions on standard input and their
+//! results on standard output; `check`, what is found in a configuration file; and `serve`, the service
+//! on a port of this machine.
 #![tactic(auto)]
 
-mod command;
+mod ending;
 #[cfg(test)]
 mod tests;
 
 pub use chpw_commands::{DrillFault, explain_check, run_check, run_drill};
-use command::{Command, Ending, command_of};
-use std::alloc::{AllocError, Global};
+use chpw_invocation::{Invocation, ServeOptions, command_of};
+use chpw_service::serve;
+use clap::Error;
+use clap::error::ErrorKind;
+use ending::Ending;
+use std::alloc::AllocError;
+use std::fs::{File, Files};
 use std::io::{BufWriter, Write};
+use std::net::{Net, TcpListener, TcpStream};
 use std::process::ExitCode;
-use std::rt::{Env, Files};
+use std::rt::Env;
+use std::sync::Wait;
+use std::thread::Threads;
+use std::time::Clock;
 use std::{env, fs, io};
 
-/// Ends with 0; with 1 after a fault, which is told on standard error; with 2 and a line on the
-/// usage for a command that there isn't.
+/// Ends with 0; with 1 after a fault, which is told in a line on standard error; with 2 where the
+/// command line asks for no command or for help, whose text stands on standard error.
 fn main(rt: HostRuntime) -> ExitCode {
-    let ending = match words(&rt) {
-        Ok(words) => run(&rt, words.as_slice()),
-        Err(error) if error.kind() == io::ErrorKind::OutOfMemory => Ending::Early(
-            DrillFault::Memory,
-        ),
-        Err(_) => Ending::BadCommand,
+    let status = match words(&rt) {
+        Ok(words) => end(&rt, run(&rt, words.as_slice())),
+        Err(error) if error.kind() == io::ErrorKind::OutOfMemory => {
+            end(&rt, Ending::Early(DrillFault::Memory))
+        }
+        Err(_) => end(&rt, Ending::Misused),
     };
+    ExitCode::from(status)
+}
+
+// Tells how the run ended; its status.
+fn end<R: Eprint>(rt: &R, ending: Ending<'_>) -> u8 {
     if ending.is_told() {
         let _ = eprintln!(rt; "{ending}");
     }
-    ExitCode::from(ending.status())
+    ending.status()
 }
 
-// The words behind the program's name.
+// The words of the command line, the program's name first.
 fn words(rt: &(impl Env + AllocGlobal)) -> io::Result<Vec<String>> {
     let mut words = Vec::new(rt.alloc());
-    for word in env::args(rt)?.skip(1) {
+    for word in env::args(rt)? {
         words.push(word)?;
     }
     Ok(words)
 }
 
 // Runs the command of these words.
-fn run(rt: &(impl Files + Input + Print + AllocGlobal), words: &[String]) -> Ending {
-    match asked(rt.alloc(), words) {
-        Err(_) => Ending::Early(DrillFault::Memory),
-        Ok(None) => Ending::BadCommand,
-        Ok(Some(Command::Drill)) => drill(rt),
-        Ok(Some(Command::Check(file))) => check(rt, file),
+fn run<'a, R>(rt: &R, words: &'a [String]) -> Ending<'a>
+where
+    R: Files<File = File>
+        + Net<Listener = TcpListener, Stream = TcpStream>
+        + Threads
+        + Wait
+        + Clock
+        + Input
+        + Print
+        + Eprint
+        + AllocGlobal
+        + Sync,
+{
+    match command_of(rt.alloc(), words) {
+        Err(error) => misused(rt, error),
+        Ok(Invocation::Drill) => drill(rt),
+        Ok(Invocation::Check { config }) => check(rt, config),
+        Ok(Invocation::Serve(options)) => started(rt, options),
+        Ok(Invocation::Client(_)) => Ending::Misused,
     }
 }
 
-fn asked(alloc: Global, words: &[String]) -> Result<Option<Command<'_>>, AllocError> {
-    let words: Vec<&str> = words.iter().map(|word| word.as_str()).collect(alloc)?;
-    Ok(command_of(words.as_slice()))
+// The command line asks for no command: clap's text says why.
+fn misused<'a, R: Eprint>(rt: &R, error: Error) -> Ending<'a> {
+    if error.kind() == ErrorKind::OutOfMemory {
+        return Ending::Early(DrillFault::Memory);
+    }
+    let _ = rt.eprint(error);
+    Ending::Misused
+}
+
+// The service.
+fn started<'a, R>(rt: &R, options: ServeOptions<'a>) -> Ending<'a>
+where
+    R: Files<File = File>
+        + Net<Listener = TcpListener, Stream = TcpStream>
+        + Threads
+        + Wait
+        + Clock
+        + Print
+        + AllocGlobal
+        + Sync,
+{
+    let ServeOptions {
+        config,
+        journal,
+        seed,
+        port,
+        workers,
+        connections,
+    } = options;
+    if workers == 0 || workers > 16 {
+        return Ending::Misused;
+    }
+    let options = chpw_service::ServeOptions {
+        config,
+        journal,
+        seed,
+        port,
+        workers,
+        connections,
+    };
+    match serve(rt, options) {
+        Ok(()) => Ending::Good,
+        Err(fault) => Ending::Unserved(fault),
+    }
 }
 
 // The script on standard input; what it prints is written in few pieces.
-fn drill(rt: &(impl Input + Print + AllocGlobal)) -> Ending {
+fn drill<'a>(rt: &(impl Input + Print + AllocGlobal)) -> Ending<'a> {
     let Ok(mut writer) = BufWriter::new(rt.alloc(), io::writer(rt)) else {
         return Ending::Early(DrillFault::Memory);
     };
@@ -68,24 +137,25 @@ fn drill(rt: &(impl Input + Print + AllocGlobal)) -> Ending {
 }
 
 // The configuration in a file.
-fn check(rt: &(impl Files + Print + AllocGlobal), file: &str) -> Ending {
+fn check<'a>(rt: &(impl Files + Print + AllocGlobal), file: &'a str) -> Ending<'a> {
     let read = match fs::read(rt, file) {
         Ok(text) => checked(rt, file, text.as_slice()),
         Err(error) if error.kind() == io::ErrorKind::OutOfMemory => Err(AllocError),
-        Err(_) => String::from_str(rt.alloc(), file).map(Ending::Unread),
+        Err(_) => Ok(Ending::Unread(file)),
     };
     read.unwrap_or(Ending::Early(DrillFault::Memory))
 }
 
-fn checked(rt: &(impl Print + AllocGlobal), file: &str, text: &[u8]) -> Result<Ending, AllocError> {
+fn checked<'a>(
+    rt: &(impl Print + AllocGlobal),
+    file: &'a str,
+    text: &[u8],
+) -> Result<Ending<'a>, AllocError> {
     match run_check(rt.alloc(), text, &mut io::writer(rt)) {
         Err(fault) => Ok(Ending::Early(fault)),
         Ok(_) => match explain_check(rt.alloc(), text)? {
             None => Ok(Ending::Good),
-            Some(words) => Ok(Ending::Faulty {
-                file: String::from_str(rt.alloc(), file)?,
-                words,
-            }),
+            Some(words) => Ok(Ending::Faulty { file, words }),
         },
     }
 }

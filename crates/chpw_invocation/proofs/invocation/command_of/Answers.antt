@@ -1,0 +1,17 @@
+use Rattle.std.proofs.Common.{◌≡◌, ◌∙◌, ap, subst, sym, map, string_bytes, List, Option}
+use Rattle.clap.specs.Words.{App, Row, Text, app_of, is_simple, subcommand_of}
+use Rattle.clap.specs.Faults.{fault_of, is_simple_and_free}
+use Rattle.chpw_invocation.specs.Program.{program}
+use Rattle.chpw_invocation.specs.Asked.{AsksFor}
+use Rattle.chpw_invocation.proofs.invocation.command_of.Goals as goal
+
+pub returns-in-Some-clause-asked : goal.returns-in-Some-clause-asked
+returns-in-Some-clause-asked c =
+    let is : app_of c.in_ok-program.program ≡ program = c.in_ok-program.ensures.shape in
+    let matched = (c.in_ok-matches.ensures.ok.2 (ap is_simple is)).1 ∙ ap (λ (a : App). subcommand_of a (map string_bytes c.args.words.now)) is in
+    subst (λ (o : Option (Text × List Row)). AsksFor o c.in-Some.invocation) matched c.in-Some.ensures.asked
+
+pub returns-in-Some-clause-taken : goal.returns-in-Some-clause-taken
+returns-in-Some-clause-taken c =
+    let is : app_of c.in_ok-program.program ≡ program = c.in_ok-program.ensures.shape in
+    ap (λ (a : App). fault_of a (map string_bytes c.args.words.now)) (sym is) ∙ c.in_ok-matches.ensures.kinds (ap is_simple_and_free is)

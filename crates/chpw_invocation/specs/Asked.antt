@@ -1,0 +1,50 @@
+-- What a user asks for, of what clap matched: the command's name and, by an option's name, what
+-- stands behind it. The words are matched by clap's own rules.
+use Rattle.std.specs.Prelude.{◌≡◌, ◌≤◌, ℕ, Bool, true, false, List, Option, Some, None, option_map, codes}
+use Rattle.std.specs.Str.Parse.{digits_value, without_leading_plus}
+use Rattle.clap.specs.Walk.{Row, Text, first_of, one_of}
+use Rattle.chpw_invocation.specs.declared.invocation.ClientOptions.{ClientOptions}
+use Rattle.chpw_invocation.specs.declared.invocation.ServeOptions.{ServeOptions}
+use Rattle.chpw_invocation.specs.declared.invocation.Invocation.{Invocation}
+use Rattle.chpw_invocation.specs.declared.invocation.Invocation.TheVariants.{Drill, Check, Serve, Client}
+
+-- an option that has to be there has this value
+abbrev pub HasText : List Row → Text → Text → Type 0
+HasText options name text = first_of name options ≡ Some text
+
+-- and this number, within these limits
+abbrev pub HasNumber : ℕ → ℕ → List Row → Text → ℕ → Type 0
+HasNumber low high options name number = (text : Text) × (one_of name options ≡ Some text)
+    × (number ≡ digits_value 10 (without_leading_plus text)) × (low ≤ number) × (number ≤ high)
+
+-- a flag is given or isn't: clap matches true or false for it
+abbrev pub IsGiven : List Row → Text → Bool → Type 0
+IsGiven options name given = (one_of name options ≡ Some (codes "true") → given ≡ true)
+    × (one_of name options ≡ Some (codes "false") → given ≡ false)
+    × (one_of name options ≡ None → given ≡ false)
+
+pub record AsksServe (options : List Row) (asked : ServeOptions) : Type 0 where
+  pub config : HasText options (codes "config") asked.config.now
+  pub journal : HasText options (codes "journal") asked.journal.now
+  pub seed : HasText options (codes "seed") asked.seed.now
+  pub port : HasNumber 1 65535 options (codes "port") asked.port
+  pub workers : HasNumber 1 16 options (codes "workers") asked.workers
+  pub connections : HasNumber 1 4294967295 options (codes "connections") asked.connections
+
+pub record AsksClient (options : List Row) (asked : ClientOptions) : Type 0 where
+  pub config : HasText options (codes "config") asked.config.now
+  pub seed : HasText options (codes "seed") asked.seed.now
+  pub port : HasNumber 1 65535 options (codes "port") asked.port
+  pub client : HasText options (codes "client") asked.client.now
+  pub password : HasText options (codes "password") asked.password.now
+  pub target : option_map (λ name. name.now) asked.target
+      ≡ first_of (codes "target") options
+  pub no_initial : IsGiven options (codes "no-initial") asked.no_initial
+
+-- the command that is named, with its options
+abbrev pub AsksFor : Option (Text × List Row) → Invocation → Type 0
+AsksFor None asked = ⊥
+AsksFor (Some p) Drill = p.0 ≡ codes "drill"
+AsksFor (Some p) (Check config) = (p.0 ≡ codes "check") × HasText p.1 (codes "config") config.now
+AsksFor (Some p) (Serve asked) = (p.0 ≡ codes "serve") × AsksServe p.1 asked
+AsksFor (Some p) (Client asked) = (p.0 ≡ codes "client") × AsksClient p.1 asked

@@ -1,0 +1,31 @@
+-- The forms that options have, as clap's rules.
+use Rattle.std.specs.Prelude.{true, Some, pos, codes, ℕ}
+use Rattle.clap.specs.Walk.{Rule, Text}
+use Rattle.clap.specs.Simple.{new_rule}
+use Rattle.clap.specs.declared.builder.action.ArgAction.TheVariants.{Set, SetTrue}
+use Rattle.clap.specs.declared.builder.value_parser.ValueParser.TheVariants as parser
+
+-- `--NAME VALUE`
+abbrev pub optional : Text → Rule
+optional name = record (new_rule name) { long = Some name; action = Some Set; value_names = 1 }
+
+-- the same, where it has to be there
+abbrev pub required : Text → Rule
+required name = record (optional name) { required = true }
+
+-- `--NAME`
+abbrev pub flag : Text → Rule
+flag name = record (new_rule name) { long = Some name; action = Some SetTrue }
+
+-- `--NAME N`, which has to be there, N from 1 to a limit
+abbrev pub numbered : Text → ℕ → Rule
+numbered name limit = record (required name) { parser = Some (parser.Signed (pos 1) (pos limit)) }
+
+abbrev pub port : Rule
+port = numbered (codes "port") 65535
+
+abbrev pub workers : Rule
+workers = numbered (codes "workers") 16
+
+abbrev pub connections : Rule
+connections = numbered (codes "connections") 4294967295

@@ -1,0 +1,62 @@
+-- The program's commands, each with its options.
+use Rattle.std.specs.Prelude.{◌≡◌, true, false, List, [], ◌∷◌, codes}
+use Rattle.clap.specs.Walk.{Rule, Text}
+use Rattle.clap.specs.Simple.{App, Shape, new_shape}
+use Rattle.clap.specs.declared.builder.command.Command.{Command}
+use Rattle.clap.specs.declared.builder.command.Command.TheViews.{out-Command}
+use Rattle.chpw_invocation.specs.Options.{required, optional, flag, port, workers, connections}
+
+abbrev pub command : Text → List Rule → Shape
+command name options = record (new_shape name) { rules = options }
+
+-- a command with none below it
+abbrev pub alone : Shape → App
+alone command = record { top = command; subs = [] }
+
+-- no option of it is passed down to the commands below it
+abbrev pub IsLocal : Command → Type 0
+IsLocal c = (out-Command c).has_globals ≡ false
+
+-- drill
+abbrev pub drill : Shape
+drill = command (codes "drill") []
+
+-- check --config FILE
+abbrev pub check : Shape
+check = command (codes "check") (required (codes "config") ∷ [])
+
+-- serve --config FILE --journal FILE --seed FILE --port N --workers N --connections N
+abbrev pub serve : Shape
+serve = command (codes "serve")
+    (required (codes "config")
+    ∷ required (codes "journal")
+    ∷ required (codes "seed")
+    ∷ port
+    ∷ workers
+    ∷ connections
+    ∷ [])
+
+-- client --config FILE --seed FILE --port N --client NAME --password TEXT [--target NAME]
+-- [--no-initial]
+abbrev pub client : Shape
+client = command (codes "client")
+    (required (codes "config")
+    ∷ required (codes "seed")
+    ∷ port
+    ∷ required (codes "client")
+    ∷ required (codes "password")
+    ∷ optional (codes "target")
+    ∷ flag (codes "no-initial")
+    ∷ [])
+
+-- one of them has to be named
+abbrev pub program : App
+program = record {
+  top = record (new_shape (codes "chpw_server")) {
+    is_leaf = false;
+    has_version = true;
+    subcommand_required = true;
+    arg_required_else_help = true;
+  };
+  subs = drill ∷ check ∷ serve ∷ client ∷ [];
+}

@@ -1,0 +1,9 @@
+//! The program's command line, read by `clap`: its commands, their options with the help for them,
+//! and what a user asks for.
+#![tactic(auto)]
+
+mod invocation;
+mod options;
+mod program;
+
+pub use invocation::{ClientOptions, Invocation, ServeOptions, command_of};

@@ -1,0 +1,154 @@
+//! The program's commands, with their help.
+ghost use Rattle.std.specs.Prelude.{◌≡◌, [], IfOk};
+ghost use Rattle.clap.specs.Words.{app_of};
+ghost use Rattle.chpw_invocation.specs.Program as specs_of;
+
+use crate::options::{
+    connections_option, flag_option, optional_option, port_option, required_option, workers_option,
+};
+use clap::Command;
+use std::alloc::{AllocError, Global};
+
+const VERSION: &str = "0.1";
+
+const ABOUT: &str = "The Kerberos change-password service kadmin/changepw (RFC 3244).";
+
+const STATUSES: &str = "\
+Exit status: 0 success; 1 a fault, told in a line on standard error, or a request that the service
+refused; 2 a bad command line, or help. A value that begins with a dash stands behind an equals
+sign, as in --password=-word-.";
+
+const DRILL: &str = "Decides the requests of a script on standard input, without a network.";
+
+const DRILL_MORE: &str = "\
+The script has a line for each rule, principal and request; what each request is answered is printed
+in a line: its result code, the error code of a KRB-ERROR or a dash, and the text. A bad line ends
+the drill with status 1.
+
+Example:
+  chpw_server drill < samples/drill/changes.script";
+
+const CHECK: &str = "Says whether a configuration is good, or what its first fault is.";
+
+const CHECK_MORE: &str = "\
+Prints 'ok: principals N, rules N, service keys N' with status 0, or the fault as kind, part and
+index, such as 'C4 policy 0', with status 1; where it is and what was expected stands on standard
+error then.
+
+Example:
+  chpw_server check --config samples/realm.toml";
+
+const CONFIG_HELP: &str =
+    "The configuration, in TOML: realm, policy, rules, principals, service keys";
+
+const SERVE: &str = "Serves so many connections on a port of this machine, and ends.";
+
+const SERVE_MORE: &str = "\
+Prints 'listening on 127.0.0.1:N' before the first connection is accepted, and at the end
+'entries N changes N': how many requests were decided, and how many of them changed a password.
+Connections go to the workers in turn; a client that is slow or silent holds up its own worker.
+
+Example:
+  chpw_server serve --config samples/realm.toml --journal realm.journal --seed /dev/urandom \\
+      --port 464 --workers 4 --connections 1000000";
+
+const JOURNAL_HELP: &str =
+    "The journal of accepted changes; made where it isn't there, else the keys are restored from it";
+
+const WORKERS_HELP: &str = "How many connections are served at a time, 1 to 16";
+
+const CONNECTIONS_HELP: &str = "After how many connections the service ends, 1 to 4294967295";
+
+const CLIENT: &str = "Sends one request to a service on this machine, with a ticket of its own.";
+
+const CLIENT_MORE: &str = "\
+The ticket is made with the configuration's first service key, so no KDC is asked. Prints
+'code C TEXT', or 'code C error E TEXT' where the service answered with a KRB-ERROR. The status is 0
+only for code 0, password changed.
+
+Example:
+  chpw_server client --config samples/realm.toml --seed /dev/urandom --port 464 \\
+      --client alice --password 'New-pass2'";
+
+const SEED_HELP: &str =
+    "A file whose first 32 bytes seed the random words; a new seed for each run";
+
+const PORT_HELP: &str = "The port on 127.0.0.1 where the service listens, 1 to 65535";
+
+const CLIENT_HELP: &str =
+    "Who asks: 1 to 8 components of 1 to 128 bytes, with / between them, as alice or alice/admin";
+
+const PASSWORD_HELP: &str = "The new password, at most 60000 bytes";
+
+const TARGET_HELP: &str = "Whose password is set, a name as for --client [default: the client]";
+
+const NO_INITIAL_HELP: &str = "Makes a ticket without the flag initial, as one from a TGT would be";
+
+// A command with this name and these texts: in a line, and below its options.
+fn described<'a>(alloc: Global, name: &'a str, about: &'a str, more: &'a str) -> Command<'a>
+    ensures shape { app_of result ≡ specs_of.alone (specs_of.command name.entry.now []) }
+    ensures local { specs_of.IsLocal result }
+{
+    Command::new(alloc, name).about(about).after_help(more)
+}
+
+fn drill<'a>(alloc: Global) -> Command<'a>
+    ensures shape { app_of result ≡ specs_of.alone specs_of.drill }
+    ensures local { specs_of.IsLocal result }
+{
+    described(alloc, "drill", DRILL, DRILL_MORE)
+}
+
+fn check<'a>(alloc: Global) -> Result<Command<'a>, AllocError>
+    ensures shape { IfOk result (λ c. app_of c ≡ specs_of.alone specs_of.check) }
+    ensures local { IfOk result specs_of.IsLocal }
+{
+    described(alloc, "check", CHECK, CHECK_MORE).arg(required_option(
+        alloc,
+        "config",
+        "FILE",
+        CONFIG_HELP,
+    ))
+}
+
+fn serve<'a>(alloc: Global) -> Result<Command<'a>, AllocError>
+    ensures shape { IfOk result (λ c. app_of c ≡ specs_of.alone specs_of.serve) }
+    ensures local { IfOk result specs_of.IsLocal }
+{
+    described(alloc, "serve", SERVE, SERVE_MORE)
+        .arg(required_option(alloc, "config", "FILE", CONFIG_HELP))?
+        .arg(required_option(alloc, "journal", "FILE", JOURNAL_HELP))?
+        .arg(required_option(alloc, "seed", "FILE", SEED_HELP))?
+        .arg(port_option(alloc, PORT_HELP))?
+        .arg(workers_option(alloc, WORKERS_HELP))?
+        .arg(connections_option(alloc, CONNECTIONS_HELP))
+}
+
+fn client<'a>(alloc: Global) -> Result<Command<'a>, AllocError>
+    ensures shape { IfOk result (λ c. app_of c ≡ specs_of.alone specs_of.client) }
+    ensures local { IfOk result specs_of.IsLocal }
+{
+    described(alloc, "client", CLIENT, CLIENT_MORE)
+        .arg(required_option(alloc, "config", "FILE", CONFIG_HELP))?
+        .arg(required_option(alloc, "seed", "FILE", SEED_HELP))?
+        .arg(port_option(alloc, PORT_HELP))?
+        .arg(required_option(alloc, "client", "NAME", CLIENT_HELP))?
+        .arg(required_option(alloc, "password", "TEXT", PASSWORD_HELP))?
+        .arg(optional_option(alloc, "target", "NAME", TARGET_HELP))?
+        .arg(flag_option(alloc, "no-initial", NO_INITIAL_HELP))
+}
+
+/// The program, with all its commands.
+pub(crate) fn program<'a>(alloc: Global) -> Result<Command<'a>, AllocError>
+    ensures shape { IfOk result (λ c. app_of c ≡ specs_of.program) }
+    ensures local { IfOk result specs_of.IsLocal }
+{
+    described(alloc, "chpw_server", ABOUT, STATUSES)
+        .version(VERSION)
+        .subcommand_required(true)
+        .arg_required_else_help(true)
+        .subcommand(drill(alloc))?
+        .subcommand(check(alloc)?)?
+        .subcommand(serve(alloc)?)?
+        .subcommand(client(alloc)?)
+}

@@ -1,0 +1,9 @@
+//! A pool of workers at one desk, each of which serves its connections one after the other.
+#![tactic(auto)]
+
+mod clock;
+mod line;
+mod pool;
+
+pub use clock::{MachineClock, machine_moment};
+pub use pool::{Pool, PoolFault, run_pool, run_pool_with};

@@ -1,0 +1,23 @@
+-- How a run ends: its status and its line on standard error.
+use Rattle.std.specs.Prelude.{ℕ, List, [], ◌++◌, codes, string_bytes}
+use Rattle.chpw_commands.specs.Drilled.{fault_text}
+use Rattle.chpw_service.specs.Faults.{line_of as service_line}
+use Rattle.chpw_server.specs.declared.ending.Ending.{Ending}
+use Rattle.chpw_server.specs.declared.ending.Ending.TheVariants.{Good, Faulty, Early, Unread, Unserved, Misused}
+
+abbrev pub status_of : Ending → ℕ
+status_of Good = 0
+status_of (Faulty file words) = 1
+status_of (Early fault) = 1
+status_of (Unread file) = 1
+status_of (Unserved fault) = 1
+status_of Misused = 2
+
+-- the line on standard error
+abbrev pub line_of : Ending → List ℕ
+line_of Good = []
+line_of (Faulty file words) = file.now ++ codes ": " ++ string_bytes words
+line_of (Early fault) = fault_text fault
+line_of (Unread file) = codes "cannot read " ++ file.now
+line_of (Unserved fault) = service_line fault
+line_of Misused = []

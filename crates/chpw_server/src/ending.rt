@@ -1,0 +1,58 @@
+//! How a run of the program ends.
+ghost use Rattle.std.specs.Prelude.{◌≡◌};
+ghost use Rattle.chpw_server.specs.Endings.{line_of, status_of};
+
+use chpw_commands::DrillFault;
+use chpw_service::ServeFault;
+use std::fmt;
+
+/// How a run ends.
+#[derive(Drop)]
+pub enum Ending<'a> {
+    /// The command did its work, and found no fault.
+    Good,
+    /// The configuration in this file has a fault, in these words.
+    Faulty { file: &'a str, words: String },
+    /// The command ended early.
+    Early(DrillFault),
+    /// This file can't be read.
+    Unread(&'a str),
+    /// The service ended early.
+    Unserved(ServeFault<'a>),
+    /// The command line asks for no command, or for help.
+    Misused,
+}
+
+impl Ending<'_> {
+    /// The exit status: 0; 1 after a fault; 2 where the command line asks for no command.
+    pub fn status(&self) -> u8
+        ensures value { result ≡ status_of self.now }
+    {
+        match self {
+            Ending::Good => 0,
+            Ending::Faulty { .. } | Ending::Early(_) | Ending::Unread(_) | Ending::Unserved(_) => 1,
+            Ending::Misused => 2,
+        }
+    }
+
+    /// Whether there is a line on standard error.
+    pub fn is_told(&self) -> bool {
+        !matches!(self, Ending::Good | Ending::Misused)
+    }
+}
+
+impl fmt::Display for Ending<'_> {
+    ghost use Rattle.std.specs.Prelude.{Some};
+
+    ghost output = { λ ending. Some (line_of ending) };
+
+    fn fmt<W: fmt::Write>(&self, f: &mut fmt::Formatter<W>) -> fmt::Result {
+        match self {
+            Ending::Good | Ending::Misused => Ok(()),
+            Ending::Faulty { file, words } => write!(f, "{file}: {}", words.as_str()),
+            Ending::Early(fault) => write!(f, "{fault}"),
+            Ending::Unread(file) => write!(f, "cannot read {file}"),
+            Ending::Unserved(fault) => write!(f, "{fault}"),
+        }
+    }
+}

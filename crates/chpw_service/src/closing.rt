@@ -1,0 +1,52 @@
+//! The close of a service's desk.
+ghost use Rattle.std.specs.Prelude.{◌≡◌};
+ghost use Rattle.chpw_book.specs.Receipts.{changes_of};
+
+use crate::fault::ServeFault;
+use chpw_book::{CloseRefused, Closed, Desk, DeskName, Pass};
+use chpw_table::{Entry, JournalSink, Verdict};
+
+/// What a service did: its entries, and how many of them are changes.
+#[derive(Clone, Copy, Drop)]
+pub(crate) struct Tally {
+    pub entries: usize,
+    pub changes: usize,
+}
+
+/// Closes a desk, and counts its history.
+pub(crate) fn close_desk<'a, D: DeskName, S: JournalSink + Drop>(
+    desk: Desk<D, S>,
+    passes: Vec<Pass<D>>,
+) -> Result<Tally, ServeFault<'a>> {
+    match desk.close(passes) {
+        Ok(
+            Closed {
+                history,
+                table: _,
+                sink: _,
+            },
+        ) => Ok(Tally {
+            entries: history.len(),
+            changes: changes(history.as_slice()),
+        }),
+        Err(refused) => {
+            let CloseRefused {
+                fault: _,
+                desk,
+                passes: _,
+            } = refused;
+            desk.abandon();
+            Err(ServeFault::CannotClose)
+        }
+    }
+}
+
+// How many of the entries are changes.
+fn changes(history: &[Entry]) -> usize
+    ensures value { result ≡ changes_of history.now }
+{
+    history
+        .iter()
+        .filter(|entry| matches!(entry.verdict, Verdict::Done))
+        .count()
+}

@@ -1,0 +1,46 @@
+//! Why the service ends early.
+use chpw_journal::RestoreFault;
+use chpw_rules::ConfigFault;
+use std::fmt;
+
+/// Why the service ends early, in the order in which its files and its port are tried; displayed as
+/// the line that the program writes.
+#[derive(Clone, Copy, Drop)]
+pub enum ServeFault<'a> {
+    /// This file can't be read: the configuration, the seed, or a journal that is there.
+    CannotRead(&'a str),
+    /// The configuration has this fault.
+    Config(ConfigFault),
+    /// The journal's file can't be made, or its torn tail can't be cut off.
+    CannotWrite(&'a str),
+    /// The journal has this fault.
+    Journal(RestoreFault),
+    /// The port can't be listened at, or a connection couldn't be accepted.
+    CannotListen,
+    /// A line couldn't be printed.
+    CannotPrint,
+    /// A growth was refused, or a thread couldn't be started.
+    Memory,
+    /// What the workers hold isn't what the history has.
+    CannotClose,
+}
+
+impl fmt::Display for ServeFault<'_> {
+    ghost use Rattle.std.specs.Prelude.{Some};
+    ghost use Rattle.chpw_service.specs.Faults.{line_of};
+
+    ghost output = { λ fault. Some (line_of fault) };
+
+    fn fmt<W: fmt::Write>(&self, f: &mut fmt::Formatter<W>) -> fmt::Result {
+        match self {
+            ServeFault::CannotRead(file) => write!(f, "cannot read {file}"),
+            ServeFault::Config(fault) => write!(f, "config: {fault}"),
+            ServeFault::CannotWrite(file) => write!(f, "cannot write {file}"),
+            ServeFault::Journal(fault) => write!(f, "journal: {fault}"),
+            ServeFault::CannotListen => f.write_str("cannot listen"),
+            ServeFault::CannotPrint => f.write_str("cannot write"),
+            ServeFault::Memory => f.write_str("memory"),
+            ServeFault::CannotClose => f.write_str("cannot close"),
+        }
+    }
+}

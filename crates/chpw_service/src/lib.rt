@@ -1,0 +1,12 @@
+//! `serve`: the service on a port of this machine, from its files to the close of its desk.
+#![tactic(auto)]
+
+mod closing;
+mod fault;
+mod files;
+mod opening;
+mod serving;
+
+pub use fault::ServeFault;
+pub use files::{read_seed, read_settings};
+pub use serving::{ServeOptions, serve};

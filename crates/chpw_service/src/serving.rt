@@ -1,0 +1,157 @@
+//! The service on a port.
+ghost use Rattle.std.specs.Prelude.{◌≡◌, ◌≤◌, ◌<◌, ◌-◌, ◌^◌, IfOk, vec_len};
+
+use crate::closing::{Tally, close_desk};
+use crate::fault::ServeFault;
+use crate::files::{read_seed, read_settings};
+use crate::opening::open_table;
+use chpw_book::{Desk, DeskName, Pass};
+use chpw_journal::{FileSink, Journal};
+use chpw_messages::Service;
+use chpw_pool::{Pool, PoolFault, run_pool};
+use chpw_table::{JournalSink, Table};
+use std::alloc::{AllocError, Global};
+use std::fs::{File, Files};
+use std::marker::Brand;
+use std::net::{Ipv4Addr, Net, TcpListener, TcpStream};
+use std::sync::Wait;
+use std::sync::ledger::Blank;
+use std::thread::Threads;
+use std::time::Clock;
+
+/// What `serve` is asked for: three files, the port, 1 to 16 workers, and after how many connections
+/// it ends.
+#[derive(Clone, Copy, Drop)]
+pub struct ServeOptions<'a> {
+    pub config: &'a str,
+    pub journal: &'a str,
+    pub seed: &'a str,
+    pub port: u16,
+    pub workers: u8,
+    pub connections: u32,
+}
+
+// What the workers serve with.
+#[derive(Drop)]
+struct Ready {
+    service: Service,
+    listener: TcpListener,
+    seed: [u8; 32],
+}
+
+/// Serves so many connections on 127.0.0.1, connection i (from 0) by worker i modulo their number, each
+/// worker one after the other. The configuration is read first, then the seed, then the journal, and
+/// then the port is listened at. Printed are `listening on 127.0.0.1:N` before a connection is
+/// accepted, and at the end `entries N changes N`.
+pub fn serve<
+    'a,
+    R: Files<File = File>
+        + Net<Listener = TcpListener, Stream = TcpStream>
+        + Threads
+        + Wait
+        + Clock
+        + Print
+        + AllocGlobal
+        + Sync,
+>(rt: &R, options: ServeOptions<'a>) -> Result<(), ServeFault<'a>>
+    requires workers { (1 ≤ options.workers) × (options.workers ≤ 16) }
+{
+    let config = read_settings(rt, options.config)?;
+    let seed = read_seed(rt, options.seed)?;
+    let Ok(service) = Service::of(rt.alloc(), &config) else {
+        return Err(ServeFault::Memory);
+    };
+    let Journal {
+        table,
+        sink,
+        found: _,
+    } = open_table(rt, rt.alloc(), config, options.journal)?;
+    let listener = listen(rt, options.port)?;
+    let ready = Ready {
+        service,
+        listener,
+        seed,
+    };
+    let blank = Blank::new(u64::from(options.workers));
+    serve_desk::<Brand, R>(rt, blank, table, sink, ready, options)
+}
+
+fn listen<'a, R: Net<Listener = TcpListener>>(
+    rt: &R,
+    port: u16,
+) -> Result<TcpListener, ServeFault<'a>> {
+    match TcpListener::bind(rt, (Ipv4Addr::LOCALHOST, port)) {
+        Ok(listener) => Ok(listener),
+        Err(_) => Err(ServeFault::CannotListen),
+    }
+}
+
+// Serves at a desk of this name, and closes it.
+fn serve_desk<
+    'a,
+    D: DeskName + Send + Sync,
+    R: Threads + Wait + Clock + Print + AllocGlobal + Sync,
+>(
+    rt: &R,
+    blank: Blank,
+    table: Table,
+    sink: FileSink<File>,
+    ready: Ready,
+    options: ServeOptions<'a>,
+) -> Result<(), ServeFault<'a>>
+    requires workers { (1 ≤ options.workers) × (options.workers ≤ 16) }
+    requires name { (blank.name ≡ D.name) × (blank.parts ≡ D.parts)
+        × (blank.parts ≡ options.workers) }
+    requires desk { (D.workers ≡ options.workers) × (D.opening ≡ table.state) }
+    requires fresh { ⟦<FileSink<File> as JournalSink>⟧.failed sink ≡ 0 }
+{
+    let Ok((desk, mut passes)) = start_desk::<D>(rt.alloc(), blank, table, sink, options.workers)
+    else {
+        return Err(ServeFault::Memory);
+    };
+    if println!(rt; "listening on 127.0.0.1:{}", options.port).is_err() {
+        desk.abandon();
+        return Err(ServeFault::CannotPrint);
+    }
+    let pool = run_pool(
+        rt,
+        rt.alloc(),
+        &ready.listener,
+        &ready.service,
+        &desk,
+        &mut passes,
+        ready.seed,
+        options.connections,
+    );
+    let tally = close_desk(desk, passes)?;
+    end(rt, tally, pool)
+}
+
+fn start_desk<D: DeskName>(
+    alloc: Global,
+    blank: Blank,
+    table: Table,
+    sink: FileSink<File>,
+    workers: u8,
+) -> Result<(Desk<D, FileSink<File>>, Vec<Pass<D>>), AllocError>
+    requires workers { (1 ≤ workers) × (workers ≤ 16) }
+    requires name { (blank.name ≡ D.name) × (blank.parts ≡ D.parts) × (blank.parts ≡ workers) }
+    requires desk { (D.workers ≡ workers) × (D.opening ≡ table.state) }
+    requires fresh { ⟦<FileSink<File> as JournalSink>⟧.failed sink ≡ 0 }
+    ensures passes { IfOk result (λ r. vec_len r.1 ≡ workers) }
+{
+    Desk::start(alloc, blank, table, sink, workers)
+}
+
+// Prints what was done, and tells why it ended early.
+fn end<'a, R: Print>(rt: &R, tally: Tally, pool: Pool) -> Result<(), ServeFault<'a>> {
+    let Tally { entries, changes } = tally;
+    if println!(rt; "entries {entries} changes {changes}").is_err() {
+        return Err(ServeFault::CannotPrint);
+    }
+    match pool.fault {
+        None => Ok(()),
+        Some(PoolFault::Accept) => Err(ServeFault::CannotListen),
+        Some(PoolFault::Start | PoolFault::Memory) => Err(ServeFault::Memory),
+    }
+}

@@ -1,0 +1,114 @@
+//! One request of two workers, the close, and receipts that differ.
+ghost use Rattle.std.specs.Prelude.{◌≡◌, ◌^◌, ◌<◌, length};
+
+use crate::realm::{NOW, PASSWORD, Quiet, change, closed, table, verdict};
+use chpw_book::{CloseFault, CloseRefused, Desk, DeskName, Pass, agree};
+use chpw_table::{Entry, Opened, Receipt, Table, Verdict};
+use std::alloc::{AllocError, Global};
+use std::marker::Brand;
+use std::process::Abort;
+use std::sync::Wait;
+use std::sync::ledger::Blank;
+use std::test::Fail;
+use std::thread::{Threads, join};
+
+#[test]
+fn one_request_of_two_workers(rt: HostRuntime) -> Result<(), Fail> {
+    let table = table(&rt, rt.alloc(), 9)?;
+    let one = change(rt.alloc(), 0, 1)?;
+    let two = change(rt.alloc(), 0, 1)?;
+    two_at::<Brand, _>(&rt, rt.alloc(), Blank::new(2), table, one, two)
+}
+
+// One of two workers changes the password, and the other's request is a replay.
+fn two_at<D: DeskName + Send + Sync, R: Threads + Wait + Abort + Sync>(
+    rt: &R,
+    alloc: Global,
+    blank: Blank,
+    table: Table,
+    one: Opened,
+    two: Opened,
+) -> Result<(), Fail>
+    requires name { (blank.name ≡ D.name) × (blank.parts ≡ D.parts) × (blank.parts ≡ 2)
+        × (D.workers ≡ 2) × (D.opening ≡ table.state) }
+{
+    let (desk, mut passes) = Desk::<D, Quiet>::start(alloc, blank, table, Quiet, 2)?;
+    let mut second = passes.pop().expect(rt, "a pass");
+    let mut first = passes.pop().expect(rt, "a pass");
+    let shared = &desk;
+    let (a, b) = join(
+        rt,
+        || verdict(shared.decide_deriving(rt, &mut first, NOW, one, PASSWORD)),
+        || verdict(shared.decide_deriving(rt, &mut second, NOW, two, PASSWORD)),
+    );
+    let changed = (a == Some(Verdict::Done) && b == Some(Verdict::Replay))
+        || (a == Some(Verdict::Replay) && b == Some(Verdict::Done));
+    assert!(rt; changed && !first.was_full() && !second.was_full());
+    passes.push(second).ok().expect(rt, "a place");
+    let (desk, mut passes) = refused(rt, desk, passes);
+    passes.push(first).ok().expect(rt, "a place");
+    let (history, full) = closed(desk, passes).expect(rt, "all agree");
+    assert!(rt; history.len() == 2 && !full);
+    Ok(())
+}
+
+// A desk without a worker's pass stays open, and is given back.
+fn refused<D: DeskName>(
+    rt: &impl Abort,
+    desk: Desk<D, Quiet>,
+    passes: Vec<Pass<D>>,
+) -> (Desk<D, Quiet>, Vec<Pass<D>>) {
+    let count = passes.len();
+    match desk.close(passes) {
+        Ok(_) => panic!(rt; "a pass is missing"),
+        Err(
+            CloseRefused {
+                fault,
+                desk,
+                passes,
+            },
+        ) => {
+            assert!(rt; fault == CloseFault::MissingPass && passes.len() == count);
+            (desk, passes)
+        }
+    }
+}
+
+#[test]
+fn changed_receipt(rt: HostRuntime) -> Result<(), Fail> {
+    let history = [
+        entry(change(rt.alloc(), 0, 1)?, 0, 1),
+        entry(change(rt.alloc(), 1, 1)?, 1, 1),
+        entry(change(rt.alloc(), 2, 1)?, 0, 2),
+    ];
+    let mut receipts = [receipt(&history[0], 0)?, receipt(&history[2], 2)?];
+    assert!(rt; agree(&history, 0, &receipts).is_none());
+    assert!(rt; agree(&history, 1, &receipts) == Some(1));
+    receipts[1].entry.verdict = Verdict::Replay;
+    assert!(rt; agree(&history, 0, &receipts) == Some(2));
+    assert!(rt; agree(&history, 0, &receipts[..1]) == Some(2));
+    Ok(())
+}
+
+// The entry of a change.
+fn entry(opened: Opened, worker: u8, number: u32) -> Entry {
+    Entry {
+        worker,
+        number,
+        now: NOW,
+        opened,
+        io_failed: false,
+        verdict: Verdict::Done,
+    }
+}
+
+// Its receipt, behind so many changes.
+fn receipt(entry: &Entry, position: u32) -> Result<Receipt, AllocError> {
+    Ok(Receipt {
+        worker: entry.worker,
+        number: entry.number,
+        position,
+        basis: position,
+        entry: entry.clone()?,
+    })
+}

@@ -1,0 +1,11 @@
+//! Tests of the desk: what no clause says of workers that decide side by side.
+#![tactic(auto)]
+
+#[cfg(test)]
+mod closing;
+#[cfg(test)]
+mod keys;
+#[cfg(test)]
+mod realm;
+#[cfg(test)]
+mod sides;
