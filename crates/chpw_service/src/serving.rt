@@ -76,7 +76,7 @@ pub fn serve<
     serve_desk::<Brand, R>(rt, blank, table, sink, ready, options)
 }
 
-fn listen<'a, R: Net<Listener = TcpListener>>(
+fn listen<'a, R: Net<Listener = TcpListener, Stream = TcpStream>>(
     rt: &R,
     port: u16,
 ) -> Result<TcpListener, ServeFault<'a>> {
