@@ -1,5 +1,5 @@
 //! A table that one thread has alone.
-ghost use Rattle.std.specs.Prelude.{◌≡◌, ◌-◌, ◌^◌, ◌<◌, [], IfOk, IfErr, IfSome, false, ◌+◌, ◌++◌, ◌∷◌, length, vec_len, vec_capacity, if◌then◌else◌};
+ghost use Rattle.std.specs.Prelude.{◌≡◌, ◌-◌, ◌^◌, ◌<◌, ◌≤◌, [], All, IfOk, IfErr, IfSome, false, ◌+◌, ◌++◌, ◌∷◌, length, vec_len, vec_capacity, if◌then◌else◌};
 ghost use Rattle.chpw_table.specs.declared.outcome.DecideFault.TheVariants.{Memory};
 ghost use Rattle.chpw_table.specs.Times.{IsMoment};
 ghost use Rattle.chpw_table.specs.History.{missing};
@@ -7,7 +7,8 @@ ghost use Rattle.chpw_table.specs.Refusals.{AsksPositive};
 ghost use Rattle.chpw_table.specs.Completing.{completed};
 ghost use Rattle.chpw_table.specs.Verdicts.{is_done as is_done_row};
 ghost use Rattle.chpw_decider.specs.Deciding.{AddsReceipt, MayBe};
-ghost use Rattle.chpw_decider.specs.Keeping.{IsKept, IsFullAt, basis_after};
+ghost use Rattle.chpw_table.specs.Lookups.{lookup_of};
+ghost use Rattle.chpw_decider.specs.Keeping.{IsKept, IsFullAt, IsOpenedLike, basis_after};
 ghost use Rattle.chpw_decider.specs.Entered.{AsksFor, receipt_behind};
 
 use crate::decider::Decider;
@@ -130,7 +131,13 @@ impl<S: JournalSink> Decider for Alone<S> {
 
     ghost follows = { IsOpenedLike };
 
-    fn lookup(&mut self, name: &Name) -> Option<Lookup> {
+    fn lookup(&mut self, name: &Name) -> Option<Lookup>
+        ensures value { result ≡ lookup_of self.old.table name.now }
+        ensures unchanged { self.new ≡ self.old }
+        ensures receipts { self.new.receipts ≡ self.old.receipts }
+        ensures positive { IfSome result (λ l. (1 ≤ l.policy) × All (λ n. 1 ≤ n) l.held) }
+        ensures follows { IsOpenedLike self.old self.new }
+    {
         self.journaled.lookup(name)
     }
 
