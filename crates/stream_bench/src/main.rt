@@ -78,7 +78,7 @@ fn main(rt: HostRuntime) -> io::Result<()> {
     let alloc = rt.alloc();
     let mut words = env::args(&rt)?;
     let _program = words.next();
-    let serves = words.next().is_some_and(|word| word == "serve");
+    let serves = words.next().is_some_and(|word| word.as_str() == "serve");
     let count = words.next().and_then(|word| word.parse().ok()).unwrap_or(1);
     let Input { config, stream } = read_input(alloc, BufReader::new(alloc, rt.reader())?, count)?;
     let mut world = start(alloc, config.as_str())?;

@@ -112,17 +112,18 @@ impl Cases {
         let (whole, _) = serve(alloc, &mut self.start(alloc)?, how, &stream)?;
         let mut fronts = 0u32;
         for count in 0..whole.len() {
-            let writer = how.writer.failing_after(count);
-            let (written, ended) = serve(
-                alloc,
-                &mut self.start(alloc)?,
-                How { writer, ..how },
-                &stream,
-            )?;
-            if ended_text(ended) == "write fault" && written.as_slice() == &whole[..count] {
+            if self.breaks(alloc, how, &stream, &whole[..count])? {
                 fronts = fronts.saturating_add(1);
             }
         }
         Ok(format!(in alloc; "{fronts} faults behind each byte of {}", whole.len())?)
+    }
+
+    /// Whether a write that fails behind these bytes leaves them written, and ends the stream.
+    fn breaks(&self, alloc: Global, how: How, stream: &[u8], front: &[u8]) -> io::Result<bool> {
+        let writer = how.writer.failing_after(front.len());
+        let mut world = self.start(alloc)?;
+        let (written, ended) = serve(alloc, &mut world, How { writer, ..how }, stream)?;
+        Ok(ended_text(ended) == "write fault" && written.as_slice() == front)
     }
 }

@@ -9,7 +9,7 @@ use chpw_answer::{Messages, NoGate, Opening, answer};
 use chpw_decider::{Alone, Decider};
 use chpw_journal::MemorySink;
 use chpw_messages::Service;
-use chpw_table::{Counts, DecideFault, Moment, Opened, Refused, Verdict};
+use chpw_table::{Counts, DecideFault, Opened, Refused, Verdict};
 use std::alloc::Global;
 use std::io;
 
@@ -83,16 +83,28 @@ pub fn alone(
     let [message, ..] = messages else {
         return Err(no_case());
     };
-    let now = Standing::at(SECOND).moment();
-    let mut table = first.alone;
-    let (opened, password) = opened(alloc, &first.service, message)?;
-    let (opened, counts) = needed(table.decide(now, opened))?;
+    let (counts, deriving) = without_keys(alloc, first, message)?;
     let wanted = shown_counts(alloc, &counts)?;
-    let derived = verdict_text(table.decide_deriving(now, opened, &password));
-    let table_then = shown(alloc, &table)?;
     let ready = with_keys(alloc, &second.service, message, &counts)?;
-    let with = decided(alloc, second.alone, now, ready)?;
-    Ok(format!(in alloc; "needs{wanted}; deriving {derived}, {table_then}; with keys {with}")?)
+    let with = decided(alloc, second.alone, ready)?;
+    Ok(format!(in alloc; "needs{wanted}; deriving {deriving}; with keys {with}")?)
+}
+
+/// The counts that a decision of a message's request asks for, and what comes of it with its password.
+fn without_keys(alloc: Global, world: World, message: &Message) -> io::Result<(Counts, String)> {
+    let now = Standing::at(SECOND).moment();
+    let World { service, alone } = world;
+    let mut table = alone;
+    let (opened, password) = opened(alloc, &service, message)?;
+    let (opened, counts) = needed(table.decide(now, opened))?;
+    let verdict = verdict_text(table.decide_deriving(now, opened, &password));
+    Ok((counts, with_table(alloc, verdict, &table)?))
+}
+
+/// A verdict, and the table then.
+fn with_table(alloc: Global, verdict: &str, table: &Alone<MemorySink>) -> io::Result<String> {
+    let then = shown(alloc, table)?;
+    Ok(format!(in alloc; "{verdict}, {then}")?)
 }
 
 /// A message's request, with no keys derived, and its password.
@@ -140,13 +152,9 @@ fn verdict_text(decided: Result<Verdict, Refused>) -> &'static str {
     }
 }
 
-fn decided(
-    alloc: Global,
-    mut table: Alone<MemorySink>,
-    now: Moment,
-    opened: Opened,
-) -> io::Result<String> {
+/// What comes of a request.
+fn decided(alloc: Global, mut table: Alone<MemorySink>, opened: Opened) -> io::Result<String> {
+    let now = Standing::at(SECOND).moment();
     let verdict = verdict_text(table.decide(now, opened));
-    let then = shown(alloc, &table)?;
-    Ok(format!(in alloc; "{verdict}, {then}")?)
+    with_table(alloc, verdict, &table)
 }

@@ -1,5 +1,5 @@
 //! A decider that watches what a table is asked, and may refuse.
-ghost use Rattle.std.specs.Prelude.{◌≡◌};
+ghost use Rattle.std.specs.Prelude.{◌≡◌, ◌≤◌, All};
 
 use chpw_decider::{Alone, Decider};
 use chpw_rules::Name;
@@ -62,7 +62,9 @@ fn counts_of(opened: &Opened) -> Counts {
 }
 
 /// The count 4 alone.
-fn four() -> Counts {
+fn four() -> Counts
+    ensures positive { All (λ n. 1 ≤ n) result }
+{
     let mut counts = Counts::new();
     let _ = counts.push(4);
     counts
