@@ -1,6 +1,6 @@
 //! The files that a service starts from.
 ghost use Rattle.std.specs.Prelude.{◌≡◌, ◌≤◌, length, IfOk, true};
-ghost use Rattle.chpw_rules.specs.Settings.{config_fits};
+ghost use Rattle.chpw_rules.specs.Fitting.{config_fits};
 
 use crate::fault::ServeFault;
 use chpw_rules::{Config, ConfigError, ConfigFault, read_config};

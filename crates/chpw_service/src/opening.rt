@@ -1,6 +1,6 @@
 //! The table that a service starts with.
 ghost use Rattle.std.specs.Prelude.{◌≡◌, ◌-◌, ◌^◌, ◌<◌, IfOk, true};
-ghost use Rattle.chpw_rules.specs.Settings.{config_fits};
+ghost use Rattle.chpw_rules.specs.Fitting.{config_fits};
 ghost use Rattle.chpw_table.specs.Times.{IsTime};
 
 use crate::fault::ServeFault;

@@ -1,7 +1,7 @@
 //! A small realm: its service key is 32 bytes 5a with kvno 3, and alice and bob have a key each, kvno
 //! 1 under 4 iterations, as new keys have.
 ghost use Rattle.std.specs.Prelude.{◌≡◌, IfOk, IsTrue};
-ghost use Rattle.chpw_rules.specs.Settings.{config_fits};
+ghost use Rattle.chpw_rules.specs.Fitting.{config_fits};
 
 use chpw_messages::Service;
 use chpw_rules::{Config, read_config};

@@ -12,7 +12,8 @@ use krb_der::{
     Microseconds, PVNO, SeqNumber, TransitedEncoding, text_len, write_change_passwd_data,
 };
 use krb_elements::Write;
-use krb_msgs::{laws, make_ap_req, make_priv, make_ticket};
+use krb_keys::Key;
+use krb_msgs::{ServiceKey, laws, make_ap_req, make_priv, make_ticket};
 use std::alloc::{AllocError, Global};
 
 /// The option mutual-required alone.
@@ -64,19 +65,25 @@ pub fn request(alloc: Global, asked: Asked<'_>) -> Result<Vec<u8>, AskFault> {
 fn ap_req(alloc: Global, asked: Asked<'_>) -> Result<Vec<u8>, AskFault> {
     let part = ticket_part(alloc, asked)?;
     let authenticator = authenticator(alloc, asked)?;
-    if !is_short(&part) || !is_short(&authenticator) {
+    presented(alloc, &part, SERVICE, OPTIONS, &authenticator, &SESSION)
+}
+
+// The AP-REQ of a ticket with this part under a service key, and of an authenticator.
+fn presented(
+    alloc: Global,
+    part: &EncTicketPart,
+    service: ServiceKey,
+    options: u32,
+    authenticator: &Authenticator,
+    session: &Key,
+) -> Result<Vec<u8>, AskFault> {
+    if !is_short(part) || !is_short(authenticator) {
         return Err(AskFault::NoMessage);
     }
     laws::messages_fit();
-    let ticket = make_ticket(alloc, REALM, &part, &SERVICE, CONFOUNDER)?;
-    Ok(make_ap_req(
-        alloc,
-        &ticket,
-        OPTIONS,
-        &authenticator,
-        &SESSION,
-        CONFOUNDER,
-    )?)
+    let ticket = make_ticket(alloc, REALM, part, &service, CONFOUNDER)?;
+    let message = make_ap_req(alloc, &ticket, options, authenticator, session, CONFOUNDER)?;
+    Ok(message)
 }
 
 fn ticket_part(alloc: Global, asked: Asked<'_>) -> Result<EncTicketPart, AllocError> {
@@ -122,11 +129,16 @@ fn krb_priv(alloc: Global, asked: Asked<'_>) -> Result<Vec<u8>, AskFault> {
         s_address: local_host(alloc)?,
         r_address: None,
     };
-    if !is_short(&part) {
+    private(alloc, &part, &SUBKEY)
+}
+
+// The KRB-PRIV with this part.
+fn private(alloc: Global, part: &EncKrbPrivPart, subkey: &Key) -> Result<Vec<u8>, AskFault> {
+    if !is_short(part) {
         return Err(AskFault::NoMessage);
     }
     laws::messages_fit();
-    Ok(make_priv(alloc, &part, &SUBKEY, CONFOUNDER)?)
+    Ok(make_priv(alloc, part, subkey, CONFOUNDER)?)
 }
 
 fn change_data(alloc: Global, password: &str) -> Result<Vec<u8>, AskFault> {
