@@ -17,27 +17,37 @@ pub enum Ending<'a> {
     Early(DrillFault),
     /// This file can't be read.
     Unread(&'a str),
-    /// The service ended early.
+    /// The service ended early, or a file that `client` reads has a fault.
     Unserved(ServeFault<'a>),
+    /// A name, a password or the clock that no request can be made with.
+    BadArgument,
+    /// There is no service at the port.
+    Unconnected,
+    /// No reply came that can be read.
+    Unanswered,
+    /// The service answered, and not with code 0.
+    Refused,
     /// The command line asks for no command, or for help.
     Misused,
 }
 
 impl Ending<'_> {
-    /// The exit status: 0; 1 after a fault; 2 where the command line asks for no command.
+    /// The exit status: 0; 1 after a fault; 2 where the command line asks for no command,
+    /// or `client` for no request.
     pub fn status(&self) -> u8
         ensures value { result ≡ status_of self.now }
     {
         match self {
             Ending::Good => 0,
             Ending::Faulty { .. } | Ending::Early(_) | Ending::Unread(_) | Ending::Unserved(_) => 1,
-            Ending::Misused => 2,
+            Ending::Unconnected | Ending::Unanswered | Ending::Refused => 1,
+            Ending::BadArgument | Ending::Misused => 2,
         }
     }
 
     /// Whether there is a line on standard error.
     pub fn is_told(&self) -> bool {
-        !matches!(self, Ending::Good | Ending::Misused)
+        !matches!(self, Ending::Good | Ending::Refused | Ending::Misused)
     }
 }
 
@@ -48,11 +58,14 @@ impl fmt::Display for Ending<'_> {
 
     fn fmt<W: fmt::Write>(&self, f: &mut fmt::Formatter<W>) -> fmt::Result {
         match self {
-            Ending::Good | Ending::Misused => Ok(()),
+            Ending::Good | Ending::Refused | Ending::Misused => Ok(()),
             Ending::Faulty { file, words } => write!(f, "{file}: {}", words.as_str()),
             Ending::Early(fault) => write!(f, "{fault}"),
             Ending::Unread(file) => write!(f, "cannot read {file}"),
             Ending::Unserved(fault) => write!(f, "{fault}"),
+            Ending::BadArgument => f.write_str("bad argument"),
+            Ending::Unconnected => f.write_str("cannot connect"),
+            Ending::Unanswered => f.write_str("connection ended"),
         }
     }
 }

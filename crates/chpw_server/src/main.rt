@@ -1,8 +1,9 @@
 //! The service's program. Its commands are `drill`, a script of decisions on standard input and their
-//! results on standard output; `check`, what is found in a configuration file; and `serve`, the service
-//! on a port of this machine.
+//! results on standard output; `check`, what is found in a configuration file; `serve`, the service on a
+//! port of this machine; and `client`, one request to it.
 #![tactic(auto)]
 
+mod client;
 mod ending;
 #[cfg(test)]
 mod tests;
@@ -12,6 +13,7 @@ use chpw_invocation::{Invocation, ServeOptions, command_of};
 use chpw_service::serve;
 use clap::Error;
 use clap::error::ErrorKind;
+use client::ask;
 use ending::Ending;
 use std::alloc::AllocError;
 use std::fs::{File, Files};
@@ -73,7 +75,7 @@ where
         Ok(Invocation::Drill) => drill(rt),
         Ok(Invocation::Check { config }) => check(rt, config),
         Ok(Invocation::Serve(options)) => started(rt, options),
-        Ok(Invocation::Client(_)) => Ending::Misused,
+        Ok(Invocation::Client(options)) => ask(rt, options),
     }
 }
 

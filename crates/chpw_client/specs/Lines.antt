@@ -1,0 +1,38 @@
+-- What a client prints of a reply, and its exit status.
+use Rattle.std.specs.Prelude.{◌≡◌, ◌⊎◌, ℕ, ℤ, ◌==◌, List, [], ◌++◌, true, Option, Some, None, Result, Ok, Err, codes, if◌then◌else◌}
+use Rattle.std.specs.Fmt.{decimal, signed_decimal}
+use Rattle.krb_msgs.specs.Replies.{OpensReply}
+use Rattle.krb_msgs.specs.declared.fault.ReplyFault.{ReplyFault}
+use Rattle.krb_msgs.specs.declared.reply.Reply.{Reply}
+use Rattle.chpw_frame.specs.Framing.{ap_of, first_fault, reply_versions, tail_of}
+use Rattle.chpw_frame.specs.declared.fault.FrameFault.{FrameFault}
+use Rattle.chpw_client.specs.declared.request.Sent.{Sent}
+
+-- the error code of a KRB-ERROR
+abbrev pub error_words : Option ℤ → List ℕ
+error_words None = []
+error_words (Some error) = codes " error " ++ signed_decimal error
+
+-- code C TEXT, or code C error E TEXT; the text as it came
+abbrev pub line_of : Reply → List ℕ
+line_of r = codes "code " ++ decimal r.code ++ error_words r.error ++ codes " " ++ r.text
+
+-- 0 only for code 0
+abbrev pub status_of : Reply → ℕ
+status_of r = if r.code == 0 then 0 else 1
+
+-- what the parts of a reply say to the client that sent a request
+abbrev pub Says : Sent → List ℕ → Result Reply ReplyFault → Type 0
+Says sent reply = OpensReply sent.session sent.subkey sent.ctime sent.cusec (ap_of reply)
+    (tail_of reply)
+
+-- a reply that can't be cut into its parts, or whose parts say nothing
+abbrev pub IsUnread : Sent → List ℕ → Type 0
+IsUnread sent reply = ((fault : FrameFault) × (first_fault reply_versions true reply ≡ Some fault))
+    ⊎ ((fault : ReplyFault) × Says sent reply (Err fault))
+
+-- what a client makes of a reply: nothing of one that can't be read, and else a line and a status
+abbrev pub IsLine : Sent → List ℕ → Option (List ℕ × ℕ) → Type 0
+IsLine sent reply None = IsUnread sent reply
+IsLine sent reply (Some told) = (first_fault reply_versions true reply ≡ None)
+    × ((r : Reply) × Says sent reply (Ok r) × (told ≡ (line_of r, status_of r)))

@@ -1,0 +1,98 @@
+//! The random words of a request.
+ghost use Rattle.std.specs.Prelude.{◌≡◌, ◌∷◌, ◌++◌, []};
+ghost use Rattle.chpw_serve.specs.Draws.{Drawn};
+ghost use Rattle.chpw_client.specs.Words.{word_bytes, words_of};
+
+use chpw_serve::Words;
+
+/// The words of a request: of 8 words a key, of 4 a confounder.
+#[derive(Clone, Copy, Drop)]
+pub(crate) struct Drawing {
+    pub session: [u32; 8],
+    pub subkey: [u32; 8],
+    /// The confounders of ticket, authenticator and KRB-PRIV.
+    pub ticket: [u32; 4],
+    pub authenticator: [u32; 4],
+    pub private: [u32; 4],
+}
+
+/// Draws them in turn.
+pub(crate) fn draw<X: Words>(words: &mut X) -> Drawing
+    ensures words { Drawn X.gives words.old (words_of result) words.new }
+{
+    let session = next_eight(words);
+    let subkey = next_eight(words);
+    let ticket = next_four(words);
+    let authenticator = next_four(words);
+    let private = next_four(words);
+    Drawing {
+        session,
+        subkey,
+        ticket,
+        authenticator,
+        private,
+    }
+}
+
+fn next_four<X: Words>(words: &mut X) -> [u32; 4]
+    ensures words { Drawn X.gives words.old result words.new }
+{
+    let w0 = words.next();
+    let w1 = words.next();
+    let w2 = words.next();
+    let w3 = words.next();
+    [w0, w1, w2, w3]
+}
+
+fn next_eight<X: Words>(words: &mut X) -> [u32; 8]
+    ensures words { Drawn X.gives words.old result words.new }
+{
+    let w0 = words.next();
+    let w1 = words.next();
+    let w2 = words.next();
+    let w3 = words.next();
+    let w4 = words.next();
+    let w5 = words.next();
+    let w6 = words.next();
+    let w7 = words.next();
+    [w0, w1, w2, w3, w4, w5, w6, w7]
+}
+
+// Four words as bytes, each low byte first.
+fn four_words(first: u32, second: u32, third: u32, fourth: u32) -> [u8; 16]
+    ensures value { result ≡ word_bytes (first ∷ second ∷ third ∷ fourth ∷ []) }
+{
+    let [a0, a1, a2, a3] = first.to_le_bytes();
+    let [b0, b1, b2, b3] = second.to_le_bytes();
+    let [c0, c1, c2, c3] = third.to_le_bytes();
+    let [d0, d1, d2, d3] = fourth.to_le_bytes();
+    [
+        a0, a1, a2, a3, b0, b1, b2, b3, c0, c1, c2, c3, d0, d1, d2, d3,
+    ]
+}
+
+/// Four words as bytes.
+pub(crate) fn confounder(words: [u32; 4]) -> [u8; 16]
+    ensures value { result ≡ word_bytes words }
+{
+    four_words(words[0], words[1], words[2], words[3])
+}
+
+/// Eight words as bytes.
+pub(crate) fn key_bytes(words: [u32; 8]) -> [u8; 32]
+    ensures value { result ≡ word_bytes words }
+{
+    joined(
+        four_words(words[0], words[1], words[2], words[3]),
+        four_words(words[4], words[5], words[6], words[7]),
+    )
+}
+
+fn joined(first: [u8; 16], second: [u8; 16]) -> [u8; 32]
+    ensures value { result ≡ first ++ second }
+{
+    let mut bytes = [0; 32];
+    bytes[..16].copy_from_slice(&first);
+    bytes[16..].copy_from_slice(&second);
+    bytes
+}

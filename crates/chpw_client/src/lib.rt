@@ -1,0 +1,14 @@
+//! A client of the service (RFC 3244 section 2) that needs no KDC: it makes its own ticket with the
+//! service's key, and reads the reply.
+#![tactic(auto)]
+
+mod asked;
+mod drawing;
+mod line;
+mod messages;
+mod records;
+mod request;
+mod short;
+
+pub use line::client_line;
+pub use request::{LAST_START, LONGEST_PASSWORD, Sent, client_request};

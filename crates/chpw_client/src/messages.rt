@@ -1,0 +1,83 @@
+//! The messages of a request.
+ghost use Rattle.std.specs.Prelude.{◌≡◌, ◌≤◌, ◌<◌, ◌^◌, length, IfOk};
+ghost use Rattle.krb_der.specs.declared.ticket.Ticket.{Ticket};
+ghost use Rattle.krb_msgs.specs.Making.{SpellsTicket};
+ghost use Rattle.chpw_client.specs.Requests.{ap_req_text, priv_text, ticket_text};
+ghost use Rattle.chpw_client.specs.Words.{key_of as key_in};
+ghost use Rattle.chpw_client.specs.Questions.{IsAskable, question_of};
+
+use crate::asked::Asked;
+use crate::drawing::{Drawing, confounder, key_bytes};
+use crate::records::{authenticator, private_part, ticket_part};
+use crate::short::{LONG, SHORT, is_short};
+use krb_der::MUTUAL_REQUIRED;
+use krb_keys::Key;
+use krb_msgs::{laws, make_ap_req, make_priv, make_ticket};
+use std::alloc::{AllocError, Global};
+
+/// The option mutual-required alone, of 32 bits.
+const OPTIONS: u32 = 1 << (31 - MUTUAL_REQUIRED);
+
+/// The key of etype 18 of these words.
+pub(crate) fn key_of(words: [u32; 8]) -> Key
+    ensures value { result ≡ key_in words }
+{
+    Key::Aes256(key_bytes(words))
+}
+
+/// The AP-REQ, with its ticket.
+pub(crate) fn ap_req(
+    alloc: Global,
+    asked: &Asked<'_>,
+    words: &Drawing,
+) -> Result<Vec<u8>, AllocError>
+    requires askable { IsAskable (question_of asked.now) }
+    ensures text { IfOk result (λ bytes. (t : Ticket)
+        × SpellsTicket (ticket_text (question_of asked.entry.now) words.now) t
+        × (bytes.items ≡ ap_req_text t (question_of asked.entry.now) words.now)) }
+{
+    let part = ticket_part(alloc, asked, words)?;
+    let authenticator = authenticator(alloc, asked, words)?;
+    if !is_short(&part, SHORT) || !is_short(&authenticator, SHORT) {
+        return Err(AllocError);
+    }
+    laws::messages_fit();
+    let ticket = make_ticket(
+        alloc,
+        asked.realm,
+        &part,
+        asked.service,
+        confounder(words.ticket),
+    )?;
+    make_ap_req(
+        alloc,
+        &ticket,
+        OPTIONS,
+        &authenticator,
+        &key_of(words.session),
+        confounder(words.authenticator),
+    )
+}
+
+/// The KRB-PRIV, sealed under the subkey.
+pub(crate) fn krb_priv(
+    alloc: Global,
+    asked: &Asked<'_>,
+    words: &Drawing,
+) -> Result<Vec<u8>, AllocError>
+    requires askable { IsAskable (question_of asked.now) }
+    ensures text { IfOk result (λ bytes. bytes.items
+        ≡ priv_text (question_of asked.entry.now) words.now) }
+{
+    let part = private_part(alloc, asked)?;
+    if !is_short(&part, LONG) {
+        return Err(AllocError);
+    }
+    laws::messages_fit();
+    make_priv(
+        alloc,
+        &part,
+        &key_of(words.subkey),
+        confounder(words.private),
+    )
+}

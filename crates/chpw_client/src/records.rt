@@ -1,0 +1,159 @@
+//! The records of a request.
+ghost use Rattle.std.specs.Prelude.{◌≡◌, IfOk};
+ghost use Rattle.krb_elements.specs.Texts.{text};
+ghost use Rattle.krb_der.specs.Types.{change_passwd_data};
+ghost use Rattle.krb_der.specs.Values.{change_passwd_data_value};
+ghost use Rattle.chpw_client.specs.Requests.{authenticator as authenticator_of, change, principal as principal_of, private_part as private_part_of, sent_key as sent_key_of, ticket_part as ticket_part_of};
+ghost use Rattle.chpw_client.specs.Questions.{IsAskable, question_of};
+
+use crate::asked::Asked;
+use crate::drawing::{Drawing, key_bytes};
+use crate::short::{LONG, is_short};
+use chpw_rules::{Items, Name};
+use krb_der::{
+    ADDR_TYPE_IPV4, Authenticator, Bytes, ChangePasswdData, EncKrbPrivPart, EncTicketPart,
+    EncryptionKey, GeneralString, HostAddress, KerberosFlags, KerberosTime, Microseconds,
+    NT_PRINCIPAL, PVNO, PrincipalName, SeqNumber, SequenceOf, TICKET_INITIAL, TransitedEncoding,
+    write_change_passwd_data,
+};
+use krb_keys::AES256_CTS_HMAC_SHA1_96;
+use std::alloc::{AllocError, Global};
+
+/// The client's address (RFC 3244 section 2 leaves it to the client which one it sends).
+const LOOPBACK: [u8; 4] = [127, 0, 0, 1];
+
+/// Seconds for which a ticket is good.
+const LIFETIME: i64 = 3600;
+
+/// The flag initial, of 32 bits.
+const INITIAL: u32 = 1 << (31 - TICKET_INITIAL);
+
+fn copied<const TAG: u8>(alloc: Global, bytes: &[u8]) -> Result<Bytes<TAG>, AllocError>
+    ensures value { IfOk result (λ copy. copy ≡ bytes.now) }
+{
+    Ok(Bytes::of(Vec::from_slice(alloc, bytes)?))
+}
+
+fn components(alloc: Global, parts: &[Items<u8>]) -> Result<Vec<GeneralString>, AllocError>
+    ensures value { IfOk result (λ copies. copies.items ≡ parts.now) }
+{
+    let mut copies = Vec::with_capacity(alloc, parts.len())?;
+    for part in parts {
+        copies.push(Bytes::of(Vec::from_slice(alloc, part.as_slice())?))?;
+    }
+    Ok(copies)
+}
+
+fn principal(alloc: Global, name: &Name) -> Result<PrincipalName, AllocError>
+    ensures value { IfOk result (λ p. p ≡ principal_of name.now) }
+{
+    Ok(PrincipalName {
+        name_type: NT_PRINCIPAL,
+        name_string: SequenceOf::of(components(alloc, name.parts.as_slice())?),
+    })
+}
+
+fn sent_key(alloc: Global, words: [u32; 8]) -> Result<EncryptionKey, AllocError>
+    ensures value { IfOk result (λ key. key ≡ sent_key_of words) }
+{
+    Ok(EncryptionKey {
+        keytype: AES256_CTS_HMAC_SHA1_96,
+        keyvalue: copied(alloc, &key_bytes(words))?,
+    })
+}
+
+/// The sealed part of the ticket (RFC 4120 section 5.3).
+pub(crate) fn ticket_part(
+    alloc: Global,
+    asked: &Asked<'_>,
+    words: &Drawing,
+) -> Result<EncTicketPart, AllocError>
+    requires askable { IsAskable (question_of asked.now) }
+    ensures value { IfOk result (λ part. part ≡ ticket_part_of (question_of asked.entry.now) words.now) }
+{
+    Ok(EncTicketPart {
+        flags: KerberosFlags(if asked.initial { INITIAL } else { 0 }),
+        key: sent_key(alloc, words.session)?,
+        crealm: copied(alloc, asked.realm)?,
+        cname: principal(alloc, asked.client)?,
+        transited: TransitedEncoding {
+            tr_type: 0,
+            contents: copied(alloc, &[])?,
+        },
+        authtime: KerberosTime(asked.now.seconds),
+        starttime: None,
+        endtime: KerberosTime(asked.now.seconds + LIFETIME),
+        renew_till: None,
+        caddr: None,
+        authorization_data: None,
+    })
+}
+
+/// The authenticator (RFC 4120 section 5.5.1).
+pub(crate) fn authenticator(
+    alloc: Global,
+    asked: &Asked<'_>,
+    words: &Drawing,
+) -> Result<Authenticator, AllocError>
+    ensures value { IfOk result (λ a. a ≡ authenticator_of (question_of asked.entry.now) words.now) }
+{
+    Ok(Authenticator {
+        authenticator_vno: PVNO,
+        crealm: copied(alloc, asked.realm)?,
+        cname: principal(alloc, asked.client)?,
+        cksum: None,
+        cusec: Microseconds(asked.now.micros),
+        ctime: KerberosTime(asked.now.seconds),
+        subkey: Some(sent_key(alloc, words.subkey)?),
+        seq_number: Some(SeqNumber(0)),
+        authorization_data: None,
+    })
+}
+
+/// The new password and whose it is (RFC 3244 section 2).
+fn change_data(alloc: Global, asked: &Asked<'_>) -> Result<ChangePasswdData, AllocError>
+    ensures value { IfOk result (λ d. d ≡ change (question_of asked.entry.now)) }
+{
+    let newpasswd = copied(alloc, asked.password)?;
+    match asked.target {
+        None => Ok(ChangePasswdData {
+            newpasswd,
+            targname: None,
+            targrealm: None,
+        }),
+        Some(target) => Ok(ChangePasswdData {
+            newpasswd,
+            targname: Some(principal(alloc, target)?),
+            targrealm: Some(copied(alloc, asked.realm)?),
+        }),
+    }
+}
+
+fn user_data(alloc: Global, asked: &Asked<'_>) -> Result<Vec<u8>, AllocError>
+    ensures text { IfOk result (λ bytes. bytes.items ≡ text change_passwd_data
+        (change_passwd_data_value (change (question_of asked.entry.now)))) }
+{
+    let data = change_data(alloc, asked)?;
+    if !is_short(&data, LONG) {
+        return Err(AllocError);
+    }
+    write_change_passwd_data(alloc, &data)
+}
+
+/// The sealed part of the KRB-PRIV (RFC 4120 section 5.7.1).
+pub(crate) fn private_part(alloc: Global, asked: &Asked<'_>) -> Result<EncKrbPrivPart, AllocError>
+    requires askable { IsAskable (question_of asked.now) }
+    ensures value { IfOk result (λ part. part ≡ private_part_of (question_of asked.entry.now)) }
+{
+    Ok(EncKrbPrivPart {
+        user_data: Bytes::of(user_data(alloc, asked)?),
+        timestamp: None,
+        usec: None,
+        seq_number: Some(SeqNumber(0)),
+        s_address: HostAddress {
+            addr_type: ADDR_TYPE_IPV4,
+            address: copied(alloc, &LOOPBACK)?,
+        },
+        r_address: None,
+    })
+}

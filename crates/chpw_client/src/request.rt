@@ -1,0 +1,140 @@
+//! The request that a client sends.
+ghost use Rattle.std.specs.Prelude.{◌≡◌, ◌≤◌, ◌<◌, ◌≤ℤ◌, pos, true, length, option_map, IfOk, IfSome};
+ghost use Rattle.std.specs.List.{list_all};
+ghost use Rattle.chpw_rules.specs.Fitting.{config_fits, service_key_fits};
+ghost use Rattle.chpw_rules.specs.Names.{is_name};
+ghost use Rattle.chpw_serve.specs.Draws.{Drawn};
+ghost use Rattle.chpw_client.specs.Requests.{IsRequest};
+ghost use Rattle.chpw_client.specs.Questions.{IsAskable, latest_second, question_of};
+ghost use Rattle.chpw_client.specs.Configured.{IsFirstKey};
+ghost use Rattle.chpw_client.specs.Words.{words_of};
+ghost use Rattle.chpw_client.specs.declared.drawing.Drawing.{Drawing};
+ghost use Rattle.krb_msgs.specs.declared.service_keys.ServiceKey.{ServiceKey};
+
+use crate::asked::Asked;
+use crate::drawing::{Drawing, draw};
+use crate::messages::{ap_req, key_of, krb_priv};
+use chpw_frame::join_request;
+use chpw_rules::{Config, Items, Name, ServiceRow};
+use chpw_serve::Words;
+use chpw_table::Moment;
+use krb_der::{KerberosTime, Microseconds};
+use krb_keys::{Key, key_of as key_of_row};
+use krb_msgs::ServiceKey;
+use std::alloc::{AllocError, Global};
+
+/// The most bytes of a new password.
+pub const LONGEST_PASSWORD: usize = 60_000;
+
+/// The last second at which a request is made: its ticket ends an hour later, in the year 9999.
+pub const LAST_START: i64 = 253_402_297_199;
+
+/// The most bytes of an AP-REQ and of a KRB-PRIV here: together and with six more they are no longer
+/// than a message. The longest names, realm and password make shorter ones.
+const LONGEST_AP_REQ: usize = 3_900;
+
+const LONGEST_KRB_PRIV: usize = 61_600;
+
+/// A request, and what its reply is read with.
+#[derive(Drop)]
+pub struct Sent {
+    /// At most 65,535 bytes.
+    pub message: Items<u8>,
+    pub session: Key,
+    pub subkey: Key,
+    /// The authenticator's time, and its microseconds.
+    pub ctime: KerberosTime,
+    pub cusec: Microseconds,
+}
+
+/// The request of a client to change its own password, or to set a target's (RFC 3244 section 2).
+///
+/// The ticket is sealed under the configuration's first service key. Session key and subkey (etype
+/// 18), then the confounders of ticket, authenticator and KRB-PRIV, are words drawn in this order,
+/// low byte first. authtime, ctime and cusec are the moment, whose seconds are 0 to [`LAST_START`] and
+/// microseconds below 1,000,000; endtime is an hour later. The configuration fits and has a service
+/// key, the names have 1 to 8 components of 1 to 128 bytes, and the password has at most
+/// [`LONGEST_PASSWORD`] bytes.
+pub fn client_request<X: Words>(
+    alloc: Global,
+    config: &Config,
+    now: Moment,
+    client: &Name,
+    password: &[u8],
+    target: Option<&Name>,
+    initial: bool,
+    words: &mut X,
+) -> Result<Sent, AllocError>
+    requires fits { config_fits config.now ≡ true }
+    requires keys { 0 < length config.now.service }
+    requires client { is_name client.now ≡ true }
+    requires target { IfSome target (λ n. is_name n.now ≡ true) }
+    requires password { length password.now ≤ 60000 }
+    requires start { pos 0 ≤ℤ now.seconds }
+    requires end { now.seconds ≤ℤ pos latest_second }
+    requires micros { now.micros < 1000000 }
+    ensures sent { IfOk result (λ sent. (key : ServiceKey) × (drawn : Drawing)
+        × IsFirstKey config.now.service key
+        × Drawn X.gives words.old (words_of drawn) words.new
+        × IsRequest (record {
+          realm = config.now.realm;
+          service = key;
+          now = now;
+          client = client.now;
+          password = password.now;
+          target = option_map (λ n. n.now) target.entry;
+          initial = initial;
+        }) drawn sent) }
+{
+    let realm = config.realm.as_slice();
+    let rows = config.service.as_slice();
+    let service = first_key(rows);
+    let asked = Asked {
+        realm,
+        service: &service,
+        now,
+        client,
+        password,
+        target,
+        initial,
+    };
+    let drawn = draw(words);
+    request_of(alloc, &asked, &drawn)
+}
+
+// The first service key.
+fn first_key(rows: &[ServiceRow]) -> ServiceKey
+    requires some { 0 < length rows.now }
+    requires fit { list_all service_key_fits rows.now ≡ true }
+    ensures first { IsFirstKey rows.now result }
+{
+    match rows {
+        [] => unreachable!(),
+        [row, ..] => match key_of_row(row.etype, row.key.as_slice()) {
+            Ok(key) => ServiceKey {
+                kvno: row.kvno,
+                key,
+            },
+            Err(_) => unreachable!(),
+        },
+    }
+}
+
+// The message, and what its reply is read with.
+fn request_of(alloc: Global, asked: &Asked<'_>, words: &Drawing) -> Result<Sent, AllocError>
+    requires askable { IsAskable (question_of asked.now) }
+    ensures request { IfOk result (IsRequest (question_of asked.entry.now) words.now) }
+{
+    let ap = ap_req(alloc, asked, words)?;
+    let tail = krb_priv(alloc, asked, words)?;
+    if ap.is_empty() || ap.len() > LONGEST_AP_REQ || tail.len() > LONGEST_KRB_PRIV {
+        return Err(AllocError);
+    }
+    Ok(Sent {
+        message: Items::of(join_request(alloc, &ap, &tail)?),
+        session: key_of(words.session),
+        subkey: key_of(words.subkey),
+        ctime: KerberosTime(asked.now.seconds),
+        cusec: Microseconds(asked.now.micros),
+    })
+}

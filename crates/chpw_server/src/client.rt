@@ -1,0 +1,133 @@
+//! `client`: one request to a service on this machine, and what its reply says.
+ghost use Rattle.std.specs.Prelude.{◌≡◌, ◌<◌, ◌≤ℤ◌, pos, true, IfOk, IfSome};
+ghost use Rattle.chpw_rules.specs.Names.{is_name};
+ghost use Rattle.chpw_client.specs.Questions.{latest_second};
+
+use crate::ending::Ending;
+use chpw_client::{LAST_START, LONGEST_PASSWORD, Sent, client_line, client_request};
+use chpw_commands::DrillFault;
+use chpw_frame::{LONGEST_MESSAGE, Received, read_tcp, write_tcp};
+use chpw_invocation::ClientOptions;
+use chpw_pool::machine_moment;
+use chpw_rules::{Config, Name};
+use chpw_serve::WorkerWords;
+use chpw_service::{read_seed, read_settings};
+use chpw_table::Moment;
+use std::alloc::Global;
+use std::fs::{File, Files};
+use std::io;
+use std::io::Write;
+use std::net::{Net, TcpStream};
+use std::time::Clock;
+
+/// Sends the request, and prints what the reply says. The names, the password's length and the moment
+/// are looked at first, then the configuration and the seed are read, and then the service is called.
+pub fn ask<'a, R>(rt: &R, options: ClientOptions<'a>) -> Ending<'a>
+where
+    R: Files<File = File> + Net<Stream = TcpStream> + Clock + Print + AllocGlobal,
+{
+    match request(rt, options) {
+        Err(ending) => ending,
+        Ok(sent) => match exchange(rt, options.port, sent.message.as_slice()) {
+            Err(ending) => ending,
+            Ok(reply) => told(rt, &sent, reply.as_slice()),
+        },
+    }
+}
+
+// The request, made with the first stream of the seed's words.
+fn request<'a, R>(rt: &R, options: ClientOptions<'a>) -> Result<Sent, Ending<'a>>
+where
+    R: Files<File = File> + Clock + AllocGlobal,
+{
+    let client = name_of(rt.alloc(), options.client)?;
+    let target = target_of(rt.alloc(), options.target)?;
+    if options.password.len() > LONGEST_PASSWORD {
+        return Err(Ending::BadArgument);
+    }
+    let now = moment(rt)?;
+    let config = read_settings(rt, options.config).map_err(Ending::Unserved)?;
+    let seed = read_seed(rt, options.seed).map_err(Ending::Unserved)?;
+    if config.service.as_slice().is_empty() {
+        return Err(Ending::BadArgument);
+    }
+    let mut words = WorkerWords::new(seed, 0);
+    let sent = client_request(
+        rt.alloc(),
+        &config,
+        now,
+        &client,
+        options.password.as_bytes(),
+        target.as_ref(),
+        !options.no_initial,
+        &mut words,
+    );
+    sent.map_err(|_| Ending::Early(DrillFault::Memory))
+}
+
+fn name_of<'a>(alloc: Global, text: &str) -> Result<Name, Ending<'a>>
+    ensures fits { IfOk result (λ name. is_name name ≡ true) }
+{
+    match Name::parse(alloc, text) {
+        Ok(Some(name)) if name.fits() => Ok(name),
+        Ok(_) => Err(Ending::BadArgument),
+        Err(_) => Err(Ending::Early(DrillFault::Memory)),
+    }
+}
+
+fn target_of<'a>(alloc: Global, text: Option<&str>) -> Result<Option<Name>, Ending<'a>>
+    ensures fits { IfOk result (λ found. IfSome found (λ name. is_name name ≡ true)) }
+{
+    match text {
+        None => Ok(None),
+        Some(text) => Ok(Some(name_of(alloc, text)?)),
+    }
+}
+
+// The machine's moment, where a ticket of an hour ends within the year 9999.
+fn moment<'a, R: Clock>(rt: &R) -> Result<Moment, Ending<'a>>
+    ensures start { IfOk result (λ now. pos 0 ≤ℤ now.seconds) }
+    ensures end { IfOk result (λ now. now.seconds ≤ℤ pos latest_second) }
+    ensures micros { IfOk result (λ now. now.micros < 1000000) }
+{
+    match machine_moment(rt) {
+        Some(now) if now.seconds <= LAST_START => Ok(now),
+        _ => Err(Ending::BadArgument),
+    }
+}
+
+// The reply to a message.
+fn exchange<'a, R>(rt: &R, port: u16, message: &[u8]) -> Result<Vec<u8>, Ending<'a>>
+where
+    R: Net<Stream = TcpStream> + AllocGlobal,
+{
+    let Ok(mut stream) = TcpStream::connect(rt, ("127.0.0.1", port)) else {
+        return Err(Ending::Unconnected);
+    };
+    if message.len() > LONGEST_MESSAGE || write_tcp(&mut stream, message).is_err() {
+        return Err(Ending::Unanswered);
+    }
+    match read_tcp(rt.alloc(), &mut stream) {
+        Ok(Received::Message(reply)) => Ok(reply),
+        Ok(_) => Err(Ending::Unanswered),
+        Err(_) => Err(Ending::Early(DrillFault::Memory)),
+    }
+}
+
+// Prints what a reply says.
+fn told<'a>(rt: &(impl Print + AllocGlobal), sent: &Sent, reply: &[u8]) -> Ending<'a> {
+    match client_line(rt.alloc(), sent, reply) {
+        Err(_) => Ending::Early(DrillFault::Memory),
+        Ok(None) => Ending::Unanswered,
+        Ok(Some((line, status))) => {
+            let mut out = io::writer(rt);
+            if out.write_all(line.as_slice()).is_err() || out.write_all(b"\n").is_err() {
+                Ending::Early(DrillFault::Write)
+            } else if status == 0 {
+                Ending::Good
+            } else {
+                Ending::Refused
+            }
+        }
+    }
+}
