@@ -1,0 +1,194 @@
+-- What each step on the versions keeps.
+use Rattle.std.proofs.Common.{◌≡◌, ◌≢◌, ℕ, ◌+◌, ◌<◌, List, [], ◌∷◌, ◌++◌, length, true, refl, sym, ◌∙◌, ap, subst, ⊎_elim, arith, length-append, set, Option, Some, IsSomeAnd, Result, Ok, Err, IsOk, MatchResult, if◌then◌else◌}
+use Rattle.std.specs.Prelude.{option_map}
+use mathlib.Core.Option.{some}
+use mathlib.Core.List.{IsPrefix}
+use lib.ListN.{get_elem?}
+use Rattle.crossbeam_utils.specs.Register.{Admits, TurnsAt, Forks, Merges}
+use Rattle.atomic_table.proofs.Lists.{at_set, at_snoc}
+use Rattle.logbook.specs.Pages.{Book}
+use Rattle.chpw_rules.specs.declared.name.Name.{Name}
+use Rattle.chpw_rules.specs.Names.{is_same_name}
+use Rattle.chpw_table.specs.State.{kept_count, new_count}
+use Rattle.chpw_table.specs.Versions.{KeyChange, Shown, with_change}
+use Rattle.chpw_fronts.specs.declared.entry.LogEntry.{LogEntry}
+use Rattle.chpw_fronts.specs.Changes.{named}
+use Rattle.chpw_fronts.specs.Pens.{changes_in, opening_of}
+use Rattle.chpw_fronts.proofs.ListLemmas.{prefix_self, prefix_trans, prefix_same}
+use Rattle.chpw_versions.specs.declared.version.Version.{Version}
+use Rattle.chpw_versions.specs.declared.version.Operation.{Operation}
+use Rattle.chpw_versions.specs.declared.view.View.{View}
+use Rattle.chpw_versions.specs.Rows.{opening_rows, shown_in, lookup_with, lookup_after}
+use Rattle.chpw_versions.specs.Following.{applied, names_of_rows, IsNumberOf, HasNumber, list_by, list_shown, ShowsList, IsRuled, IsShelved, IsTied, Looked, Published, Settled, unknown, book_of}
+use Rattle.chpw_versions.proofs.RowLemmas.{names_changed, changed_shows, opening_shows, opening_names, shown_more}
+
+abbrev AllTied : Version → List KeyChange → List View → Type 0
+AllTied x list views = (seat : ℕ) (v : View) → get_elem? views seat ≡ some v → IsTied x list v
+
+unknown_tied : (x : Version) (list : List KeyChange) → IsTied x list unknown
+unknown_tied x list t = absurd (cc)
+
+more : (l m n : List KeyChange) → IsPrefix l m → IsPrefix l (m ++ n)
+more l m n p = prefix_trans l m (m ++ n) p (n, refl)
+
+moved : (x y : Version) (list n : List KeyChange) (v : View) → y.root ≡ x.root → IsTied x list v → IsTied y (list ++ n) v
+moved x y list n v e h k = let t = h k in (t.0 ∙ sym (ap (λ m. m.book) e), t.1 ∙ sym (ap (λ m. m.log) e), more v.front list n t.2)
+
+kept : (x y : Version) (list n : List KeyChange) (views : List View) (seat : ℕ) (w : View) → y.root ≡ x.root → AllTied x list views → IsTied y (list ++ n) w → AllTied y (list ++ n) (set views seat w)
+kept x y list n views seat w e each own j u at =
+    ⊎_elim (λ (t : (j ≡ seat) × (w ≡ u)). subst (λ z. IsTied y (list ++ n) z) t.1 own)
+    (λ (t : (j ≢ seat) × (get_elem? views j ≡ some u)). moved x y list n u e (each j u t.1))
+    (at_set views seat j w u at)
+
+same : (x : Version) (list : List KeyChange) (views : List View) (seat : ℕ) (w : View) → AllTied x list views → IsTied x list w → AllTied x list (set views seat w)
+same x list views seat w each own j u at =
+    ⊎_elim (λ (t : (j ≡ seat) × (w ≡ u)). subst (λ z. IsTied x list z) t.1 own)
+    (λ (t : (j ≢ seat) × (get_elem? views j ≡ some u)). each j u t.1)
+    (at_set views seat j w u at)
+
+snoc : (x : Version) (list : List KeyChange) (views : List View) (w : View) → AllTied x list views → IsTied x list w → AllTied x list (views ++ w ∷ [])
+snoc x list views w each own j u at = ⊎_elim (each j u) (λ (e : w ≡ u). subst (λ z. IsTied x list z) e own) (at_snoc views w u j at)
+
+pub admits : Admits IsRuled unknown
+admits x views (list, is, each) = (list, is, snoc x list views unknown each (unknown_tied x list))
+
+pub opens : (x : Version) (list : List KeyChange) → ShowsList x.root.book x.root.log list x → IsRuled x (unknown ∷ [])
+opens x list is = (list, is, snoc x list [] unknown (λ j u at. absurd (cc)) (unknown_tied x list))
+
+pub renamed : (b b' : Book) (r r' : List LogEntry) (list : List KeyChange) (x : Version) → b ≡ b' → r ≡ r' → ShowsList b r list x → ShowsList b' r' list x
+renamed b b' r r' list x e f is = subst (λ c. ShowsList c r' list x) e (subst (λ l. ShowsList b l list x) f is)
+
+pub looks : (seat : ℕ) (v : View) (x : Version) → TurnsAt IsRuled seat v x x Looked
+looks seat v x views (list, is, each) at =
+    let mine = each seat v at in
+    let w : View = record v { front = list } in (
+      w,
+      (list, is, same x list views seat w each (λ k. let t = mine k in (t.0, t.1, prefix_self list))),
+      λ k. let t = mine k in ((k, refl, refl), t.2, renamed x.root.book (book_of v) x.root.log v.root list x (sym t.0) (sym t.1) is),
+    )
+
+-- the version with one operation more shows the list with one change more
+pub goes_on : (b : Book) (r : List LogEntry) (list : List KeyChange) (x : Version) (o : Operation) → ShowsList b r list x → o.seen.book ≡ b → changes_in r o.seen.log ≡ list → HasNumber (opening_of r) o.change
+    → length list + 1 < 4294967296 → ShowsList b r (list ++ named (opening_of r) o.change ∷ []) (applied x o)
+goes_on b r list x o is ob ol num room =
+    let c : KeyChange = named (opening_of r) o.change in
+    let a = length-append list (c ∷ []) in
+    let i = is.len_is in
+    let here : IsNumberOf (names_of_rows x.rows.rows) c.name o.change.number = subst (λ ns. IsNumberOf ns c.name o.change.number) (sym is.names) num in
+    record {
+      root_book = is.root_book;
+      root_log = is.root_log;
+      seen_book = ob;
+      len_is = omega (arith, a, i, room);
+      names = names_changed x.rows.kept o.change o.change.number x.rows.rows ∙ is.names;
+      kept = is.kept;
+      policy = is.policy;
+      shows = λ name. changed_shows x.rows.kept o.change c.name x.rows.rows o.change.number name here
+          ∙ (ap (λ k. if is_same_name c.name name then option_map (with_change k c) (shown_in x.rows.rows name) else shown_in x.rows.rows name) is.kept
+          ∙ (ap (λ s. if is_same_name c.name name then option_map (with_change (kept_count (opening_of r)) c) s else s) (is.shows name)
+          ∙ sym (shown_more (opening_of r) list c name)));
+      last = λ h. ap (λ l. l ++ c ∷ []) (sym ol);
+    }
+
+-- the writer, which knows the whole list, makes the change of one operation
+pub published_at : (seat : ℕ) (b : Book) (r : List LogEntry) (v : View) (x : Version) (list : List KeyChange) (o : Operation) → IsShelved b r v x list → o.seen.book ≡ b → changes_in r o.seen.log ≡ list
+    → HasNumber (opening_of r) o.change → length list + 1 < 4294967296 → TurnsAt IsRuled seat v x (applied x o) Published
+published_at seat b r v x list o sh ob ol num room views (all, is, each) at =
+    let mine = each seat v at sh.0.0 in
+    let pre : IsPrefix list all = subst (λ (l : List KeyChange). IsPrefix l all) sh.1 mine.2 in
+    let long : length list ≡ length all = sym sh.2.len_is ∙ is.len_is in
+    let whole : list ≡ all = prefix_same list all all pre (prefix_self all) long in
+    let y : Version = applied x o in
+    let c : KeyChange = named (opening_of r) o.change in
+    let w : View = record v { front = v.front ++ named (opening_of v.root) o.change ∷ [] } in
+    let next : ShowsList y.root.book y.root.log (list ++ c ∷ []) y = renamed b y.root.book r y.root.log (list ++ c ∷ []) y (sym sh.2.root_book) (sym sh.2.root_log) (goes_on b r list x o sh.2 ob ol num room) in
+    let told : w.front ≡ list ++ c ∷ [] = ap (λ (l : List KeyChange). l ++ named (opening_of v.root) o.change ∷ []) sh.1 ∙ ap (λ l. list ++ named (opening_of l) o.change ∷ []) sh.0.2 in
+    let own : IsPrefix w.front (list ++ c ∷ []) = subst (λ (l : List KeyChange). IsPrefix l (list ++ c ∷ [])) (sym told) (prefix_self (list ++ c ∷ [])) in
+    let before : AllTied x list views = subst (λ (l : List KeyChange). AllTied x l views) (sym whole) each in
+    (w, (list ++ c ∷ [], next, kept x y list (c ∷ []) views seat w refl before (λ k. (mine.0, mine.1, own))), refl)
+
+pub shelved_after : (b : Book) (r : List LogEntry) (v w : View) (x y : Version) (list : List KeyChange) (o : Operation) → IsShelved b r v x list → o.seen.book ≡ b → changes_in r o.seen.log ≡ list
+    → HasNumber (opening_of r) o.change → length list + 1 < 4294967296 → y ≡ applied x o → Published v x y w → IsShelved b r w y (list ++ named (opening_of r) o.change ∷ [])
+shelved_after b r v w x y list o sh ob ol num room is told =
+    let c : KeyChange = named (opening_of r) o.change in (
+      (ap (λ (z : View). z.known) told ∙ sh.0.0, ap book_of told ∙ sh.0.1, ap (λ (z : View). z.root) told ∙ sh.0.2),
+      ap (λ (z : View). z.front) told
+          ∙ (ap (λ (l : List KeyChange). l ++ named (opening_of v.root) y.last ∷ []) sh.1
+          ∙ (ap (λ l. list ++ named (opening_of l) y.last ∷ []) sh.0.2
+          ∙ ap (λ (z : Version). list ++ named (opening_of r) z.last ∷ []) is)),
+      subst (λ (z : Version). ShowsList b r (list ++ c ∷ []) z) (sym is) (goes_on b r list x o sh.2 ob ol num room),
+    )
+
+pub settles : (seat : ℕ) (v : View) (x y : Version) → y ≡ x → TurnsAt IsRuled seat v x y Settled
+settles seat v x y e = subst (λ (z : Version). TurnsAt IsRuled seat v x z Settled) (sym e) (stays seat v x)
+  where
+    stays : (seat : ℕ) (v : View) (x : Version) → TurnsAt IsRuled seat v x x Settled
+    stays seat v x views (list, is, each) at =
+        let w : View = record { known = true; number = x.root.book.number; log_name = x.root.book.log_name; cells_name = x.root.book.cells_name; root = x.root.log; front = [] } in
+        (w, (list, is, same x list views seat w each (λ k. (refl, refl, (list, refl)))), ((refl, refl, refl), refl))
+
+-- the version at the opening shows no change
+pub opening_version : (x : Version) → x.len ≡ 0 → x.rows ≡ opening_rows (opening_of x.root.log) → x.seen ≡ x.root → ShowsList x.root.book x.root.log [] x
+opening_version x n rows seen = record {
+  root_book = refl;
+  root_log = refl;
+  seen_book = ap (λ m. m.book) seen;
+  len_is = n;
+  names = ap (λ r. names_of_rows r.rows) rows ∙ opening_names (opening_of x.root.log).principals;
+  kept = ap (λ r. r.kept) rows;
+  policy = ap (λ r. r.policy) rows;
+  shows = λ name. ap (λ r. shown_in r.rows name) rows ∙ opening_shows (opening_of x.root.log).principals name;
+  last = λ h. absurd (omega arith);
+}
+
+pub shelved_first : (b : Book) (r : List LogEntry) (v w : View) (x y : Version) → y ≡ x → x.root.book ≡ b → x.root.log ≡ r → ShowsList x.root.book x.root.log [] x → Settled v x y w → IsShelved b r w y []
+shelved_first b r v w x y e eb er is told = (
+  (told.0.0, told.0.1 ∙ (ap (λ (z : Version). z.root.book) e ∙ eb), told.0.2 ∙ (ap (λ (z : Version). z.root.log) e ∙ er)),
+  told.1,
+  subst (λ (z : Version). ShowsList b r [] z) (sym e) (renamed x.root.book b x.root.log r [] x eb er is),
+)
+
+pub forks : (seat : ℕ) (v : View) → Forks IsRuled seat v v v
+forks seat v x views (list, is, each) at =
+    let mine = each seat v at in
+    (list, is, snoc x list (set views seat v) v (same x list views seat v each mine) mine)
+
+pub merges : (seat : ℕ) (v : View) (other : ℕ) (w : View) → Merges IsRuled seat v other w w unknown
+merges seat v other w x views (list, is, each) at apart there =
+    let theirs : IsTied x list w = ⊎_elim (λ (t : (other ≡ seat) × (w ≡ w)). absurd (apart t.0)) (λ (t : (other ≢ seat) × (get_elem? views other ≡ some w)). each other w t.1) (at_set views seat other w w there) in
+    (list, is, same x list (set views seat w) other unknown (same x list views seat w each theirs) (unknown_tied x list))
+
+pub of_some : {R : Type 0} (o : Option R) (r : R) (P : R → Type 0) → o ≡ Some r → IsSomeAnd o P → P r
+of_some {R} o r P is h = subst (λ (q : Option R). IsSomeAnd q P) is h
+
+pub put_some : {R : Type 0} (o : Option R) (r : R) (P : R → Type 0) → o ≡ Some r → P r → IsSomeAnd o P
+put_some {R} o r P is h = subst (λ (q : Option R). IsSomeAnd q P) (sym is) h
+
+pub ok_case : {A E : Type 0} (r : Result A E) (P : A → Type 0) (Q : E → Type 0) → IsOk r → MatchResult r P Q → (a : A) × P a
+ok_case (Ok a) P Q ok m = (a, m)
+ok_case (Err e) P Q ok m = absurd (cc)
+
+-- the list that a version shows is the one that its mark and last change make
+pub shown_list : (b : Book) (r : List LogEntry) (list : List KeyChange) (x : Version) → ShowsList b r list x → list ≡ list_shown r x
+shown_list b r [] x is = sym (ap (λ n. list_by (changes_in r x.seen.log) (named (opening_of r) x.last) n) is.len_is)
+shown_list b r (c ∷ cs) x is = is.last (omega arith) ∙ sym (ap (λ n. list_by (changes_in r x.seen.log) (named (opening_of r) x.last) n) is.len_is)
+
+-- what its rows show is what that list shows
+pub shown_by : (b : Book) (r : List LogEntry) (list : List KeyChange) (x : Version) (name : Name) → ShowsList b r list x
+    → option_map (lookup_with x.rows.policy x.len) (shown_in x.rows.rows name) ≡ lookup_after (opening_of r) (list_shown r x) name
+shown_by b r list x name is =
+    let e = shown_list b r list x is in
+    ap (λ p. option_map (lookup_with p x.len) (shown_in x.rows.rows name)) is.policy
+    ∙ (ap (λ n. option_map (lookup_with (new_count (opening_of r)) n) (shown_in x.rows.rows name)) is.len_is
+    ∙ (ap (λ (s : Option Shown). option_map (lookup_with (new_count (opening_of r)) (length list)) s) (is.shows name)
+    ∙ ap (λ l. lookup_after (opening_of r) l name) e))
+
+-- what is told begins it, where `Front::begins` says so
+pub begins_shown : (b : Book) (r : List LogEntry) (list told : List KeyChange) (x : Version) → ShowsList b r list x
+    → (x.len ≡ length (changes_in r x.seen.log ++ named (opening_of r) x.last ∷ []) → IsPrefix told (changes_in r x.seen.log ++ named (opening_of r) x.last ∷ []))
+    → (x.len ≡ 0 → told ≡ []) → IsPrefix told (list_shown r x)
+begins_shown b r [] told x is tells empty = subst (λ (l : List KeyChange). IsPrefix l (list_shown r x)) (sym (empty is.len_is)) (list_shown r x, refl)
+begins_shown b r (c ∷ cs) told x is tells empty =
+    let all = is.last (omega arith) in
+    let long : x.len ≡ length (changes_in r x.seen.log ++ named (opening_of r) x.last ∷ []) = is.len_is ∙ ap length all in
+    subst (λ (l : List KeyChange). IsPrefix told l) (sym all ∙ shown_list b r (c ∷ cs) x is) (tells long)

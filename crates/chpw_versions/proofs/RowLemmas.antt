@@ -1,0 +1,152 @@
+-- What a change does to the rows, and what they show.
+use Rattle.std.proofs.Common.{◌≡◌, ℕ, zero, suc, ◌+◌, ◌<◌, ◌≤◌, List, [], ◌∷◌, ◌++◌, map, length, get_or, set, Bool, true, false, not, cond, if◌then◌else◌, Option, Some, None, find, is_none, nat_lt, refl, sym, ◌∙◌, ap, subst, arith}
+use Rattle.std.specs.Prelude.{option_map, position, IsSome}
+use Rattle.std.specs.List.{position_or_len}
+use Rattle.std.proofs.lemmas.List.{length-map}
+use Rattle.std.proofs.lemmas.List.Sums.{fold-append}
+use Rattle.std.proofs.lemmas.List.Quantifiers.{position-Some}
+use Rattle.chpw_rules.specs.declared.name.Name.{Name}
+use Rattle.chpw_rules.specs.Names.{is_same_name}
+use Rattle.chpw_table.specs.declared.table.Principal.{Principal}
+use Rattle.chpw_table.specs.State.{State, keys_held, kept_count}
+use Rattle.chpw_table.specs.Versions.{KeyChange, Shown, shown, shown_keys, with_change}
+use Rattle.chpw_table.proofs.NameLemmas.{is_same_name-Decides}
+use Rattle.chpw_table.proofs.PlaceLemmas.{has_name, no_keys}
+use Rattle.chpw_fronts.specs.declared.change.NumberedChange.{NumberedChange}
+use Rattle.chpw_fronts.specs.Changes.{name_at, named}
+use Rattle.chpw_versions.specs.declared.rows.Row.{Row}
+use Rattle.chpw_versions.specs.Rows.{opening_row, changed_row, changed_at, shown_in}
+use Rattle.chpw_versions.specs.Following.{names_of_rows, names_of, IsNumberOf, HasNumber}
+
+-- a write of a changed row is the change at its place
+pub set-changed : (kept : ℕ) (c : NumberedChange) (n : ℕ) (rows : List Row) (d r : Row) → n < length rows → r ≡ changed_row kept c (get_or rows n d) → set rows n r ≡ changed_at kept c n rows
+set-changed kept c n [] d r h e = absurd (omega arith)
+set-changed kept c zero (x ∷ xs) d r h e = ap (λ w. w ∷ xs) e
+set-changed kept c (suc n) (x ∷ xs) d r h e = ap (λ ws. x ∷ ws) (set-changed kept c n xs d r (omega (arith, h)) e)
+
+-- and past the end there is none
+pub past-changed : (kept : ℕ) (c : NumberedChange) (n : ℕ) (rows : List Row) → length rows ≤ n → rows ≡ changed_at kept c n rows
+past-changed kept c n [] h = refl
+past-changed kept c zero (x ∷ xs) h = absurd (omega arith)
+past-changed kept c (suc n) (x ∷ xs) h = ap (λ ws. x ∷ ws) (past-changed kept c n xs (omega (arith, h)))
+
+-- names stay
+pub names_changed : (kept : ℕ) (c : NumberedChange) (n : ℕ) (rows : List Row) → names_of_rows (changed_at kept c n rows) ≡ names_of_rows rows
+names_changed kept c n [] = refl
+names_changed kept c zero (r ∷ rs) = refl
+names_changed kept c (suc n) (r ∷ rs) = ap (λ ns. r.name ∷ ns) (names_changed kept c n rs)
+
+-- a change of this name
+abbrev pub change_for : Name → NumberedChange → KeyChange
+change_for name c = record { name = name; kvno = c.kvno; count = c.count }
+
+-- what the rows show of a name once a change of `of` is made, where they showed `row`
+abbrev after_change : ℕ → NumberedChange → Name → Name → Option Shown → Option Shown
+after_change kept c of name row = if is_same_name of name then option_map (with_change kept (change_for of c)) row else row
+
+same_test : (a b name : Name) → is_same_name a b ≡ true → is_same_name a name ≡ is_same_name b name
+same_test a b name h = ap (λ (n : Name). is_same_name n name) ((is_same_name-Decides a b).0 h)
+
+both_ways : (b : Bool) → b ≡ false → b ≡ true → ⊥
+both_ways b x y = cc
+
+other_test : (r of name : Name) → is_same_name r of ≡ false → is_same_name r name ≡ true → (b : Bool) → is_same_name of name ≡ b → b ≡ false
+other_test r of name e f true g = absurd (both_ways (is_same_name r of) e ((is_same_name-Decides r of).1 ((is_same_name-Decides r name).0 f ∙ sym ((is_same_name-Decides of name).0 g))))
+other_test r of name e f false g = refl
+
+at_head : (kept : ℕ) (c : NumberedChange) (of : Name) (r : Row) (rs : List Row) (name : Name) → is_same_name r.name of ≡ true → (b : Bool) → is_same_name r.name name ≡ b
+    → shown_in (changed_row kept c r ∷ rs) name ≡ after_change kept c of name (shown_in (r ∷ rs) name)
+at_head kept c of r rs name e true f = let g : is_same_name of name ≡ true = sym (same_test r.name of name e) ∙ f in rw (f, g) refl
+at_head kept c of r rs name e false f = let g : is_same_name of name ≡ false = sym (same_test r.name of name e) ∙ f in rw (f, g) refl
+
+behind : (kept : ℕ) (c : NumberedChange) (n : ℕ) (of : Name) (r : Row) (rs : List Row) (name : Name) → is_same_name r.name of ≡ false
+    → shown_in (changed_at kept c n rs) name ≡ after_change kept c of name (shown_in rs name)
+    → (b : Bool) → is_same_name r.name name ≡ b → shown_in (r ∷ changed_at kept c n rs) name ≡ after_change kept c of name (shown_in (r ∷ rs) name)
+behind kept c n of r rs name e ih true f = let g : is_same_name of name ≡ false = other_test r.name of name e f (is_same_name of name) refl in rw (f, g) refl
+behind kept c n of r rs name e ih false f = rw f ih
+
+-- the change shows at its name, and at no other
+pub changed_shows : (kept : ℕ) (c : NumberedChange) (of : Name) (rows : List Row) (n : ℕ) (name : Name) → IsNumberOf (names_of_rows rows) of n
+    → shown_in (changed_at kept c n rows) name ≡ (if is_same_name of name then option_map (with_change kept (change_for of c)) (shown_in rows name) else shown_in rows name)
+changed_shows kept c of [] n name h = absurd h
+changed_shows kept c of (r ∷ rs) zero name h = at_head kept c of r rs name h (is_same_name r.name name) refl
+changed_shows kept c of (r ∷ rs) (suc n) name h = behind kept c n of r rs name h.0 (changed_shows kept c of rs n name h.1) (is_same_name r.name name) refl
+
+-- the rows at the opening show what it holds
+abbrev keys_shown : List Principal → Name → Option Shown
+keys_shown ps name = option_map shown_keys (option_map (λ (p : Principal). p.keys) (find (λ (p : Principal). is_same_name p.name name) ps))
+
+opening_head : (p : Principal) (ps : List Principal) (name : Name) → shown_in (map opening_row ps) name ≡ keys_shown ps name → (b : Bool) → is_same_name p.name name ≡ b
+    → shown_in (opening_row p ∷ map opening_row ps) name ≡ keys_shown (p ∷ ps) name
+opening_head p ps name ih true e = rw e refl
+opening_head p ps name ih false e = rw e ih
+
+pub opening_shows : (ps : List Principal) (name : Name) → shown_in (map opening_row ps) name ≡ option_map shown_keys (option_map (λ (p : Principal). p.keys) (find (λ (p : Principal). is_same_name p.name name) ps))
+opening_shows [] name = refl
+opening_shows (p ∷ ps) name = opening_head p ps name (opening_shows ps name) (is_same_name p.name name) refl
+
+pub opening_names : (ps : List Principal) → names_of_rows (map opening_row ps) ≡ map (λ (p : Principal). p.name) ps
+opening_names [] = refl
+opening_names (p ∷ ps) = ap (λ ns. p.name ∷ ns) (opening_names ps)
+
+-- the first place of a name is its number
+place_number : (rows : List Row) (name : Name) (n : ℕ) (d : Row) → n < length rows → is_same_name (get_or rows n d).name name ≡ true → ((k : ℕ) → k < n → is_same_name (get_or rows k d).name name ≡ false)
+    → IsNumberOf (names_of_rows rows) name n
+place_number [] name n d h e f = absurd (omega arith)
+place_number (r ∷ rs) name zero d h e f = e
+place_number (r ∷ rs) name (suc n) d h e f = (f 0 (omega arith), place_number rs name n d (omega (arith, h)) e (λ k l. f (suc k) (omega (arith, l))))
+
+pub at_number : (ps : List Principal) (name : Name) (n : ℕ) → IsNumberOf (map (λ (p : Principal). p.name) ps) name n → name_at ps n ≡ name
+at_number [] name n h = absurd h
+at_number (p ∷ ps) name zero h = (is_same_name-Decides p.name name).0 h
+at_number (p ∷ ps) name (suc n) h = at_number ps name n h.1
+
+-- the number that was found
+pub found_number : (opening : State) (rows : List Row) (name : Name) (n : ℕ) (d : Row) → names_of_rows rows ≡ names_of opening → position (λ (r : Row). is_same_name r.name name) rows ≡ Some n
+    → IsNumberOf (names_of opening) name n
+found_number opening rows name n d e h =
+    let placed = position-Some (λ (r : Row). is_same_name r.name name) rows n d h in
+    subst (λ ns. IsNumberOf ns name n) e (place_number rows name n d placed.0 placed.1 placed.2)
+
+-- a change with that number is one of that name
+pub named_change : (opening : State) (name : Name) (c : NumberedChange) → IsNumberOf (names_of opening) name c.number → HasNumber opening c × (named opening c ≡ change_for name c)
+named_change opening name c h =
+    let is : name_at opening.principals c.number ≡ name = at_number opening.principals name c.number h in
+    (subst (λ m. IsNumberOf (names_of opening) m c.number) (sym is) h, ap (λ m. change_for m c) is)
+
+place_in_names : {A : Type 0} (f : A → Name) (name : Name) (xs : List A) → position_or_len (λ (x : A). is_same_name (f x) name) xs ≡ position_or_len (λ (m : Name). is_same_name m name) (map f xs)
+place_in_names f name [] = refl
+place_in_names {A} f name (x ∷ xs) = step (is_same_name (f x) name) (place_in_names f name xs)
+  where
+    step : (b : Bool) → position_or_len (λ (y : A). is_same_name (f y) name) xs ≡ position_or_len (λ (m : Name). is_same_name m name) (map f xs)
+        → cond (not b) (1 + position_or_len (λ (y : A). is_same_name (f y) name) xs) 0 ≡ cond (not b) (1 + position_or_len (λ (m : Name). is_same_name m name) (map f xs)) 0
+    step true h = refl
+    step false h = ap (λ n. 1 + n) h
+
+in_names : {A : Type 0} (f : A → Name) (name : Name) (xs : List A) → position (λ (x : A). is_same_name (f x) name) xs ≡ position (λ (m : Name). is_same_name m name) (map f xs)
+in_names f name xs =
+    ap (λ i. cond (nat_lt i (length xs)) (Some i) None) (place_in_names f name xs)
+    ∙ ap (λ l. cond (nat_lt (position_or_len (λ (m : Name). is_same_name m name) (map f xs)) l) (Some (position_or_len (λ (m : Name). is_same_name m name) (map f xs))) None) (sym (length-map xs f))
+
+none_some : {A : Type 0} (o : Option A) → is_none o ≡ true → IsSome o → ⊥
+none_some None h s = cc
+none_some (Some x) h s = cc
+
+-- a name that no row has holds no keys at the opening
+pub no_number : (opening : State) (rows : List Row) (name : Name) → names_of_rows rows ≡ names_of opening → position (λ (r : Row). is_same_name r.name name) rows ≡ None → IsSome (keys_held opening name) → ⊥
+no_number opening rows name e h s =
+    let among : position (has_name name) opening.principals ≡ None =
+    in_names (λ (p : Principal). p.name) name opening.principals ∙ (ap (λ ns. position (λ (m : Name). is_same_name m name) ns) (sym e) ∙ (sym (in_names (λ (r : Row). r.name) name rows) ∙ h)) in
+    none_some (keys_held opening name) (no_keys opening name among) s
+
+-- one change more
+pub shown_more : (opening : State) (list : List KeyChange) (c : KeyChange) (name : Name) → shown opening (list ++ c ∷ []) name ≡ (if is_same_name c.name name then option_map (with_change (kept_count opening) c) (shown opening list name) else shown opening list name)
+shown_more opening list c name = fold-append _ _ list (c ∷ [])
+
+pub none_of : {A : Type 0} (o : Option A) → ((x : A) → o ≡ Some x → ⊥) → o ≡ None
+none_of None h = refl
+none_of (Some x) h = absurd (h x refl)
+
+pub none_mapped : {A B : Type 0} (f : A → B) (o : Option A) → option_map f o ≡ None → o ≡ None
+none_mapped f None h = refl
+none_mapped f (Some x) h = absurd (cc)

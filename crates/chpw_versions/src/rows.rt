@@ -1,0 +1,155 @@
+//! The published rows.
+ghost use Rattle.std.specs.Prelude.{◌≡◌, ◌≤◌, ◌+◌, ◌∷◌, ◌++◌, length, take, find, position, option_map, option_copied};
+ghost use Rattle.chpw_rules.specs.Names.{is_same_name};
+ghost use Rattle.chpw_versions.specs.Rows.{changed_at, changed_row, row_shown, shown_in, lookup_with};
+
+use chpw_fronts::NumberedChange;
+use chpw_rules::Name;
+use chpw_table::{Counts, Lookup};
+use std::marker::Model;
+
+/// What is published of a principal. Its size is fixed, so that a change takes no memory.
+#[derive(Drop)]
+pub struct Row {
+    pub name: Name,
+    /// The kvno of its newest keys.
+    pub kvno: u32,
+    /// The iteration counts of its keys, newest first.
+    pub counts: Counts,
+}
+
+/// A row for each principal, in the opening's order. Contracts see the rows, how many counts of a
+/// principal are kept, and the count of new keys.
+#[derive(Drop)]
+pub struct Rows {
+    rows: Vec<Row>,
+    kept: u8,
+    policy: u32,
+}
+
+impl Model for Rows {
+    ghost use Rattle.std.specs.Prelude.{◌≤◌};
+    ghost use Rattle.chpw_versions.specs.Rows.{Rowed};
+
+    ghost Value = { Rowed };
+
+    ghost view = { λ r. record { rows = r.rows.items; kept = r.kept; policy = r.policy } };
+
+    ghost invariant = { λ r. (1 ≤ r.kept) × (r.kept ≤ 16) };
+}
+
+impl Rows {
+    /// These rows. Of each principal the newest counts are kept, 1 to 16 of them; `policy` is the count
+    /// of new keys.
+    pub fn of(rows: Vec<Row>, kept: u8, policy: u32) -> Rows
+        requires kept { (1 ≤ kept) × (kept ≤ 16) }
+        ensures value { result ≡ record { rows = rows.items; kept = kept; policy = policy } }
+    {
+        Rows { rows, kept, policy }
+    }
+
+    /// Makes a change, in the row with its number; none where no row has it. It takes no memory and
+    /// doesn't fail.
+    pub(crate) fn change(&mut self, change: NumberedChange)
+        ensures value { self.new
+            ≡ record self.old { rows = changed_at self.old.kept change change.number self.old.rows } }
+    {
+        let kept = self.kept;
+        put(self.rows.as_mut_slice(), change, kept);
+    }
+
+    /// The number of a name: its place, from 0.
+    pub(crate) fn number_of(&self, name: &Name) -> Option<usize>
+        ensures value { result ≡ position (λ r. is_same_name r.name name.now) self.now.rows }
+    {
+        self.rows.iter().position(|r| r.name.is_same(name))
+    }
+
+    /// What the rows show of a name after so many changes; none for an unknown one.
+    pub(crate) fn lookup(&self, name: &Name, seen: u32) -> Option<Lookup>
+        ensures value { result
+            ≡ option_map (lookup_with self.now.policy seen) (shown_in self.now.rows name.now) }
+    {
+        match self.find(name) {
+            None => None,
+            Some(row) => Some(lookup_of(row, self.policy, seen)),
+        }
+    }
+
+    fn find(&self, name: &Name) -> Option<&Row>
+        ensures value { option_copied result
+            ≡ find (λ r. is_same_name r.name name.now) self.now.rows }
+    {
+        self.rows.iter().find(|r| r.name.is_same(name))
+    }
+}
+
+fn lookup_of(row: &Row, policy: u32, seen: u32) -> Lookup
+    ensures value { result ≡ lookup_with policy seen (row_shown row.now) }
+{
+    Lookup {
+        kvno: row.kvno,
+        held: copied(&row.counts),
+        policy,
+        seen,
+    }
+}
+
+// The change in the row with its number.
+fn put(rows: &mut [Row], change: NumberedChange, kept: u8)
+    requires kept { (1 ≤ kept) × (kept ≤ 16) }
+    ensures value { rows.new ≡ changed_at kept change change.number rows.old }
+{
+    if change.number < rows.len() {
+        put_row(&mut rows[change.number], change, kept);
+    }
+}
+
+fn put_row(row: &mut Row, change: NumberedChange, kept: u8)
+    requires kept { (1 ≤ kept) × (kept ≤ 16) }
+    ensures value { row.new ≡ changed_row kept change row.old }
+{
+    row.counts = with_front(change.count, row.counts.as_slice(), usize::from(kept));
+    row.kvno = change.kvno;
+}
+
+// The count in front of these, of which the newest are kept.
+fn with_front(count: u32, held: &[u32], kept: usize) -> Counts
+    requires kept { (1 ≤ kept) × (kept ≤ 16) }
+    ensures value { result ≡ take kept (count ∷ held.now) }
+{
+    let mut counts = Counts::new();
+    let _ = counts.push(count);
+    extend(&mut counts, newest(held, kept - 1));
+    counts
+}
+
+fn copied(counts: &Counts) -> Counts
+    ensures value { result ≡ counts.now }
+{
+    let mut copy = Counts::new();
+    extend(&mut copy, counts.as_slice());
+    copy
+}
+
+// Puts counts at the end.
+fn extend(counts: &mut Counts, more: &[u32])
+    requires room { length counts.old + length more.now ≤ 17 }
+    ensures value { counts.new ≡ counts.old ++ more.now }
+{
+    for count in more {
+        let _ = counts.push(*count);
+    }
+}
+
+// The first, as many; all, where they are fewer.
+fn newest(counts: &[u32], kept: usize) -> &[u32]
+    ensures value { result.now ≡ take kept counts.now }
+    ensures few { length result.now ≤ kept }
+{
+    if kept < counts.len() {
+        &counts[..kept]
+    } else {
+        counts
+    }
+}

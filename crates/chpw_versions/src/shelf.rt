@@ -1,0 +1,197 @@
+//! What lies under the lock: the writer of the versions, beside the one keeper of the list.
+ghost use Rattle.std.specs.Prelude.{◌≡◌, ◌+◌, ◌<◌, ◌^◌, ◌++◌, ◌∷◌, [], length, None, Some, IfOk, IfSome, IsSome, OnOk, OnErr};
+ghost use mathlib.Core.List.{IsPrefix};
+ghost use Rattle.chpw_table.specs.State.{keys_held};
+ghost use Rattle.chpw_fronts.specs.Pens.{opening_of};
+ghost use Rattle.chpw_versions.specs.Rows.{opening_rows};
+
+use crate::place::Place;
+use crate::rows::Rows;
+use crate::version::{Operation, Version};
+use crate::view::{Learns, Publishes, Settles, Tells, VersionWriter};
+use chpw_fronts::{Front, Keeper, ListName, Mark, NumberedChange};
+use chpw_rules::Name;
+use left_right::writer::Writer;
+use std::alloc::{AllocError, Global};
+use std::marker::Model;
+use std::snapshot::Snapshot;
+use std::sync::Wait;
+
+/// The writer of the versions. It is ended by `end` and never dropped. Contracts see the list that readers
+/// see, which is all that was accepted, and the change that waits.
+pub struct Shelf<D: ListName> {
+    writer: Option<VersionWriter>,
+    keeper: Keeper<D>,
+    waiting: Option<NumberedChange>,
+}
+
+impl<D: ListName> Model for Shelf<D> {
+    ghost use Rattle.std.specs.Prelude.{IsSomeAnd, drop, option_map};
+    ghost use Rattle.left_right.specs.Sides.{view as view_of};
+    ghost use Rattle.chpw_fronts.specs.Changes.{named};
+    ghost use Rattle.chpw_fronts.specs.Pens.{opening_of};
+    ghost use Rattle.chpw_versions.specs.Known.{Shelved};
+    ghost use Rattle.chpw_versions.specs.Following.{IsShelved, IsWaiting};
+
+    ghost Value = { Shelved };
+
+    ghost view = { λ s. record {
+      list = s.keeper;
+      waiting = option_map (named (opening_of D.root)) s.waiting;
+    } };
+
+    ghost invariant = { λ s. IsSomeAnd s.writer (λ w.
+        IsShelved D.book D.root (view_of w.desk.place) w.desk.shown.value s.keeper
+        × IsWaiting D.book D.root s.keeper (drop w.behind w.log.items) s.waiting) };
+}
+
+impl<D: ListName> Shelf<D> {
+    /// A shelf with an empty list and room for so many places, which shows these rows; `again` is a copy
+    /// of them. It may wait, as a publication does.
+    pub fn start<R: Wait>(
+        rt: &R,
+        alloc: Global,
+        keeper: Keeper<D>,
+        root: &Mark,
+        rows: Rows,
+        again: Rows,
+        places: usize,
+    ) -> Result<Shelf<D>, AllocError>
+        requires places { (0 < places) × (places < 2 ^ 32) }
+        requires root { (root.now.book ≡ D.book) × (root.now.log ≡ D.root) }
+        requires rows { (rows ≡ opening_rows (opening_of D.root)) × (again ≡ rows) }
+        requires keeper { keeper ≡ [] }
+        ensures value { IfOk result (λ s. s ≡ record { list = []; waiting = None }) }
+    {
+        let first = Version::of(rows, root);
+        let second = Version::of(again, root);
+        let writer: VersionWriter = Writer::new(alloc, first, second, places)?;
+        let (writer, _) = writer.publish_as::<Settles, R>(rt);
+        Ok(Shelf {
+            writer: Some(writer),
+            keeper,
+            waiting: None,
+        })
+    }
+
+    /// A place, which knows the whole list; `AllocError` where each is in use.
+    pub fn place(&mut self) -> Result<Place<D>, AllocError>
+        ensures same { self.new ≡ self.old }
+        ensures known { IfOk result (λ p.
+            p ≡ record { seen = self.old.list; told = self.old.list; own = None }) }
+    {
+        let Some(mut writer) = self.writer.take() else {
+            unreachable!()
+        };
+        match writer.factory().reader() {
+            Ok(mut reader) => {
+                reader.learn::<Learns>(writer.tell::<Tells>());
+                let shown = Snapshot::of(writer.published());
+                put_back(&mut self.writer, writer);
+                Ok(Place::over(reader, shown, self.keeper.front()))
+            }
+            Err(_) => {
+                put_back(&mut self.writer, writer);
+                Err(AllocError)
+            }
+        }
+    }
+
+    /// The last growth before a change is accepted: from here on it waits. `kvno` is the name's new
+    /// version, and `count` the iteration count of its new keys.
+    pub fn prepare(&mut self, name: &Name, kvno: u32, count: u32) -> Result<(), AllocError>
+        requires free { self.old.waiting ≡ None }
+        requires known { IsSome (keys_held (opening_of D.root) name.now) }
+        ensures ok { OnOk result (self.new ≡ record {
+          list = self.old.list;
+          waiting = Some (record { name = name.now; kvno = kvno; count = count });
+        }) }
+        ensures err { OnErr result (self.new ≡ self.old) }
+    {
+        let Some(mut writer) = self.writer.take() else {
+            unreachable!()
+        };
+        let Some(number) = writer.published().rows.number_of(name) else {
+            unreachable!()
+        };
+        let change = NumberedChange {
+            number,
+            kvno,
+            count,
+        };
+        let operation = Operation {
+            change,
+            seen: self.keeper.front().mark(),
+        };
+        match writer.append(operation) {
+            Err(_) => {
+                put_back(&mut self.writer, writer);
+                Err(AllocError)
+            }
+            Ok(()) => {
+                put_back(&mut self.writer, writer);
+                self.waiting = Some(change);
+                Ok(())
+            }
+        }
+    }
+
+    /// The change that waits is accepted: it joins the list and is published. It takes no memory and
+    /// doesn't fail, but waits for readers that still read the copy that it changes.
+    pub fn publish<R: Wait>(&mut self, rt: &R) -> Front<D>
+        requires waiting { IsSome self.old.waiting }
+        requires room { length self.old.list + 1 < 2 ^ 32 }
+        ensures list { IfSome self.old.waiting (λ change.
+            self.new ≡ record { list = self.old.list ++ change ∷ []; waiting = None }) }
+        ensures front { result ≡ self.new.list }
+    {
+        let Some(change) = self.waiting else {
+            unreachable!()
+        };
+        let Some(writer) = self.writer.take() else {
+            unreachable!()
+        };
+        let (writer, _) = writer.publish_as::<Publishes, R>(rt);
+        put_back(&mut self.writer, writer);
+        self.keeper.append(change);
+        self.waiting = None;
+        self.keeper.front()
+    }
+
+    /// Each front of the list is a beginning of the published one.
+    pub fn has(&mut self, front: &Front<D>)
+        ensures same { self.new ≡ self.old }
+        ensures begins { IsPrefix front.now self.new.list }
+    {
+        self.keeper.has(front);
+    }
+
+    /// How long the published list is.
+    pub fn len(&self) -> u32
+        ensures value { result ≡ length self.now.list }
+    {
+        self.keeper.len()
+    }
+
+    /// Ends the writer, after the last reader has left.
+    pub fn end(self, rt: &impl Wait) {
+        let Self {
+            writer,
+            keeper: _,
+            waiting: _,
+        } = self;
+        if let Some(writer) = writer {
+            writer.take(rt);
+        }
+    }
+}
+
+fn put_back(place: &mut Option<VersionWriter>, writer: VersionWriter)
+    requires empty { place.old ≡ None }
+    ensures value { place.new ≡ Some writer }
+{
+    match place.replace(writer) {
+        None => {}
+        Some(_) => unreachable!(),
+    }
+}

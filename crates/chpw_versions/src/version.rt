@@ -1,0 +1,66 @@
+//! The published value.
+ghost use Rattle.std.specs.Prelude.{◌≡◌};
+
+use crate::rows::Rows;
+use chpw_fronts::{Mark, NumberedChange};
+use left_right::Absorb;
+use std::alloc::AllocError;
+
+/// The rows after a list of changes, whose length and last one stand beside them. `seen` knows the list
+/// without the last, and `root` says whose list it is; neither has bytes.
+#[derive(Drop)]
+pub struct Version {
+    pub rows: Rows,
+    pub len: u32,
+    pub last: NumberedChange,
+    pub seen: Mark,
+    pub root: Mark,
+}
+
+/// A change, with what knows the list before it.
+#[derive(Drop)]
+pub struct Operation {
+    pub change: NumberedChange,
+    pub seen: Mark,
+}
+
+impl Version {
+    /// The version after no change.
+    pub(crate) fn of(rows: Rows, root: &Mark) -> Version
+        ensures value { (result.rows ≡ rows) × (result.len ≡ 0) × (result.seen ≡ root.now)
+            × (result.root ≡ root.now) }
+        ensures last { result.last ≡ record { number = 0; kvno = 0; count = 0 } }
+    {
+        Version {
+            rows,
+            len: 0,
+            last: NumberedChange {
+                number: 0,
+                kvno: 0,
+                count: 0,
+            },
+            seen: root.again(),
+            root: root.again(),
+        }
+    }
+}
+
+impl Absorb<Operation> for Version {
+    ghost use Rattle.chpw_versions.specs.Following.{applied as applied_to};
+
+    type State = Version;
+
+    ghost state = { λ s. s };
+
+    ghost applied = { applied_to };
+
+    ghost never_fails = { Unit {0} };
+
+    fn absorb_first(&mut self, operation: &Operation, _other: &Version) -> Result<(), AllocError> {
+        self.rows.change(operation.change);
+        self.len = self.len.wrapping_add(1);
+        self.last = operation.change;
+        self.seen = operation.seen.again();
+        Ok(())
+    }
+}
