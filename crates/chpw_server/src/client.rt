@@ -1,5 +1,6 @@
 //! `client`: one request to a service on this machine, and what its reply says.
 ghost use Rattle.std.specs.Prelude.{◌≡◌, ◌<◌, ◌≤ℤ◌, pos, true, IfOk, IfSome};
+ghost use Rattle.chpw_rules.specs.Fitting.{config_fits};
 ghost use Rattle.chpw_rules.specs.Names.{is_name};
 ghost use Rattle.chpw_client.specs.Questions.{latest_second};
 
@@ -46,8 +47,8 @@ where
         return Err(Ending::BadArgument);
     }
     let now = moment(rt)?;
-    let config = read_settings(rt, options.config).map_err(Ending::Unserved)?;
-    let seed = read_seed(rt, options.seed).map_err(Ending::Unserved)?;
+    let config = settings(rt, options.config)?;
+    let seed = seed(rt, options.seed)?;
     if config.service.as_slice().is_empty() {
         return Err(Ending::BadArgument);
     }
@@ -63,6 +64,24 @@ where
         &mut words,
     );
     sent.map_err(|_| Ending::Early(DrillFault::Memory))
+}
+
+fn settings<'a, R>(rt: &R, file: &'a str) -> Result<Config, Ending<'a>>
+where
+    R: Files<File = File> + AllocGlobal,
+    ensures fits { IfOk result (λ config. config_fits config ≡ true) }
+{
+    match read_settings(rt, file) {
+        Ok(config) => Ok(config),
+        Err(fault) => Err(Ending::Unserved(fault)),
+    }
+}
+
+fn seed<'a, R: Files<File = File>>(rt: &R, file: &'a str) -> Result<[u8; 32], Ending<'a>> {
+    match read_seed(rt, file) {
+        Ok(seed) => Ok(seed),
+        Err(fault) => Err(Ending::Unserved(fault)),
+    }
 }
 
 fn name_of<'a>(alloc: Global, text: &str) -> Result<Name, Ending<'a>>

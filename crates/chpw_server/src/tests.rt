@@ -1,11 +1,29 @@
-//! What isn't text: readers and writers that fail, and bytes that are no UTF-8.
+//! What isn't text: readers and writers that fail, bytes that are no UTF-8, and command lines.
 use crate::{DrillFault, run_check, run_drill};
+use chpw_invocation::{Invocation, command_of};
+use std::alloc::{AllocError, Global};
 use std::io;
 use std::io::{ErrorKind, Read, Write};
 use std::test::Fail;
 
 const SCRIPT: &str =
     "realm EXAMPLE.COM\npolicy 0 0 2 4096 no\nprincipal alice 1 4096:a1\nopen 10 -1\nshow alice\n";
+
+const CLIENT_LINE: &str = "chpw_server client --config realm.toml --seed seed --port 464 \
+    --client alice/admin --password=-New-pass2- --target bob --no-initial";
+
+/// A client's line without --seed, and with ports out of range; a command that there isn't; none;
+/// two calls for help and one for the version.
+const REFUSED: [&str; 8] = [
+    "chpw_server client --config realm.toml --port 464 --client alice --password New-pass2",
+    "chpw_server client --config c --seed s --port 0 --client alice --password New-pass2",
+    "chpw_server client --config c --seed s --port 65536 --client alice --password New-pass2",
+    "chpw_server change",
+    "chpw_server",
+    "chpw_server --help",
+    "chpw_server help client",
+    "chpw_server --version",
+];
 
 /// Gives its bytes and then fails.
 #[derive(Drop)]
@@ -61,5 +79,36 @@ fn bytes_that_are_no_text(rt: HostRuntime) -> Result<(), Fail> {
     let status = run_check(rt.alloc(), b"\xff", &mut printed);
     assert!(rt; matches!(status, Ok(1)));
     assert_eq!(rt; printed.as_slice(), b"C1 file 0\n".as_slice());
+    Ok(())
+}
+
+fn words(alloc: Global, line: &str) -> Result<Vec<String>, AllocError> {
+    let mut words = Vec::new(alloc);
+    for word in line.split(' ') {
+        words.push(String::from_str(alloc, word)?)?;
+    }
+    Ok(words)
+}
+
+#[test]
+fn client_line_is_read(rt: HostRuntime) -> Result<(), Fail> {
+    let words = words(rt.alloc(), CLIENT_LINE)?;
+    let Ok(Invocation::Client(asked)) = command_of(rt.alloc(), words.as_slice()) else {
+        return Err(Fail::new("another command"));
+    };
+    assert!(rt; asked.config == "realm.toml" && asked.seed == "seed" && asked.port == 464);
+    assert!(rt; asked.client == "alice/admin" && asked.password == "-New-pass2-");
+    assert!(rt; asked.target == Some("bob") && asked.no_initial);
+    Ok(())
+}
+
+#[test]
+fn other_lines_are_refused(rt: HostRuntime) -> Result<(), Fail> {
+    for line in REFUSED {
+        let words = words(rt.alloc(), line)?;
+        assert!(rt; command_of(rt.alloc(), words.as_slice()).is_err());
+    }
+    let words = words(rt.alloc(), "chpw_server drill")?;
+    assert!(rt; matches!(command_of(rt.alloc(), words.as_slice()), Ok(Invocation::Drill)));
     Ok(())
 }
