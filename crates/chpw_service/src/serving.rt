@@ -1,5 +1,5 @@
 //! The service on a port.
-ghost use Rattle.std.specs.Prelude.{◌≡◌, ◌≤◌, ◌<◌, ◌-◌, ◌^◌, IfOk, vec_len};
+ghost use Rattle.std.specs.Prelude.{◌≡◌, ◌≤◌, IfOk, length};
 
 use crate::closing::{Tally, close_desk};
 use crate::fault::ServeFault;
@@ -138,7 +138,7 @@ fn start_desk<D: DeskName>(
     requires name { (blank.name ≡ D.name) × (blank.parts ≡ D.parts) × (blank.parts ≡ workers) }
     requires desk { (D.workers ≡ workers) × (D.opening ≡ table.state) }
     requires fresh { ⟦<FileSink<File> as JournalSink>⟧.failed sink ≡ 0 }
-    ensures passes { IfOk result (λ r. vec_len r.1 ≡ workers) }
+    ensures passes { IfOk result (λ r. length r.1.items ≡ workers) }
 {
     Desk::start(alloc, blank, table, sink, workers)
 }

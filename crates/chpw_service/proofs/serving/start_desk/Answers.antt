@@ -5,6 +5,6 @@ use Rattle.chpw_book.specs.Passes.{new_pass}
 use Rattle.chpw_service.proofs.serving.start_desk.Goals as goal
 
 pub returns : goal.returns
-returns c = record {
+returns _ c = record {
   passes = IfOk-weaker c.start.result _ _ (λ r is. ap length is ∙ length-map-range_with_len new_pass 0 c.args.workers) c.start.ensures.passes;
 }
