@@ -37,12 +37,9 @@ impl<
     R: Threads + Wait + Clock + Abort + Sync + Net<Listener = TcpListener, Stream = TcpStream>,
 > Machine for R {}
 
-// A listener, its port, and the machine's second.
-fn listen<R: Machine>(rt: &R) -> Result<(TcpListener, u16, i64), Fail> {
-    let listener = TcpListener::bind(rt, ("127.0.0.1", 0u16))?;
-    let port = listener.local_addr()?.port();
-    let now = machine_moment(rt).expect(rt, "a moment");
-    Ok((listener, port, now.seconds))
+// The machine's second.
+fn second<R: Machine>(rt: &R) -> i64 {
+    machine_moment(rt).expect(rt, "a moment").seconds
 }
 
 fn connect<R: Machine>(rt: &R, port: u16) -> TcpStream {
@@ -98,7 +95,8 @@ fn give_up<D: DeskName>(desk: Desk<D, MemorySink>, pool: Pool) -> Pool {
 #[test]
 fn two_connections(rt: HostRuntime) -> Result<(), Fail> {
     let (service, table) = opening(rt.alloc(), 100)?;
-    let pool = pool_of_two::<Brand, _>(&rt, rt.alloc(), Blank::new(2), table, &service)?;
+    let listener = TcpListener::bind(&rt, ("127.0.0.1", 0u16))?;
+    let pool = pool_of_two::<Brand, _>(&rt, rt.alloc(), Blank::new(2), table, &service, &listener)?;
     assert!(rt; pool.served == 2 && pool.fault.is_none());
     Ok(())
 }
@@ -110,11 +108,13 @@ fn pool_of_two<D: DeskName + Send + Sync, R: Machine>(
     blank: Blank,
     table: Table,
     service: &Service,
+    listener: &TcpListener,
 ) -> Result<Pool, Fail>
     requires name { (blank.name ≡ D.name) × (blank.parts ≡ D.parts) × (blank.parts ≡ 2)
         × (D.workers ≡ 2) × (D.opening ≡ table.state) }
 {
-    let (listener, port, seconds) = listen(rt)?;
+    let port = listener.local_addr()?.port();
+    let seconds = second(rt);
     let (alice, bob) = requests(alloc, seconds)?;
     let sink = MemorySink::new(alloc, ROOM)?;
     let (desk, mut passes) = Desk::<D, MemorySink>::start(alloc, blank, table, sink, 2)?;
@@ -122,7 +122,7 @@ fn pool_of_two<D: DeskName + Send + Sync, R: Machine>(
     let shared = &desk;
     let (pool, ()) = join(
         rt,
-        || run_pool(rt, alloc, &listener, service, shared, &mut passes, SEED, 2),
+        || run_pool(rt, alloc, listener, service, shared, &mut passes, SEED, 2),
         || ask_both(rt, alloc, port, seconds, &alice, &bob),
     );
     Ok(give_up(desk, pool))
@@ -141,7 +141,8 @@ fn ask_both<R: Machine>(rt: &R, alloc: Global, port: u16, seconds: i64, one: &[u
 #[test]
 fn the_second_answered_first(rt: HostRuntime) -> Result<(), Fail> {
     let (service, table) = opening(rt.alloc(), 100)?;
-    let pool = gated_pool::<Brand, _>(&rt, rt.alloc(), Blank::new(2), table, &service)?;
+    let listener = TcpListener::bind(&rt, ("127.0.0.1", 0u16))?;
+    let pool = gated_pool::<Brand, _>(&rt, rt.alloc(), Blank::new(2), table, &service, &listener)?;
     assert!(rt; pool.served == 2 && pool.fault.is_none());
     Ok(())
 }
@@ -153,11 +154,13 @@ fn gated_pool<D: DeskName + Send + Sync, R: Machine>(
     blank: Blank,
     table: Table,
     service: &Service,
+    listener: &TcpListener,
 ) -> Result<Pool, Fail>
     requires name { (blank.name ≡ D.name) × (blank.parts ≡ D.parts) × (blank.parts ≡ 2)
         × (D.workers ≡ 2) × (D.opening ≡ table.state) }
 {
-    let (listener, port, seconds) = listen(rt)?;
+    let port = listener.local_addr()?.port();
+    let seconds = second(rt);
     let (alice, bob) = requests(alloc, seconds)?;
     let answered = Mutex::new(false);
     let gates = vec![in alloc; gate(rt, true, &answered), gate(rt, false, &answered)]?;
@@ -170,7 +173,7 @@ fn gated_pool<D: DeskName + Send + Sync, R: Machine>(
         || run_pool_with(
             rt,
             alloc,
-            &listener,
+            listener,
             service,
             shared,
             &mut passes,
@@ -198,7 +201,15 @@ fn gate<'a, R: Machine>(
 #[test]
 fn a_connection_cut_off(rt: HostRuntime) -> Result<(), Fail> {
     let (service, table) = opening(rt.alloc(), 100)?;
-    let pool = pool_of_three::<Brand, _>(&rt, rt.alloc(), Blank::new(2), table, &service)?;
+    let listener = TcpListener::bind(&rt, ("127.0.0.1", 0u16))?;
+    let pool = pool_of_three::<Brand, _>(
+        &rt,
+        rt.alloc(),
+        Blank::new(2),
+        table,
+        &service,
+        &listener,
+    )?;
     assert!(rt; pool.served == 3 && pool.fault.is_none());
     Ok(())
 }
@@ -210,11 +221,13 @@ fn pool_of_three<D: DeskName + Send + Sync, R: Machine>(
     blank: Blank,
     table: Table,
     service: &Service,
+    listener: &TcpListener,
 ) -> Result<Pool, Fail>
     requires name { (blank.name ≡ D.name) × (blank.parts ≡ D.parts) × (blank.parts ≡ 2)
         × (D.workers ≡ 2) × (D.opening ≡ table.state) }
 {
-    let (listener, port, seconds) = listen(rt)?;
+    let port = listener.local_addr()?.port();
+    let seconds = second(rt);
     let (alice, bob) = requests(alloc, seconds)?;
     let sink = MemorySink::new(alloc, ROOM)?;
     let (desk, mut passes) = Desk::<D, MemorySink>::start(alloc, blank, table, sink, 2)?;
@@ -222,7 +235,7 @@ fn pool_of_three<D: DeskName + Send + Sync, R: Machine>(
     let shared = &desk;
     let (pool, ()) = join(
         rt,
-        || run_pool(rt, alloc, &listener, service, shared, &mut passes, SEED, 3),
+        || run_pool(rt, alloc, listener, service, shared, &mut passes, SEED, 3),
         || {
             cut_off(rt, port);
             ask_both(rt, alloc, port, seconds, &alice, &bob);
@@ -240,7 +253,15 @@ fn cut_off<R: Machine>(rt: &R, port: u16) {
 #[test]
 fn nothing_to_accept(rt: HostRuntime) -> Result<(), Fail> {
     let (service, table) = opening(rt.alloc(), 100)?;
-    let pool = refused_pool::<Brand, _>(&rt, rt.alloc(), Blank::new(1), table, &service)?;
+    let listener = TcpListener::bind(&rt, ("127.0.0.1", 0u16))?;
+    let pool = refused_pool::<Brand, _>(
+        &rt,
+        rt.alloc(),
+        Blank::new(1),
+        table,
+        &service,
+        &listener,
+    )?;
     assert!(rt; pool.served == 0 && pool.fault == Some(PoolFault::Accept));
     Ok(())
 }
@@ -252,15 +273,15 @@ fn refused_pool<D: DeskName + Send + Sync, R: Machine>(
     blank: Blank,
     table: Table,
     service: &Service,
+    listener: &TcpListener,
 ) -> Result<Pool, Fail>
     requires name { (blank.name ≡ D.name) × (blank.parts ≡ D.parts) × (blank.parts ≡ 1)
         × (D.workers ≡ 1) × (D.opening ≡ table.state) }
 {
-    let (listener, _, _) = listen(rt)?;
     listener.set_nonblocking(true)?;
     let sink = MemorySink::new(alloc, ROOM)?;
     let (desk, mut passes) = Desk::<D, MemorySink>::start(alloc, blank, table, sink, 1)?;
     assert!(rt; !passes.is_empty());
-    let pool = run_pool(rt, alloc, &listener, service, &desk, &mut passes, SEED, 2);
+    let pool = run_pool(rt, alloc, listener, service, &desk, &mut passes, SEED, 2);
     Ok(give_up(desk, pool))
 }
