@@ -59,7 +59,7 @@ where
         now,
         &client,
         options.password.as_bytes(),
-        target.as_ref(),
+        lent(&target),
         !options.no_initial,
         &mut words,
     );
@@ -100,6 +100,17 @@ fn target_of<'a>(alloc: Global, text: Option<&str>) -> Result<Option<Name>, Endi
     match text {
         None => Ok(None),
         Some(text) => Ok(Some(name_of(alloc, text)?)),
+    }
+}
+
+// The target's name; written out, since so the fact that it fits comes with it.
+fn lent(target: &Option<Name>) -> Option<&Name>
+    requires fits { IfSome target.now (λ name. is_name name ≡ true) }
+    ensures fits { IfSome result (λ name. is_name name.now ≡ true) }
+{
+    match target {
+        Some(name) => Some(name),
+        None => None,
     }
 }
 

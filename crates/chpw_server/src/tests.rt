@@ -109,6 +109,11 @@ fn other_lines_are_refused(rt: HostRuntime) -> Result<(), Fail> {
         assert!(rt; command_of(rt.alloc(), words.as_slice()).is_err());
     }
     let words = words(rt.alloc(), "chpw_server drill")?;
-    assert!(rt; matches!(command_of(rt.alloc(), words.as_slice()), Ok(Invocation::Drill)));
+    assert!(rt;
+        matches!(
+            command_of(rt.alloc(), words.as_slice()),
+            Ok(Invocation::Drill)
+        )
+    );
     Ok(())
 }
