@@ -34,7 +34,7 @@ fn main(rt: HostRuntime) -> io::Result<()> {
 }
 
 // The three arguments.
-fn wanted<R: Env + AllocGlobal>(rt: &R) -> io::Result<Option<Wanted>> {
+fn arguments<R: Env + AllocGlobal>(rt: &R) -> io::Result<Option<Wanted>> {
     let mut words = env::args(rt)?.skip(1);
     let port = words.next().and_then(|word| word.as_str().parse().ok());
     let clients = words.next().and_then(|word| word.as_str().parse().ok());
