@@ -1,0 +1,84 @@
+//! Cases of chpw_journal, a line each on standard input, with what comes of each on standard output.
+//!
+//! A line is a journal, its pieces with commas between: it is restored onto a table of alice and
+//! bob/admin, who have a key of kvno 1 each. README.md has the pieces. A line that begins with `#`, or
+//! is empty, is passed on.
+#![tactic(auto)]
+
+mod journal;
+mod realm;
+mod refusal;
+
+use chpw_journal::{OpenFault, open_journal, restore};
+use journal::journal_of;
+use realm::table;
+use refusal::Refusal;
+use std::alloc::Global;
+use std::fs::{File, Files};
+use std::{fs, io};
+
+/// Where a journal stands that is opened as a file.
+const SCRATCH: &str = "scratch-journal";
+
+/// What restoring a journal's bytes gives.
+fn restored(alloc: Global, mut journal: &[u8]) -> Result<String, Refusal> {
+    match restore(alloc, table(alloc)?, &mut journal) {
+        Ok(r) => {
+            let tail = if r.torn { "torn" } else { "whole" };
+            Ok(format!(in alloc; "records {} kept {} {tail}", r.records, r.kept)?)
+        }
+        Err(fault) => Ok(format!(in alloc; "{fault}")?),
+    }
+}
+
+/// What opening a file with these bytes gives, and how many bytes are in it then.
+fn opened<R: Files<File = File> + AllocGlobal>(
+    rt: &R,
+    alloc: Global,
+    journal: &[u8],
+) -> Result<String, Refusal> {
+    fs::write(rt, SCRATCH, journal)?;
+    let told = match open_journal(rt, alloc, SCRATCH, table(alloc)?) {
+        Ok(journal) if journal.found => "found",
+        Ok(_) => "new",
+        Err(OpenFault::CannotRead) => "cannot read",
+        Err(OpenFault::CannotWrite) => "cannot write",
+        Err(OpenFault::Restore(_)) => "refused",
+    };
+    let left = fs::read(rt, SCRATCH)?;
+    fs::remove_file(rt, SCRATCH)?;
+    Ok(format!(in alloc; "{told}, {} bytes", left.len())?)
+}
+
+/// The answer to a case.
+fn answer<R: Files<File = File> + AllocGlobal>(
+    rt: &R,
+    alloc: Global,
+    line: &str,
+) -> Result<String, Refusal> {
+    match line.strip_prefix("open: ") {
+        Some(pieces) => opened(rt, alloc, journal_of(alloc, pieces)?.as_slice()),
+        None => restored(alloc, journal_of(alloc, line)?.as_slice()),
+    }
+}
+
+fn print_answer<R>(rt: &R, line: &str) -> io::Result<()>
+where
+    R: Files<File = File> + Print + AllocGlobal,
+{
+    if line.is_empty() || line.starts_with('#') {
+        return rt.println(line);
+    }
+    match answer(rt, rt.alloc(), line) {
+        Ok(text) => rt.println(&text),
+        Err(Refusal::Memory) => Err(io::Error::from(io::ErrorKind::OutOfMemory)),
+        Err(refusal) => println!(rt; "refused: {refusal}"),
+    }
+}
+
+fn main(rt: HostRuntime) -> io::Result<()> {
+    for line in rt.lines(rt.alloc()) {
+        print_answer(&rt, line?.as_str())?;
+    }
+    Ok(())
+}
