@@ -1,0 +1,216 @@
+//! Answers at a desk: one message of two workers, and a history that is full.
+ghost use Rattle.std.specs.Prelude.{◌≡◌};
+
+use crate::gates::Together;
+use crate::realm::opening;
+use chpw_answer::{Gate, NoGate, answer};
+use chpw_book::{AtDesk, CloseRefused, Closed, Desk, DeskName, Pass};
+use chpw_journal::MemorySink;
+use chpw_messages::Service;
+use chpw_rules::Name;
+use chpw_table::{Entry, Moment, Table};
+use sample_client::{Asked, CHANGED, ReplyCode, request, told};
+use std::alloc::Global;
+use std::marker::Brand;
+use std::process::Abort;
+use std::sync::ledger::Blank;
+use std::sync::{Barrier, Wait};
+use std::test::Fail;
+use std::thread::{Threads, join};
+
+const NOW: Moment = Moment {
+    seconds: 1_000_100,
+    micros: 0,
+};
+
+const WORDS: [u32; 9] = [1, 2, 3, 4, 5, 6, 7, 8, 9];
+
+const ROOM: usize = 1000;
+
+fn asked(password: &str) -> Asked<'_> {
+    Asked {
+        client: "alice",
+        seconds: NOW.seconds,
+        micros: 1,
+        password,
+    }
+}
+
+// What a worker answers to a message from this machine.
+fn answered<D: DeskName, G: Gate, R: Wait + Abort>(
+    rt: &R,
+    alloc: Global,
+    service: &Service,
+    desk: &Desk<D, MemorySink>,
+    pass: &mut Pass<D>,
+    gate: &mut G,
+    message: &[u8],
+) -> ReplyCode {
+    let mut place = AtDesk { rt, desk, pass };
+    let reply = answer(
+        alloc,
+        service,
+        [127, 0, 0, 1],
+        message,
+        &mut place,
+        gate,
+        WORDS,
+        NOW,
+    );
+    let reply = reply.ok().expect(rt, "a reply");
+    told(alloc, NOW.seconds, 1, &reply).expect(rt, "a reply of its own")
+}
+
+// The history of a desk that can be closed, and its journal.
+fn closed<D: DeskName>(
+    desk: Desk<D, MemorySink>,
+    passes: Vec<Pass<D>>,
+) -> Option<(Vec<Entry>, MemorySink)> {
+    match desk.close(passes) {
+        Ok(
+            Closed {
+                history,
+                table: _,
+                sink,
+            },
+        ) => Some((history, sink)),
+        Err(
+            CloseRefused {
+                fault: _,
+                desk,
+                passes: _,
+            },
+        ) => {
+            desk.abandon();
+            None
+        }
+    }
+}
+
+#[test]
+fn one_message_of_two_workers(rt: HostRuntime) -> Result<(), Fail> {
+    let (service, table) = opening(rt.alloc(), 100)?;
+    let message = request(rt.alloc(), asked("New-pass2"))?;
+    two_at::<Brand, _>(&rt, rt.alloc(), Blank::new(2), table, &service, &message)
+}
+
+// Both are held until both have opened it: one changes the password, and the other tells a replay.
+fn two_at<D: DeskName + Send + Sync, R: Threads + Wait + Abort + Sync>(
+    rt: &R,
+    alloc: Global,
+    blank: Blank,
+    table: Table,
+    service: &Service,
+    message: &[u8],
+) -> Result<(), Fail>
+    requires name { (blank.name ≡ D.name) × (blank.parts ≡ D.parts) × (blank.parts ≡ 2)
+        × (D.workers ≡ 2) × (D.opening ≡ table.state) }
+{
+    let sink = MemorySink::new(alloc, ROOM)?;
+    let (desk, mut passes) = Desk::<D, MemorySink>::start(alloc, blank, table, sink, 2)?;
+    let mut second = passes.pop().expect(rt, "a pass");
+    let mut first = passes.pop().expect(rt, "a pass");
+    let barrier = Barrier::new(2);
+    let (desk_ref, barrier_ref) = (&desk, &barrier);
+    let (a, b) = join(
+        rt,
+        || {
+            let mut gate = Together {
+                rt,
+                barrier: barrier_ref,
+            };
+            answered(rt, alloc, service, desk_ref, &mut first, &mut gate, message)
+        },
+        || {
+            let mut gate = Together {
+                rt,
+                barrier: barrier_ref,
+            };
+            answered(
+                rt,
+                alloc,
+                service,
+                desk_ref,
+                &mut second,
+                &mut gate,
+                message,
+            )
+        },
+    );
+    assert!(rt; (a == CHANGED && b == REPLAYED) || (a == REPLAYED && b == CHANGED));
+    let changer = if a == CHANGED {
+        &mut first
+    } else {
+        &mut second
+    };
+    assert!(rt; kvno_of_alice(rt, alloc, &desk, changer) == 2);
+    passes.push(first).ok().expect(rt, "a place");
+    passes.push(second).ok().expect(rt, "a place");
+    let (history, journal) = closed(desk, passes).expect(rt, "all agree");
+    assert!(rt; history.len() == 2 && journal.bytes().len() == 66);
+    Ok(())
+}
+
+/// KRB_AP_ERR_REPEAT.
+const REPLAYED: ReplyCode = ReplyCode {
+    code: 3,
+    error: Some(34),
+};
+
+fn kvno_of_alice<D: DeskName, R: Wait + Abort>(
+    rt: &R,
+    alloc: Global,
+    desk: &Desk<D, MemorySink>,
+    pass: &mut Pass<D>,
+) -> u32 {
+    let alice = Name::parse(alloc, "alice").ok().expect(rt, "memory");
+    let alice = alice.expect(rt, "a name");
+    desk.lookup(rt, pass, &alice).expect(rt, "a principal").kvno
+}
+
+#[test]
+fn full_history(rt: HostRuntime) -> Result<(), Fail> {
+    let (service, table) = opening(rt.alloc(), 1)?;
+    let first = request(rt.alloc(), asked("New-pass2"))?;
+    let second = request(rt.alloc(), asked("New-pass3"))?;
+    fill::<Brand, _>(
+        &rt,
+        rt.alloc(),
+        Blank::new(1),
+        table,
+        &service,
+        [&first, &second],
+    )
+}
+
+// A history of one entry: the second request is told that it is full.
+fn fill<D: DeskName, R: Wait + Abort>(
+    rt: &R,
+    alloc: Global,
+    blank: Blank,
+    table: Table,
+    service: &Service,
+    messages: [&[u8]; 2],
+) -> Result<(), Fail>
+    requires name { (blank.name ≡ D.name) × (blank.parts ≡ D.parts) × (blank.parts ≡ 1)
+        × (D.workers ≡ 1) × (D.opening ≡ table.state) }
+{
+    let sink = MemorySink::new(alloc, ROOM)?;
+    let (desk, mut passes) = Desk::<D, MemorySink>::start(alloc, blank, table, sink, 1)?;
+    let mut pass = passes.pop().expect(rt, "a pass");
+    let [first, second] = messages;
+    let one = answered(rt, alloc, service, &desk, &mut pass, &mut NoGate, first);
+    assert!(rt; one == CHANGED && !pass.was_full());
+    let two = answered(rt, alloc, service, &desk, &mut pass, &mut NoGate, second);
+    assert!(rt; two == FULL && pass.was_full());
+    passes.push(pass).ok().expect(rt, "a place");
+    let (history, _journal) = closed(desk, passes).expect(rt, "all agree");
+    assert!(rt; history.len() == 1);
+    Ok(())
+}
+
+/// KRB_ERR_GENERIC.
+const FULL: ReplyCode = ReplyCode {
+    code: 2,
+    error: Some(60),
+};

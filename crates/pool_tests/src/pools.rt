@@ -1,0 +1,293 @@
+//! Pools on this machine, with their clients.
+ghost use Rattle.std.specs.Prelude.{◌≡◌};
+
+use crate::gates::SecondFirst;
+use crate::realm::opening;
+use chpw_book::{Desk, DeskName};
+use chpw_frame::{Received, read_tcp, write_tcp};
+use chpw_journal::MemorySink;
+use chpw_messages::Service;
+use chpw_pool::{Pool, PoolFault, machine_moment, run_pool, run_pool_with};
+use chpw_table::Table;
+use sample_client::{Asked, CHANGED, request, told};
+use std::alloc::Global;
+use std::io::Write;
+use std::marker::Brand;
+use std::net::{Net, TcpListener, TcpStream};
+use std::process::Abort;
+use std::sync::ledger::Blank;
+use std::sync::{Mutex, Wait};
+use std::test::Fail;
+use std::thread::{Threads, join};
+use std::time::Clock;
+
+const SEED: [u8; 32] = [7; 32];
+
+const ROOM: usize = 1000;
+
+// What the tests need of the machine.
+trait Machine: Threads
+    + Wait
+    + Clock
+    + Abort
+    + Sync
+    + Net<Listener = TcpListener, Stream = TcpStream> {}
+
+impl<
+    R: Threads + Wait + Clock + Abort + Sync + Net<Listener = TcpListener, Stream = TcpStream>,
+> Machine for R {}
+
+// The machine's second.
+fn second<R: Machine>(rt: &R) -> i64 {
+    machine_moment(rt).expect(rt, "a moment").seconds
+}
+
+fn connect<R: Machine>(rt: &R, port: u16) -> TcpStream {
+    TcpStream::connect(rt, ("127.0.0.1", port))
+        .ok()
+        .expect(rt, "a connection")
+}
+
+fn send<R: Abort>(rt: &R, stream: &TcpStream, message: &[u8]) {
+    assert!(rt; message.len() <= 65_535);
+    assert!(rt; write_tcp(&mut &*stream, message).is_ok());
+}
+
+// The next reply says that the password is changed.
+fn expect_changed<R: Abort>(rt: &R, alloc: Global, seconds: i64, stream: &TcpStream) {
+    match read_tcp(alloc, &mut &*stream) {
+        Ok(Received::Message(reply)) => {
+            assert!(rt; told(alloc, seconds, 1, &reply) == Some(CHANGED));
+        }
+        _ => panic!(rt; "no reply"),
+    }
+}
+
+// Requests of alice and of bob at this second.
+fn requests(alloc: Global, seconds: i64) -> Result<(Vec<u8>, Vec<u8>), Fail> {
+    let alice = request(
+        alloc,
+        Asked {
+            client: "alice",
+            seconds,
+            micros: 1,
+            password: "New-pass2",
+        },
+    )?;
+    let bob = request(
+        alloc,
+        Asked {
+            client: "bob",
+            seconds,
+            micros: 1,
+            password: "New-pass2",
+        },
+    )?;
+    Ok((alice, bob))
+}
+
+// Of a pool that has served.
+fn give_up<D: DeskName>(desk: Desk<D, MemorySink>, pool: Pool) -> Pool {
+    desk.abandon();
+    pool
+}
+
+#[test]
+fn two_connections(rt: HostRuntime) -> Result<(), Fail> {
+    let (service, table) = opening(rt.alloc(), 100)?;
+    let listener = TcpListener::bind(&rt, ("127.0.0.1", 0u16))?;
+    let pool = pool_of_two::<Brand, _>(&rt, rt.alloc(), Blank::new(2), table, &service, &listener)?;
+    assert!(rt; pool.served == 2 && pool.fault.is_none());
+    Ok(())
+}
+
+// A connection for each of two workers.
+fn pool_of_two<D: DeskName + Send + Sync, R: Machine>(
+    rt: &R,
+    alloc: Global,
+    blank: Blank,
+    table: Table,
+    service: &Service,
+    listener: &TcpListener,
+) -> Result<Pool, Fail>
+    requires name { (blank.name ≡ D.name) × (blank.parts ≡ D.parts) × (blank.parts ≡ 2)
+        × (D.workers ≡ 2) × (D.opening ≡ table.state) }
+{
+    let port = listener.local_addr()?.port();
+    let seconds = second(rt);
+    let (alice, bob) = requests(alloc, seconds)?;
+    let sink = MemorySink::new(alloc, ROOM)?;
+    let (desk, mut passes) = Desk::<D, MemorySink>::start(alloc, blank, table, sink, 2)?;
+    let shared = &desk;
+    let (pool, ()) = join(
+        rt,
+        || {
+            assert!(rt; !passes.is_empty());
+            run_pool(rt, alloc, listener, service, shared, &mut passes, SEED, 2)
+        },
+        || ask_both(rt, alloc, port, seconds, &alice, &bob),
+    );
+    Ok(give_up(desk, pool))
+}
+
+// Both connections are there before either asks; the second is answered first.
+fn ask_both<R: Machine>(rt: &R, alloc: Global, port: u16, seconds: i64, one: &[u8], two: &[u8]) {
+    let first = connect(rt, port);
+    let second = connect(rt, port);
+    send(rt, &first, one);
+    send(rt, &second, two);
+    expect_changed(rt, alloc, seconds, &second);
+    expect_changed(rt, alloc, seconds, &first);
+}
+
+#[test]
+fn the_second_answered_first(rt: HostRuntime) -> Result<(), Fail> {
+    let (service, table) = opening(rt.alloc(), 100)?;
+    let listener = TcpListener::bind(&rt, ("127.0.0.1", 0u16))?;
+    let pool = gated_pool::<Brand, _>(&rt, rt.alloc(), Blank::new(2), table, &service, &listener)?;
+    assert!(rt; pool.served == 2 && pool.fault.is_none());
+    Ok(())
+}
+
+// The worker of alice's connection decides only after bob has his reply.
+fn gated_pool<D: DeskName + Send + Sync, R: Machine>(
+    rt: &R,
+    alloc: Global,
+    blank: Blank,
+    table: Table,
+    service: &Service,
+    listener: &TcpListener,
+) -> Result<Pool, Fail>
+    requires name { (blank.name ≡ D.name) × (blank.parts ≡ D.parts) × (blank.parts ≡ 2)
+        × (D.workers ≡ 2) × (D.opening ≡ table.state) }
+{
+    let port = listener.local_addr()?.port();
+    let seconds = second(rt);
+    let (alice, bob) = requests(alloc, seconds)?;
+    let answered = Mutex::new(false);
+    let gates = vec![in alloc; gate(rt, true, &answered), gate(rt, false, &answered)]?;
+    let sink = MemorySink::new(alloc, ROOM)?;
+    let (desk, mut passes) = Desk::<D, MemorySink>::start(alloc, blank, table, sink, 2)?;
+    let shared = &desk;
+    let (pool, ()) = join(
+        rt,
+        || {
+            assert!(rt; !passes.is_empty() && gates.len() == passes.len());
+            run_pool_with(
+                rt,
+                alloc,
+                listener,
+                service,
+                shared,
+                &mut passes,
+                SEED,
+                2,
+                gates,
+            )
+        },
+        || ask_both(rt, alloc, port, seconds, &alice, &bob),
+    );
+    Ok(give_up(desk, pool))
+}
+
+fn gate<'a, R: Machine>(
+    rt: &'a R,
+    is_first: bool,
+    answered: &'a Mutex<bool>,
+) -> SecondFirst<'a, R> {
+    SecondFirst {
+        rt,
+        is_first,
+        answered,
+    }
+}
+
+#[test]
+fn a_connection_cut_off(rt: HostRuntime) -> Result<(), Fail> {
+    let (service, table) = opening(rt.alloc(), 100)?;
+    let listener = TcpListener::bind(&rt, ("127.0.0.1", 0u16))?;
+    let pool = pool_of_three::<Brand, _>(
+        &rt,
+        rt.alloc(),
+        Blank::new(2),
+        table,
+        &service,
+        &listener,
+    )?;
+    assert!(rt; pool.served == 3 && pool.fault.is_none());
+    Ok(())
+}
+
+// A connection that ends in the middle of a message, while others go on.
+fn pool_of_three<D: DeskName + Send + Sync, R: Machine>(
+    rt: &R,
+    alloc: Global,
+    blank: Blank,
+    table: Table,
+    service: &Service,
+    listener: &TcpListener,
+) -> Result<Pool, Fail>
+    requires name { (blank.name ≡ D.name) × (blank.parts ≡ D.parts) × (blank.parts ≡ 2)
+        × (D.workers ≡ 2) × (D.opening ≡ table.state) }
+{
+    let port = listener.local_addr()?.port();
+    let seconds = second(rt);
+    let (alice, bob) = requests(alloc, seconds)?;
+    let sink = MemorySink::new(alloc, ROOM)?;
+    let (desk, mut passes) = Desk::<D, MemorySink>::start(alloc, blank, table, sink, 2)?;
+    let shared = &desk;
+    let (pool, ()) = join(
+        rt,
+        || {
+            assert!(rt; !passes.is_empty());
+            run_pool(rt, alloc, listener, service, shared, &mut passes, SEED, 3)
+        },
+        || {
+            cut_off(rt, port);
+            ask_both(rt, alloc, port, seconds, &alice, &bob);
+        },
+    );
+    Ok(give_up(desk, pool))
+}
+
+// A length of 256 bytes, and two of them.
+fn cut_off<R: Machine>(rt: &R, port: u16) {
+    let stream = connect(rt, port);
+    assert!(rt; (&stream).write_all(&[0, 0, 1, 0, 1, 0]).is_ok());
+}
+
+#[test]
+fn nothing_to_accept(rt: HostRuntime) -> Result<(), Fail> {
+    let (service, table) = opening(rt.alloc(), 100)?;
+    let listener = TcpListener::bind(&rt, ("127.0.0.1", 0u16))?;
+    let pool = refused_pool::<Brand, _>(
+        &rt,
+        rt.alloc(),
+        Blank::new(1),
+        table,
+        &service,
+        &listener,
+    )?;
+    assert!(rt; pool.served == 0 && pool.fault == Some(PoolFault::Accept));
+    Ok(())
+}
+
+// A listener that doesn't wait refuses where no connection is there.
+fn refused_pool<D: DeskName + Send + Sync, R: Machine>(
+    rt: &R,
+    alloc: Global,
+    blank: Blank,
+    table: Table,
+    service: &Service,
+    listener: &TcpListener,
+) -> Result<Pool, Fail>
+    requires name { (blank.name ≡ D.name) × (blank.parts ≡ D.parts) × (blank.parts ≡ 1)
+        × (D.workers ≡ 1) × (D.opening ≡ table.state) }
+{
+    listener.set_nonblocking(true)?;
+    let sink = MemorySink::new(alloc, ROOM)?;
+    let (desk, mut passes) = Desk::<D, MemorySink>::start(alloc, blank, table, sink, 1)?;
+    assert!(rt; !passes.is_empty());
+    let pool = run_pool(rt, alloc, listener, service, &desk, &mut passes, SEED, 2);
+    Ok(give_up(desk, pool))
+}
