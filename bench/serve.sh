@@ -12,7 +12,7 @@ rounds=${1:-3} changes=${2:-500}
 work=$(mktemp -d)
 trap 'rm -rf "$work"' EXIT
 export PYTHONDONTWRITEBYTECODE=1
-python3 bench/serve_config.py "$work/config.toml"
+python3 interop/sample_realm.py "$work/config.toml" c{0..15}
 head -c 32 /dev/urandom >"$work/seed"
 
 # One round: so many clients, and as many workers; the changes a second.

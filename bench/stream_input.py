@@ -6,32 +6,7 @@
 import sys
 
 import changepw_client as client
-
-HEAD = f"""\
-[service]
-realm = "EXAMPLE.COM"
-max_entries = 1000000
-[[service.key]]
-kvno = 3
-etype = 18
-key = "{client.SERVICE.hex()}"
-[policy]
-min_length = 6
-min_classes = 2
-depth = 3
-iterations = 1
-set_needs_initial = false
-"""
-
-PRINCIPAL = """\
-[[principal]]
-name = "{name}"
-[[principal.key]]
-kvno = 1
-iterations = 1
-aes128 = "{aes128}"
-aes256 = "{aes256}"
-"""
+from sample_realm import configuration
 
 
 def name_of(number):
@@ -40,9 +15,8 @@ def name_of(number):
 
 def lines(principals, messages):
     """The configuration, and the messages of clients that are spread over all of it."""
-    text = HEAD
-    for number in range(principals):
-        text += PRINCIPAL.format(name=name_of(number), aes128="00" * 16, aes256="00" * 32)
+    names = map(name_of, range(principals))
+    text = configuration(names, iterations=1, max_entries=1_000_000)
     yield from ("| " + line for line in text.splitlines())
     for i in range(messages):
         name = name_of(i * 7919 % principals).encode()

@@ -16,8 +16,8 @@ import sys
 import tempfile
 
 from journal import read_journal
-from kill import write_configuration
 from report import Report
+from sample_realm import write_configuration
 from server import PROGRAM, Server
 
 NAME = "user0"

@@ -28,6 +28,7 @@ import threading
 import time
 
 from journal import read_journal
+from sample_realm import write_configuration
 from server import PROGRAM, Server
 
 CLIENT = "client --config {config} --seed {seed} --port {port} --client {client}"
@@ -35,37 +36,6 @@ DEFAULT = [*CLIENT.split(), "--password", "{password}"]
 # seconds from the first answer of a run to the kill, at most
 LONGEST = 0.5
 WORKERS = 4
-
-
-def write_configuration(path, names):
-    """Any keys will do: the service's client makes its tickets itself."""
-    principals = "".join(
-        f"""
-[[principal]]
-name = "{name}"
-[[principal.key]]
-kvno = 1
-iterations = 4096
-aes128 = "{'11' * 16}"
-aes256 = "{'22' * 32}"
-"""
-        for name in names
-    )
-    path.write_text(f"""\
-[service]
-realm = "EXAMPLE.COM"
-[[service.key]]
-kvno = 3
-etype = 18
-key = "{'5a' * 32}"
-[policy]
-min_length = 6
-min_classes = 2
-depth = 3
-iterations = 4096
-set_needs_initial = false
-{principals}""")
-    path.chmod(0o600)
 
 
 class Changes(threading.Thread):
