@@ -1,7 +1,9 @@
 //! The cases, line by line.
 
 use crate::messages::{Message, bytes_of, no_case, read_message};
+use crate::repeating::repeated;
 use crate::serving::{How, ended_text, serve, served, stream_of};
+use crate::wanting::wanting;
 use crate::world::{World, shown, start};
 use crate::{deciding, words};
 use hex::encode;
@@ -72,14 +74,17 @@ impl Cases {
     fn of_stream(&self, alloc: Global, line: &str) -> io::Result<String> {
         let (kind, text) = line.split_once(": ").ok_or(no_case())?;
         let (kind, how) = kind.split_once(' ').unwrap_or((kind, ""));
-        if kind == "written" {
-            return self.written(alloc, How::of(how), &bytes_of(alloc, text)?);
+        match kind {
+            "written" => return self.written(alloc, How::of(how), &bytes_of(alloc, text)?),
+            "repeated" => return repeated(alloc, self.start(alloc)?, how, &bytes_of(alloc, text)?),
+            _ => {}
         }
         let messages = self.named(alloc, text)?;
         match kind {
             "served" => served(alloc, &mut self.start(alloc)?, How::of(how), &messages),
             "replied" => self.written(alloc, How::of(how), &stream_of(alloc, &messages)?),
             "broken" => self.broken(alloc, How::of(how), &messages),
+            "wanting" => wanting(alloc, self.start(alloc)?, how, &messages),
             "answered" => deciding::answered(alloc, self.start(alloc)?, how, &messages),
             "alone" => deciding::alone(alloc, self.start(alloc)?, self.start(alloc)?, &messages),
             _ => Err(no_case()),
@@ -99,17 +104,17 @@ impl Cases {
     /// What is written where these bytes are read, how the stream ends, and what the table is then.
     fn written(&self, alloc: Global, how: How, stream: &[u8]) -> io::Result<String> {
         let mut world = self.start(alloc)?;
-        let (written, ended) = serve(alloc, &mut world, how, stream)?;
-        let written = encode(alloc, &written)?;
+        let outcome = serve(alloc, &mut world, how, stream);
+        let written = encode(alloc, &outcome.written)?;
         let shown = shown(alloc, &world.alone)?;
-        Ok(format!(in alloc; "[{written}] {}, {shown}", ended_text(ended))?)
+        Ok(format!(in alloc; "[{written}] {}, {shown}", ended_text(outcome.ended))?)
     }
 
     /// Serves these messages with a write that fails behind each byte of the replies in turn: how
     /// often just the bytes before the fault were written, and the stream ended for it.
     fn broken(&self, alloc: Global, how: How, messages: &[&Message]) -> io::Result<String> {
         let stream = stream_of(alloc, messages)?;
-        let (whole, _) = serve(alloc, &mut self.start(alloc)?, how, &stream)?;
+        let whole = serve(alloc, &mut self.start(alloc)?, how, &stream).written;
         let mut fronts = 0u32;
         for count in 0..whole.len() {
             if self.breaks(alloc, how, &stream, &whole[..count])? {
@@ -123,7 +128,7 @@ impl Cases {
     fn breaks(&self, alloc: Global, how: How, stream: &[u8], front: &[u8]) -> io::Result<bool> {
         let writer = how.writer.failing_after(front.len());
         let mut world = self.start(alloc)?;
-        let (written, ended) = serve(alloc, &mut world, How { writer, ..how }, stream)?;
-        Ok(ended_text(ended) == "write fault" && written.as_slice() == front)
+        let outcome = serve(alloc, &mut world, How { writer, ..how }, stream);
+        Ok(ended_text(outcome.ended) == "write fault" && outcome.written.as_slice() == front)
     }
 }

@@ -2,19 +2,26 @@
 //! standard output.
 //!
 //! - `| TEXT`: a line of a configuration.
-//! - `world as it is`, `world OLD -> NEW`, `world quiet N`: what follows is done with that configuration;
-//!   with another text in it; with a service that refuses requests up to the second N.
+//! - `world as it is`, `world OLD -> NEW`, `world quiet N`: what follows is done with that
+//!   configuration; with another text in it; with a service that refuses requests up to the second
+//!   N.
 //! - `message NAME CTIME.CUSEC HEX`: a message, by the authenticator's time in it.
 //! - `served HOW: NAME NAME ..`: these messages are served as one stream by a table that one thread
 //!   has alone. The answer is each reply, how the stream ended, how many events there were, and the
 //!   kvno of each principal.
-//! - `written HOW: HEX`: the same of a stream with these bytes, `-` for none; the answer has what was
-//!   written. `replied HOW: NAME ..` is that of messages.
-//! - `broken HOW: NAME ..`: the same with a write that fails behind each byte of the replies in turn.
+//! - `written HOW: HEX`: the same of a stream with these bytes, `-` for none; the answer has what
+//!   was written. `replied HOW: NAME ..` is that of messages.
+//! - `repeated N HOW: HEX`: those bytes N times are served as one stream. The answer has the first
+//!   reply and how often it was written, where nothing else was, how the stream ended and what was
+//!   left unread.
+//! - `wanting WHAT: NAME ..`: these messages are served as one stream for which there is no memory,
+//!   WHAT being `to decide` or `to reply`.
+//! - `broken HOW: NAME ..`: the same with a write that fails behind each byte of the replies in
+//!   turn.
 //! - `answered WHO: NAME ..`: these messages are answered one by one by a decider that watches.
 //! - `alone: NAME`: that message's request is decided, with no keys, derived, and with its keys.
-//! - `words N STREAM PLACE`: the sixteen words of a worker from that place on, as bytes; the seed is of
-//!   zeros but for its last byte, which is N.
+//! - `words N STREAM PLACE`: the sixteen words of a worker from that place on, as bytes; the seed
+//!   is of zeros but for its last byte, which is N.
 //! - A line that begins with `#`, or is empty, is passed on.
 //!
 //! HOW has words with commas between: the moment, as `at 1000100`, and how the reader does, see
@@ -25,7 +32,10 @@ mod cases;
 mod clock;
 mod deciding;
 mod messages;
+mod repeating;
 mod serving;
+mod sparing;
+mod wanting;
 mod watched;
 mod words;
 mod world;

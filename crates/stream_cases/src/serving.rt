@@ -3,8 +3,10 @@
 use crate::clock::{Counting, Standing};
 use crate::messages::{Message, no_case, shown_reply};
 use crate::world::{self, World};
+use chpw_answer::{Messages, NoGate};
+use chpw_decider::Decider;
 use chpw_frame::{Received, read_tcp, write_tcp};
-use chpw_serve::{Ended, serve_alone};
+use chpw_serve::{Ended, serve_alone, serve_stream};
 use fake_streams::{Course, Giver, Taker, Way};
 use std::alloc::Global;
 use std::io;
@@ -37,21 +39,35 @@ impl How {
     }
 }
 
-/// What was written, and how the stream ended.
-pub fn serve(
-    alloc: Global,
-    world: &mut World,
-    how: How,
-    stream: &[u8],
-) -> io::Result<(Vec<u8>, Ended)> {
-    let mut reader = Giver {
+/// What came of a stream.
+#[derive(Drop)]
+pub struct Outcome {
+    pub written: Vec<u8>,
+    pub ended: Ended,
+    /// Bytes of the stream that were not read.
+    pub unread: usize,
+}
+
+/// A stream's reader.
+fn reader_of(how: How, stream: &[u8]) -> Giver<'_> {
+    Giver {
         left: stream,
         course: Course::start(how.reader),
-    };
-    let mut writer = Taker {
+    }
+}
+
+/// A stream's writer.
+fn writer_of(alloc: Global, how: How) -> Taker {
+    Taker {
         taken: Vec::new(alloc),
         course: Course::start(how.writer),
-    };
+    }
+}
+
+/// Serves a stream by a table that one thread has alone.
+pub fn serve(alloc: Global, world: &mut World, how: How, stream: &[u8]) -> Outcome {
+    let mut reader = reader_of(how, stream);
+    let mut writer = writer_of(alloc, how);
     let mut clock = how.clock;
     let mut words = Counting::new();
     let ended = serve_alone(
@@ -64,7 +80,41 @@ pub fn serve(
         &mut clock,
         &mut words,
     );
-    Ok((writer.taken, ended))
+    Outcome {
+        written: writer.taken,
+        ended,
+        unread: reader.left.len(),
+    }
+}
+
+/// Serves a stream by any decider, over whoever opens and makes messages.
+pub fn serve_by<M: Messages, D: Decider>(
+    alloc: Global,
+    messages: &M,
+    decider: &mut D,
+    how: How,
+    stream: &[u8],
+) -> Outcome {
+    let mut reader = reader_of(how, stream);
+    let mut writer = writer_of(alloc, how);
+    let mut clock = how.clock;
+    let mut words = Counting::new();
+    let ended = serve_stream(
+        alloc,
+        messages,
+        PEER,
+        &mut reader,
+        &mut writer,
+        decider,
+        &mut NoGate,
+        &mut clock,
+        &mut words,
+    );
+    Outcome {
+        written: writer.taken,
+        ended,
+        unread: reader.left.len(),
+    }
 }
 
 /// The stream of these messages.
@@ -92,16 +142,16 @@ pub fn served(
     messages: &[&Message],
 ) -> io::Result<String> {
     let stream = stream_of(alloc, messages)?;
-    let (written, ended) = serve(alloc, world, how, &stream)?;
-    let mut shown = shown_replies(alloc, messages, &written)?;
-    shown.push_str(ended_text(ended))?;
+    let outcome = serve(alloc, world, how, &stream);
+    let mut shown = shown_replies(alloc, messages, &outcome.written)?;
+    shown.push_str(ended_text(outcome.ended))?;
     shown.push_str(", ")?;
     shown.push_str(world::shown(alloc, &world.alone)?.as_str())?;
     Ok(shown)
 }
 
 /// The replies in their order, each to its message, with what divides them behind each.
-fn shown_replies(alloc: Global, messages: &[&Message], written: &[u8]) -> io::Result<String> {
+pub fn shown_replies(alloc: Global, messages: &[&Message], written: &[u8]) -> io::Result<String> {
     let mut left = written;
     let mut shown = String::new(alloc);
     for message in messages {

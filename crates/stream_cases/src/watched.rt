@@ -16,12 +16,14 @@ pub enum Mood {
     Needs(u32),
     /// It says that it is full.
     Full,
+    /// It has no memory.
+    NoMemory,
 }
 
 /// A table, and what it was asked.
 #[derive(Drop)]
 pub struct Watched<S: JournalSink> {
-    alone: Alone<S>,
+    pub alone: Alone<S>,
     mood: Mood,
     /// Calls of `decide`, and of `decide_deriving`.
     pub decides: u32,
@@ -86,6 +88,10 @@ impl<S: JournalSink> Decider for Watched<S> {
         match self.mood {
             Mood::Full => Err(Refused {
                 fault: DecideFault::Full,
+                opened,
+            }),
+            Mood::NoMemory => Err(Refused {
+                fault: DecideFault::Memory,
                 opened,
             }),
             Mood::Needs(times) if self.decides <= times => Err(Refused {

@@ -1,0 +1,108 @@
+//! Requests, as a line tells them.
+ghost use Rattle.std.specs.Prelude.{◌≡◌, true, IfOk, IfSome};
+ghost use Rattle.chpw_rules.specs.Names.{is_name};
+
+use crate::clock::{Counting, moment_at};
+use crate::world::no_case;
+use chpw_client::{LONGEST_PASSWORD, Sent, client_request};
+use chpw_rules::{Config, Name};
+use std::alloc::Global;
+use std::io;
+
+/// What a client asks.
+#[derive(Drop)]
+pub struct Question<'a> {
+    client: &'a str,
+    target: Option<&'a str>,
+    initial: bool,
+    password: String,
+}
+
+impl<'a> Question<'a> {
+    /// `NAME: PASSWORD` or `NAME for TARGET: PASSWORD`, perhaps with `, not initial` behind the
+    /// names.
+    pub fn of(alloc: Global, text: &'a str) -> io::Result<Question<'a>> {
+        let (who, password) = text.split_once(": ").ok_or(no_case())?;
+        let flagless = who.strip_suffix(", not initial");
+        let names = flagless.unwrap_or(who);
+        let (client, target) = match names.split_once(" for ") {
+            Some((client, target)) => (client, Some(target)),
+            None => (names, None),
+        };
+        Ok(Question {
+            client,
+            target,
+            initial: flagless.is_none(),
+            password: expanded(alloc, password)?,
+        })
+    }
+
+    /// The client's request at a second, with so many microseconds.
+    pub fn request(
+        &self,
+        alloc: Global,
+        config: &Config,
+        second: i64,
+        micros: u32,
+        words: &mut Counting,
+    ) -> io::Result<Sent> {
+        let client = name_of(alloc, self.client)?;
+        let target = target_of(alloc, self.target)?;
+        let password = self.password.as_bytes();
+        if password.len() > LONGEST_PASSWORD
+            || !config.fits()
+            || config.service.as_slice().is_empty()
+        {
+            return Err(no_case());
+        }
+        let sent = client_request(
+            alloc,
+            config,
+            moment_at(second, micros),
+            &client,
+            password,
+            lent(&target),
+            self.initial,
+            words,
+        )?;
+        Ok(sent)
+    }
+}
+
+/// `N * TEXT` is that text N times, any other text itself.
+fn expanded(alloc: Global, text: &str) -> io::Result<String> {
+    let (count, text) = match text.split_once(" * ") {
+        Some((count, text)) => (count.parse().unwrap_or(0), text),
+        None => (1, text),
+    };
+    Ok(text.repeat(alloc, count)?)
+}
+
+fn name_of(alloc: Global, text: &str) -> io::Result<Name>
+    ensures fits { IfOk result (λ name. is_name name ≡ true) }
+{
+    match Name::parse(alloc, text)? {
+        Some(name) if name.fits() => Ok(name),
+        _ => Err(no_case()),
+    }
+}
+
+fn target_of(alloc: Global, text: Option<&str>) -> io::Result<Option<Name>>
+    ensures fits { IfOk result (λ found. IfSome found (λ name. is_name name ≡ true)) }
+{
+    match text {
+        None => Ok(None),
+        Some(text) => Ok(Some(name_of(alloc, text)?)),
+    }
+}
+
+// The target's name; written out, since so the fact that it fits comes with it.
+fn lent(target: &Option<Name>) -> Option<&Name>
+    requires fits { IfSome target.now (λ name. is_name name ≡ true) }
+    ensures fits { IfSome result (λ name. is_name name.now ≡ true) }
+{
+    match target {
+        Some(name) => Some(name),
+        None => None,
+    }
+}

@@ -1,0 +1,44 @@
+//! Cases of the client of the service, a line each on standard input, with the answer of each on
+//! standard output: what the client prints of the reply to a request of its own, and its exit
+//! status.
+//!
+//! - `| TEXT`: a line of a configuration.
+//! - `world as it is`, `world OLD -> NEW`: what follows is served with that configuration, or with
+//!   another text in it, by a table that has decided nothing yet. Further edits stand behind ` | `.
+//! - `client OLD -> NEW`: the client has the base with these edits from here on.
+//! - `clocks N M`: the seconds at which the client asks and the service answers.
+//! - `ask NAME: PASSWORD`: a request for a change, `ask NAME for TARGET: PASSWORD` for another's.
+//!   With `, not initial` before the colon its ticket isn't flagged initial. A password `N * TEXT`
+//!   is that text N times. `again` is the same bytes once more.
+//! - `sent`: the bytes of the last request.
+//! - `kvno NAME`: that of its newest key, 0 where there is no such principal.
+//! - `reply HEX`: what is made of this reply to the last request. `reply`: of the last reply again;
+//!   `cut` and `changed`: how many are read where it is cut before each byte, or has each byte
+//!   changed; `mistaken`: where it is taken for that to the request before.
+//! - A line that begins with `#`, or is empty, is passed on.
+//!
+//! In every line `@m` and `@n` stand for the names of eight components of 128 such letters. Words
+//! count from 1: those of the client from its first request in a world on, those of the service for
+//! each message. The microseconds of a request count from 0 in a world.
+#![tactic(auto)]
+
+mod asking;
+mod cases;
+mod clock;
+mod journal;
+mod reading;
+mod world;
+
+use cases::Cases;
+use std::io::{self, BufRead, BufReader, BufWriter, Write};
+
+fn main(rt: HostRuntime) -> io::Result<()> {
+    let alloc = rt.alloc();
+    let mut cases = Cases::new(alloc);
+    let mut out = BufWriter::new(alloc, io::writer(&rt))?;
+    for line in BufReader::new(alloc, rt.reader())?.lines(alloc) {
+        let answer = cases.answer(alloc, line?.as_str())?;
+        writeln!(out, "{answer}")?;
+    }
+    out.flush()
+}
