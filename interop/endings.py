@@ -123,7 +123,7 @@ def check(program):
 def serve(program):
     """A journal with a record that is none is in a whole file; the others can't be opened."""
     server = program.server("alice")
-    words = server.command(1)[1:]
+    words = [str(word) for word in server.command(1)[1:]]
 
     def tell(what, line):
         program.tell(f"serve: {what}", ("", line, 1), *words)
@@ -141,10 +141,14 @@ def serve(program):
     tell("no TOML", "config: C1 file 0")
     write_configuration(server.configuration, ["alice"])
     program.tell_unwritten("serve: a full disk", *words)
-    missing = [str(word) for word in words]
-    missing[missing.index(str(server.journal))] = "missing/journal"
-    line = "cannot write missing/journal"
-    program.tell("serve: a journal in no folder", ("", line, 1), *missing)
+
+    def tell_of_journal(what, journal, line):
+        other = [journal if word == str(server.journal) else word for word in words]
+        program.tell(f"serve: {what}", ("", line, 1), *other)
+
+    tell_of_journal("a journal in no folder", "missing/journal", "cannot write missing/journal")
+    # what stands at address 0 of a process can't be read
+    tell_of_journal("a read that fails", "/proc/self/mem", "journal: J4")
 
 
 def second_service(program):
