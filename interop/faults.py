@@ -15,7 +15,7 @@ import subprocess
 import sys
 import tempfile
 
-from journal import read_journal
+from journal import plain_record, read_journal
 from report import Report
 from sample_realm import write_configuration
 from server import PROGRAM, Server
@@ -23,13 +23,6 @@ from server import PROGRAM, Server
 NAME = "user0"
 # of a change of user0
 RECORD = 66
-
-
-def record(name, kvno):
-    """A record of the journal."""
-    body = b"\1" + kvno.to_bytes(4, "big") + (4096).to_bytes(4, "big") + bytes(48)
-    body += b"\1" + bytes([len(name)]) + name.encode()
-    return len(body).to_bytes(2, "big") + body
 
 
 def said(server):
@@ -46,9 +39,9 @@ def at_start(report, server):
 
     with socket.create_server(("127.0.0.1", server.port)):
         report.tell("a port in use", said(server), wrong("cannot listen"))
-        server.journal.write_bytes(record("zoe", 2))
+        server.journal.write_bytes(plain_record("zoe", 2))
         report.tell("a journal of another realm", said(server), wrong("journal: J3 at 1"))
-        server.journal.write_bytes(record(NAME, 2) + record(NAME, 2))
+        server.journal.write_bytes(plain_record(NAME, 2) * 2)
         report.tell("a record that stands twice", said(server), wrong("journal: J2 at 2"))
         server.seed.write_bytes(bytes(31))
         report.tell("a short seed", said(server), wrong(f"cannot read {server.seed}"))

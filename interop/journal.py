@@ -1,5 +1,5 @@
 #!/usr/bin/env python3
-"""Reads a journal of format 1 (docs/JOURNAL.md).
+"""Reads a journal of format 1 (docs/JOURNAL.md), and writes records of one.
 
     journal.py FILE
 
@@ -18,6 +18,13 @@ class Record:
     iterations: int
     aes128: bytes
     aes256: bytes
+
+
+def plain_record(name, kvno):
+    """The record of a change of a name of one component, to keys of zeros under 4096 iterations."""
+    body = b"\1" + kvno.to_bytes(4, "big") + (4096).to_bytes(4, "big") + bytes(48)
+    body += b"\1" + bytes([len(name)]) + name.encode()
+    return len(body).to_bytes(2, "big") + body
 
 
 def components(rest):

@@ -1,35 +1,28 @@
 //! Cases of chpw_journal, a line each on standard input, with what comes of each on standard output.
 //!
 //! A line is a journal, its pieces with commas between: it is restored onto a table of alice and
-//! bob/admin, who have a key of kvno 1 each. README.md has the pieces. A line that begins with `#`, or
-//! is empty, is passed on.
+//! bob/admin, who have a key of kvno 1 each. One that begins with `sink` has changes, decided over a
+//! journal in memory. README.md has the forms. A line that begins with `#`, or is empty, is passed on.
 #![tactic(auto)]
 
+mod failing;
 mod journal;
 mod realm;
 mod refusal;
+mod restoring;
 
-use chpw_journal::{OpenFault, open_journal, restore};
+use chpw_journal::{OpenFault, open_journal};
+use failing::decided;
 use journal::journal_of;
 use realm::table;
 use refusal::Refusal;
+use restoring::restored;
 use std::alloc::Global;
 use std::fs::{File, Files};
 use std::{fs, io};
 
 /// Where a journal stands that is opened as a file.
 const SCRATCH: &str = "scratch-journal";
-
-/// What restoring a journal's bytes gives.
-fn restored(alloc: Global, mut journal: &[u8]) -> Result<String, Refusal> {
-    match restore(alloc, table(alloc)?, &mut journal) {
-        Ok(r) => {
-            let tail = if r.torn { "torn" } else { "whole" };
-            Ok(format!(in alloc; "records {} kept {} {tail}", r.records, r.kept)?)
-        }
-        Err(fault) => Ok(format!(in alloc; "{fault}")?),
-    }
-}
 
 /// What opening a file with these bytes gives, and how many bytes are in it then.
 fn opened<R: Files<File = File> + AllocGlobal>(
@@ -56,6 +49,9 @@ fn answer<R: Files<File = File> + AllocGlobal>(
     alloc: Global,
     line: &str,
 ) -> Result<String, Refusal> {
+    if let Some(changes) = line.strip_prefix("sink ") {
+        return decided(alloc, changes);
+    }
     match line.strip_prefix("open: ") {
         Some(pieces) => opened(rt, alloc, journal_of(alloc, pieces)?.as_slice()),
         None => restored(alloc, journal_of(alloc, line)?.as_slice()),

@@ -4,10 +4,24 @@ use chpw_rules::{Config, Items, KeyBytes, Name, Policy, PrincipalRow, Rules};
 use chpw_table::Table;
 use std::alloc::Global;
 
+/// The name with this text.
+pub fn principal_name(alloc: Global, text: &str) -> Result<Name, Refusal> {
+    Name::parse(alloc, text)?.ok_or(Refusal::NoSuchCase)
+}
+
+/// Both principals and the newest versions of their keys in a table.
+pub fn versions(alloc: Global, table: &Table) -> Result<String, Refusal> {
+    let alice = kvno(alloc, table, "alice")?;
+    let bob = kvno(alloc, table, "bob/admin")?;
+    Ok(format!(in alloc; "alice {alice} bob/admin {bob}")?)
+}
+
+fn kvno(alloc: Global, table: &Table, name: &str) -> Result<u32, Refusal> {
+    let shown = table.lookup(&principal_name(alloc, name)?);
+    Ok(shown.ok_or(Refusal::NoSuchCase)?.kvno)
+}
+
 fn principal(alloc: Global, name: &str) -> Result<PrincipalRow, Refusal> {
-    let Some(name) = Name::parse(alloc, name)? else {
-        return Err(Refusal::NoSuchCase);
-    };
     let key = KeyBytes {
         kvno: 1,
         iterations: 4096,
@@ -15,7 +29,7 @@ fn principal(alloc: Global, name: &str) -> Result<PrincipalRow, Refusal> {
         aes256: [0xa1; 32],
     };
     Ok(PrincipalRow {
-        name,
+        name: principal_name(alloc, name)?,
         keys: Items::of(vec![in alloc; key]?),
     })
 }

@@ -1,0 +1,60 @@
+"""Measures how long `serve` restores a journal.
+
+    python3 restore.py PROGRAM [RECORDS [PRINCIPALS ..]]
+"""
+
+import pathlib
+import resource
+import sys
+import tempfile
+
+from journal import plain_record
+from sample_realm import write_configuration
+from server import Server
+
+RECORDS = 1_048_576
+PRINCIPALS = [100, 1_000, 10_000]
+# coprime to the counts above, so that the principals follow one another in no order
+STEP = 7_919
+
+
+def names_of(principals):
+    return [f"client{number:05}" for number in range(principals)]
+
+
+def write_journal(path, records, names):
+    """Each name in turn, one version after the other; the configuration has version 1."""
+    with open(path, "wb") as file:
+        for number in range(records):
+            kvno, place = divmod(number, len(names))
+            file.write(plain_record(names[place * STEP % len(names)], kvno + 2))
+
+
+def start_seconds(server):
+    """Processor seconds of `serve` until it listens."""
+    before = resource.getrusage(resource.RUSAGE_CHILDREN)
+    server.start(connections=1)
+    server.end()
+    after = resource.getrusage(resource.RUSAGE_CHILDREN)
+    return after.ru_utime + after.ru_stime - before.ru_utime - before.ru_stime
+
+
+def restore_seconds(program, records, principals):
+    names = names_of(principals)
+    with tempfile.TemporaryDirectory(prefix="chpw-restore-") as folder:
+        server = Server(program, pathlib.Path(folder), workers=1)
+        write_configuration(server.configuration, names)
+        empty = start_seconds(server)
+        write_journal(server.journal, records, names)
+        return start_seconds(server) - empty
+
+
+def main():
+    program, *counts = sys.argv[1:]
+    records, *realms = map(int, counts) if counts else [RECORDS]
+    for principals in realms or PRINCIPALS:
+        seconds = restore_seconds(program, records, principals)
+        print(f"restored {records} records over {principals} principals in {seconds:.1f} s", flush=True)
+
+
+main()

@@ -1,0 +1,28 @@
+-- What opening a journal's file gives: the table handed in, with changes that go on from it; where the
+-- file was made, the table as it was. What bytes the system gives of a file no contract tells.
+use Rattle.std.specs.Prelude.{◌≡◌, ℕ, List, false, Option}
+use Rattle.chpw_table.specs.State.{State}
+use Rattle.chpw_table.specs.Agreement.{Held, Agrees}
+use Rattle.chpw_journal.specs.declared.change.Change.{Change}
+use Rattle.chpw_journal.specs.declared.fault.RestoreFault.{RestoreFault}
+use Rattle.chpw_journal.specs.declared.restoring.Restored.{Restored}
+use Rattle.chpw_journal.specs.declared.journal_file.Journal.{Journal}
+use Rattle.chpw_journal.specs.Reading.{restored, AreNext}
+use Rattle.chpw_journal.specs.Restoring.{IsRestored, IsRefused}
+
+pub record IsOpened (before : Held) (j : Journal) : Type 0 where
+  pub changes : List Change
+  pub next : (s : State) → Agrees before.state s → AreNext s changes
+  pub table : (s : State) → Agrees before.state s → Agrees j.table.state (restored s changes)
+  pub events : j.table.events ≡ before.events
+  pub seen : j.table.seen ≡ before.seen
+  pub max_entries : j.table.max_entries ≡ before.max_entries
+  pub made : j.found ≡ false → j.table ≡ before
+
+-- restored from all that was left of a file
+abbrev pub IsReadFrom : Held → Option (List ℕ) → Restored → Type 0
+IsReadFrom before old r = (left : Option (List ℕ)) × IsRestored before old left r
+
+-- refused for what was read of a file
+abbrev pub IsRefusedFrom : Held → Option (List ℕ) → RestoreFault → Type 0
+IsRefusedFrom before old fault = (left : Option (List ℕ)) × IsRefused before old left fault

@@ -1,0 +1,94 @@
+//! Changes decided over a journal in memory that fails, and what is restored from what it holds.
+use crate::realm::{principal_name, table, versions};
+use crate::refusal::Refusal;
+use crate::restoring::restored;
+use chpw_journal::MemorySink;
+use chpw_rules::Items;
+use chpw_table::{Body, Digest, JournalSink, Moment, Opened, Outcome, Table};
+use krb_keys::Key;
+use std::alloc::Global;
+
+const NOW: Moment = Moment {
+    seconds: 1000,
+    micros: 0,
+};
+
+/// What is answered to the changes of a case, `SINK: NAME PASSWORD, ..`, and restored after them.
+pub fn decided(alloc: Global, case: &str) -> Result<String, Refusal> {
+    let (sink, changes) = case.split_once(": ").ok_or(Refusal::NoSuchCase)?;
+    let mut sink = sink_of(alloc, sink)?;
+    let mut table = table(alloc)?;
+    let mut answers = String::new(alloc);
+    let mut number = 0_u32;
+    for change in changes.split(", ") {
+        number = number.saturating_add(1);
+        let outcome = decide(&mut table, &mut sink, request(alloc, change, number)?)?;
+        answers.push_str(answer(alloc, &outcome)?.as_str())?;
+    }
+    let held = versions(alloc, &table)?;
+    let bytes = restored(alloc, sink.bytes())?;
+    Ok(format!(in alloc; "{answers}failures {}, {held}; {bytes}", sink.failures())?)
+}
+
+/// `of N bytes`, and `, append N fails and keeps N` behind it where one does.
+fn sink_of(alloc: Global, words: &str) -> Result<MemorySink, Refusal> {
+    let rest = words.strip_prefix("of ").ok_or(Refusal::NoSuchCase)?;
+    let (capacity, choice) = rest.split_once(" bytes").ok_or(Refusal::NoSuchCase)?;
+    let mut sink = MemorySink::new(alloc, number(capacity)? as usize)?;
+    if let Some(choice) = choice.strip_prefix(", append ") {
+        let (nth, kept) = choice
+            .split_once(" fails and keeps ")
+            .ok_or(Refusal::NoSuchCase)?;
+        sink.fail_at(number(nth)?, number(kept)? as usize);
+    }
+    Ok(sink)
+}
+
+/// The request of a principal for a password of its own: the password of this number has keys of as
+/// many such bytes, and 161 is that of the keys held at the start.
+fn request(alloc: Global, change: &str, cusec: u32) -> Result<Opened, Refusal> {
+    let (name, password) = change.split_once(' ').ok_or(Refusal::NoSuchCase)?;
+    let byte = u8::try_from(number(password)?).map_err(|_| Refusal::NoSuchCase)?;
+    let keys = (4096, Key::Aes128([byte; 16]), Key::Aes256([byte; 32]));
+    let digest = Digest::of(9, 4, vec![in alloc; keys]?).ok_or(Refusal::NoSuchCase)?;
+    Ok(Opened {
+        crealm: Items::of(Vec::from_slice(alloc, b"EXAMPLE.COM")?),
+        client: principal_name(alloc, name)?,
+        initial: true,
+        invalid: false,
+        starts: 0,
+        ends: 9000,
+        ctime: 1000,
+        cusec,
+        stamp: None,
+        body: Body::Ask {
+            target: None,
+            digest,
+        },
+    })
+}
+
+fn decide(table: &mut Table, sink: &mut MemorySink, opened: Opened) -> Result<Outcome, Refusal> {
+    if sink.failures() == u64::MAX {
+        return Err(Refusal::NoSuchCase);
+    }
+    table
+        .decide(NOW, opened, sink)
+        .map_err(|_| Refusal::NoSuchCase)
+}
+
+/// Code and text, and whether an append failed.
+fn answer(alloc: Global, outcome: &Outcome) -> Result<String, Refusal> {
+    let code = outcome.verdict.code();
+    let text = outcome.verdict.text();
+    let append = if outcome.io_failed {
+        " (an append failed)"
+    } else {
+        ""
+    };
+    Ok(format!(in alloc; "{code} {text}{append}; ")?)
+}
+
+fn number(word: &str) -> Result<u32, Refusal> {
+    word.parse::<u32>().map_err(|_| Refusal::NoSuchCase)
+}

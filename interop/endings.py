@@ -1,0 +1,272 @@
+#!/usr/bin/env python3
+"""How each command of the program ends: what it prints, its line on standard error, its status.
+
+    endings.py [--server PROGRAM]
+
+prints a line for each case, `ok: ..` or `FAILED: ..`, and ends with status 1 where any failed. It
+needs no packages. What `serve` says of its files is in faults.py.
+"""
+
+import argparse
+import os
+import pathlib
+import socket
+import subprocess
+import sys
+import tempfile
+import threading
+
+from journal import plain_record
+from kill import write_configuration
+from report import Report
+from server import PROGRAM, Server
+
+SCRIPT = "realm EXAMPLE.COM\npolicy 0 0 2 4096 no\nprincipal alice 1 4096:a1\nopen 10 -1\n"
+LONGEST_PASSWORD = 60_000
+
+
+class Program:
+    """The program, and a folder that it is run in."""
+
+    def __init__(self, program, folder, report):
+        self.program = pathlib.Path(program).resolve()
+        self.folder = folder
+        self.report = report
+        self.servers = []
+
+    def server(self, *names):
+        """`serve` for a realm of these principals, not started."""
+        server = Server(self.program, self.folder, workers=1)
+        write_configuration(server.configuration, names)
+        self.servers.append(server)
+        return server
+
+    def end(self):
+        for server in self.servers:
+            server.end()
+
+    def ended(self, *words, script=None, **streams):
+        """Standard output, standard error and status; of clap's text only that there is one."""
+        streams = {"stdout": subprocess.PIPE, **streams}
+        done = subprocess.run(
+            [self.program, *words],
+            input=script,
+            stderr=subprocess.PIPE,
+            text=True,
+            timeout=60,
+            cwd=self.folder,
+            **streams,
+        )
+        errors = done.stderr.strip()
+        if len(errors.splitlines()) > 1:
+            errors = "a text"
+        return (done.stdout or "").strip(), errors, done.returncode
+
+    def tell(self, what, wanted, *words, **streams):
+        self.report.tell(what, self.ended(*words, **streams), wanted)
+
+    def tell_unwritten(self, what, *words, **streams):
+        """Where nothing can be printed."""
+        with open("/dev/full", "w") as full:
+            self.tell(what, ("", "cannot write", 1), *words, stdout=full, **streams)
+
+
+def command_lines(program):
+    text = ("", "a text", 2)
+    serve = "serve --config c --journal j --seed s --port 1 --workers 1 --connections 1"
+    client = "client --config c --seed s --port 1 --client alice --password New-pass2"
+    program.tell("no command", text)
+    program.tell("another command", text, "change")
+    program.tell("help", text, "--help")
+    program.tell("help for a command", text, "serve", "--help")
+    program.tell("drill with an option", text, "drill", "--config", "c")
+    program.tell("check without its file", text, "check")
+    for line, old, new in [
+        (serve, "--workers 1", "--workers 17"),
+        (serve, "--workers 1", "--workers 0"),
+        (serve, "--port 1", "--port 65536"),
+        (serve, "--connections 1", "--connections 0"),
+        (serve, "--seed s", ""),
+        (client, "--port 1", "--port 0"),
+        (client, "--client alice", ""),
+    ]:
+        words = line.replace(old, new).split()
+        program.tell(f"{words[0]}, {old} now '{new}'", text, *words)
+
+
+def drill(program):
+    shown = ("alice 1:4096:a1", "", 0)
+    program.tell("drill: a script", shown, "drill", script=SCRIPT + "show alice\n")
+    bad = ("alice 1:4096:a1", "line 6: bad", 1)
+    program.tell("drill: a bad line", bad, "drill", script=SCRIPT + "show alice\nshow\n")
+    folder = os.open(program.folder, os.O_RDONLY)
+    program.tell("drill: no script", ("", "cannot read", 1), "drill", stdin=folder)
+    os.close(folder)
+    program.tell_unwritten("drill: a full disk", "drill", script=SCRIPT + "show alice\n")
+
+
+def check(program):
+    write_configuration(program.folder / "good", ["alice", "bob"])
+    text = (program.folder / "good").read_text()
+    (program.folder / "bad").write_text(text.replace("depth = 3", "depth = 17"))
+    good = "ok: principals 2, rules 0, service keys 1"
+    program.tell("check: good", (good, "", 0), "check", "--config", "good")
+    found, words, status = program.ended("check", "--config", "bad")
+    told = (found, words.split(":")[0], status)
+    program.report.tell("check: a depth of 17", told, ("C4 policy 0", "bad", 1))
+    unread = ("", "cannot read missing", 1)
+    program.tell("check: no file", unread, "check", "--config", "missing")
+    program.tell_unwritten("check: good, a full disk", "check", "--config", "good")
+    program.tell_unwritten("check: a fault, a full disk", "check", "--config", "bad")
+
+
+def serve(program):
+    """A journal with a record that is none is in a whole file; the others can't be opened."""
+    server = program.server("alice")
+    words = [str(word) for word in server.command(1)[1:]]
+
+    def tell(what, line):
+        program.tell(f"serve: {what}", ("", line, 1), *words)
+
+    server.journal.write_bytes(plain_record("alice", 2).replace(b"\1", b"\2", 1))
+    tell("a record of another kind", "journal: J1 at 1")
+    server.journal.unlink()
+    server.journal.mkdir()
+    tell("a folder as the journal", f"cannot read {server.journal}")
+    server.journal.rmdir()
+    server.seed.unlink()
+    tell("no seed", f"cannot read {server.seed}")
+    server.seed.write_bytes(bytes(32))
+    server.configuration.write_text("[")
+    tell("no TOML", "config: C1 file 0")
+    write_configuration(server.configuration, ["alice"])
+    program.tell_unwritten("serve: a full disk", *words)
+
+    def tell_of_journal(what, journal, line):
+        other = [journal if word == str(server.journal) else word for word in words]
+        program.tell(f"serve: {what}", ("", line, 1), *other)
+
+    tell_of_journal("a journal in no folder", "missing/journal", "cannot write missing/journal")
+    # what stands at address 0 of a process can't be read
+    tell_of_journal("a read that fails", "/proc/self/mem", "journal: J4")
+
+
+def second_service(program):
+    """One journal is for one service; the first goes on."""
+    first = program.server("alice")
+    first.start(connections=1)
+    second = program.server("alice")
+    line = ("", f"cannot read {second.journal}", 1)
+    program.tell("serve: another's journal", line, *second.command(1)[1:])
+    first.connect()
+    program.report.tell("serve: its last line", first.last_words(), "entries 0 changes 0")
+    program.report.tell("serve: its status", first.process.returncode, 0)
+
+
+class Client:
+    """`client` for alice at a port."""
+
+    def __init__(self, program, server):
+        self.program = program
+        self.options = {
+            "--config": server.configuration,
+            "--seed": server.seed,
+            "--port": server.port,
+            "--client": "alice",
+            "--password": "New-pass2",
+        }
+
+    def tell(self, what, wanted, *flags, **changed):
+        options = self.options | {f"--{name}": value for name, value in changed.items()}
+        words = [f"{name}={value}" for name, value in options.items()]
+        self.program.tell(f"client: {what}", wanted, "client", *words, *flags)
+
+
+def client_alone(program):
+    """What a client says without a service; each fault is told before those below it."""
+    server = program.server("alice")
+    client = Client(program, server)
+    bad = ("", "bad argument", 2)
+    client.tell("no name", bad, client="", config="missing")
+    client.tell("an empty component", bad, client="alice//admin", config="missing")
+    client.tell("nine components", bad, client="a/b/c/d/e/f/g/h/i", config="missing")
+    client.tell("no target's name", bad, "--target=", config="missing")
+    long = "a" * (LONGEST_PASSWORD + 1)
+    client.tell("a password of 60,001 bytes", bad, password=long, config="missing")
+    unread = ("", "cannot read missing", 1)
+    client.tell("no configuration", unread, config="missing", seed="missing2")
+    (program.folder / "short").write_bytes(bytes(31))
+    client.tell("a short seed", ("", "cannot read short", 1), seed="short")
+    (program.folder / "no-toml").write_text("[")
+    client.tell("no TOML", ("", "config: C1 file 0", 1), config="no-toml", seed="short")
+    client.tell("nobody there", ("", "cannot connect", 1))
+    client.tell("the longest password", ("", "cannot connect", 1), password=long[1:])
+
+
+def client_unanswered(program):
+    """A service that closes the connection, and one whose reply can't be read."""
+    server = program.server("alice")
+    for what, reply in [("no reply", b""), ("another's reply", b"\0\0\0\2no")]:
+        with socket.create_server(("127.0.0.1", server.port)) as listener:
+            answering = threading.Thread(target=answer_one, args=(listener, reply))
+            answering.start()
+            Client(program, server).tell(what, ("", "connection ended", 1))
+            answering.join()
+
+
+def answer_one(listener, reply):
+    connection, _ = listener.accept()
+    with connection:
+        connection.recv(65_536)
+        connection.sendall(reply)
+
+
+def client_answered(program):
+    server = program.server("alice", "bob")
+    text = server.configuration.read_text()
+    (program.folder / "other-key").write_text(text.replace("5a" * 32, "5b" * 32))
+    server.start(connections=7)
+    client = Client(program, server)
+    client.tell("a change", ("code 0 password changed", "", 0))
+    client.tell("the same password", ("code 4 password used before", "", 1))
+    client.tell("an empty password", ("code 4 password too short", "", 1), password="")
+    client.tell("no rule", ("code 5 access denied", "", 1), "--target=bob")
+    client.tell("no flag", ("code 7 initial ticket needed", "", 1), "--no-initial")
+    refused = ("code 3 error 31 authentication failed", "", 1)
+    client.tell("another service key", refused, config="other-key")
+    with open("/dev/full", "w") as full:
+        words = [f"{name}={value}" for name, value in client.options.items()]
+        wanted = ("", "cannot write", 1)
+        program.tell("client: a full disk", wanted, "client", *words, stdout=full)
+    program.report.tell("serve: its last line", server.last_words(), "entries 6 changes 1")
+
+
+CASES = [
+    command_lines,
+    drill,
+    check,
+    serve,
+    second_service,
+    client_alone,
+    client_unanswered,
+    client_answered,
+]
+
+
+def main():
+    parser = argparse.ArgumentParser()
+    parser.add_argument("--server", default=PROGRAM)
+    arguments = parser.parse_args()
+    report = Report()
+    for cases in CASES:
+        with tempfile.TemporaryDirectory(prefix="chpw-endings-") as folder:
+            program = Program(arguments.server, pathlib.Path(folder), report)
+            try:
+                cases(program)
+            finally:
+                program.end()
+    sys.exit(report.status())
+
+
+if __name__ == "__main__":
+    main()
