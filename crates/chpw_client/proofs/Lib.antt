@@ -1,2 +1,4 @@
+pub mod FittingLemmas
+pub mod LengthLemmas
 pub mod RequestLemmas
 pub mod WordLemmas

@@ -3,14 +3,15 @@ use Rattle.std.proofs.Common.{◌≡◌, ◌∙◌, ℕ, true, List, refl, sym, 
 use Rattle.krb_elements.specs.Texts.{fits, text}
 use Rattle.krb_elements.proofs.TextLemmas.{text_spells}
 use Rattle.krb_der.specs.Types as types
-use Rattle.krb_der.specs.Values.{ap_req_value, ticket_value}
+use Rattle.krb_der.specs.Values.{ap_req_value, krb_priv_value, ticket_value}
 use Rattle.krb_der.specs.declared.authenticator.Authenticator.{Authenticator}
 use Rattle.krb_der.specs.declared.enc_ticket_part.EncTicketPart.{EncTicketPart}
+use Rattle.krb_der.specs.declared.krb_priv.EncKrbPrivPart.{EncKrbPrivPart}
 use Rattle.krb_der.specs.declared.ticket.Ticket.{Ticket}
 use Rattle.krb_keys.specs.declared.key.Key.{Key}
-use Rattle.krb_msgs.specs.Making.{SpellsTicket, ap_req_of, ticket_of}
+use Rattle.krb_msgs.specs.Making.{SpellsTicket, ap_req_of, priv_of, ticket_of}
 use Rattle.chpw_client.specs.Questions.{Question}
-use Rattle.chpw_client.specs.Requests.{ap_req_text, authenticator, bit, ticket_part, ticket_text}
+use Rattle.chpw_client.specs.Requests.{ap_req_text, authenticator, bit, priv_text, private_part, ticket_part, ticket_text}
 use Rattle.chpw_client.specs.Words.{key_of, word_bytes}
 use Rattle.chpw_client.specs.declared.drawing.Drawing.{Drawing}
 use Rattle.krb_der.specs.Protocol as protocol
@@ -36,3 +37,12 @@ same_request q w t a key c bytes is_a is_key words is =
     is ∙ ap (λ (x : Authenticator). text types.ap_req (ap_req_value (ap_req_of t (bit protocol.mutual_required) x key c))) is_a
     ∙ ap (λ (x : Key). text types.ap_req (ap_req_value (ap_req_of t (bit protocol.mutual_required) (authenticator q w) x c))) is_key
     ∙ ap (λ (x : List ℕ). text types.ap_req (ap_req_value (ap_req_of t (bit protocol.mutual_required) (authenticator q w) (key_of w.session) x))) words
+
+-- the KRB-PRIV's text
+pub same_priv : (q : Question) (w : Drawing) (part : EncKrbPrivPart) (key : Key) (c bytes : List ℕ)
+    → part ≡ private_part q → key ≡ key_of w.subkey → c ≡ word_bytes w.private
+    → bytes ≡ text types.krb_priv (krb_priv_value (priv_of part key c)) → bytes ≡ priv_text q w
+same_priv q w part key c bytes is_part is_key words is =
+    is ∙ ap (λ (x : EncKrbPrivPart). text types.krb_priv (krb_priv_value (priv_of x key c))) is_part
+    ∙ ap (λ (x : Key). text types.krb_priv (krb_priv_value (priv_of (private_part q) x c))) is_key
+    ∙ ap (λ (x : List ℕ). text types.krb_priv (krb_priv_value (priv_of (private_part q) (key_of w.subkey) x))) words

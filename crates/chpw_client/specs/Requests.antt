@@ -98,6 +98,14 @@ abbrev pub priv_text : Question → Drawing → List ℕ
 priv_text q w = text types.krb_priv (krb_priv_value
     (priv_of (private_part q) (key_of w.subkey) (word_bytes w.private)))
 
+-- The most bytes of the two, of the longest names, realm and password: with six more they are no
+-- longer than a message.
+abbrev pub longest_ap_req : ℕ
+longest_ap_req = 3700
+
+abbrev pub longest_krb_priv : ℕ
+longest_krb_priv = 61800
+
 -- the message with a ticket that the ticket's text spells, and what its reply is read with
 pub record IsRequest (q : Question) (w : Drawing) (sent : Sent) : Type 0 where
   pub message : (t : Ticket) × SpellsTicket (ticket_text q w) t

@@ -8,7 +8,6 @@ mod line;
 mod messages;
 mod records;
 mod request;
-mod short;
 
 pub use line::client_line;
 pub use request::{LAST_START, LONGEST_PASSWORD, Sent, client_request};

@@ -2,17 +2,16 @@
 ghost use Rattle.std.specs.Prelude.{◌≡◌, ◌≤◌, ◌<◌, ◌^◌, length, IfOk};
 ghost use Rattle.krb_der.specs.declared.ticket.Ticket.{Ticket};
 ghost use Rattle.krb_msgs.specs.Making.{SpellsTicket};
-ghost use Rattle.chpw_client.specs.Requests.{ap_req_text, priv_text, ticket_text};
+ghost use Rattle.chpw_client.specs.Requests.{ap_req_text, longest_ap_req, longest_krb_priv, priv_text, ticket_text};
 ghost use Rattle.chpw_client.specs.Words.{key_of as key_in};
 ghost use Rattle.chpw_client.specs.Questions.{IsAskable, question_of};
 
 use crate::asked::Asked;
 use crate::drawing::{Drawing, confounder, key_bytes};
 use crate::records::{authenticator, private_part, ticket_part};
-use crate::short::{LONG, SHORT, is_short};
 use krb_der::MUTUAL_REQUIRED;
 use krb_keys::Key;
-use krb_msgs::{laws, make_ap_req, make_priv, make_ticket};
+use krb_msgs::{make_ap_req, make_priv, make_ticket};
 use std::alloc::{AllocError, Global};
 
 /// The option mutual-required alone, of 32 bits.
@@ -35,13 +34,11 @@ pub(crate) fn ap_req(
     ensures text { IfOk result (λ bytes. (t : Ticket)
         × SpellsTicket (ticket_text (question_of asked.entry.now) words.now) t
         × (bytes.items ≡ ap_req_text t (question_of asked.entry.now) words.now)) }
+    ensures some { IfOk result (λ bytes. 0 < length bytes.items) }
+    ensures short { IfOk result (λ bytes. length bytes.items ≤ longest_ap_req) }
 {
     let part = ticket_part(alloc, asked, words)?;
     let authenticator = authenticator(alloc, asked, words)?;
-    if !is_short(&part, SHORT) || !is_short(&authenticator, SHORT) {
-        return Err(AllocError);
-    }
-    laws::messages_fit();
     let ticket = make_ticket(
         alloc,
         asked.realm,
@@ -68,12 +65,9 @@ pub(crate) fn krb_priv(
     requires askable { IsAskable (question_of asked.now) }
     ensures text { IfOk result (λ bytes. bytes.items
         ≡ priv_text (question_of asked.entry.now) words.now) }
+    ensures short { IfOk result (λ bytes. length bytes.items ≤ longest_krb_priv) }
 {
     let part = private_part(alloc, asked)?;
-    if !is_short(&part, LONG) {
-        return Err(AllocError);
-    }
-    laws::messages_fit();
     make_priv(
         alloc,
         &part,

@@ -8,7 +8,6 @@ ghost use Rattle.chpw_client.specs.Questions.{IsAskable, question_of};
 
 use crate::asked::Asked;
 use crate::drawing::{Drawing, key_bytes};
-use crate::short::{LONG, is_short};
 use chpw_rules::{Items, Name};
 use krb_der::{
     ADDR_TYPE_IPV4, Authenticator, Bytes, ChangePasswdData, EncKrbPrivPart, EncTicketPart,
@@ -130,13 +129,11 @@ fn change_data(alloc: Global, asked: &Asked<'_>) -> Result<ChangePasswdData, All
 }
 
 fn user_data(alloc: Global, asked: &Asked<'_>) -> Result<Vec<u8>, AllocError>
+    requires askable { IsAskable (question_of asked.now) }
     ensures text { IfOk result (λ bytes. bytes.items ≡ text change_passwd_data
         (change_passwd_data_value (change (question_of asked.entry.now)))) }
 {
     let data = change_data(alloc, asked)?;
-    if !is_short(&data, LONG) {
-        return Err(AllocError);
-    }
     write_change_passwd_data(alloc, &data)
 }
 

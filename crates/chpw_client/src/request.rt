@@ -29,12 +29,6 @@ pub const LONGEST_PASSWORD: usize = 60_000;
 /// The last second at which a request is made: its ticket ends an hour later, in the year 9999.
 pub const LAST_START: i64 = 253_402_297_199;
 
-/// The most bytes of an AP-REQ and of a KRB-PRIV here: together and with six more they are no longer
-/// than a message. The longest names, realm and password make shorter ones.
-const LONGEST_AP_REQ: usize = 3_900;
-
-const LONGEST_KRB_PRIV: usize = 61_600;
-
 /// A request, and what its reply is read with.
 #[derive(Drop)]
 pub struct Sent {
@@ -54,7 +48,8 @@ pub struct Sent {
 /// low byte first. authtime, ctime and cusec are the moment, whose seconds are 0 to [`LAST_START`] and
 /// microseconds below 1,000,000; endtime is an hour later. The configuration fits and has a service
 /// key, the names have 1 to 8 components of 1 to 128 bytes, and the password has at most
-/// [`LONGEST_PASSWORD`] bytes.
+/// [`LONGEST_PASSWORD`] bytes: such a request fits into one message, so an error means that memory
+/// ran out.
 pub fn client_request<X: Words>(
     alloc: Global,
     config: &Config,
@@ -127,9 +122,6 @@ fn request_of(alloc: Global, asked: &Asked<'_>, words: &Drawing) -> Result<Sent,
 {
     let ap = ap_req(alloc, asked, words)?;
     let tail = krb_priv(alloc, asked, words)?;
-    if ap.is_empty() || ap.len() > LONGEST_AP_REQ || tail.len() > LONGEST_KRB_PRIV {
-        return Err(AllocError);
-    }
     Ok(Sent {
         message: Items::of(join_request(alloc, &ap, &tail)?),
         session: key_of(words.session),

@@ -1,45 +1,75 @@
-use Rattle.std.proofs.Common.{rules, ◌≡◌, ◌≤◌, true, length, List, ℕ, subst, ◌∙◌, arith}
+use Rattle.std.proofs.Common.{rules, ◌≡◌, ◌≤◌, ◌<◌, length, List, ℕ, subst, sym, ◌∙◌}
 use Rattle.std.proofs.lemmas.Result.{IfOk-weaker}
-use Rattle.krb_elements.specs.Texts.{fits, text}
+use Rattle.krb_elements.specs.Texts.{text}
+use Rattle.krb_der.specs.Protocol as protocol
 use Rattle.krb_der.specs.Types as types
-use Rattle.krb_der.specs.Values.{authenticator_value, enc_ticket_part_value, ticket_value}
+use Rattle.krb_der.specs.Values.{ap_req_value}
 use Rattle.krb_der.specs.declared.ticket.Ticket.{Ticket}
-use Rattle.krb_msgs.specs.Making.{SpellsTicket, ticket_of}
+use Rattle.krb_msgs.specs.Making.{SpellsTicket, ap_req_of}
 use Rattle.chpw_client.specs.Questions.{Question, question_of}
+use Rattle.chpw_client.specs.Requests.{ap_req_text, bit, longest_ap_req, ticket, ticket_text}
+use Rattle.chpw_client.specs.declared.drawing.Drawing.{Drawing}
+use Rattle.chpw_client.proofs.FittingLemmas.{HasSizes, ap_req_fits, ap_req_short, ap_req_some, authenticator_fits, ticket_fits, ticket_part_fits}
 use Rattle.chpw_client.proofs.RequestLemmas.{same_request, same_ticket, ticket_taken}
 use Rattle.chpw_client.proofs.messages.ap_req.Goals as goal
 
+pub make_ticket-requires-clause-part : goal.make_ticket-requires-clause-part
+make_ticket-requires-clause-part c =
+    let w : Drawing = c.args.words.now in
+    let sizes : HasSizes w = search rules in
+    rw c.in_ok-part.ensures.value (ticket_part_fits (question_of c.args.asked.now) w c.requires.askable sizes)
+
+pub make_ticket-requires-clause-message : goal.make_ticket-requires-clause-message
+make_ticket-requires-clause-message c =
+    let w : Drawing = c.args.words.now in
+    let sizes : HasSizes w = search rules in
+    rw (c.in_ok-part.ensures.value, c.confounder.ensures.value)
+    (ticket_fits (question_of c.args.asked.now) w c.requires.askable sizes)
+
 pub make_ap_req-requires-clause-ticket : goal.make_ap_req-requires-clause-ticket
 make_ap_req-requires-clause-ticket c =
-    let n16 : length c.confounder.result ≡ 16 = search rules in
-    let made : Ticket = ticket_of c.args.asked.now.realm.now c.in_ok-part.part c.args.asked.now.service.now c.confounder.result in
-    let short : length (text types.enc_ticket_part (enc_ticket_part_value c.in_ok-part.part)) ≤ 10000 = c.is_short.ensures.short (search rules) in
-    let fit : fits types.ticket (ticket_value made) ≡ true =
-    c.messages_fit.ensures.ticket c.args.asked.now.realm.now c.in_ok-part.part c.args.asked.now.service.now c.confounder.result n16 c.requires.askable.kvno (omega (arith, short, c.requires.askable.realm)) in
-    (made, ticket_taken made c.deref.result.now fit (c.deref.ensures.value ∙ c.in_ok-ticket.ensures.text))
+    let q : Question = question_of c.args.asked.now in
+    let w : Drawing = c.args.words.now in
+    let sizes : HasSizes w = search rules in
+    let is = same_ticket q w c.in_ok-part.part c.confounder.result c.deref.result.now c.in_ok-part.ensures.value c.confounder.ensures.value
+    (c.deref.ensures.value ∙ c.in_ok-ticket.ensures.text) in
+    (ticket q w, ticket_taken (ticket q w) c.deref.result.now (ticket_fits q w c.requires.askable sizes) is)
+
+pub make_ap_req-requires-clause-part : goal.make_ap_req-requires-clause-part
+make_ap_req-requires-clause-part c =
+    let w : Drawing = c.args.words.now in
+    let sizes : HasSizes w = search rules in
+    rw c.in_ok-authenticator.ensures.value (authenticator_fits (question_of c.args.asked.now) w c.requires.askable sizes)
 
 pub make_ap_req-requires-clause-message : goal.make_ap_req-requires-clause-message
 make_ap_req-requires-clause-message c = λ t spelled.
-    let n16 : length c.confounder.result ≡ 16 = search rules in
-    let m16 : length c.confounder-2.result ≡ 16 = search rules in
-    let made : Ticket = ticket_of c.args.asked.now.realm.now c.in_ok-part.part c.args.asked.now.service.now c.confounder.result in
-    let short : length (text types.enc_ticket_part (enc_ticket_part_value c.in_ok-part.part)) ≤ 10000 = c.is_short.ensures.short (search rules) in
-    let fit : fits types.ticket (ticket_value made) ≡ true =
-    c.messages_fit.ensures.ticket c.args.asked.now.realm.now c.in_ok-part.part c.args.asked.now.service.now c.confounder.result n16 c.requires.askable.kvno (omega (arith, short, c.requires.askable.realm)) in
-    let is : c.deref.result.now ≡ text types.ticket (ticket_value made) = c.deref.ensures.value ∙ c.in_ok-ticket.ensures.text in
-    let long = c.messages_fit.ensures.ticket_length c.args.asked.now.realm.now c.in_ok-part.part c.args.asked.now.service.now c.confounder.result n16 in
-    let other : length (text types.authenticator (authenticator_value c.in_ok-authenticator.authenticator)) ≤ 10000 = c.is_short-else-not-is_short.ensures.short (search rules) in
-    c.messages_fit.ensures.ap_req made t 536870912 c.in_ok-authenticator.authenticator c.key_of.result c.confounder-2.result m16 (omega arith) fit
-    (subst (λ (z : List ℕ). SpellsTicket z t) is spelled) (omega (arith, short, long, other, c.requires.askable.realm))
+    let q : Question = question_of c.args.asked.now in
+    let w : Drawing = c.args.words.now in
+    let sizes : HasSizes w = search rules in
+    let is = same_ticket q w c.in_ok-part.part c.confounder.result c.deref.result.now c.in_ok-part.ensures.value c.confounder.ensures.value
+    (c.deref.ensures.value ∙ c.in_ok-ticket.ensures.text) in
+    rw (c.in_ok-authenticator.ensures.value, c.key_of.ensures.value, c.confounder-2.ensures.value)
+    (ap_req_fits q w t c.requires.askable sizes (subst (λ (z : List ℕ). SpellsTicket z t) is spelled))
 
 pub returns : goal.returns
 returns c =
     let q : Question = question_of c.args.asked.now in
-    let is = same_ticket q c.args.words.now c.in_ok-part.part c.confounder.result c.deref.result.now c.in_ok-part.ensures.value c.confounder.ensures.value (c.deref.ensures.value ∙ c.in_ok-ticket.ensures.text) in
+    let w : Drawing = c.args.words.now in
+    let sizes : HasSizes w = search rules in
+    let is : c.deref.result.now ≡ ticket_text q w =
+    same_ticket q w c.in_ok-part.part c.confounder.result c.deref.result.now c.in_ok-part.ensures.value c.confounder.ensures.value
+    (c.deref.ensures.value ∙ c.in_ok-ticket.ensures.text) in
+    let made : Ticket → List ℕ = λ t. text types.ap_req
+    (ap_req_value (ap_req_of t (bit protocol.mutual_required) c.in_ok-authenticator.authenticator c.key_of.result c.confounder-2.result)) in
+    let same : (t : Ticket) (bytes : List ℕ) → bytes ≡ made t → bytes ≡ ap_req_text t q w = λ t bytes is.
+    same_request q w t c.in_ok-authenticator.authenticator c.key_of.result c.confounder-2.result bytes
+    c.in_ok-authenticator.ensures.value c.key_of.ensures.value c.confounder-2.ensures.value is in
     record {
-      text = IfOk-weaker c.make_ap_req.result _ _ (λ v h. (
-        h.0,
-        subst (λ (z : List ℕ). SpellsTicket z h.0) is h.1,
-        same_request q c.args.words.now h.0 c.in_ok-authenticator.authenticator c.key_of.result c.confounder-2.result _ c.in_ok-authenticator.ensures.value c.key_of.ensures.value c.confounder-2.ensures.value h.2,
-      )) c.make_ap_req.ensures.text;
+      text = IfOk-weaker c.make_ap_req.result _ _
+          (λ v h. (h.0, subst (λ (z : List ℕ). SpellsTicket z h.0) is h.1, same h.0 _ h.2)) c.make_ap_req.ensures.text;
+      some = IfOk-weaker c.make_ap_req.result _ _
+          (λ v h. subst (λ (b : List ℕ). 0 < length b) (sym (same h.0 _ h.2)) (ap_req_some q w h.0)) c.make_ap_req.ensures.text;
+      short = IfOk-weaker c.make_ap_req.result _ _
+          (λ v h. subst (λ (b : List ℕ). length b ≤ longest_ap_req) (sym (same h.0 _ h.2))
+          (ap_req_short q w h.0 c.requires.askable sizes (subst (λ (z : List ℕ). SpellsTicket z h.0) is h.1))) c.make_ap_req.ensures.text;
     }
