@@ -1,14 +1,13 @@
 -- The octet strings of a value whose text is made of bytes are made of bytes, and so is a key.
-use Rattle.std.proofs.Common.{◌≡◌, ℕ, ◌<◌, ◌&&◌, Bool, true, false, List, [], ◌∷◌, ◌++◌, length, Option, Some, None, refl, sym, subst, eqb, ℤ, pos}
+use Rattle.std.proofs.Common.{◌≡◌, ℕ, ◌<◌, ◌&&◌, Bool, true, false, List, ◌∷◌, ◌++◌, length, Some, None, refl, subst, eqb, ℤ, pos}
 use Rattle.std.specs.Prelude.{◌==◌, if◌then◌else◌, IfSome, All}
 use Rattle.std.specs.Ordering.{int_eq}
 use Rattle.std.proofs.lemmas.Bool.{eqb-true}
 use Rattle.std.proofs.lemmas.List.{take_at, drop_at}
 use Rattle.std.proofs.lemmas.List.Elements.{All-take, All-drop}
 use Rattle.krb_keys.specs.Keys.{IsProtocolKey, key_of}
-use Rattle.krb_keys.specs.declared.key.Key.{Key}
 use Rattle.krb_keys.specs.declared.key.Key.TheVariants.{Aes128, Aes256}
-use Rattle.krb_elements.specs.Shapes.{Primitive, integer, sequence_number, octets, bits, time, Shape, primitive, tagged, many, further, nothing, field, option, Meaning, Value}
+use Rattle.krb_elements.specs.Shapes.{integer, sequence_number, octets, bits, time, Shape, primitive, tagged, many, further, nothing, field, option, Value}
 use Rattle.krb_elements.specs.Grammar.{IsElement, Spells}
 use Rattle.krb_elements.proofs.CompleteLemmas.{and_true}
 

@@ -26,11 +26,11 @@ use Rattle.krb_msgs.proofs.OpenedLemmas.{found_passes, held_passes, then_passes}
 use Rattle.chpw_frame.specs.declared.change_data.Change.{Change}
 use Rattle.chpw_frame.specs.declared.change_data.ChangeTarget.{ChangeTarget}
 use Rattle.chpw_frame.specs.declared.fault.FrameFault.{FrameFault}
-use Rattle.chpw_frame.specs.Asked.{asked, asks}
+use Rattle.chpw_frame.specs.Asked.{asks}
 use Rattle.chpw_frame.specs.ChangeData.{change_value, Finds}
 use Rattle.chpw_frame.specs.Framing.{ap_of, first_fault, request_versions, tail_of, version_of}
 use Rattle.chpw_frame.proofs.ChangeLemmas.{asks_complete}
-use Rattle.chpw_answer.specs.Requests.{Content, new_password, bad_private, bad_data, Opens, opened}
+use Rattle.chpw_answer.specs.Requests.{Content, new_password, bad_private, bad_data, opened}
 use Rattle.chpw_messages.specs.Opening.{IsAsked, IsContent, OpensAs, OpensFramed, OpensParts, request_of, stamp_in, target_in}
 use Rattle.chpw_messages.specs.OneOpening.{MessagesOpenOnce}
 use Rattle.chpw_messages.proofs.OctetLemmas.{AreBytes, holds_bytes, HoldsBytes, key_of_bytes}
