@@ -4,3 +4,4 @@ pub mod Service
 pub mod Asked
 pub mod Laws
 pub mod WorkedReplies
+pub mod OneOpening

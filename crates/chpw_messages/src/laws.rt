@@ -1,11 +1,18 @@
 //! Laws of the definitions alone, and worked replies.
 ghost use Rattle.chpw_messages.specs.Laws.{RequestsOpen};
+ghost use Rattle.chpw_messages.specs.OneOpening.{MessagesOpenOnce};
 ghost use Rattle.chpw_messages.specs.WorkedReplies.{MalformedReply, VersionReply, TooLongReply};
 
 /// A request for a change of password, made of its records and framed, opens to that request.
 #[tactic(auto, using(crate::proofs::RequestLemmas::requests_open))]
 pub fn openings()
     ensures request { RequestsOpen }
+{}
+
+/// A message opens to one answer, so what a call answers is all that its relation allows: one that is
+/// refused opens to no request, and one that opens asks one thing.
+pub fn one_opening()
+    ensures message { MessagesOpenOnce }
 {}
 
 /// The replies to a message with an empty AP-REQ, to one of another version, and to one that is too

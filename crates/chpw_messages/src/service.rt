@@ -1,6 +1,9 @@
 //! The service: its realm and its keys.
 ghost use Rattle.std.specs.Prelude.{◌≡◌, true, map, IfOk};
 ghost use Rattle.std.specs.List.{list_all};
+ghost use Rattle.std.specs.Result.{result_ok};
+ghost use Rattle.krb_keys.specs.Keys.{IsProtocolKey, key_of};
+ghost use Rattle.krb_msgs.specs.OneAnswer.{AreProtocolKeys};
 ghost use Rattle.chpw_rules.specs.Fitting.{config_fits, service_key_fits};
 ghost use Rattle.chpw_messages.specs.Service.{configured, held};
 
@@ -10,7 +13,7 @@ use crate::replies::error_reply;
 use chpw_answer::{Messages, Opening, Refusal, Seal};
 use chpw_rules::{Config, Items, ServiceRow};
 use chpw_table::Moment;
-use krb_keys::key_of;
+use krb_keys::{BadKey, Key, key_of};
 use krb_msgs::ServiceKey;
 use std::alloc::{AllocError, Global};
 use std::marker::Model;
@@ -33,11 +36,14 @@ impl Model for Service {
 }
 
 impl Service {
-    /// The service of a configuration that fits: its realm, and its service keys in their order.
+    /// The service of a configuration that fits: its realm, and its service keys in their order, each
+    /// of as many bytes as its encryption type says. So a message opens to one answer
+    /// ([`crate::laws::one_opening`]).
     pub fn of(alloc: Global, config: &Config) -> Result<Service, AllocError>
         requires fits { config_fits config.now ≡ true }
         ensures realm { IfOk result (λ s. s.realm ≡ config.now.realm) }
         ensures keys { IfOk result (λ s. map held s.keys ≡ map configured config.now.service) }
+        ensures protocol { IfOk result (λ s. AreProtocolKeys s.keys) }
     {
         Ok(Service {
             realm: Items::of(Vec::from_slice(alloc, config.realm.as_slice())?),
@@ -49,6 +55,7 @@ impl Service {
 fn service_keys(alloc: Global, rows: &[ServiceRow]) -> Result<Vec<ServiceKey>, AllocError>
     requires fit { list_all service_key_fits rows.now ≡ true }
     ensures value { IfOk result (λ keys. map held keys.items ≡ map configured rows.now) }
+    ensures protocol { IfOk result (λ keys. AreProtocolKeys keys.items) }
 {
     let mut keys = Vec::with_capacity(alloc, rows.len())?;
     for row in rows {
@@ -57,11 +64,20 @@ fn service_keys(alloc: Global, rows: &[ServiceRow]) -> Result<Vec<ServiceKey>, A
     Ok(keys)
 }
 
+/// The key of an encryption type with these bytes.
+fn key_in(etype: i32, bytes: &[u8]) -> Result<Key, BadKey>
+    ensures value { result_ok result ≡ key_of etype bytes.now }
+    ensures protocol { IfOk result IsProtocolKey }
+{
+    key_of(etype, bytes)
+}
+
 fn service_key(row: &ServiceRow) -> ServiceKey
     requires fits { service_key_fits row.now ≡ true }
     ensures value { held result ≡ configured row.now }
+    ensures protocol { IsProtocolKey result.key }
 {
-    match key_of(row.etype, row.key.as_slice()) {
+    match key_in(row.etype, row.key.as_slice()) {
         Ok(key) => ServiceKey {
             kvno: row.kvno,
             key,

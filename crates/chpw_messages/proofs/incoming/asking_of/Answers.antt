@@ -1,5 +1,4 @@
 use Rattle.std.proofs.Common.{◌≡◌, [], ℕ, List, sym, ◌∙◌, ap, subst}
-use Rattle.chpw_table.specs.declared.request.Target.{Target}
 use Rattle.chpw_answer.specs.Requests.{body_under, new_password}
 use Rattle.chpw_messages.specs.declared.content.Asked.{Asked}
 use Rattle.chpw_messages.specs.Asked.{content_in}

@@ -1,12 +1,12 @@
-use Rattle.std.proofs.Common.{◌≡◌, ◌≤◌, ◌+◌, ℕ, ℤ, pos, negsuc, ◌≤ℤ◌, List, [], true, length, sym, ◌∙◌, ap, subst, rules, arith}
+use Rattle.std.proofs.Common.{◌≡◌, ◌≤◌, ℕ, List, [], true, length, sym, ap, subst, rules, arith}
 use Rattle.std.specs.Prelude.{FitsSigned}
 use Rattle.std.specs.Int.{w32}
 use Rattle.std.proofs.lemmas.Int.{ints}
-use Rattle.krb_elements.specs.Texts.{fits, text}
+use Rattle.krb_elements.specs.Texts.{fits}
 use Rattle.krb_der.specs.Types.{krb_error}
 use Rattle.krb_der.specs.Values.{krb_error_value}
 use Rattle.krb_der.specs.declared.krb_error.KrbError.{KrbError}
-use Rattle.chpw_frame.specs.Framing.{framed, reply_version}
+use Rattle.chpw_frame.specs.Framing.{reply_version}
 use Rattle.chpw_frame.proofs.FramingLemmas.{framed_length}
 use Rattle.chpw_answer.proofs.CompletingLemmas.{ok_map}
 use Rattle.chpw_messages.proofs.ReplyLemmas.{error_fits, error_range, message_short}

@@ -1,0 +1,161 @@
+-- A message opens to one answer.
+use Rattle.std.proofs.Common.{◌≡◌, ℕ, List, Option, Some, None, option_map, Result, Ok, Err, refl, sym, ◌∙◌, ap, subst, false}
+use Rattle.std.specs.Prelude.{option_and_then, IfSome}
+use Rattle.krb_keys.specs.Keys.{IsProtocolKey}
+use Rattle.krb_keys.specs.declared.key.Key.{Key}
+use Rattle.krb_elements.proofs.CompleteLemmas.{one_value}
+use Rattle.krb_der.specs.Types.{authenticator, change_passwd_data, encryption_key}
+use Rattle.krb_der.specs.Values.{authenticator_value, change_passwd_data_value, encryption_key_value}
+use Rattle.krb_der.specs.declared.authenticator.Authenticator.{Authenticator}
+use Rattle.krb_der.specs.declared.change_passwd_data.ChangePasswdData.{ChangePasswdData}
+use Rattle.krb_der.specs.declared.encrypted_data.EncryptionKey.{EncryptionKey}
+use Rattle.krb_der.specs.declared.principal_name.PrincipalName.{PrincipalName}
+use Rattle.krb_msgs.specs.Authenticators.{OpensAuthenticator}
+use Rattle.krb_msgs.specs.Accepted.{Accepts, IsSubkey, opened_of}
+use Rattle.krb_msgs.specs.ApExchange.{OpensAp}
+use Rattle.krb_msgs.specs.OneAnswer.{AreProtocolKeys, IsOne}
+use Rattle.krb_msgs.specs.declared.service_keys.ServiceKey.{ServiceKey}
+use Rattle.krb_msgs.specs.declared.ap_exchange.ApOpened.{ApOpened}
+use Rattle.krb_msgs.specs.declared.private_message.Private.{Private}
+use Rattle.krb_msgs.specs.declared.fault.ApFault.{ApFault}
+use Rattle.krb_msgs.specs.declared.fault.PrivFault.{PrivFault}
+use Rattle.krb_msgs.specs.declared.fault.PrivFault.TheVariants as priv
+use Rattle.krb_msgs.proofs.AnswerLemmas.{ok_is}
+use Rattle.krb_msgs.proofs.OneAnswerLemmas.{ap_reqs_open_once, privs_open_once}
+use Rattle.krb_msgs.proofs.OpenedLemmas.{found_passes, held_passes, then_passes}
+use Rattle.chpw_frame.specs.declared.change_data.Change.{Change}
+use Rattle.chpw_frame.specs.declared.change_data.ChangeTarget.{ChangeTarget}
+use Rattle.chpw_frame.specs.declared.fault.FrameFault.{FrameFault}
+use Rattle.chpw_frame.specs.Asked.{asks}
+use Rattle.chpw_frame.specs.ChangeData.{change_value, Finds}
+use Rattle.chpw_frame.specs.Framing.{ap_of, first_fault, request_versions, tail_of, version_of}
+use Rattle.chpw_frame.proofs.ChangeLemmas.{asks_complete}
+use Rattle.chpw_answer.specs.Requests.{Content, new_password, bad_private, bad_data, opened}
+use Rattle.chpw_messages.specs.Opening.{IsAsked, IsContent, OpensAs, OpensFramed, OpensParts, request_of, stamp_in, target_in}
+use Rattle.chpw_messages.specs.OneOpening.{MessagesOpenOnce}
+use Rattle.chpw_messages.proofs.OctetLemmas.{AreBytes, holds_bytes, HoldsBytes, key_of_bytes}
+
+-- ---- the subkey
+
+key_in_field : (field : Option EncryptionKey) (key : Key)
+    → IfSome (option_map encryption_key_value field) (HoldsBytes encryption_key) → IsSubkey field key → IsProtocolKey key
+key_in_field None key held h = absurd h
+key_in_field (Some field) key held h =
+    subst (λ (o : Option Key). IfSome o IsProtocolKey) h (key_of_bytes field.keytype field.keyvalue held.1.0)
+
+-- the subkey of an AP-REQ that opened is a protocol key
+subkey_is_key : (realm : List ℕ) (keys : List ServiceKey) (bytes peer : List ℕ) (a : ApOpened)
+    → OpensAp realm keys bytes peer (Ok a) → IsProtocolKey a.subkey
+unfolding OpensAp OpensAuthenticator Accepts
+subkey_is_key realm keys bytes peer found h =
+    let presented = then_passes h in
+    let ticket = then_passes presented.2 in
+    let sealed = then_passes ticket.2 in
+    let accepts = found_passes (held_passes (held_passes sealed.2).1).1 in
+    let is : found ≡ opened_of ticket.0.0 ticket.0.1 sealed.0 accepts.0 = ok_is _ _ accepts.2 in
+    let part = then_passes sealed.1 in
+    let same : sealed.0 ≡ part.0 = ok_is _ _ (held_passes part.2).1 in
+    let plain = then_passes part.1 in
+    let unsealed = found_passes plain.1 in
+    let read = found_passes plain.2 in
+    let same_again : part.0 ≡ read.0 = ok_is _ _ read.2 in
+    let are : AreBytes plain.0 = subst AreBytes (sym (ok_is plain.0 unsealed.0 unsealed.2)) unsealed.1.1.4 in
+    let held = holds_bytes authenticator plain.0 (authenticator_value read.0) read.1 are in
+    let field : IsSubkey read.0.subkey accepts.0 = subst (λ (x : Authenticator). IsSubkey x.subkey accepts.0) (same ∙ same_again) accepts.1 in
+    subst (λ (o : ApOpened). IsProtocolKey o.subkey) (sym is)
+    (key_in_field read.0.subkey accepts.0 held.1.1.1.1.1.1.0 field)
+
+-- ---- what is asked
+
+-- the fields of a change
+abbrev fields_of : Change → ChangePasswdData
+fields_of change = record {
+  newpasswd = change.password;
+  targname = option_map (λ (t : ChangeTarget). t.name) change.target;
+  targrealm = option_and_then (λ (t : ChangeTarget). t.realm) change.target;
+}
+
+fields_value : (password : List ℕ) (target : Option ChangeTarget)
+    → change_value (record { password = password; target = target })
+    ≡ change_passwd_data_value (fields_of (record { password = password; target = target }))
+fields_value password None = refl
+fields_value password (Some target) = of_realm target.name target.realm
+  where
+    of_realm : (name : PrincipalName) (realm : Option (List ℕ))
+        → change_value (record { password = password; target = Some (record { name = name; realm = realm }) })
+        ≡ change_passwd_data_value (record { newpasswd = password; targname = Some name; targrealm = realm })
+    of_realm name None = refl
+    of_realm name (Some realm) = refl
+
+one_asks : (password : List ℕ) (name : Option PrincipalName) (realm : Option (List ℕ)) → IsOne (Finds (asks password name realm))
+one_asks password (Some name) realm one other h k = sym h ∙ k
+one_asks password None None one other h k = sym h ∙ k
+one_asks password None (Some realm) one other h k = absurd h
+
+same_change : (one other : Change) → change_value one ≡ change_value other → one ≡ other
+same_change one other h =
+    let fields = fields_of other in
+    let value = fields_value other.password other.target in
+    one_asks fields.newpasswd fields.targname fields.targrealm one other
+    (asks_complete fields one (h ∙ value)) (asks_complete fields other value)
+
+one_asked : (realm : List ℕ) (version : ℕ) (bytes : List ℕ) → IsOne (IsAsked realm version bytes)
+one_asked realm version bytes (new_password target password) (new_password other_target other_password) h k =
+    let value = one_value change_passwd_data refl bytes (change_value h.0) (change_value k.0) h.1 k.1 in
+    let same = same_change h.0 k.0 value in
+    let targets : target ≡ other_target = h.2 ∙ ap (λ (c : Change). option_map (target_in realm) c.target) same ∙ sym k.2 in
+    let passwords : password ≡ other_password = h.3 ∙ ap (λ (c : Change). c.password) same ∙ sym k.3 in
+    cc
+one_asked realm version bytes (new_password target password) bad_data h k = absurd (k h.0 h.1)
+one_asked realm version bytes (new_password target password) bad_private h k = absurd k
+one_asked realm version bytes bad_data (new_password target password) h k = absurd (h k.0 k.1)
+one_asked realm version bytes bad_data bad_data h k = refl
+one_asked realm version bytes bad_data bad_private h k = absurd k
+one_asked realm version bytes bad_private other h k = absurd h
+
+one_content : (realm : List ℕ) (version : ℕ) (private : Result Private PrivFault) → IsOne (IsContent realm version private)
+one_content realm version (Ok p) one other h k = one_asked realm version p.user_bytes one other h k
+one_content realm version (Err priv.Malformed) one other h k = h ∙ sym k
+one_content realm version (Err priv.WrongMessage) one other h k = h ∙ sym k
+one_content realm version (Err priv.NotSealed) one other h k = h ∙ sym k
+one_content realm version (Err priv.WrongSeqNumber) one other h k = h ∙ sym k
+
+-- ---- the message
+
+abbrev HasKey : Result ApOpened ApFault → Type 0
+HasKey (Ok a) = IsProtocolKey a.subkey
+HasKey (Err fault) = Unit {0}
+
+has_key : (realm : List ℕ) (keys : List ServiceKey) (bytes peer : List ℕ) (a : Result ApOpened ApFault)
+    → OpensAp realm keys bytes peer a → HasKey a
+has_key realm keys bytes peer (Ok a) h = subkey_is_key realm keys bytes peer a h
+has_key realm keys bytes peer (Err fault) h = tt
+
+one_request : (realm : List ℕ) (version : ℕ) (tail : List ℕ) (a : Result ApOpened ApFault) → HasKey a
+    → IsOne (OpensAs realm version tail a)
+one_request realm version tail (Err fault) is_key one other h k = h ∙ sym k
+one_request realm version tail (Ok a) is_key one other h k =
+    let private : h.0 ≡ k.0 = privs_open_once a.subkey a.seq_number tail is_key h.0 k.0 h.1 k.1 in
+    let same_content : h.2.0 ≡ k.2.0 = one_content realm version k.0 h.2.0 k.2.0
+        (subst (λ (p : Result Private PrivFault). IsContent realm version p h.2.0) private h.2.1) k.2.1 in
+    h.2.2
+    ∙ (ap (λ (p : Result Private PrivFault). opened (request_of a (stamp_in p) h.2.0)) private
+    ∙ (ap (λ (content : Content). opened (request_of a (stamp_in k.0) content)) same_content
+    ∙ sym k.2.2))
+
+one_parts : (realm : List ℕ) (keys : List ServiceKey) (peer : List ℕ) (version : ℕ) (ap_req tail : List ℕ)
+    → AreProtocolKeys keys → IsOne (OpensParts realm keys peer version ap_req tail)
+one_parts realm keys peer version ap_req tail are one other h k =
+    let same : h.0 ≡ k.0 = ap_reqs_open_once realm keys ap_req peer are h.0 k.0 h.1 k.1 in
+    one_request realm version tail k.0 (has_key realm keys ap_req peer k.0 k.1) one other
+    (subst (λ (a : Result ApOpened ApFault). OpensAs realm version tail a one) same h.2) k.2
+
+one_framed : (realm : List ℕ) (keys : List ServiceKey) (peer bytes : List ℕ) (fault : Option FrameFault)
+    → AreProtocolKeys keys → IsOne (OpensFramed realm keys peer bytes fault)
+one_framed realm keys peer bytes (Some fault) are one other h k = h ∙ sym k
+one_framed realm keys peer bytes None are one other h k = 
+    one_parts realm keys peer (version_of bytes) (ap_of bytes) (tail_of bytes) are one other h k
+
+pub messages_open_once : MessagesOpenOnce
+messages_open_once realm keys peer bytes are =
+    one_framed realm keys peer bytes (first_fault request_versions false bytes) are

@@ -1,0 +1,11 @@
+-- A message opens to one answer: what its relation says of an answer leaves no other, so that a
+-- message that is refused is no request, and a request asks one thing.
+use Rattle.std.specs.Prelude.{ℕ, List}
+use Rattle.krb_msgs.specs.OneAnswer.{AreProtocolKeys, IsOne}
+use Rattle.krb_msgs.specs.declared.service_keys.ServiceKey.{ServiceKey}
+use Rattle.chpw_messages.specs.Opening.{OpensTo}
+
+-- for a service whose keys have as many bytes as their encryption types say
+abbrev pub MessagesOpenOnce : Type 0
+MessagesOpenOnce = (realm : List ℕ) (keys : List ServiceKey) (peer bytes : List ℕ)
+    → AreProtocolKeys keys → IsOne (OpensTo realm keys peer bytes)
