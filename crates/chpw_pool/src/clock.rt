@@ -1,11 +1,14 @@
 //! The machine's clock, as a worker reads it.
-ghost use Rattle.std.specs.Prelude.{◌<◌, IfSome};
+ghost use Rattle.std.specs.Prelude.{◌≡◌, ◌<◌, pos, IfSome, IfNone};
+ghost use Rattle.std.specs.Duration.{as_nanos};
 ghost use Rattle.chpw_table.specs.Times.{IsMoment};
+ghost use Rattle.chpw_pool.specs.Clocks.{moment_after, IsPast};
 
 use chpw_serve::Clock;
 use chpw_table::{LAST_SECOND, Moment};
+use std::marker::Model;
 use std::time;
-use std::time::{SystemTime, UNIX_EPOCH};
+use std::time::{Duration, SystemTime, UNIX_EPOCH};
 
 /// The machine's moment; none where its clock fails, or is past the year 9999.
 pub fn machine_moment<R: time::Clock>(rt: &R) -> Option<Moment>
@@ -13,27 +16,50 @@ pub fn machine_moment<R: time::Clock>(rt: &R) -> Option<Moment>
 {
     let now = SystemTime::now(rt).ok()?;
     let since = now.duration_since(UNIX_EPOCH).ok()?;
-    let seconds = i64::try_from(since.as_secs()).ok()?;
-    if seconds > LAST_SECOND {
+    moment(since)
+}
+
+// The moment so long after 1970-01-01T00:00:00Z; none past the year 9999.
+fn moment(since: Duration) -> Option<Moment>
+    ensures range { IfSome result (λ m. IsMoment m × (m.micros < 1000000)) }
+    ensures value { IfSome result (λ m. m ≡ moment_after (as_nanos since)) }
+    ensures none { IfNone result (IsPast (as_nanos since)) }
+{
+    let seconds = since.as_secs();
+    if seconds > LAST_SECOND as u64 {
         return None;
     }
     Some(Moment {
-        seconds,
+        seconds: seconds as i64,
         micros: since.subsec_micros(),
     })
 }
 
-/// The machine's clock. Where it gives no moment, the last one that it gave counts on, and at first
-/// that is 1970-01-01T00:00:00Z.
+/// The machine's clock, seen as the last moment that it gave. Where the machine gives none, that
+/// one counts on, and at first it is 1970-01-01T00:00:00Z.
 #[derive(Drop)]
 pub struct MachineClock<'a, R: time::Clock> {
     rt: &'a R,
     last: Moment,
-    ghost range: { IsMoment last × (last.micros < 1000000) },
+}
+
+impl<'a, R: time::Clock> Model for MachineClock<'a, R> {
+    ghost use Rattle.std.specs.Prelude.{◌<◌};
+    ghost use Rattle.chpw_table.specs.Times.{IsMoment};
+    ghost use Rattle.chpw_table.specs.declared.times.Moment.{Moment};
+
+    ghost Value = { Moment };
+
+    ghost view = { λ c. c.last };
+
+    ghost invariant = { λ c. IsMoment c.last × (c.last.micros < 1000000) };
 }
 
 impl<'a, R: time::Clock> MachineClock<'a, R> {
-    pub fn new(rt: &'a R) -> MachineClock<'a, R> {
+    /// A clock that has given no moment yet.
+    pub fn new(rt: &'a R) -> MachineClock<'a, R>
+        ensures start { result ≡ moment_after 0 }
+    {
         MachineClock {
             rt,
             last: Moment {
@@ -47,7 +73,7 @@ impl<'a, R: time::Clock> MachineClock<'a, R> {
 impl<'a, R: time::Clock> Clock for MachineClock<'a, R> {
     ghost use Rattle.std.specs.Prelude.{◌≡◌};
 
-    ghost gives = { λ _ moment after. after.last ≡ moment };
+    ghost gives = { λ _ moment after. after ≡ moment };
 
     fn now(&mut self) -> Moment {
         if let Some(moment) = machine_moment(self.rt) {

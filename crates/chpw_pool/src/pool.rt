@@ -1,5 +1,8 @@
 //! Workers at one desk.
-ghost use Rattle.std.specs.Prelude.{◌≡◌, ◌<◌, length, vec_len, IfOk};
+ghost use Rattle.std.specs.Prelude.{◌≡◌, ◌%◌, ◌<◌, length, vec_len, IfOk, IfErr};
+ghost use Rattle.rand_chacha.specs.ChaCha.{key_of};
+ghost use Rattle.chpw_serve.specs.WordStreams.{GivesFromTheFirst, stream_start};
+ghost use Rattle.chpw_pool.specs.Pools.{Ends, IsAcceptFault, peer_in};
 
 use crate::clock::MachineClock;
 use crate::line::{Connection, Line};
@@ -41,9 +44,10 @@ struct Shared<'a, M, D: DeskName, S: JournalSink> {
     seed: [u8; 32],
 }
 
-/// Serves so many connections at a desk, connection i (from 0) by worker i modulo their number, each
-/// worker one after the other; a worker draws its words from the stream of its own number. It returns
-/// when the connections are served, or, after a fault, those before it; each thread has ended then.
+/// Serves so many connections at a desk, connection i (from 0) by worker i modulo their number,
+/// each worker one after the other; a worker draws its words from the stream of its own number. It
+/// returns when the connections are served, or, after a fault, those before it; each thread has
+/// ended then.
 pub fn run_pool<
     R: Threads + Wait + time::Clock + Sync,
     M: Messages + Sync,
@@ -60,6 +64,7 @@ pub fn run_pool<
     connections: u32,
 ) -> Pool
     requires passes { 0 < length passes.old }
+    ensures ends { Ends connections result }
 {
     match no_gates(alloc, passes.len()) {
         Err(_) => Pool {
@@ -106,6 +111,7 @@ pub fn run_pool_with<
 ) -> Pool
     requires passes { 0 < length passes.old }
     requires gates { length gates.items ≡ length passes.old }
+    ensures ends { Ends connections result }
 {
     let shared = Shared {
         alloc,
@@ -157,12 +163,14 @@ fn run_posts<
     connections: u32,
 ) -> Pool
     requires posts { 0 < length posts.now }
+    ensures ends { Ends connections result }
 {
     thread::scope(
         thread::scope_env(),
         rt,
         move |scope| -> Pool
             requires { 0 < length posts.now }
+            ensures { Ends connections result }
         {
             let mut started = true;
             for (post, pass) in posts.iter().zip(passes.iter_mut()) {
@@ -195,27 +203,14 @@ fn accept_all<R: Wait, G>(
     connections: u32,
 ) -> Pool
     requires posts { 0 < length posts.now }
+    ensures ends { Ends connections result }
 {
     for served in 0..connections {
-        let Ok((stream, address)) = listener.accept() else {
+        let post = &posts[worker_of(served, posts.len())];
+        if let Err(fault) = accept(rt, listener, post) {
             return Pool {
                 served,
-                fault: Some(PoolFault::Accept),
-            };
-        };
-        let _ = stream.set_nodelay(true);
-        let connection = Connection {
-            stream,
-            peer: peer_of(address),
-        };
-        if posts[served as usize % posts.len()]
-            .line
-            .put(rt, connection)
-            .is_err()
-        {
-            return Pool {
-                served,
-                fault: Some(PoolFault::Memory),
+                fault: Some(fault),
             };
         }
     }
@@ -225,12 +220,49 @@ fn accept_all<R: Wait, G>(
     }
 }
 
+// The worker of a connection, both counted from 0.
+fn worker_of(connection: u32, workers: usize) -> usize
+    requires some { 0 < workers }
+    ensures value { result ≡ connection % workers }
+    ensures range { result < workers }
+{
+    connection as usize % workers
+}
+
+// Puts the next connection in the line of a post.
+fn accept<R: Wait, G>(rt: &R, listener: &TcpListener, post: &Post<G>) -> Result<(), PoolFault>
+    ensures fault { IfErr result IsAcceptFault }
+{
+    let Ok((stream, address)) = listener.accept() else {
+        return Err(PoolFault::Accept);
+    };
+    let _ = stream.set_nodelay(true);
+    let connection = Connection {
+        stream,
+        peer: peer_of(address),
+    };
+    match post.line.put(rt, connection) {
+        Ok(()) => Ok(()),
+        Err(_) => Err(PoolFault::Memory),
+    }
+}
+
 // An IPv4 address, high byte first; that of no host where it is another one.
-fn peer_of(address: SocketAddr) -> [u8; 4] {
+fn peer_of(address: SocketAddr) -> [u8; 4]
+    ensures value { result ≡ peer_in address }
+{
     match address {
         SocketAddr::V4(address) => address.ip().octets(),
         SocketAddr::V6(_) => [0; 4],
     }
+}
+
+// The words of a pass's worker: the stream of its number.
+fn words_of<D: DeskName>(seed: [u8; 32], pass: &Pass<D>) -> WorkerWords
+    ensures start { result ≡ stream_start (key_of seed) pass.now.worker }
+    ensures in_turn { GivesFromTheFirst (key_of seed) pass.now.worker result }
+{
+    WorkerWords::new(seed, u64::from(pass.worker()))
 }
 
 // Serves the connections of a post, until no more come.
@@ -242,7 +274,7 @@ fn work<R: Wait + time::Clock, M: Messages, D: DeskName, S: JournalSink, G: Gate
 ) {
     let mut gate = post.gate.lock(rt);
     let mut clock = MachineClock::new(rt);
-    let mut words = WorkerWords::new(shared.seed, u64::from(pass.worker()));
+    let mut words = words_of(shared.seed, pass);
     let mut decider = AtDesk {
         rt,
         desk: shared.desk,

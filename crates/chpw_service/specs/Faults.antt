@@ -1,7 +1,15 @@
--- The lines that tell why the service ends early.
-use Rattle.std.specs.Prelude.{ℕ, List, ◌++◌, codes}
-use Rattle.chpw_rules.specs.Faults.{fault_text as config_text}
+-- Why the service ends early: which faults its parts have, and the lines that tell them.
+use Rattle.std.specs.Prelude.{◌≡◌, ◌≢◌, ◌⊎◌, ℕ, List, ◌++◌, Result, Err, codes}
+use Rattle.std.specs.Str.{IsUtf8}
+use Rattle.chpw_rules.specs.Faults.{fault_text as config_text, no_toml}
+use Rattle.chpw_rules.specs.Settings.{settings_of}
+use Rattle.chpw_rules.specs.declared.config.Config.{Config as Settings}
+use Rattle.chpw_rules.specs.declared.fault.ConfigFault.{ConfigFault}
 use Rattle.chpw_journal.specs.Restoring.{fault_text as journal_text}
+use Rattle.chpw_journal.specs.declared.fault.RestoreFault.TheVariants.{Memory as NoMemory}
+use Rattle.chpw_pool.specs.declared.pool.PoolFault.{PoolFault}
+use Rattle.chpw_pool.specs.declared.pool.PoolFault.TheVariants as pool
+use Rattle.chpw_service.specs.declared.serving.ServeOptions.{ServeOptions}
 use Rattle.chpw_service.specs.declared.fault.ServeFault.{ServeFault}
 use Rattle.chpw_service.specs.declared.fault.ServeFault.TheVariants.{CannotRead, Config, CannotWrite, Journal, CannotListen, CannotPrint, Memory, CannotClose}
 
@@ -14,3 +22,49 @@ line_of CannotListen = codes "cannot listen"
 line_of CannotPrint = codes "cannot write"
 line_of Memory = codes "memory"
 line_of CannotClose = codes "cannot close"
+
+-- what a file's bytes set: their settings or first fault; bytes that are not UTF-8 are no TOML
+abbrev pub Sets : List ℕ → Result Settings ConfigFault → Type 0
+Sets bytes found = (IsUtf8 bytes × (settings_of bytes ≡ found)) ⊎ (¬ (IsUtf8 bytes) × (found ≡ Err no_toml))
+
+-- of the file at a path: it can't be read
+abbrev pub IsUnread : List ℕ → ServeFault → Type 0
+IsUnread path (CannotRead file) = file.now ≡ path
+IsUnread path Memory = Unit {0}
+IsUnread path fault = ⊥
+
+-- of these bytes of a configuration: their first fault
+abbrev pub IsOfBytes : List ℕ → ServeFault → Type 0
+IsOfBytes bytes (Config fault) = Sets bytes (Err fault)
+IsOfBytes bytes Memory = Unit {0}
+IsOfBytes bytes fault = ⊥
+
+-- of the configuration: or its bytes have this first fault
+abbrev pub IsOfSettings : List ℕ → ServeFault → Type 0
+IsOfSettings path (Config fault) = (bytes : List ℕ) × Sets bytes (Err fault)
+IsOfSettings path fault = IsUnread path fault
+
+-- of the journal: or it can't be made or cut, or has a fault
+abbrev pub IsOfJournal : List ℕ → ServeFault → Type 0
+IsOfJournal path (CannotWrite file) = file.now ≡ path
+IsOfJournal path (Journal fault) = fault ≢ NoMemory
+IsOfJournal path fault = IsUnread path fault
+
+-- once the files are read
+abbrev pub IsLate : ServeFault → Type 0
+IsLate CannotListen = Unit {0}
+IsLate CannotPrint = Unit {0}
+IsLate Memory = Unit {0}
+IsLate CannotClose = Unit {0}
+IsLate fault = ⊥
+
+-- of a service with these files
+abbrev pub IsOfService : ServeOptions → ServeFault → Type 0
+IsOfService o fault = IsOfSettings o.config.now fault ⊎ (IsUnread o.seed.now fault
+    ⊎ (IsOfJournal o.journal.now fault ⊎ IsLate fault))
+
+-- what a pool that ended early is told as
+abbrev pub told_as : PoolFault → ServeFault
+told_as pool.Accept = CannotListen
+told_as pool.Start = Memory
+told_as pool.Memory = Memory

@@ -1,6 +1,8 @@
 //! The close of a service's desk.
-ghost use Rattle.std.specs.Prelude.{◌≡◌};
+ghost use Rattle.std.specs.Prelude.{◌≡◌, IfOk, IfErr};
 ghost use Rattle.chpw_book.specs.Receipts.{changes_of};
+ghost use Rattle.chpw_service.specs.Tallies.{IsTally, IsMismatch};
+ghost use Rattle.chpw_service.specs.declared.fault.ServeFault.TheVariants.{CannotClose};
 
 use crate::fault::ServeFault;
 use chpw_book::{CloseRefused, Closed, Desk, DeskName, Pass};
@@ -13,11 +15,15 @@ pub(crate) struct Tally {
     pub changes: usize,
 }
 
-/// Closes a desk, and counts its history.
+/// Closes a desk, and counts its history. A desk that can't be closed is given up.
 pub(crate) fn close_desk<'a, D: DeskName, S: JournalSink + Drop>(
     desk: Desk<D, S>,
     passes: Vec<Pass<D>>,
-) -> Result<Tally, ServeFault<'a>> {
+) -> Result<Tally, ServeFault<'a>>
+    ensures tally { IfOk result (IsTally D.opening D.workers passes.items) }
+    ensures refusal { IfErr result (λ fault. (fault ≡ CannotClose)
+        × IsMismatch D.opening D.workers passes.items) }
+{
     match desk.close(passes) {
         Ok(
             Closed {

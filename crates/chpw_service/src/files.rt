@@ -1,6 +1,8 @@
 //! The files that a service starts from.
-ghost use Rattle.std.specs.Prelude.{◌≡◌, ◌≤◌, length, IfOk, true};
+ghost use Rattle.std.specs.Prelude.{◌≡◌, IfOk, IfErr, List, ℕ, Ok, true};
+ghost use Rattle.std.specs.Io.KnownBytes.{Consumes};
 ghost use Rattle.chpw_rules.specs.Fitting.{config_fits};
+ghost use Rattle.chpw_service.specs.Faults.{IsOfBytes, IsOfSettings, IsUnread, Sets};
 
 use crate::fault::ServeFault;
 use chpw_rules::{Config, ConfigError, ConfigFault, read_config};
@@ -15,15 +17,25 @@ pub fn read_settings<'a, R: Files + AllocGlobal>(
     path: &'a str,
 ) -> Result<Config, ServeFault<'a>>
     ensures fits { IfOk result (λ config. config_fits config ≡ true) }
+    ensures value { IfOk result (λ config. (bytes : List ℕ) × Sets bytes (Ok config)) }
+    ensures fault { IfErr result (IsOfSettings path.now) }
 {
-    let text = match fs::read(rt, path) {
-        Ok(text) => text,
-        Err(error) => return Err(unread(path, error)),
-    };
-    let Ok(text) = str::from_utf8(text.as_slice()) else {
+    match fs::read(rt, path) {
+        Ok(bytes) => settings(rt.alloc(), bytes.as_slice()),
+        Err(error) => Err(unread(path, error)),
+    }
+}
+
+// The settings that a file's bytes set, or their first fault.
+fn settings<'a>(alloc: Global, bytes: &[u8]) -> Result<Config, ServeFault<'a>>
+    ensures fits { IfOk result (λ config. config_fits config ≡ true) }
+    ensures value { IfOk result (λ config. Sets bytes.now (Ok config)) }
+    ensures fault { IfErr result (IsOfBytes bytes.now) }
+{
+    let Ok(text) = str::from_utf8(bytes) else {
         return Err(ServeFault::Config(ConfigFault::not_toml()));
     };
-    match read_config(rt.alloc(), text) {
+    match read_config(alloc, text) {
         Ok(config) => Ok(config),
         Err(ConfigError::Fault(fault)) => Err(ServeFault::Config(fault)),
         Err(ConfigError::Memory) => Err(ServeFault::Memory),
@@ -31,19 +43,32 @@ pub fn read_settings<'a, R: Files + AllocGlobal>(
 }
 
 /// The first 32 bytes of the seed's file; a shorter file can't be read.
-pub fn read_seed<'a, R: Files>(rt: &R, path: &'a str) -> Result<[u8; 32], ServeFault<'a>> {
-    let mut seed = [0; 32];
+pub fn read_seed<'a, R: Files>(rt: &R, path: &'a str) -> Result<[u8; 32], ServeFault<'a>>
+    ensures fault { IfErr result (IsUnread path.now) }
+{
     let read = match File::open(rt, path) {
-        Ok(mut file) => file.read_exact(&mut seed),
+        Ok(mut file) => first_32(&mut file),
         Err(error) => Err(error),
     };
     match read {
-        Ok(()) => Ok(seed),
+        Ok(seed) => Ok(seed),
         Err(error) => Err(unread(path, error)),
     }
 }
 
-fn unread(path: &str, error: io::Error) -> ServeFault<'_> {
+fn first_32<R: Read>(reader: &mut R) -> io::Result<[u8; 32]>
+    ensures bytes { IfOk result (λ seed.
+        Consumes (R.remaining reader.old) (R.remaining reader.new) seed) }
+{
+    let mut seed = [0; 32];
+    reader.read_exact(&mut seed)?;
+    Ok(seed)
+}
+
+// The fault of a file that can't be read.
+fn unread(path: &str, error: io::Error) -> ServeFault<'_>
+    ensures fault { IsUnread path.now result }
+{
     if error.kind() == ErrorKind::OutOfMemory {
         ServeFault::Memory
     } else {

@@ -1,7 +1,11 @@
 //! The table that a service starts with.
-ghost use Rattle.std.specs.Prelude.{◌≡◌, ◌-◌, ◌^◌, ◌<◌, IfOk, true};
+ghost use Rattle.std.specs.Prelude.{◌≡◌, ◌+ℤ◌, ◌-ℤ◌, pos, IfOk, IfErr, if◌then◌else◌, true};
 ghost use Rattle.chpw_rules.specs.Fitting.{config_fits};
+ghost use Rattle.chpw_table.specs.Agreement.{Agrees};
+ghost use Rattle.chpw_table.specs.State.{opening_of};
 ghost use Rattle.chpw_table.specs.Times.{IsTime};
+ghost use Rattle.chpw_service.specs.Faults.{IsOfJournal};
+ghost use Rattle.chpw_service.specs.declared.fault.ServeFault.TheVariants.{Memory};
 
 use crate::fault::ServeFault;
 use chpw_journal::{FileSink, Journal, OpenFault, RestoreFault, open_journal, quiet_after};
@@ -23,14 +27,12 @@ pub(crate) fn open_table<'a, R: Files<File = File> + Clock>(
 ) -> Result<Journal, ServeFault<'a>>
     requires fits { config_fits config ≡ true }
     ensures fresh { IfOk result (λ j. ⟦<FileSink<File> as JournalSink>⟧.failed j.sink ≡ 0) }
+    ensures fault { IfErr result (IsOfJournal path.now) }
 {
     let Ok(found) = fs::exists(rt, path) else {
         return Err(ServeFault::CannotRead(path));
     };
-    let quiet_until = quiet_after(start_second(rt), found);
-    let Ok(table) = Table::start(alloc, config, quiet_until) else {
-        return Err(ServeFault::Memory);
-    };
+    let table = opening_table(alloc, config, start_second(rt), found)?;
     match open_journal(rt, alloc, path, table) {
         Err(fault) => Err(journal_fault(path, fault)),
         Ok(journal) => {
@@ -44,6 +46,25 @@ pub(crate) fn open_table<'a, R: Files<File = File> + Clock>(
     }
 }
 
+// The table of the configuration, quiet from this start on.
+fn opening_table<'a>(
+    alloc: Global,
+    config: Config,
+    start: i64,
+    found: bool,
+) -> Result<Table, ServeFault<'a>>
+    requires fits { config_fits config ≡ true }
+    requires start { IsTime start }
+    ensures opening { IfOk result (λ table. Agrees table.state (opening_of config
+        (if found then start +ℤ pos 300 else start -ℤ pos 301))) }
+    ensures fault { IfErr result (λ fault. fault ≡ Memory) }
+{
+    match Table::start(alloc, config, quiet_after(start, found)) {
+        Ok(table) => Ok(table),
+        Err(_) => Err(ServeFault::Memory),
+    }
+}
+
 // The machine's second.
 fn start_second<R: Clock>(rt: &R) -> i64
     ensures range { IsTime result }
@@ -54,7 +75,9 @@ fn start_second<R: Clock>(rt: &R) -> i64
     }
 }
 
-fn journal_fault(path: &str, fault: OpenFault) -> ServeFault<'_> {
+fn journal_fault(path: &str, fault: OpenFault) -> ServeFault<'_>
+    ensures fault { IsOfJournal path.now result }
+{
     match fault {
         OpenFault::CannotRead => ServeFault::CannotRead(path),
         OpenFault::CannotWrite => ServeFault::CannotWrite(path),

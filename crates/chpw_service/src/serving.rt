@@ -1,5 +1,7 @@
 //! The service on a port.
-ghost use Rattle.std.specs.Prelude.{◌≡◌, ◌≤◌, IfOk, length};
+ghost use Rattle.std.specs.Prelude.{◌≡◌, ◌≤◌, ◌⊎◌, IfOk, IfErr, OnOk, IfSome, None, length};
+ghost use Rattle.chpw_service.specs.Faults.{IsLate, IsOfService, told_as};
+ghost use Rattle.chpw_service.specs.declared.fault.ServeFault.TheVariants.{CannotListen, CannotPrint};
 
 use crate::closing::{Tally, close_desk};
 use crate::fault::ServeFault;
@@ -39,10 +41,10 @@ struct Ready {
     seed: [u8; 32],
 }
 
-/// Serves so many connections on 127.0.0.1, connection i (from 0) by worker i modulo their number, each
-/// worker one after the other. The configuration is read first, then the seed, then the journal, and
-/// then the port is listened at. Printed are `listening on 127.0.0.1:N` before a connection is
-/// accepted, and at the end `entries N changes N`.
+/// Serves so many connections on 127.0.0.1, connection i (from 0) by worker i modulo their number,
+/// each worker one after the other. The configuration is read first, then the seed, then the
+/// journal, and then the port is listened at. Printed are `listening on 127.0.0.1:N` before a
+/// connection is accepted, and at the end `entries N changes N`.
 pub fn serve<
     'a,
     R: Files<File = File>
@@ -55,6 +57,7 @@ pub fn serve<
         + Sync,
 >(rt: &R, options: ServeOptions<'a>) -> Result<(), ServeFault<'a>>
     requires workers { (1 ≤ options.workers) × (options.workers ≤ 16) }
+    ensures fault { IfErr result (IsOfService options.entry) }
 {
     let config = read_settings(rt, options.config)?;
     let seed = read_seed(rt, options.seed)?;
@@ -79,7 +82,9 @@ pub fn serve<
 fn listen<'a, R: Net<Listener = TcpListener, Stream = TcpStream>>(
     rt: &R,
     port: u16,
-) -> Result<TcpListener, ServeFault<'a>> {
+) -> Result<TcpListener, ServeFault<'a>>
+    ensures fault { IfErr result (λ fault. fault ≡ CannotListen) }
+{
     match TcpListener::bind(rt, (Ipv4Addr::LOCALHOST, port)) {
         Ok(listener) => Ok(listener),
         Err(_) => Err(ServeFault::CannotListen),
@@ -104,6 +109,7 @@ fn serve_desk<
         × (blank.parts ≡ options.workers) }
     requires desk { (D.workers ≡ options.workers) × (D.opening ≡ table.state) }
     requires fresh { ⟦<FileSink<File> as JournalSink>⟧.failed sink ≡ 0 }
+    ensures fault { IfErr result IsLate }
 {
     let Ok((desk, mut passes)) = start_desk::<D>(rt.alloc(), blank, table, sink, options.workers)
     else {
@@ -144,14 +150,29 @@ fn start_desk<D: DeskName>(
 }
 
 // Prints what was done, and tells why it ended early.
-fn end<'a, R: Print>(rt: &R, tally: Tally, pool: Pool) -> Result<(), ServeFault<'a>> {
+fn end<'a, R: Print>(rt: &R, tally: Tally, pool: Pool) -> Result<(), ServeFault<'a>>
+    ensures whole { OnOk result (pool.fault ≡ None) }
+    ensures fault { IfErr result (λ fault. (fault ≡ CannotPrint)
+        ⊎ IfSome pool.fault (λ why. fault ≡ told_as why)) }
+    ensures late { IfErr result IsLate }
+{
     let Tally { entries, changes } = tally;
     if println!(rt; "entries {entries} changes {changes}").is_err() {
         return Err(ServeFault::CannotPrint);
     }
     match pool.fault {
         None => Ok(()),
-        Some(PoolFault::Accept) => Err(ServeFault::CannotListen),
-        Some(PoolFault::Start | PoolFault::Memory) => Err(ServeFault::Memory),
+        Some(fault) => Err(told(fault)),
+    }
+}
+
+// The fault of a pool that ended early, as it is told.
+fn told<'a>(fault: PoolFault) -> ServeFault<'a>
+    ensures value { result ≡ told_as fault }
+    ensures late { IsLate result }
+{
+    match fault {
+        PoolFault::Accept => ServeFault::CannotListen,
+        PoolFault::Start | PoolFault::Memory => ServeFault::Memory,
     }
 }
