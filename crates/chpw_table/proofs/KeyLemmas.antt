@@ -100,7 +100,7 @@ held_at_fresh_done s clock o io h =
     held_at_done s o io (past _ NeedInitial _ refl (past _ Denied _ refl (past _ BadBody _ refl (past _ BadPrivate _ refl (past _ Expired _ refl (past _ NotYet _ refl h).1).1).1).1).1).1
 
 -- at Done the target has keys
-held_at_verdict : (s : State) (now : Moment) (o : Opened) (io : Bool) → verdict s now o io ≡ Done → is_none (keys_held s (target_of o).name) ≡ false
+pub held_at_verdict : (s : State) (now : Moment) (o : Opened) (io : Bool) → verdict s now o io ≡ Done → is_none (keys_held s (target_of o).name) ≡ false
 held_at_verdict s now o io h = held_at_fresh_done s (clock_at s now) o io (past _ Replay _ refl (past _ Skew _ refl h).1).1
 
 -- at least one key is kept

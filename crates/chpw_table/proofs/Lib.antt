@@ -3,6 +3,7 @@ pub mod DoneLemmas
 pub mod PlaceLemmas
 pub mod WantedLemmas
 pub mod EnteringLemmas
+pub mod PreparingLemmas
 pub mod HoldingLemmas
 pub mod BoolLemmas
 pub mod JournalLemmas

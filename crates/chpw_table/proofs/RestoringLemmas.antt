@@ -1,8 +1,7 @@
 -- A key put back is put back in each state that a table agrees with.
-use Rattle.std.proofs.Common.{◌≡◌, ◌≢◌, ℕ, ◌+◌, max, List, Option, Some, None, if◌then◌else◌, true, is_none, refl, sym, ◌∙◌, ap, subst, map}
+use Rattle.std.proofs.Common.{◌≡◌, ℕ, max, List, Option, Some, None, if◌then◌else◌, true, is_none, refl, sym, ◌∙◌, ap, subst, map}
 use Rattle.std.specs.Prelude.{option_map}
 use Rattle.chpw_rules.specs.declared.name.Name.{Name}
-use Rattle.chpw_rules.specs.declared.policy.Policy.{Policy}
 use Rattle.chpw_rules.specs.Names.{is_same_name}
 use Rattle.chpw_rules.specs.Limits.{is_in, iteration_counts}
 use Rattle.chpw_rules.specs.Fitting.{policy_fits}

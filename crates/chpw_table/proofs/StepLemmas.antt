@@ -3,6 +3,7 @@ use Rattle.std.proofs.Common.{◌≡◌, ◌≢◌, List, [], ◌∷◌, ◌++�
 use Rattle.std.specs.Prelude.{ℤ, ◌+ℤ◌, ◌≤ℤ◌, int_le}
 use Rattle.std.specs.List.{list_any}
 use Rattle.std.proofs.lemmas.Int.{ints, clamps}
+use Rattle.std.proofs.lemmas.List.Folds.{list_any-append}
 use Rattle.chpw_table.specs.declared.times.TheConstants.{CLOCK_SKEW}
 use Rattle.chpw_table.specs.declared.times.Moment.{Moment}
 use Rattle.chpw_table.specs.declared.request.Opened.{Opened}
@@ -54,6 +55,10 @@ used_more (y ∷ ys) x id = ap (λ b. is_same_id y id || b) (used_more ys x id) 
     or_assoc : (a b c : Bool) → (a || (b || c)) ≡ ((a || b) || c)
     or_assoc true b c = refl
     or_assoc false b c = refl
+
+-- the ids of two lists
+pub used_by_both : (xs ys : List RequestId) (id : RequestId) → list_any (λ (y : RequestId). is_same_id y id) (xs ++ ys) ≡ (list_any (λ (y : RequestId). is_same_id y id) xs || list_any (λ (y : RequestId). is_same_id y id) ys)
+used_by_both xs ys id = list_any-append (λ (y : RequestId). is_same_id y id) xs ys
 
 -- an id once used is used after an event
 used_after : (s : State) (v : Verdict) (now : Moment) (o : Opened) (io : Bool) (id : RequestId) → is_used s id ≡ true → is_used (after v s now o io) id ≡ true

@@ -4,13 +4,13 @@ use Rattle.chpw_rules.specs.declared.name.Name.{Name}
 use Rattle.chpw_rules.specs.Names.{is_name}
 use Rattle.chpw_table.specs.declared.times.Moment.{Moment}
 use Rattle.chpw_table.specs.declared.request.Opened.{Opened}
+use Rattle.chpw_table.specs.declared.request.RequestId.{RequestId}
 use Rattle.chpw_table.specs.declared.verdict.Verdict.{Verdict}
 use Rattle.chpw_table.specs.declared.verdict.Verdict.TheVariants.{Broken, Done}
 use Rattle.chpw_table.specs.declared.key.KeyRow.{KeyRow}
 use Rattle.chpw_table.specs.declared.table.Principal.{Principal}
-use Rattle.chpw_table.specs.Requests.{id_of}
 use Rattle.chpw_table.specs.State.{State, keys_held}
-use Rattle.chpw_table.specs.Verdicts.{adds_id, is_done}
+use Rattle.chpw_table.specs.Verdicts.{is_done}
 use Rattle.chpw_table.specs.Times.{clock_at}
 use Rattle.chpw_table.specs.Step.{after, with_key}
 use Rattle.chpw_table.specs.Agreement.{Held}
@@ -18,10 +18,6 @@ use Rattle.chpw_table.specs.Agreement.{Held}
 -- Done becomes Broken where the append failed
 abbrev pub with_append : Bool → Verdict → Verdict
 with_append io v = if is_done v && io then Broken else v
-
--- the id is used, where the row uses it
-abbrev pub with_used : Verdict → Opened → Held → Held
-with_used v o t = record t { state = record t.state { used = if adds_id v then t.state.used ++ id_of o ∷ [] else t.state.used } }
 
 -- these keys stand for those of the principal at a place
 abbrev pub with_keys_at : ℕ → List KeyRow → List Principal → List Principal
@@ -40,9 +36,13 @@ pub record IsAt (s : State) (name : Name) (n : ℕ) (p : Principal) : Type 0 whe
   pub fits : is_name name ≡ true
   pub change : (kept : ℕ) (key : KeyRow) → map (with_key kept name key) s.principals ≡ with_keys_at n (take kept (key ∷ p.keys)) s.principals
 
--- one event more, and the clock moved on
-abbrev pub with_event : Moment → Held → Held
-with_event now t = record t { state = record t.state { clock = clock_at t.state now }; events = t.events + 1 }
+-- one event more, which uses these ids, and the clock moved on
+abbrev pub with_event : Moment → List RequestId → Held → Held
+with_event now ids t = record t { state = record t.state { used = t.state.used ++ ids; clock = clock_at t.state now }; events = t.events + 1 }
+
+-- the journal is broken
+abbrev pub with_broken : Held → Held
+with_broken t = record t { state = record t.state { broken = true } }
 
 -- what a row does, whose append may fail
 pub record IsEntered (before later : Held) (now : Moment) (o : Opened) (row v : Verdict) (io : Bool) : Type 0 where

@@ -18,5 +18,6 @@ pub mod Lookups
 pub mod Replies
 pub mod Holding
 pub mod Entering
+pub mod Preparing
 pub mod Completing
 pub mod Inserting

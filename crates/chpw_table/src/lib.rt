@@ -26,6 +26,6 @@ pub use key::KeyRow;
 pub use outcome::{DecideFault, Outcome, Refused};
 pub use request::{Body, Opened, RequestId, Target};
 pub use sink::{JournalSink, SinkFault};
-pub use table::{KeyFault, Lookup, Principal, Table};
+pub use table::{KeyFault, Lookup, Prepared, Principal, RowChange, Table};
 pub use times::{CLOCK_SKEW, LAST_SECOND, Moment};
 pub use verdict::Verdict;

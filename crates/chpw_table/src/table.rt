@@ -1,5 +1,5 @@
 //! The table: the principals with their keys, and the ids used.
-ghost use Rattle.std.specs.Prelude.{◌≡◌, ◌≤◌, ◌<◌, length, All, MatchBool, IfOk, IfSome, true, find, max, option_copied};
+ghost use Rattle.std.specs.Prelude.{◌≡◌, ◌≤◌, ◌<◌, length, All, MatchBool, IfOk, IfSome, true, find, max, map, option_copied, slice_get};
 ghost use Rattle.chpw_rules.specs.Limits.{entry_counts};
 ghost use Rattle.chpw_rules.specs.Fitting.{config_fits};
 ghost use Rattle.chpw_table.specs.Agreement.{Agrees};
@@ -9,6 +9,7 @@ ghost use Rattle.chpw_table.specs.Lookups.{lookup_of};
 mod changing;
 mod decision;
 mod opening;
+mod preparing;
 mod restoring;
 mod step;
 mod wanted;
@@ -18,8 +19,10 @@ use crate::key::{KeyRow, counts_of, kvno_of};
 use crate::request::RequestId;
 use chpw_rules::{Config, Items, Name, Policy, Rules};
 use opening::opening_principals;
+pub use preparing::{Prepared, RowChange};
 pub use restoring::KeyFault;
 use std::alloc::{AllocError, Global};
+use std::collections::LinkedList;
 use std::marker::Model;
 
 /// A principal and its keys, newest first.
@@ -56,6 +59,8 @@ pub struct Table {
     quiet_until: i64,
     principals: Vec<Principal>,
     used: Vec<RequestId>,
+    // The newest used ids, in memory that came with them; a later growth puts them behind the others.
+    fresh: LinkedList<RequestId>,
     clock: i64,
     broken: bool,
     events: u32,
@@ -64,7 +69,7 @@ pub struct Table {
 }
 
 impl Model for Table {
-    ghost use Rattle.std.specs.Prelude.{◌≤◌, IsTrue};
+    ghost use Rattle.std.specs.Prelude.{◌≤◌, ◌++◌, length, IsTrue};
     ghost use Rattle.chpw_rules.specs.Limits.{is_in, entry_counts};
     ghost use Rattle.chpw_rules.specs.Fitting.{policy_fits};
     ghost use Rattle.chpw_table.specs.Times.{IsTime};
@@ -82,7 +87,7 @@ impl Model for Table {
           quiet_until = t.quiet_until;
         };
         principals = t.principals.items;
-        used = t.used.items;
+        used = t.used.items ++ t.fresh;
         clock = t.clock;
         broken = t.broken;
       };
@@ -93,7 +98,8 @@ impl Model for Table {
 
     ghost invariant = { λ t. (t.seen ≤ t.events) × (t.events ≤ t.max_entries)
         × IsTrue (is_in entry_counts t.max_entries) × IsTime t.clock
-        × IsTrue (policy_fits t.policy) × IsTrue (are_holders t.principals.items) };
+        × IsTrue (policy_fits t.policy) × IsTrue (are_holders t.principals.items)
+        × (length t.fresh ≤ t.events) };
 }
 
 impl Table {
@@ -116,6 +122,7 @@ impl Table {
             quiet_until,
             principals,
             used: Vec::new(alloc),
+            fresh: LinkedList::new(alloc),
             clock: 0,
             broken: false,
             events: 0,
@@ -132,6 +139,15 @@ impl Table {
             × (self.now.max_entries ≤ entry_counts.high) }
     {
         self.events == self.max_entries
+    }
+
+    /// The name of the principal at this place, from 0 in the table's order; none from their number
+    /// on. No name stands at two places.
+    pub fn name_at(&self, place: u32) -> Option<&Name>
+        ensures value { option_copied result
+            ≡ slice_get (map (λ p. p.name) self.now.state.principals) place }
+    {
+        self.principals.get(place as usize).map(|p| &p.name)
     }
 
     /// What the table shows of a name; none for an unknown one. The counts are at least 1, and 1 to

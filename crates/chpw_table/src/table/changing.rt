@@ -27,6 +27,7 @@ pub(super) struct Change {
     pub(super) keys: Items<KeyRow>,
     // What the journal gets.
     pub(super) record: Vec<u8>,
+    ghost few: { length keys ≤ 16 },
 }
 
 impl Table {
@@ -44,6 +45,9 @@ impl Table {
             are_holders (with_keys_at c.place c.keys self.now.state.principals) ≡ true) }
         ensures record_of { IfOk result (λ c. c.record.items
             ≡ record_bytes_spec (target_of opened.now).name (new_key self.now.state opened.now)) }
+        ensures newest { IfOk result (λ c. c.keys
+            ≡ take (kept_count self.now.state) (new_key self.now.state opened.now
+            ∷ unwrap_or (keys_held self.now.state (target_of opened.now).name) [])) }
     {
         let name = opened.target_name();
         let Some((place, principal)) = self.find(name) else {

@@ -1,9 +1,8 @@
 //! One step of the machine.
-ghost use Rattle.std.specs.Prelude.{[], ◌≡◌, ◌||◌, ◌+◌, ◌-◌, ◌^◌, ◌<◌, ◌≤◌, ◌++◌, IfOk, IfErr, OnOk, OnErr, if◌then◌else◌, true, false, option_map, length};
+ghost use Rattle.std.specs.Prelude.{[], ◌≡◌, ◌||◌, ◌&&◌, ◌+◌, ◌-◌, ◌^◌, ◌<◌, ◌≤◌, ◌++◌, IfOk, IfErr, OnOk, OnErr, if◌then◌else◌, true, false, option_map, length};
 ghost use Rattle.chpw_rules.specs.Limits.{entry_counts};
-ghost use Rattle.chpw_table.specs.declared.verdict.Verdict.TheVariants.{Done};
+ghost use Rattle.chpw_table.specs.declared.verdict.Verdict.TheVariants.{Broken, Done};
 ghost use Rattle.chpw_table.specs.State.{State};
-ghost use Rattle.chpw_table.specs.Decision.{verdict};
 ghost use Rattle.chpw_table.specs.Verdicts.{is_done};
 ghost use Rattle.chpw_table.specs.Times.{IsMoment};
 ghost use Rattle.chpw_table.specs.Step.{step};
@@ -12,16 +11,17 @@ ghost use Rattle.chpw_table.specs.Journal.{appended};
 ghost use Rattle.chpw_table.specs.Agreement.{Agrees};
 ghost use Rattle.chpw_table.specs.Refusals.{IsFirst, AsksPositive};
 ghost use Rattle.chpw_table.specs.Holding.{are_holders};
-ghost use Rattle.chpw_table.specs.Entering.{IsEntered, with_used, with_event, with_keys_at, with_change_at};
+ghost use Rattle.chpw_table.specs.Preparing.{IsReady};
+ghost use Rattle.chpw_table.specs.Entering.{IsEntered, with_append, with_event, with_broken, with_keys_at, with_change_at};
 
-use super::Table;
 use super::changing::{Change, put_keys};
-use crate::outcome::{DecideFault, Outcome, Refused};
-use crate::request::Opened;
+use super::{Prepared, Table};
+use crate::outcome::{Outcome, Refused};
+use crate::request::{Opened, RequestId};
 use crate::sink::JournalSink;
 use crate::times::Moment;
 use crate::verdict::Verdict;
-use std::alloc::AllocError;
+use std::collections::LinkedList;
 
 impl Table {
     /// One step of the machine: the verdict on this request at this moment, and what it does.
@@ -67,118 +67,107 @@ impl Table {
         ensures unchanged { IfErr result (λ r. (self.new ≡ self.old) × (sink.new ≡ sink.old)
             × (r.opened ≡ opened)) }
     {
-        if self.events == self.max_entries {
-            return Err(Refused {
-                fault: DecideFault::Full,
-                opened,
-            });
-        }
-        let row = self.row(now, &opened);
-        let missing = self.missing_at(row, &opened);
-        if !missing.is_empty() {
-            return Err(Refused {
-                fault: DecideFault::NeedKeys(missing),
-                opened,
-            });
-        }
-        match self.enter(now, &opened, row, sink) {
-            Ok((verdict, io_failed)) => Ok(Outcome {
-                verdict,
-                io_failed,
-                opened,
-            }),
-            Err(_) => Err(Refused {
-                fault: DecideFault::Memory,
-                opened,
-            }),
-        }
+        let prepared = self.prepare(now, opened)?;
+        Ok(self.finish(prepared, sink))
     }
 
-    // What this row does, for a request whose wanted counts are all derived. Nothing has changed
-    // after a refusal.
-    fn enter<S: JournalSink>(
-        &mut self,
-        now: Moment,
-        opened: &Opened,
-        row: Verdict,
-        sink: &mut S,
-    ) -> Result<(Verdict, bool), AllocError>
-        requires moment { IsMoment now }
+    /// The rest of the step that was prepared, of a table that is as it was then: the same verdict
+    /// but for a failed append, and what it does. It takes no memory and can't be refused.
+    ///
+    /// Fewer than 2^64 - 1 appends to the sink have failed, or the table is broken. The journal is
+    /// appended to only where `Prepared::change` has a row.
+    pub fn finish<S: JournalSink>(&mut self, prepared: Prepared, sink: &mut S) -> Outcome
+        requires ready { IsReady self.old prepared }
         requires sink { self.old.state.broken ≡ false → S.failed sink.old < 2 ^ 64 - 1 }
-        requires room { self.old.events < self.old.max_entries }
-        requires row { row ≡ verdict self.old.state now opened.now false }
-        requires derived { missing self.old.state now opened.now ≡ [] }
-        ensures entered { IfOk result (λ r.
-            IsEntered self.old self.new now opened.now row r.0 r.1) }
-        ensures io { IfOk result (λ r. S.failed sink.new
-            ≡ (if r.1 then S.failed sink.old + 1 else S.failed sink.old)) }
-        ensures told { IfOk result (λ r. S.told sink.new
-            ≡ option_map (λ xs. xs ++ appended self.old.state opened.now r.0) (S.told sink.old)) }
-        ensures unchanged { OnErr result ((self.new ≡ self.old) × (sink.new ≡ sink.old)) }
+        ensures legal { (s : State) → Agrees self.old.state s
+            → IsDecided s prepared.moment prepared.opened result.io_failed result.verdict }
+        ensures step { (s : State) → Agrees self.old.state s
+            → Agrees self.new.state (step s prepared.moment prepared.opened result.io_failed) }
+        ensures io { S.failed sink.new
+            ≡ (if result.io_failed then S.failed sink.old + 1 else S.failed sink.old) }
+        ensures told { (s : State) → Agrees self.old.state s → S.told sink.new
+            ≡ option_map (λ xs. xs ++ appended s prepared.opened result.verdict)
+            (S.told sink.old) }
+        ensures opened { result.opened ≡ prepared.opened }
+        ensures row { result.verdict
+            ≡ (if is_done prepared.row && result.io_failed then Broken else prepared.row) }
+        ensures counts { (self.new.events ≡ self.old.events + 1)
+            × (self.new.seen ≡ (if is_done result.verdict then self.old.seen + 1 else self.old.seen))
+            × (self.new.max_entries ≡ self.old.max_entries) }
+        ensures broken { self.new.state.broken ≡ (self.old.state.broken || result.io_failed) }
     {
-        if row == Verdict::Done {
-            return self.enter_change(now, opened, sink);
-        }
-        self.use_id(row, opened)?;
-        self.tick(now);
-        Ok((row, false))
+        self.enter(prepared, sink)
     }
 
-    // The same for the row Done: the append decides.
-    fn enter_change<S: JournalSink>(
-        &mut self,
-        now: Moment,
-        opened: &Opened,
-        sink: &mut S,
-    ) -> Result<(Verdict, bool), AllocError>
-        requires moment { IsMoment now }
+    // The same, by the table's own state.
+    fn enter<S: JournalSink>(&mut self, prepared: Prepared, sink: &mut S) -> Outcome
+        requires ready { IsReady self.old prepared }
         requires sink { self.old.state.broken ≡ false → S.failed sink.old < 2 ^ 64 - 1 }
-        requires room { self.old.events < self.old.max_entries }
-        requires row { verdict self.old.state now opened.now false ≡ Done }
-        requires derived { missing self.old.state now opened.now ≡ [] }
-        ensures entered { IfOk result (λ r.
-            IsEntered self.old self.new now opened.now Done r.0 r.1) }
-        ensures io { IfOk result (λ r. S.failed sink.new
-            ≡ (if r.1 then S.failed sink.old + 1 else S.failed sink.old)) }
-        ensures told { IfOk result (λ r. S.told sink.new
-            ≡ option_map (λ xs. xs ++ appended self.old.state opened.now r.0) (S.told sink.old)) }
-        ensures unchanged { OnErr result ((self.new ≡ self.old) × (sink.new ≡ sink.old)) }
+        ensures entered { IsEntered self.old self.new prepared.moment prepared.opened prepared.row
+            result.verdict result.io_failed }
+        ensures io { S.failed sink.new
+            ≡ (if result.io_failed then S.failed sink.old + 1 else S.failed sink.old) }
+        ensures told { S.told sink.new
+            ≡ option_map (λ xs. xs ++ appended self.old.state prepared.opened result.verdict)
+            (S.told sink.old) }
+        ensures opened { result.opened ≡ prepared.opened }
     {
-        let change = self.change(opened)?;
-        self.use_id(Verdict::Done, opened)?;
-        self.tick(now);
-        match sink.append(change.record.as_slice()) {
-            Err(_) => {
-                self.broken = true;
-                Ok((Verdict::Broken, true))
-            }
-            Ok(()) => {
-                self.put(change);
-                Ok((Verdict::Done, false))
-            }
+        let Prepared {
+            moment,
+            opened,
+            row,
+            ids,
+            change,
+        } = prepared;
+        self.tick(moment, ids);
+        let (verdict, io_failed) = match change {
+            None => (row, false),
+            Some(change) => self.write(change, sink),
+        };
+        Outcome {
+            verdict,
+            io_failed,
+            opened,
         }
     }
 
-    // Puts the id among the used ones, where this row does.
-    fn use_id(&mut self, row: Verdict, opened: &Opened) -> Result<(), AllocError>
-        ensures used { OnOk result (self.new ≡ with_used row opened.now self.old) }
-        ensures unchanged { OnErr result (self.new ≡ self.old) }
-    {
-        if row.adds_id() {
-            self.used.push(opened.id()?)?;
-        }
-        Ok(())
-    }
-
-    // One event more, at this moment.
-    fn tick(&mut self, now: Moment)
+    // One event more, at this moment, which uses these ids.
+    fn tick(&mut self, now: Moment, ids: LinkedList<RequestId>)
         requires moment { IsMoment now }
         requires room { self.old.events < self.old.max_entries }
-        ensures value { self.new ≡ with_event now self.old }
+        requires one { length ids ≤ 1 }
+        ensures value { self.new ≡ with_event now ids self.old }
         ensures seen { self.new.seen < self.new.events }
     {
         self.clock = self.clock_at(now);
         self.events += 1;
+        put_ids(&mut self.fresh, ids);
+    }
+
+    // The append decides: after a failed one the journal is broken, else the new keys are put in.
+    fn write<S: JournalSink>(&mut self, change: Change, sink: &mut S) -> (Verdict, bool)
+        requires place { change.place < length self.old.state.principals }
+        requires holders { are_holders (with_keys_at change.place change.keys self.old.state.principals) ≡ true }
+        requires room { self.old.seen < self.old.events }
+        requires count { S.failed sink.old < 2 ^ 64 - 1 }
+        ensures value { self.new ≡ (if result.1 then with_broken self.old
+            else with_change_at change.place change.keys self.old) }
+        ensures verdict { result.0 ≡ with_append result.1 Done }
+        ensures io { S.failed sink.new
+            ≡ (if result.1 then S.failed sink.old + 1 else S.failed sink.old) }
+        ensures told { S.told sink.new ≡ (if result.1 then S.told sink.old
+            else option_map (λ xs. xs ++ change.record.items) (S.told sink.old)) }
+    {
+        match sink.append(change.record.as_slice()) {
+            Err(_) => {
+                self.broken = true;
+                (Verdict::Broken, true)
+            }
+            Ok(()) => {
+                self.put(change);
+                (Verdict::Done, false)
+            }
+        }
     }
 
     // Puts the new key in front of the principal's.
@@ -190,5 +179,17 @@ impl Table {
     {
         put_keys(self.principals.as_mut_slice(), change.place, change.keys);
         self.seen += 1;
+    }
+}
+
+// Puts ids behind others, in the memory that they are in.
+fn put_ids(fresh: &mut LinkedList<RequestId>, ids: LinkedList<RequestId>)
+    requires few { length fresh.old + length ids < 2 ^ 63 }
+    ensures value { fresh.new ≡ fresh.old ++ ids }
+{
+    let mut ids = ids;
+    match fresh.append(&mut ids) {
+        Ok(()) => {}
+        Err(_) => unreachable!(),
     }
 }

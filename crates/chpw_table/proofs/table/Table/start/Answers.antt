@@ -6,4 +6,4 @@ pub invariant_of-result : goal.invariant_of-result
 invariant_of-result c =
     let policy = policy_of_fits c.args.config c.requires.fits in
     let holders = opening_holders _ (kept_at_least c.args.config.policy.depth) (depth_at_most c.args.config.policy policy) c.args.config.principals (principals_of_fits c.args.config c.requires.fits) in
-    (omega arith, omega arith, entries_of_fits c.args.config c.requires.fits, search rules, search rules, rw (c.in_ok-principals.ensures.value, c.kept_by-kept.ensures.value, c.into_vec.ensures.value) (search rules))
+    (omega arith, omega arith, entries_of_fits c.args.config c.requires.fits, search rules, search rules, rw (c.in_ok-principals.ensures.value, c.kept_by-kept.ensures.value, c.into_vec.ensures.value) (search rules), rw c.new-2.ensures (omega arith))
