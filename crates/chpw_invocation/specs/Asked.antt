@@ -1,8 +1,12 @@
 -- What a user asks for, of what clap matched: the command's name and, by an option's name, what
 -- stands behind it. The words are matched by clap's own rules.
-use Rattle.std.specs.Prelude.{◌≡◌, ◌≤◌, ℕ, Bool, true, false, List, Option, Some, None, option_map, codes}
+use Rattle.std.specs.Prelude.{◌≡◌, ◌⊎◌, ◌≤◌, ℕ, Bool, true, false, List, [], Option, Some, None, option_map, codes}
 use Rattle.std.specs.Str.Parse.{digits_value, without_leading_plus}
+use Rattle.clap.specs.Kinds.{HasKind, Kinds}
+use Rattle.clap.specs.Values.{kind_of}
 use Rattle.clap.specs.Walk.{Row, Text, first_of, one_of}
+use Rattle.clap.specs.declared.error.Error.{Error}
+use Rattle.clap.specs.declared.error.kind.ErrorKind.TheVariants.{MissingSubcommand}
 use Rattle.chpw_invocation.specs.declared.invocation.ClientOptions.{ClientOptions}
 use Rattle.chpw_invocation.specs.declared.invocation.ServeOptions.{ServeOptions}
 use Rattle.chpw_invocation.specs.declared.invocation.Invocation.{Invocation}
@@ -48,3 +52,8 @@ AsksFor (Some p) Drill = p.0 ≡ codes "drill"
 AsksFor (Some p) (Check config) = (p.0 ≡ codes "check") × HasText p.1 (codes "config") config.now
 AsksFor (Some p) (Serve asked) = (p.0 ≡ codes "serve") × AsksServe p.1 asked
 AsksFor (Some p) (Client asked) = (p.0 ≡ codes "client") × AsksClient p.1 asked
+
+-- Why words are refused, of the kinds of fault that clap may find in them: one of these, or memory
+-- ran out. Words without a fault ask for a command, so the last case doesn't come; that isn't proved.
+abbrev pub IsRefusal : Kinds → Error → Type 0
+IsRefusal kinds e = HasKind kinds e ⊎ ((kinds ≡ []) × (kind_of e ≡ MissingSubcommand))

@@ -1,9 +1,9 @@
 //! What a user asks the program for.
-ghost use Rattle.std.specs.Prelude.{◌≡◌, [], IfOk, IfSome, OnOk, codes, map, option_map, string_bytes};
+ghost use Rattle.std.specs.Prelude.{◌≡◌, [], IfErr, IfOk, IfSome, OnOk, codes, map, option_map, string_bytes};
 ghost use Rattle.clap.specs.Faults.{fault_of};
 ghost use Rattle.clap.specs.Words.{first_of, found_of, rows_of, subcommand_of, subcommand_rows_of};
 ghost use Rattle.chpw_invocation.specs.Program.{program};
-ghost use Rattle.chpw_invocation.specs.Asked.{AsksClient, AsksFor, AsksServe, HasNumber, IsGiven};
+ghost use Rattle.chpw_invocation.specs.Asked.{AsksClient, AsksFor, AsksServe, HasNumber, IsGiven, IsRefusal};
 
 use crate::program::program as new_program;
 use clap::error::ErrorKind;
@@ -66,6 +66,8 @@ pub enum Invocation<'a> {
 pub fn command_of<'a>(alloc: Global, words: &'a [String]) -> Result<Invocation<'a>, Error>
     ensures asked { IfOk result (AsksFor (subcommand_of program (map string_bytes words.entry.now))) }
     ensures taken { OnOk result (fault_of program (map string_bytes words.entry.now) ≡ []) }
+    ensures refused { IfErr result
+        (IsRefusal (fault_of program (map string_bytes words.entry.now))) }
 {
     let mut program = new_program(alloc)?;
     let matches = program.try_get_matches_from_mut(words)?;

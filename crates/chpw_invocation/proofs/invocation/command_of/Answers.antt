@@ -1,8 +1,10 @@
-use Rattle.std.proofs.Common.{◌≡◌, ◌∙◌, ap, subst, sym, map, string_bytes, List, Option}
+use Rattle.std.proofs.Common.{◌≡◌, ◌∙◌, [], ap, inl, inr, subst, sym, map, string_bytes, List, Option}
+use Rattle.std.proofs.lemmas.Result.{err_from_is_err_and}
 use Rattle.clap.specs.Words.{App, Row, Text, app_of, is_simple, subcommand_of}
 use Rattle.clap.specs.Faults.{fault_of, is_simple_and_free}
+use Rattle.clap.specs.Kinds.{HasKind}
 use Rattle.chpw_invocation.specs.Program.{program}
-use Rattle.chpw_invocation.specs.Asked.{AsksFor}
+use Rattle.chpw_invocation.specs.Asked.{AsksFor, IsRefusal}
 use Rattle.chpw_invocation.proofs.invocation.command_of.Goals as goal
 
 pub returns-in-Some-clause-asked : goal.returns-in-Some-clause-asked
@@ -15,3 +17,19 @@ pub returns-in-Some-clause-taken : goal.returns-in-Some-clause-taken
 returns-in-Some-clause-taken c =
     let is : app_of c.in_ok-program.program ≡ program = c.in_ok-program.ensures.shape in
     ap (λ (a : App). fault_of a (map string_bytes c.args.words.now)) (sym is) ∙ c.in_ok-matches.ensures.kinds (ap is_simple_and_free is)
+
+pub returns-in_err-matches-clause-refused : goal.returns-in_err-matches-clause-refused
+returns-in_err-matches-clause-refused c =
+    let is : app_of c.in_ok-program.program ≡ program = c.in_ok-program.ensures.shape in
+    let kinds : HasKind (fault_of program (map string_bytes c.args.words.now)) c.in_err-matches.field-0.0 =
+    subst (λ (a : App). HasKind (fault_of a (map string_bytes c.args.words.now)) c.in_err-matches.field-0.0) is
+    (c.in_err-matches.ensures.kinds (ap is_simple_and_free is)) in
+    let p = err_from_is_err_and c.from_residual-in_err-matches.result c.from_residual-in_err-matches.ensures.1 in
+    rw p.1 (subst (IsRefusal (fault_of program (map string_bytes c.args.words.now))) (sym p.2) (inl kinds))
+
+pub returns-clause-refused : goal.returns-clause-refused
+returns-clause-refused c =
+    let is : app_of c.in_ok-program.program ≡ program = c.in_ok-program.ensures.shape in
+    let none : fault_of program (map string_bytes c.args.words.now) ≡ [] =
+    ap (λ (a : App). fault_of a (map string_bytes c.args.words.now)) (sym is) ∙ c.in_ok-matches.ensures.kinds (ap is_simple_and_free is) in
+    inr (none, c.in_ok-error-in-None.ensures.kind)
