@@ -14,7 +14,8 @@ use Rattle.chpw_table.specs.Versions.{KeyChange, change_of, entry_change, accept
 -- one entry more adds its change at the end where it was accepted, and else none
 abbrev pub EntryAddsItsChange : Type 0
 EntryAddsItsChange = (opening : State) (history : List Entry) (e : Entry) →
-    accepted opening (history ++ e ∷ []) ≡ accepted opening history ++ entry_change (outcome opening history) e
+    accepted opening (history ++ e ∷ [])
+    ≡ accepted opening history ++ entry_change (outcome opening history) e
 
 -- the list is as long as there are accepted entries
 abbrev pub ChangesAreCounted : Type 0
@@ -23,14 +24,17 @@ ChangesAreCounted = (opening : State) (history : List Entry) →
 
 -- each beginning of the list is the list of a beginning of the history
 abbrev pub BeginningsAreHistories : Type 0
-BeginningsAreHistories = (opening : State) (history : List Entry) (list : List KeyChange) → IsPrefix list (accepted opening history) →
+BeginningsAreHistories = (opening : State) (history : List Entry) (list : List KeyChange) →
+    IsPrefix list (accepted opening history) →
     (before : List Entry) × IsPrefix before history × (accepted opening before ≡ list)
 
 -- so a list kept beside a table goes on with the change that the table makes of an accepted request
 abbrev pub KeptListsGoOn : Type 0
 KeptListsGoOn = (opening table : State) (history : List Entry) (list : List KeyChange) (e : Entry) →
     Agrees table (outcome opening history) → list ≡ accepted opening history →
-    (if is_done e.verdict then list ++ change_of (target_of e.opened).name (new_key table e.opened) ∷ [] else list)
+    (if is_done e.verdict
+    then list ++ change_of (target_of e.opened).name (new_key table e.opened) ∷ []
+    else list)
     ≡ accepted opening (history ++ e ∷ [])
 
 -- whoever has keys after a history had some at the opening
