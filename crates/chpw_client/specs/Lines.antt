@@ -1,5 +1,5 @@
 -- What a client prints of a reply, and its exit status.
-use Rattle.std.specs.Prelude.{◌≡◌, ◌⊎◌, ℕ, ℤ, ◌==◌, List, [], ◌++◌, true, Option, Some, None, Result, Ok, Err, codes, if◌then◌else◌}
+use Rattle.std.specs.Prelude.{◌≡◌, ◌⊎◌, ℕ, ℤ, ◌==◌, ◌&&◌, List, [], ◌++◌, true, Option, Some, None, Result, Ok, Err, codes, is_none, if◌then◌else◌}
 use Rattle.std.specs.Fmt.{decimal, signed_decimal}
 use Rattle.krb_msgs.specs.Replies.{OpensReply}
 use Rattle.krb_msgs.specs.declared.fault.ReplyFault.{ReplyFault}
@@ -17,9 +17,10 @@ error_words (Some error) = codes " error " ++ signed_decimal error
 abbrev pub line_of : Reply → List ℕ
 line_of r = codes "code " ++ decimal r.code ++ error_words r.error ++ codes " " ++ r.text
 
--- 0 only for code 0
+-- 0 only for code 0 in a sealed reply: nothing protects a KRB-ERROR, and its code is never 0 (RFC 3244
+-- section 2)
 abbrev pub status_of : Reply → ℕ
-status_of r = if r.code == 0 then 0 else 1
+status_of r = if r.code == 0 && is_none r.error then 0 else 1
 
 -- what the parts of a reply say to the client that sent a request
 abbrev pub Says : Sent → List ℕ → Result Reply ReplyFault → Type 0

@@ -8,7 +8,7 @@ use krb_msgs::{OpenError, Reply, read_reply};
 use std::alloc::{AllocError, Global};
 
 /// What is printed of the reply to a request, and the exit status: `code C TEXT` or `code C error E
-/// TEXT`, and 0 only for code 0. `None` where the reply can't be read.
+/// TEXT`, and 0 only for code 0 in a sealed reply. `None` where the reply can't be read.
 pub fn client_line(
     alloc: Global,
     sent: &Sent,
@@ -52,5 +52,5 @@ fn line(alloc: Global, said: &Reply) -> Result<Vec<u8>, AllocError>
 fn status(said: &Reply) -> u8
     ensures value { result ≡ status_of said.now }
 {
-    if said.code == 0 { 0 } else { 1 }
+    if said.code == 0 && said.error.is_none() { 0 } else { 1 }
 }
