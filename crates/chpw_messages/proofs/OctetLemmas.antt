@@ -54,11 +54,10 @@ holds_bytes nothing text v h are = tt
 holds_bytes (field first rest) text v h are =
     (holds_bytes first h.0 v.0 h.3 (front h.0 h.1 text h.2 are), holds_bytes rest h.1 v.1 h.4 (behind h.0 h.1 text h.2 are))
 holds_bytes (option tag first rest) text (None, w) h are = (tt, holds_bytes rest text w h are)
-holds_bytes (option tag first rest) text (Some v, w) h are =
-    (
-      holds_bytes first h.3.0 v h.3.2 (inside tag h.3.0 h.0 h.3.1 (front h.0 h.1 text h.2 are)),
-      holds_bytes rest h.1 w h.4 (behind h.0 h.1 text h.2 are),
-    )
+holds_bytes (option tag first rest) text (Some v, w) h are = (
+  holds_bytes first h.3.0 v h.3.2 (inside tag h.3.0 h.0 h.3.1 (front h.0 h.1 text h.2 are)),
+  holds_bytes rest h.1 w h.4 (behind h.0 h.1 text h.2 are),
+)
 
 -- ---- keys
 

@@ -137,7 +137,7 @@ one_request realm version tail (Err fault) is_key one other h k = h ∙ sym k
 one_request realm version tail (Ok a) is_key one other h k =
     let private : h.0 ≡ k.0 = privs_open_once a.subkey a.seq_number tail is_key h.0 k.0 h.1 k.1 in
     let same_content : h.2.0 ≡ k.2.0 = one_content realm version k.0 h.2.0 k.2.0
-        (subst (λ (p : Result Private PrivFault). IsContent realm version p h.2.0) private h.2.1) k.2.1 in
+    (subst (λ (p : Result Private PrivFault). IsContent realm version p h.2.0) private h.2.1) k.2.1 in
     h.2.2
     ∙ (ap (λ (p : Result Private PrivFault). opened (request_of a (stamp_in p) h.2.0)) private
     ∙ (ap (λ (content : Content). opened (request_of a (stamp_in k.0) content)) same_content
@@ -153,7 +153,7 @@ one_parts realm keys peer version ap_req tail are one other h k =
 one_framed : (realm : List ℕ) (keys : List ServiceKey) (peer bytes : List ℕ) (fault : Option FrameFault)
     → AreProtocolKeys keys → IsOne (OpensFramed realm keys peer bytes fault)
 one_framed realm keys peer bytes (Some fault) are one other h k = h ∙ sym k
-one_framed realm keys peer bytes None are one other h k = 
+one_framed realm keys peer bytes None are one other h k =
     one_parts realm keys peer (version_of bytes) (ap_of bytes) (tail_of bytes) are one other h k
 
 pub messages_open_once : MessagesOpenOnce

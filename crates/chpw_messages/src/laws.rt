@@ -9,8 +9,8 @@ pub fn openings()
     ensures request { RequestsOpen }
 {}
 
-/// A message opens to one answer, so what a call answers is all that its relation allows: one that is
-/// refused opens to no request, and one that opens asks one thing.
+/// A message opens to one answer, so what a call answers is all that its relation allows: one that
+/// is refused opens to no request, and one that opens asks one thing.
 pub fn one_opening()
     ensures message { MessagesOpenOnce }
 {}

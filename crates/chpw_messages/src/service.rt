@@ -18,7 +18,8 @@ use krb_msgs::ServiceKey;
 use std::alloc::{AllocError, Global};
 use std::marker::Model;
 
-/// The service kadmin/changepw of a realm (RFC 3244 section 2): it opens messages and makes replies.
+/// The service kadmin/changepw of a realm (RFC 3244 section 2): it opens messages and makes
+/// replies.
 #[derive(Drop)]
 pub struct Service {
     realm: Items<u8>,
@@ -36,8 +37,8 @@ impl Model for Service {
 }
 
 impl Service {
-    /// The service of a configuration that fits: its realm, and its service keys in their order, each
-    /// of as many bytes as its encryption type says. So a message opens to one answer
+    /// The service of a configuration that fits: its realm, and its service keys in their order,
+    /// each of as many bytes as its encryption type says. So a message opens to one answer
     /// ([`crate::laws::one_opening`]).
     pub fn of(alloc: Global, config: &Config) -> Result<Service, AllocError>
         requires fits { config_fits config.now ≡ true }

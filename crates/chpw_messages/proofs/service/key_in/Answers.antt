@@ -15,6 +15,6 @@ if_ok (Err e) key h is = tt
 pub returns-clause-protocol : goal.returns-clause-protocol
 returns-clause-protocol c =
     let are : AreBytes c.args.bytes.now =
-        All-from_get_or (λ (b : ℕ). b < 256) c.args.bytes.now 0 (λ k h. let small = c.type_inv.bytes k in omega arith) in
+    All-from_get_or (λ (b : ℕ). b < 256) c.args.bytes.now 0 (λ k h. let small = c.type_inv.bytes k in omega arith) in
     if_ok c.key_of.result (key_of (to_z w32 (of_z w32 c.args.etype)) c.args.bytes.now) c.key_of.ensures.value
     (key_of_bytes (to_z w32 (of_z w32 c.args.etype)) c.args.bytes.now are)
