@@ -52,5 +52,9 @@ fn line(alloc: Global, said: &Reply) -> Result<Vec<u8>, AllocError>
 fn status(said: &Reply) -> u8
     ensures value { result ≡ status_of said.now }
 {
-    if said.code == 0 && said.error.is_none() { 0 } else { 1 }
+    if said.code == 0 && said.error.is_none() {
+        0
+    } else {
+        1
+    }
 }
