@@ -1,5 +1,6 @@
 //! A worker at a desk, as one who decides.
-ghost use Rattle.std.specs.Prelude.{◌≡◌, true};
+ghost use Rattle.std.specs.Prelude.{◌≡◌, ◌≤◌, All, IfSome, true};
+ghost use Rattle.chpw_book.specs.Calls.{IsShown};
 
 use crate::desk::Desk;
 use crate::naming::DeskName;
@@ -31,7 +32,14 @@ impl<'a, D: DeskName, S: JournalSink, R: Wait> Decider for AtDesk<'a, D, S, R> {
         × (b.pass.now.worker ≡ a.pass.now.worker)
         × (a.pass.now.was_full ≡ true → b.pass.now.was_full ≡ true) };
 
-    fn lookup(&mut self, name: &Name) -> Option<Lookup> {
+    fn lookup(&mut self, name: &Name) -> Option<Lookup>
+        ensures shown { IsShown D.opening name.now result }
+        ensures receipts { self.new.pass.now.receipts ≡ self.old.pass.now.receipts }
+        ensures positive { IfSome result (λ l. (1 ≤ l.policy) × All (λ n. 1 ≤ n) l.held) }
+        ensures follows { (self.new.pass.ghost_name ≡ self.old.pass.ghost_name)
+            × (self.new.pass.now.worker ≡ self.old.pass.now.worker)
+            × (self.old.pass.now.was_full ≡ true → self.new.pass.now.was_full ≡ true) }
+    {
         self.desk.lookup(self.rt, self.pass, name)
     }
 
