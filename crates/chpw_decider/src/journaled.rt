@@ -1,6 +1,5 @@
 //! A table with the sink of its journal.
 ghost use Rattle.std.specs.Prelude.{◌≡◌, ◌≤◌, ◌-◌, ◌^◌, ◌<◌, ◌+◌, ◌++◌, ◌&&◌, ◌||◌, if◌then◌else◌, false, All, IfOk, IfErr, IfSome, OnOk, option_map};
-ghost use Rattle.chpw_rules.specs.Limits.{entry_counts};
 ghost use Rattle.chpw_table.specs.declared.verdict.Verdict.TheVariants.{Broken};
 ghost use Rattle.chpw_table.specs.Verdicts.{is_done};
 ghost use Rattle.chpw_table.specs.Preparing.{IsReady};
@@ -64,7 +63,7 @@ impl<S: JournalSink> JournaledTable<S> {
         requires moment { IsMoment now }
         ensures ready { IfOk result (λ p. IsReady self.old.table p) }
         ensures parts { IfOk result (λ p. (p.moment ≡ now) × (p.opened ≡ opened)) }
-        ensures range { self.old.table.max_entries ≤ entry_counts.high }
+        ensures few { OnOk result (self.old.table.events < 2 ^ 32 - 1) }
         ensures first { IfErr result (λ r.
             IsFirst self.old.table (missing self.old.table.state now opened) r.fault) }
         ensures positive { IfErr result (λ r. AsksPositive r.fault) }
