@@ -2,3 +2,4 @@ pub mod GrowsLemmas
 pub mod AgreeLemmas
 pub mod CloseLemmas
 pub mod CallLemmas
+pub mod PublishLemmas

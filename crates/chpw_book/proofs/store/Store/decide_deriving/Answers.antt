@@ -7,7 +7,7 @@ use Rattle.chpw_table.specs.Completing.{completed}
 use Rattle.chpw_decider.specs.Deciding.{IsFinal}
 use Rattle.chpw_decider.proofs.CompletingLemmas.{completed_by_none, completed_lacks_nothing, err_implies}
 use Rattle.chpw_book.proofs.CallLemmas.{final_of_first}
-use Rattle.chpw_book.proofs.book.Book.decide_deriving.Goals as goal
+use Rattle.chpw_book.proofs.store.Store.decide_deriving.Goals as goal
 
 -- with the missing keys derived none is asked for
 pub returns-clause-never : goal.returns-clause-never
