@@ -27,13 +27,13 @@ shown_among shows name [] [] same all none = sym (none refl)
 shown_among shows name [] (p ∷ ps) same all none = absurd (cc)
 shown_among shows name (r ∷ rs) [] same all none = absurd (cc)
 shown_among shows name (r ∷ rs) (p ∷ ps) same all none =
-    at (is_same_name r.name name) refl (shown_among shows name rs ps cc (All-tail (λ (q : Row). Some (row_shown q) ≡ shows q.name) r rs all))
+    let behind : names_of_rows rs ≡ names_in ps = cc in
+    at (is_same_name r.name name) refl (shown_among shows name rs ps behind (All-tail (λ (q : Row). Some (row_shown q) ≡ shows q.name) r rs all))
   where
-    head : r.name ≡ p.name
-    head = cc
     at : (b : Bool) → is_same_name r.name name ≡ b → ((keys_in ps name ≡ None → shows name ≡ None) → shown_in rs name ≡ shows name) → shown_in (r ∷ rs) name ≡ shows name
     at true e rest = rw e (All-head (λ (q : Row). Some (row_shown q) ≡ shows q.name) r rs all ∙ ap shows ((is_same_name-Decides r.name name).0 e))
     at false e rest =
+        let head : r.name ≡ p.name = cc in
         let past : is_same_name p.name name ≡ false = sym (ap (λ (n : Name). is_same_name n name) head) ∙ e in
         rw e (rest (λ k. none (rw past k)))
 

@@ -10,14 +10,13 @@ use Rattle.chpw_rules.specs.declared.name.Name.{Name}
 use Rattle.chpw_rules.specs.Names.{is_same_name}
 use Rattle.chpw_table.specs.declared.table.Principal.{Principal}
 use Rattle.chpw_table.specs.State.{State, keys_held, kept_count}
-use Rattle.chpw_table.specs.declared.table.Lookup.{Lookup}
 use Rattle.chpw_table.specs.Versions.{KeyChange, Shown, shown, with_change}
 use Rattle.chpw_table.proofs.NameLemmas.{is_same_name-Decides}
 use Rattle.chpw_table.proofs.PlaceLemmas.{has_name, no_keys}
 use Rattle.chpw_fronts.specs.declared.change.NumberedChange.{NumberedChange}
 use Rattle.chpw_fronts.specs.Changes.{name_at, named}
 use Rattle.chpw_versions.specs.declared.rows.Row.{Row}
-use Rattle.chpw_versions.specs.Rows.{Rowed, names_of_rows, names_of, changed_row, changed_at, shown_in, lookup_with, HasPositive, IsPositive}
+use Rattle.chpw_versions.specs.Rows.{names_of_rows, names_of, changed_row, changed_at, shown_in, HasPositive}
 use Rattle.chpw_versions.specs.Following.{IsNumberOf, HasNumber}
 
 -- a write of a changed row is the change at its place
@@ -83,20 +82,14 @@ changed_positive kept c zero (r ∷ rs) h all =
 changed_positive kept c (suc n) (r ∷ rs) h all =
     All-cons HasPositive r (changed_at kept c n rs) (All-head HasPositive r rs all) (changed_positive kept c n rs h (All-tail HasPositive r rs all))
 
--- and so are those that a lookup shows
-abbrev pub PositiveLookup : Option Lookup → Type 0
-PositiveLookup found = IfSome found (λ (l : Lookup). (1 ≤ l.policy) × All (λ n. 1 ≤ n) l.held)
-
-lookup_among : (policy seen : ℕ) (rows : List Row) (name : Name) → 1 ≤ policy → All HasPositive rows → PositiveLookup (option_map (lookup_with policy seen) (shown_in rows name))
-lookup_among policy seen [] name h all = tt
-lookup_among policy seen (r ∷ rs) name h all = at (is_same_name r.name name) refl (lookup_among policy seen rs name h (All-tail HasPositive r rs all))
+-- and so are those of the row that is found
+pub found_positive : (is_it : Row → Bool) (rows : List Row) → All HasPositive rows → IfSome (find is_it rows) HasPositive
+found_positive is_it [] all = tt
+found_positive is_it (r ∷ rs) all = at (is_it r) refl (found_positive is_it rs (All-tail HasPositive r rs all))
   where
-    at : (b : Bool) → is_same_name r.name name ≡ b → PositiveLookup (option_map (lookup_with policy seen) (shown_in rs name)) → PositiveLookup (option_map (lookup_with policy seen) (shown_in (r ∷ rs) name))
-    at true e rest = rw e (h, All-head HasPositive r rs all)
+    at : (b : Bool) → is_it r ≡ b → IfSome (find is_it rs) HasPositive → IfSome (find is_it (r ∷ rs)) HasPositive
+    at true e rest = rw e (All-head HasPositive r rs all)
     at false e rest = rw e rest
-
-pub lookup_positive : (r : Rowed) (seen : ℕ) (name : Name) → IsPositive r → PositiveLookup (option_map (lookup_with r.policy seen) (shown_in r.rows name))
-lookup_positive r seen name h = lookup_among r.policy seen r.rows name h.0 h.1
 
 -- the first place of a name is its number
 place_number : (rows : List Row) (name : Name) (n : ℕ) (d : Row) → n < length rows → is_same_name (get_or rows n d).name name ≡ true → ((k : ℕ) → k < n → is_same_name (get_or rows k d).name name ≡ false)
