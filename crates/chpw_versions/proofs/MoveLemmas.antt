@@ -18,7 +18,7 @@ use Rattle.chpw_fronts.proofs.ListLemmas.{prefix_self, prefix_trans, prefix_same
 use Rattle.chpw_versions.specs.declared.version.Version.{Version}
 use Rattle.chpw_versions.specs.declared.version.Operation.{Operation}
 use Rattle.chpw_versions.specs.declared.view.View.{View}
-use Rattle.chpw_versions.specs.Rows.{Rowed, names_of_rows, shown_in, ShowsOpening, IsPositive, lookup_with, lookup_after}
+use Rattle.chpw_versions.specs.Rows.{Rowed, names_of_rows, shown_in, ShowsOpening, lookup_with, lookup_after}
 use Rattle.chpw_versions.specs.Following.{applied, IsNumberOf, HasNumber, list_by, list_shown, ShowsList, IsRuled, IsShelved, IsTied, Looked, Published, Settled, unknown, book_of}
 use Rattle.chpw_versions.proofs.RowLemmas.{names_changed, changed_shows, changed_positive, shown_more}
 
@@ -70,7 +70,7 @@ looks seat v x views (list, is, each) at =
 -- the version with one operation more shows the list with one change more
 pub goes_on : (b : Book) (r : List LogEntry) (list : List KeyChange) (x : Version) (o : Operation) → ShowsList b r list x → o.seen.book ≡ b → changes_in r o.seen.log ≡ list → HasNumber (opening_of r) o.change → 1 ≤ o.change.count
     → length list + 1 < 4294967296 → ShowsList b r (list ++ named (opening_of r) o.change ∷ []) (applied x o)
-goes_on b r list x o is ob ol num some room =
+goes_on b r list x o is ob ol num positive room =
     let c : KeyChange = named (opening_of r) o.change in
     let a = length-append list (c ∷ []) in
     let i = is.len_is in
@@ -87,14 +87,14 @@ goes_on b r list x o is ob ol num some room =
           ∙ (ap (λ k. if is_same_name c.name name then option_map (with_change k c) (shown_in x.rows.rows name) else shown_in x.rows.rows name) is.kept
           ∙ (ap (λ s. if is_same_name c.name name then option_map (with_change (kept_count (opening_of r)) c) s else s) (is.shows name)
           ∙ sym (shown_more (opening_of r) list c name)));
-      positive = (is.positive.0, changed_positive x.rows.kept o.change o.change.number x.rows.rows some is.positive.1);
+      positive = (is.positive.0, changed_positive x.rows.kept o.change o.change.number x.rows.rows positive is.positive.1);
       last = λ h. ap (λ l. l ++ c ∷ []) (sym ol);
     }
 
 -- the writer, which knows the whole list, makes the change of one operation
 pub published_at : (seat : ℕ) (b : Book) (r : List LogEntry) (v : View) (x : Version) (list : List KeyChange) (o : Operation) → IsShelved b r v x list → o.seen.book ≡ b → changes_in r o.seen.log ≡ list
     → HasNumber (opening_of r) o.change → 1 ≤ o.change.count → length list + 1 < 4294967296 → TurnsAt IsRuled seat v x (applied x o) Published
-published_at seat b r v x list o sh ob ol num some room views (all, is, each) at =
+published_at seat b r v x list o sh ob ol num positive room views (all, is, each) at =
     let mine = each seat v at sh.0.0 in
     let pre : IsPrefix list all = subst (λ (l : List KeyChange). IsPrefix l all) sh.1 mine.2 in
     let long : length list ≡ length all = sym sh.2.len_is ∙ is.len_is in
@@ -102,7 +102,7 @@ published_at seat b r v x list o sh ob ol num some room views (all, is, each) at
     let y : Version = applied x o in
     let c : KeyChange = named (opening_of r) o.change in
     let w : View = record v { front = v.front ++ named (opening_of v.root) o.change ∷ [] } in
-    let next : ShowsList y.root.book y.root.log (list ++ c ∷ []) y = renamed b y.root.book r y.root.log (list ++ c ∷ []) y (sym sh.2.root_book) (sym sh.2.root_log) (goes_on b r list x o sh.2 ob ol num some room) in
+    let next : ShowsList y.root.book y.root.log (list ++ c ∷ []) y = renamed b y.root.book r y.root.log (list ++ c ∷ []) y (sym sh.2.root_book) (sym sh.2.root_log) (goes_on b r list x o sh.2 ob ol num positive room) in
     let told : w.front ≡ list ++ c ∷ [] = ap (λ (l : List KeyChange). l ++ named (opening_of v.root) o.change ∷ []) sh.1 ∙ ap (λ l. list ++ named (opening_of l) o.change ∷ []) sh.0.2 in
     let own : IsPrefix w.front (list ++ c ∷ []) = subst (λ (l : List KeyChange). IsPrefix l (list ++ c ∷ [])) (sym told) (prefix_self (list ++ c ∷ [])) in
     let before : AllTied x list views = subst (λ (l : List KeyChange). AllTied x l views) (sym whole) each in
@@ -110,14 +110,14 @@ published_at seat b r v x list o sh ob ol num some room views (all, is, each) at
 
 pub shelved_after : (b : Book) (r : List LogEntry) (v w : View) (x y : Version) (list : List KeyChange) (o : Operation) → IsShelved b r v x list → o.seen.book ≡ b → changes_in r o.seen.log ≡ list
     → HasNumber (opening_of r) o.change → 1 ≤ o.change.count → length list + 1 < 4294967296 → y ≡ applied x o → Published v x y w → IsShelved b r w y (list ++ named (opening_of r) o.change ∷ [])
-shelved_after b r v w x y list o sh ob ol num some room is told =
+shelved_after b r v w x y list o sh ob ol num positive room is told =
     let c : KeyChange = named (opening_of r) o.change in (
       (ap (λ (z : View). z.known) told ∙ sh.0.0, ap book_of told ∙ sh.0.1, ap (λ (z : View). z.root) told ∙ sh.0.2),
       ap (λ (z : View). z.front) told
           ∙ (ap (λ (l : List KeyChange). l ++ named (opening_of v.root) y.last ∷ []) sh.1
           ∙ (ap (λ l. list ++ named (opening_of l) y.last ∷ []) sh.0.2
           ∙ ap (λ (z : Version). list ++ named (opening_of r) z.last ∷ []) is)),
-      subst (λ (z : Version). ShowsList b r (list ++ c ∷ []) z) (sym is) (goes_on b r list x o sh.2 ob ol num some room),
+      subst (λ (z : Version). ShowsList b r (list ++ c ∷ []) z) (sym is) (goes_on b r list x o sh.2 ob ol num positive room),
     )
 
 pub settles : (seat : ℕ) (v : View) (x y : Version) → y ≡ x → TurnsAt IsRuled seat v x y Settled
