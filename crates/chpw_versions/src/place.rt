@@ -1,5 +1,5 @@
 //! A place to look up from, beside the lock.
-ghost use Rattle.std.specs.Prelude.{None, Some, IfSome, IfNone, ◌≡◌, ◌⊎◌, IfOk, OnErr};
+ghost use Rattle.std.specs.Prelude.{None, Some, IfSome, IfNone, ◌≡◌, ◌≤◌, ◌⊎◌, IfOk, OnErr, All};
 ghost use mathlib.Core.List.{IsPrefix};
 ghost use Rattle.left_right.specs.Sides.{view};
 ghost use Rattle.chpw_fronts.specs.Pens.{opening_of};
@@ -47,12 +47,15 @@ pub struct NotEntered;
 impl<D: ListName> Place<D> {
     /// What a table shows of a name after some list of accepted changes that begins with all that this
     /// place has seen and with all that it was told; none for an unknown name. It takes no lock, waits
-    /// for nobody, and takes no memory of its own. After `NotEntered` the place is as before.
+    /// for nobody, and takes no memory of its own. The counts are at least 1. After `NotEntered` the
+    /// place is as before.
     pub fn lookup(&mut self, name: &Name) -> Result<Option<Lookup>, NotEntered>
         ensures later { IsPrefix self.old.seen self.new.seen }
         ensures after { IfOk result (λ found. IsPrefix self.old.told self.new.seen) }
         ensures shown { IfOk result (λ found.
             found ≡ lookup_after (opening_of D.root) self.new.seen name.now) }
+        ensures positive { IfOk result (λ found.
+            IfSome found (λ l. (1 ≤ l.policy) × All (λ n. 1 ≤ n) l.held)) }
         ensures told { (self.new.told ≡ self.old.told) × (self.new.own ≡ self.old.own) }
         ensures unchanged { OnErr result (self.new ≡ self.old) }
     {

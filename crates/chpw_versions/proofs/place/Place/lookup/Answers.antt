@@ -4,6 +4,7 @@ use Rattle.left_right.specs.Sides.{view}
 use Rattle.chpw_table.specs.Versions.{KeyChange}
 use Rattle.chpw_versions.specs.Known.{Known}
 use Rattle.chpw_versions.specs.declared.version.Version.{Version}
+use Rattle.chpw_versions.specs.Rows.{IsPositive}
 use Rattle.chpw_versions.specs.Following.{IsOf, ShowsList, book_of, list_shown, front_by}
 use Rattle.chpw_fronts.proofs.ListLemmas.{prefix_trans}
 use Rattle.chpw_versions.proofs.MoveLemmas.{looks, of_some, renamed, shown_list}
@@ -50,3 +51,13 @@ returns-else-not-begins-clause-later g c =
     let before : IsPrefix (list_shown r c.self.inside.shown.value) v.front = subst (λ o. IsPrefix (list_shown r c.self.inside.shown.value) (front_by o (λ q. view q.place))) is c.self.invariant.1 in
     let after : IsPrefix (list_shown r c.self.inside.shown.value) (list_shown r c.of-shown.result.value) = subst (λ (l : List KeyChange). IsPrefix (list_shown r c.self.inside.shown.value) l) list (prefix_trans (list_shown r c.self.inside.shown.value) v.front w.front before looked.1) in
     subst (λ (l : List KeyChange). IsPrefix l (list_shown r c.of-shown.result.value)) (ap (λ (k : Known). k.seen) c.self.view_is) after
+
+pub returns-else-not-begins-clause-positive : goal.returns-else-not-begins-clause-positive
+returns-else-not-begins-clause-positive g c =
+    let b = g.D.ListName.book in
+    let r = g.D.ListName.root in
+    let rd = c.in-Some.reader in
+    let is = sym c.take.ensures.value ∙ c.in-Some.is in
+    let old = of_some c.self.inside.reader rd (λ q. IsOf b r (view q.place)) is c.self.invariant.0 in
+    let looked = c.in-Ok.ensures.1 old.0 in
+    c.lookup-found.ensures.positive (subst (λ (x : Version). IsPositive x.rows) (sym c.get-version.ensures) looked.2.positive)
