@@ -1,12 +1,17 @@
 -- Rows that were made one by one show the opening, where each has the name of its principal and shows
 -- what that name holds.
-use Rattle.std.proofs.Common.{◌≡◌, List, [], ◌∷◌, map, Bool, true, false, Option, Some, None, refl, sym, ◌∙◌, ap}
+use Rattle.std.proofs.Common.{◌≡◌, ℕ, List, [], ◌∷◌, map, Bool, true, false, Option, Some, None, refl, sym, ◌∙◌, ap}
 use Rattle.std.specs.Prelude.{option_map, All}
 use Rattle.std.proofs.lemmas.List.Elements.{All-head, All-tail}
 use Rattle.chpw_rules.specs.declared.name.Name.{Name}
 use Rattle.chpw_rules.specs.Names.{is_same_name}
+use Rattle.chpw_table.specs.declared.key.KeyRow.{KeyRow}
 use Rattle.chpw_table.specs.declared.table.Principal.{Principal}
+use Rattle.chpw_table.specs.declared.table.Lookup.{Lookup}
+use Rattle.chpw_table.specs.Agreement.{Held}
 use Rattle.chpw_table.specs.State.{State, keys_held, kept_count, new_count}
+use Rattle.chpw_table.specs.Decision.{newest_kvno}
+use Rattle.chpw_table.specs.Lookups.{lookup_of}
 use Rattle.chpw_table.specs.Versions.{Shown, shown_keys}
 use Rattle.chpw_table.proofs.NameLemmas.{is_same_name-Decides}
 use Rattle.chpw_table.proofs.KeyLemmas.{keys_in}
@@ -37,7 +42,18 @@ shown_among shows name (r ∷ rs) (p ∷ ps) same all none =
         let past : is_same_name p.name name ≡ false = sym (ap (λ (n : Name). is_same_name n name) head) ∙ e in
         rw e (rest (λ k. none (rw past k)))
 
--- they show the opening, whatever the name
+as_shown : (policy seen : ℕ) (held : Option (List KeyRow))
+    → option_map (λ (l : Lookup). record { kvno = l.kvno; counts = l.held }) (option_map (λ (keys : List KeyRow). record { kvno = newest_kvno keys; held = map (λ (k : KeyRow). k.count) keys; policy = policy; seen = seen }) held) ≡ option_map shown_keys held
+as_shown policy seen None = refl
+as_shown policy seen (Some keys) = refl
+
+-- a row that was made of what a table shows of its name
+pub lookup_shows : (t : Held) (l : Lookup) (r : Row) → Some l ≡ lookup_of t r.name → r.kvno ≡ l.kvno → r.counts ≡ l.held → ShowsHeld t.state r
+lookup_shows t l r found kvno counts =
+    let same : Some (row_shown r) ≡ Some (record { kvno = l.kvno; counts = l.held }) = rw (kvno, counts) refl in
+    same ∙ (ap (λ o. option_map (λ (x : Lookup). record { kvno = x.kvno; counts = x.held }) o) found ∙ as_shown (new_count t.state) t.seen (keys_held t.state r.name))
+
+-- the rows show the opening, whatever the name
 pub rows_show : (opening : State) (rows : List Row) → names_of_rows rows ≡ names_of opening → All (ShowsHeld opening) rows
     → (name : Name) → shown_in rows name ≡ option_map shown_keys (keys_held opening name)
 rows_show opening rows same all name =
