@@ -9,7 +9,7 @@ ghost use Rattle.chpw_table.specs.Refusals.{AsksPositive};
 ghost use Rattle.chpw_decider.specs.Deciding.{IsCompletedFrom, IsFinal};
 ghost use Rattle.chpw_book.specs.Passes.{refused_with, new_pass};
 ghost use Rattle.chpw_book.specs.Calls.{Notes, AsksAfter};
-ghost use Rattle.chpw_book.specs.Starting.{IsNamed};
+ghost use Rattle.chpw_book.specs.Starting.{IsNamed, table_of, workers_of};
 ghost use Rattle.chpw_versions.specs.Rows.{lookup_after};
 
 use crate::book::Book;
@@ -48,9 +48,9 @@ impl<D: DeskName, S: JournalSink> Desk<D, S> {
         S: Drop,
         requires name { IsNamed started D.name D.parts D.book D.root D.workers }
         requires told { IfSome (S.told sink) (λ bytes. bytes ≡ []) }
-        requires room { started.table.state.broken ≡ false → S.failed sink < 2 ^ 64 - 1 }
+        requires room { (table_of started).state.broken ≡ false → S.failed sink < 2 ^ 64 - 1 }
         ensures passes { IfOk result (λ r.
-            r.1.items ≡ map new_pass (range_with_len 0 started.workers)) }
+            r.1.items ≡ map new_pass (range_with_len 0 (workers_of started))) }
     {
         let StartedDesk {
             table,

@@ -9,6 +9,7 @@ use std::sync::ledger::Blank;
 
 /// What a desk is made of that has no name yet: a table, and the ledger and the list of accepted changes
 /// of so many workers. `Desk::start` makes a desk of it under a name for both.
+#[derive(Drop)]
 pub struct StartedDesk {
     pub(crate) table: Table,
     pub(crate) workers: u8,

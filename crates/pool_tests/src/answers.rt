@@ -1,19 +1,19 @@
 //! Answers at a desk: one message of two workers, and a history that is full.
 ghost use Rattle.std.specs.Prelude.{◌≡◌};
+ghost use Rattle.chpw_book.specs.Starting.{IsNamed, workers_of};
 
 use crate::gates::Together;
 use crate::realm::opening;
 use chpw_answer::{Gate, NoGate, answer};
-use chpw_book::{AtDesk, CloseRefused, Closed, Desk, DeskName, Pass};
+use chpw_book::{AtDesk, CloseRefused, Closed, Desk, DeskName, Pass, StartedDesk};
 use chpw_journal::MemorySink;
 use chpw_messages::Service;
 use chpw_rules::Name;
-use chpw_table::{Entry, Moment, Table};
+use chpw_table::{Entry, Moment};
 use sample_client::{Asked, CHANGED, ReplyCode, request, told};
 use std::alloc::Global;
 use std::marker::Brand;
 use std::process::Abort;
-use std::sync::ledger::Blank;
 use std::sync::{Barrier, Wait};
 use std::test::Fail;
 use std::thread::{Threads, join};
@@ -62,11 +62,12 @@ fn answered<D: DeskName, G: Gate, R: Wait + Abort>(
 }
 
 // The history of a desk that can be closed, and its journal.
-fn closed<D: DeskName>(
+fn closed<D: DeskName, R: Wait>(
+    rt: &R,
     desk: Desk<D, MemorySink>,
     passes: Vec<Pass<D>>,
 ) -> Option<(Vec<Entry>, MemorySink)> {
-    match desk.close(passes) {
+    match desk.close(rt, passes) {
         Ok(
             Closed {
                 history,
@@ -81,7 +82,7 @@ fn closed<D: DeskName>(
                 passes: _,
             },
         ) => {
-            desk.abandon();
+            desk.abandon(rt);
             None
         }
     }
@@ -91,23 +92,22 @@ fn closed<D: DeskName>(
 fn one_message_of_two_workers(rt: HostRuntime) -> Result<(), Fail> {
     let (service, table) = opening(rt.alloc(), 100)?;
     let message = request(rt.alloc(), asked("New-pass2"))?;
-    two_at::<Brand, _>(&rt, rt.alloc(), Blank::new(2), table, &service, &message)
+    two_at::<Brand, _>(&rt, rt.alloc(), StartedDesk::of(table, 2), &service, &message)
 }
 
 // Both are held until both have opened it: one changes the password, and the other tells a replay.
 fn two_at<D: DeskName + Send + Sync, R: Threads + Wait + Abort + Sync>(
     rt: &R,
     alloc: Global,
-    blank: Blank,
-    table: Table,
+    started: StartedDesk,
     service: &Service,
     message: &[u8],
 ) -> Result<(), Fail>
-    requires name { (blank.name ≡ D.name) × (blank.parts ≡ D.parts) × (blank.parts ≡ 2)
-        × (D.workers ≡ 2) × (D.opening ≡ table.state) }
+    requires name { IsNamed started D.name D.parts D.book D.root D.workers }
+    requires workers { workers_of started ≡ 2 }
 {
     let sink = MemorySink::new(alloc, ROOM)?;
-    let (desk, mut passes) = Desk::<D, MemorySink>::start(alloc, blank, table, sink, 2)?;
+    let (desk, mut passes) = Desk::<D, MemorySink>::start(rt, alloc, started, sink)?;
     let mut second = passes.pop().expect(rt, "a pass");
     let mut first = passes.pop().expect(rt, "a pass");
     let barrier = Barrier::new(2);
@@ -146,7 +146,7 @@ fn two_at<D: DeskName + Send + Sync, R: Threads + Wait + Abort + Sync>(
     assert!(rt; kvno_of_alice(rt, alloc, &desk, changer) == 2);
     passes.push(first).ok().expect(rt, "a place");
     passes.push(second).ok().expect(rt, "a place");
-    let (history, journal) = closed(desk, passes).expect(rt, "all agree");
+    let (history, journal) = closed(rt, desk, passes).expect(rt, "all agree");
     assert!(rt; history.len() == 2 && journal.bytes().len() == 66);
     Ok(())
 }
@@ -165,7 +165,7 @@ fn kvno_of_alice<D: DeskName, R: Wait + Abort>(
 ) -> u32 {
     let alice = Name::parse(alloc, "alice").ok().expect(rt, "memory");
     let alice = alice.expect(rt, "a name");
-    desk.lookup(rt, pass, &alice).expect(rt, "a principal").kvno
+    desk.lookup(pass, &alice).ok().expect(rt, "entered").expect(rt, "a principal").kvno
 }
 
 #[test]
@@ -176,8 +176,7 @@ fn full_history(rt: HostRuntime) -> Result<(), Fail> {
     fill::<Brand, _>(
         &rt,
         rt.alloc(),
-        Blank::new(1),
-        table,
+        StartedDesk::of(table, 1),
         &service,
         [&first, &second],
     )
@@ -187,16 +186,15 @@ fn full_history(rt: HostRuntime) -> Result<(), Fail> {
 fn fill<D: DeskName, R: Wait + Abort>(
     rt: &R,
     alloc: Global,
-    blank: Blank,
-    table: Table,
+    started: StartedDesk,
     service: &Service,
     messages: [&[u8]; 2],
 ) -> Result<(), Fail>
-    requires name { (blank.name ≡ D.name) × (blank.parts ≡ D.parts) × (blank.parts ≡ 1)
-        × (D.workers ≡ 1) × (D.opening ≡ table.state) }
+    requires name { IsNamed started D.name D.parts D.book D.root D.workers }
+    requires workers { workers_of started ≡ 1 }
 {
     let sink = MemorySink::new(alloc, ROOM)?;
-    let (desk, mut passes) = Desk::<D, MemorySink>::start(alloc, blank, table, sink, 1)?;
+    let (desk, mut passes) = Desk::<D, MemorySink>::start(rt, alloc, started, sink)?;
     let mut pass = passes.pop().expect(rt, "a pass");
     let [first, second] = messages;
     let one = answered(rt, alloc, service, &desk, &mut pass, &mut NoGate, first);
@@ -204,7 +202,7 @@ fn fill<D: DeskName, R: Wait + Abort>(
     let two = answered(rt, alloc, service, &desk, &mut pass, &mut NoGate, second);
     assert!(rt; two == FULL && pass.was_full());
     passes.push(pass).ok().expect(rt, "a place");
-    let (history, _journal) = closed(desk, passes).expect(rt, "all agree");
+    let (history, _journal) = closed(rt, desk, passes).expect(rt, "all agree");
     assert!(rt; history.len() == 1);
     Ok(())
 }
