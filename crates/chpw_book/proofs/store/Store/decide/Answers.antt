@@ -6,11 +6,11 @@ use Rattle.chpw_table.specs.State.{State}
 use Rattle.chpw_table.specs.History.{IsLegal, missing, outcome}
 use Rattle.chpw_table.specs.Refusals.{IsFirst}
 use Rattle.chpw_table.specs.declared.outcome.DecideFault.TheVariants.{NeedKeys}
+use Rattle.chpw_fronts.specs.Pens.{opening_of}
 use Rattle.chpw_book.specs.Receipts.{changes_of, entries_of, receipt_of}
 use Rattle.chpw_book.specs.Stored.{Stored, Replays}
 use Rattle.chpw_book.specs.Passes.{Carried}
-use Rattle.chpw_decider.proofs.KeepingLemmas.{legal_on}
-use Rattle.chpw_book.proofs.CallLemmas.{notes_of_adds, asks_of_first}
+use Rattle.chpw_book.proofs.CallLemmas.{asks_of_first}
 use Rattle.chpw_book.proofs.GrowsLemmas.{put_entry_as, put_receipt_as, kept_next, short, short_count}
 use Rattle.chpw_book.proofs.store.Store.decide.Goals as goal
 
@@ -84,17 +84,14 @@ returns-clause-adds g c =
       same = (worker, was_full);
     }
 
-pub returns-clause-notes : goal.returns-clause-notes
-unfolding returns-clause-adds
-returns-clause-notes g c =
-    let opening : State = (opening_of g.D.ListName.root) in
-    let b : Stored = record { table = c.self.inside.journaled.table; history = c.self.inside.history.items; counts = c.self.inside.counts.items; changes = c.self.inside.changes; total = c.self.inside.totals.total; told = g.S.JournalSink.told c.self.inside.journaled.sink } in
-    let kept : Replays opening g.D.DeskName.workers b = c.self.invariant.0 in
-    let made = c.finish-outcome.result in
-    let e : Entry = record { worker = c.pass.inside.worker; number = c.count_call-number.result; now = c.args.now; opened = c.args.opened; io_failed = made.io_failed; verdict = made.verdict } in
-    let history = ap (λ (x : Stored). x.history) c.self.view_is in
-    let legal = legal_on opening b.history e kept.legal (c.finish-outcome.ensures.legal (outcome opening b.history) kept.agrees) in
-    notes_of_adds opening _ _ _ _ _ _ _ (returns-clause-adds g c) (subst (λ (es : List Entry). IsLegal opening (es ++ e ∷ [])) history legal)
+pub returns-clause-replays : goal.returns-clause-replays
+unfolding invariant_of-self-2
+returns-clause-replays g c =
+    let opening : State = opening_of g.D.ListName.root in
+    (subst (λ (x : Stored). Replays opening g.D.DeskName.workers x) c.self.view_is c.self.invariant.0, (invariant_of-self-2 g c).0)
+
+pub returns-clause-shelves : goal.returns-clause-shelves
+returns-clause-shelves g c = ?
 
 pub returns-then-not-is_empty-clause-asks : goal.returns-then-not-is_empty-clause-asks
 returns-then-not-is_empty-clause-asks g c =
