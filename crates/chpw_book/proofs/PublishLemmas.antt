@@ -1,6 +1,6 @@
 -- The published list goes on with the history.
 use Rattle.std.proofs.Common.{◌≡◌, ℕ, ◌+◌, ◌-◌, ◌^◌, ◌<◌, ◌≤◌, List, [], ◌∷◌, ◌++◌, length, Bool, true, false, ◌&&◌, ◌||◌, Option, Some, None, refl, sym, ◌∙◌, ap, subst, arith, if◌then◌else◌}
-use Rattle.std.specs.Prelude.{IsSome}
+use Rattle.std.specs.Prelude.{IsSome, option_map}
 use Rattle.std.proofs.lemmas.List.Sums.{count_by-le-length}
 use mathlib.Core.List.{IsPrefix}
 use Rattle.chpw_rules.specs.declared.name.Name.{Name}
@@ -15,6 +15,7 @@ use Rattle.chpw_table.specs.Verdicts.{is_done}
 use Rattle.chpw_table.specs.Decision.{verdict}
 use Rattle.chpw_table.specs.Step.{new_key}
 use Rattle.chpw_table.specs.History.{IsLegal, outcome}
+use Rattle.chpw_table.specs.Journal.{appended}
 use Rattle.chpw_table.specs.Versions.{KeyChange, Shown, change_of, accepted}
 use Rattle.chpw_table.specs.Agreement.{Held, Agrees}
 use Rattle.chpw_table.specs.Preparing.{IsNextRow}
@@ -153,3 +154,11 @@ shelves_at before false now o row v s t free false io is vi ni ti = record {
 pub shelves_next : (before : State) (was now io : Bool) (o : Opened) (row v : Verdict) (s t : Shelved) → (was ≡ false → s.waiting ≡ None)
     → v ≡ (if is_done row && io then Broken else row) → now ≡ (was || io) → t ≡ with_waiting (is_done row) (change_by before o) s → Shelves before now o v s t
 shelves_next before was now io o row v s t free vi ni ti = shelves_at before was now o row v s t free (is_done row) io refl vi ni ti
+
+-- what the sink tells, of a step whose parts are named otherwise
+pub told_as : {S : Type 0} (told : S → Option (List ℕ)) (t u : Held) (k l n : S) (o p : Opened) (v : Verdict) → u ≡ t → l ≡ k → p ≡ o
+    → ((s : State) → Agrees u.state s → told n ≡ option_map (λ xs. xs ++ appended s p v) (told l)) → (s : State) → Agrees t.state s → told n ≡ option_map (λ xs. xs ++ appended s o v) (told k)
+told_as {S} told t u k l n o p v table sink opened h s a =
+    h s (subst (λ (x : Held). Agrees x.state s) (sym table) a)
+    ∙ (ap (λ (x : Opened). option_map (λ (xs : List ℕ). xs ++ appended s x v) (told l)) opened
+    ∙ ap (λ (x : S). option_map (λ (xs : List ℕ). xs ++ appended s o v) (told x)) sink)
