@@ -4,7 +4,7 @@ use Rattle.chpw_fronts.specs.Pens.{opening_of}
 use Rattle.chpw_table.specs.State.{State}
 use Rattle.chpw_table.specs.Verdicts.{is_done}
 use Rattle.chpw_table.specs.Versions.{accepted}
-use Rattle.chpw_versions.specs.Known.{Known, Shelved}
+use Rattle.chpw_versions.specs.Known.{Shelved}
 use Rattle.chpw_book.specs.Passes.{Carried}
 use Rattle.chpw_book.specs.Stored.{Stored}
 use Rattle.chpw_book.specs.Publishing.{Publishes, told_list}
