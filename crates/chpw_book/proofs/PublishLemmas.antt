@@ -1,6 +1,6 @@
 -- The published list goes on with the history.
-use Rattle.std.proofs.Common.{◌≡◌, ℕ, ◌+◌, ◌-◌, ◌^◌, ◌<◌, ◌≤◌, List, [], ◌∷◌, ◌++◌, length, Bool, true, false, ◌||◌, Option, Some, None, refl, sym, ◌∙◌, ap, subst, arith, if◌then◌else◌}
-use Rattle.std.specs.Prelude.{IsSome}
+use Rattle.std.proofs.Common.{◌≡◌, ℕ, ◌+◌, ◌-◌, ◌^◌, ◌<◌, ◌≤◌, List, [], ◌∷◌, ◌++◌, length, Bool, true, false, ◌&&◌, ◌||◌, Option, Some, None, refl, sym, ◌∙◌, ap, subst, arith, if◌then◌else◌}
+use Rattle.std.specs.Prelude.{IsSome, option_map}
 use Rattle.std.proofs.lemmas.List.Sums.{count_by-le-length}
 use mathlib.Core.List.{IsPrefix}
 use Rattle.chpw_rules.specs.declared.name.Name.{Name}
@@ -8,13 +8,14 @@ use Rattle.chpw_table.specs.declared.times.Moment.{Moment}
 use Rattle.chpw_table.specs.declared.request.Opened.{Opened}
 use Rattle.chpw_table.specs.declared.history.Entry.{Entry}
 use Rattle.chpw_table.specs.declared.verdict.Verdict.{Verdict}
-use Rattle.chpw_table.specs.declared.verdict.Verdict.TheVariants.{Done}
+use Rattle.chpw_table.specs.declared.verdict.Verdict.TheVariants.{Done, Broken}
 use Rattle.chpw_table.specs.Requests.{target_of}
 use Rattle.chpw_table.specs.State.{State, keys_held, new_count}
 use Rattle.chpw_table.specs.Verdicts.{is_done}
 use Rattle.chpw_table.specs.Decision.{verdict}
 use Rattle.chpw_table.specs.Step.{new_key}
 use Rattle.chpw_table.specs.History.{IsLegal, outcome}
+use Rattle.chpw_table.specs.Journal.{appended}
 use Rattle.chpw_table.specs.Versions.{KeyChange, Shown, change_of, accepted}
 use Rattle.chpw_table.specs.Agreement.{Held, Agrees}
 use Rattle.chpw_table.specs.Preparing.{IsNextRow}
@@ -26,7 +27,7 @@ use Rattle.chpw_book.specs.Passes.{Carried}
 use Rattle.chpw_book.specs.Receipts.{is_accepted}
 use Rattle.chpw_book.specs.Stored.{Stored, Replays, Adds}
 use Rattle.chpw_book.specs.Calls.{Notes}
-use Rattle.chpw_book.specs.Publishing.{Publishes, Shelves, Tells, change_by, joined, published, told_list}
+use Rattle.chpw_book.specs.Publishing.{Publishes, Shelves, Tells, change_by, with_waiting, joined, published, told_list}
 use Rattle.chpw_book.proofs.CallLemmas.{notes_of_adds}
 use Rattle.chpw_book.proofs.GrowsLemmas.{one_longer}
 
@@ -119,3 +120,45 @@ pub notes_next : (opening : State) (workers : ℕ) (before later : Stored) (mine
 notes_next opening workers before later mine more now o v a k t =
     notes_of_adds opening before later mine more now o v a (subst (λ (es : List Entry). IsLegal opening es) a.history k.legal)
     (subst (λ (es : List Entry). Tells opening before.history es mine.place more.place v) a.history t)
+
+-- ---- the shelf after a decision
+
+shelves_at : (before : State) (was now : Bool) (o : Opened) (row v : Verdict) (s t : Shelved) → (was ≡ false → s.waiting ≡ None)
+    → (d io : Bool) → is_done row ≡ d → v ≡ (if d && io then Broken else row) → now ≡ (was || io) → t ≡ with_waiting d (change_by before o) s → Shelves before now o v s t
+shelves_at before true now o row v s t free true io is vi ni ti = record {
+  list = ap (λ (x : Shelved). x.list) ti;
+  waits = λ h. ap (λ (x : Shelved). x.waiting) ti;
+  free = λ h b. absurd (let x : now ≡ true = ni in cc);
+}
+shelves_at before true now o row v s t free false io is vi ni ti = record {
+  list = ap (λ (x : Shelved). x.list) ti;
+  waits = λ h. absurd (let x : is_done v ≡ false = ap is_done vi ∙ is in cc);
+  free = λ h b. absurd (let x : now ≡ true = ni in cc);
+}
+shelves_at before false now o row v s t free true true is vi ni ti = record {
+  list = ap (λ (x : Shelved). x.list) ti;
+  waits = λ h. ap (λ (x : Shelved). x.waiting) ti;
+  free = λ h b. absurd (let x : now ≡ true = ni in cc);
+}
+shelves_at before false now o row v s t free true false is vi ni ti = record {
+  list = ap (λ (x : Shelved). x.list) ti;
+  waits = λ h. ap (λ (x : Shelved). x.waiting) ti;
+  free = λ h b. absurd (let x : is_done v ≡ true = ap is_done vi ∙ is in cc);
+}
+shelves_at before false now o row v s t free false io is vi ni ti = record {
+  list = ap (λ (x : Shelved). x.list) ti;
+  waits = λ h. absurd (let x : is_done v ≡ false = ap is_done vi ∙ is in cc);
+  free = λ h b. ap (λ (x : Shelved). x.waiting) ti ∙ free refl;
+}
+
+pub shelves_next : (before : State) (was now io : Bool) (o : Opened) (row v : Verdict) (s t : Shelved) → (was ≡ false → s.waiting ≡ None)
+    → v ≡ (if is_done row && io then Broken else row) → now ≡ (was || io) → t ≡ with_waiting (is_done row) (change_by before o) s → Shelves before now o v s t
+shelves_next before was now io o row v s t free vi ni ti = shelves_at before was now o row v s t free (is_done row) io refl vi ni ti
+
+-- what the sink tells, of a step whose parts are named otherwise
+pub told_as : {S : Type 0} (told : S → Option (List ℕ)) (t u : Held) (k l n : S) (o p : Opened) (v : Verdict) → u ≡ t → l ≡ k → p ≡ o
+    → ((s : State) → Agrees u.state s → told n ≡ option_map (λ xs. xs ++ appended s p v) (told l)) → (s : State) → Agrees t.state s → told n ≡ option_map (λ xs. xs ++ appended s o v) (told k)
+told_as {S} told t u k l n o p v table sink opened h s a =
+    h s (subst (λ (x : Held). Agrees x.state s) (sym table) a)
+    ∙ (ap (λ (x : Opened). option_map (λ (xs : List ℕ). xs ++ appended s x v) (told l)) opened
+    ∙ ap (λ (x : S). option_map (λ (xs : List ℕ). xs ++ appended s o v) (told x)) sink)

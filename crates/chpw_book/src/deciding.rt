@@ -1,8 +1,11 @@
 //! One decision of the table, with its entry.
-ghost use Rattle.std.specs.Prelude.{◌≡◌, ◌+◌, ◌-◌, ◌^◌, ◌<◌, ◌≤◌, ◌++◌, [], ◌∷◌, IfOk, IfErr, OnOk, OnErr, Err, None, false, length, if◌then◌else◌, slice_index, slice_set, vec_len, vec_capacity};
+ghost use Rattle.std.specs.Prelude.{◌≡◌, ◌+◌, ◌-◌, ◌^◌, ◌<◌, ◌≤◌, ◌++◌, [], ◌∷◌, IfOk, IfErr, OnOk, OnErr, Err, option_map, None, false, length, if◌then◌else◌, slice_index, slice_set, vec_len, vec_capacity};
 ghost use Rattle.chpw_table.specs.declared.outcome.DecideFault.TheVariants.{Full};
 ghost use Rattle.chpw_fronts.specs.Pens.{opening_of};
-ghost use Rattle.chpw_table.specs.History.{missing, outcome};
+ghost use Rattle.chpw_table.specs.State.{State};
+ghost use Rattle.chpw_table.specs.Step.{step};
+ghost use Rattle.chpw_table.specs.Journal.{appended};
+ghost use Rattle.chpw_table.specs.History.{IsDecided, missing, outcome};
 ghost use Rattle.chpw_table.specs.Agreement.{Agrees};
 ghost use Rattle.chpw_table.specs.Preparing.{IsReady};
 ghost use Rattle.chpw_table.specs.Times.{IsMoment};
@@ -18,8 +21,10 @@ ghost use Rattle.chpw_book.specs.Publishing.{Shelves, change_by, with_waiting};
 use crate::naming::DeskName;
 use crate::pass::Pass;
 use crate::store::Store;
+use chpw_decider::JournaledTable;
 use chpw_table::{
-    DecideFault, Entry, JournalSink, Moment, Opened, Prepared, Receipt, Refused, Table, Verdict,
+    DecideFault, Entry, JournalSink, Moment, Opened, Outcome, Prepared, Receipt, Refused, Table,
+    Verdict,
 };
 use chpw_versions::Shelf;
 use std::alloc::AllocError;
@@ -66,11 +71,7 @@ impl<D: DeskName, S: JournalSink> Store<D, S> {
         let Ok(copy) = make_room(&mut self.history, &mut pass.receipts, &opened) else {
             return refused(DecideFault::Memory, opened);
         };
-        let prepared = self.journaled.prepare(now, opened)?;
-        if shelve(shelf, self.journaled.table(), &prepared).is_err() {
-            return refused(DecideFault::Memory, prepared.abandon());
-        }
-        let outcome = self.journaled.finish(prepared);
+        let outcome = decided(&mut self.journaled, shelf, now, opened)?;
         let number = count_call(&mut self.counts, pass.worker);
         let mine = Entry {
             worker: pass.worker,
@@ -136,6 +137,48 @@ impl<D: DeskName, S: JournalSink> Store<D, S> {
         }
         self.decide(shelf, pass, now, opened)
     }
+}
+
+// The table's step. The change that it makes waits on the shelf, which is the last growth before the
+// journal is appended to.
+fn decided<D: DeskName, S: JournalSink>(
+    journaled: &mut JournaledTable<S>,
+    shelf: &mut Shelf<D>,
+    now: Moment,
+    opened: Opened,
+) -> Result<Outcome, Refused>
+    requires moment { IsMoment now }
+    requires kept { (es : _) × Agrees journaled.old.table.state (outcome (opening_of D.root) es) }
+    requires free { journaled.old.table.state.broken ≡ false → shelf.old.waiting ≡ None }
+    ensures legal { IfOk result (λ r. (s : State) → Agrees journaled.old.table.state s
+        → IsDecided s now opened r.io_failed r.verdict) }
+    ensures step { IfOk result (λ r. (s : State) → Agrees journaled.old.table.state s
+        → Agrees journaled.new.table.state (step s now opened r.io_failed)) }
+    ensures told { IfOk result (λ r. (s : State) → Agrees journaled.old.table.state s
+        → S.told journaled.new.sink
+        ≡ option_map (λ xs. xs ++ appended s opened r.verdict) (S.told journaled.old.sink)) }
+    ensures opened { IfOk result (λ r. r.opened ≡ opened) }
+    ensures counts { IfOk result (λ r.
+        (journaled.new.table.events ≡ journaled.old.table.events + 1)
+        × (journaled.new.table.max_entries ≡ journaled.old.table.max_entries)) }
+    ensures few { OnOk result (journaled.new.table.events < 2 ^ 32) }
+    ensures shelves { IfOk result (λ r. Shelves journaled.old.table.state
+        journaled.new.table.state.broken opened r.verdict shelf.old shelf.new) }
+    ensures first { IfErr result (λ r. IsFirst journaled.old.table
+        (missing journaled.old.table.state now opened) r.fault) }
+    ensures positive { IfErr result (λ r. AsksPositive r.fault) }
+    ensures unchanged { IfErr result (λ r. (journaled.new.table ≡ journaled.old.table)
+        × (journaled.new.sink ≡ journaled.old.sink) × (shelf.new ≡ shelf.old)
+        × (r.opened ≡ opened)) }
+{
+    let prepared = journaled.prepare(now, opened)?;
+    if shelve(shelf, journaled.table(), &prepared).is_err() {
+        return Err(Refused {
+            fault: DecideFault::Memory,
+            opened: prepared.abandon(),
+        });
+    }
+    Ok(journaled.finish(prepared))
 }
 
 // The change that the step makes, where its append succeeds, waits on the shelf.

@@ -46,7 +46,7 @@ row_shown r = record { kvno = r.kvno; counts = r.counts }
 abbrev pub shown_in : List Row → Name → Option Shown
 shown_in rows name = option_map row_shown (find (λ (r : Row). is_same_name r.name name) rows)
 
--- the rows have the opening's names, in its order, and show of each name what it holds
+-- the rows have the opening's names, in its order, and show of each name what it holds; counts are at least 1
 pub record ShowsOpening (opening : State) (r : Rowed) : Type 0 where
   pub names : names_of_rows r.rows ≡ names_of opening
   pub kept : r.kept ≡ kept_count opening

@@ -47,8 +47,8 @@ impl<D: ListName> Model for Shelf<D> {
 
 impl<D: ListName> Shelf<D> {
     /// A shelf with an empty list and room for so many places, which shows these rows; `again` is a copy
-    /// of them. They show the list's opening: a row for each principal, in its order. It may wait, as a
-    /// publication does.
+    /// of them. They show the list's opening: a row for each principal, in its order, with counts of at
+    /// least 1. It may wait, as a publication does.
     pub fn start<R: Wait>(
         rt: &R,
         alloc: Global,
