@@ -34,7 +34,7 @@ pub fn look_alone<D: DeskName, S: JournalSink, R: Clock>(
     let [pass, ..] = passes else {
         return Err(io::Error::from(io::ErrorKind::InvalidInput));
     };
-    look_timed(rt, desk, pass, sought)
+    timed(rt, || found_by(desk, pass, sought))
 }
 
 /// Those of four passes at once.
@@ -49,24 +49,7 @@ where
     S: JournalSink + Send,
     R: Threads + Clock + Sync,
 {
-    let [one, two, three, four] = passes else {
-        return Err(io::Error::from(io::ErrorKind::InvalidInput));
-    };
-    let start = Instant::now(rt)?;
-    let ((a, b), (c, d)) = join(
-        rt,
-        || join(rt, || look(desk, one, sought), || look(desk, two, sought)),
-        || join(
-            rt,
-            || look(desk, three, sought),
-            || look(desk, four, sought),
-        ),
-    );
-    let took = start.elapsed(rt)?;
-    Ok(Looked {
-        found: u64::from(a) + u64::from(b) + u64::from(c) + u64::from(d),
-        took,
-    })
+    timed(rt, || found_by_four(rt, desk, passes, sought))
 }
 
 /// Those of the first pass while a decision of the second holds the lock.
@@ -107,7 +90,7 @@ fn look_held<D: DeskName, S: JournalSink, R: Clock>(
     hold: &Hold,
 ) -> io::Result<Looked> {
     let begun = hold.has_begun(rt);
-    let looked = look_timed(rt, desk, pass, sought);
+    let looked = timed(rt, || found_by(desk, pass, sought));
     let held = hold.end();
     if begun && held {
         looked
@@ -116,32 +99,66 @@ fn look_held<D: DeskName, S: JournalSink, R: Clock>(
     }
 }
 
-fn look_timed<D: DeskName, S: JournalSink, R: Clock>(
-    rt: &R,
-    desk: &Desk<D, S>,
-    pass: &mut Pass<D>,
-    sought: &Sought,
-) -> io::Result<Looked> {
+// How long this work takes, which gives how many lookups found their name.
+fn timed<R: Clock, F: FnOnce() -> u64>(rt: &R, work: F) -> io::Result<Looked>
+    requires { F.pre work }
+{
     let start = Instant::now(rt)?;
-    let found = look(desk, pass, sought);
+    let found = work();
     let took = start.elapsed(rt)?;
-    Ok(Looked {
-        found: u64::from(found),
-        took,
-    })
+    Ok(Looked { found, took })
 }
 
-// How many lookups found the name.
-fn look<D: DeskName, S: JournalSink>(
+// The lookups of one pass that find the name.
+fn found_by<D: DeskName, S: JournalSink>(
     desk: &Desk<D, S>,
     pass: &mut Pass<D>,
     sought: &Sought,
-) -> u32 {
-    let mut found = 0u32;
+) -> u64 {
+    let mut found = 0u64;
     for _ in 0..sought.times {
         if let Ok(Some(_)) = desk.lookup(pass, &sought.name) {
             found = found.saturating_add(1);
         }
     }
     found
+}
+
+// Those of two passes at once.
+fn found_by_two<D, S, R>(
+    rt: &R,
+    desk: &Desk<D, S>,
+    one: &mut Pass<D>,
+    two: &mut Pass<D>,
+    sought: &Sought,
+) -> u64
+where
+    D: DeskName + Send + Sync,
+    S: JournalSink + Send,
+    R: Threads + Sync,
+{
+    let (a, b) = join(
+        rt,
+        || found_by(desk, one, sought),
+        || found_by(desk, two, sought),
+    );
+    a.saturating_add(b)
+}
+
+// Those of four passes at once; none where there aren't four.
+fn found_by_four<D, S, R>(rt: &R, desk: &Desk<D, S>, passes: &mut [Pass<D>], sought: &Sought) -> u64
+where
+    D: DeskName + Send + Sync,
+    S: JournalSink + Send,
+    R: Threads + Sync,
+{
+    let [one, two, three, four] = passes else {
+        return 0;
+    };
+    let (a, b) = join(
+        rt,
+        || found_by_two(rt, desk, one, two, sought),
+        || found_by_two(rt, desk, three, four, sought),
+    );
+    a.saturating_add(b)
 }

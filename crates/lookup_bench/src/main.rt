@@ -67,7 +67,8 @@ impl Wanted {
 fn main(rt: HostRuntime) -> io::Result<()> {
     let wanted = arguments(&rt)?;
     let table = table(rt.alloc(), wanted.principals)?;
-    measure::<Brand, HostRuntime>(&rt, rt.alloc(), StartedDesk::of(table, 4), wanted)
+    let started = StartedDesk::of(table, 4);
+    measure::<Brand, HostRuntime>(&rt, &Hold::new(), started, wanted)
 }
 
 fn arguments<R: Env + AllocGlobal>(rt: &R) -> io::Result<Wanted> {
@@ -81,38 +82,46 @@ fn arguments<R: Env + AllocGlobal>(rt: &R) -> io::Result<Wanted> {
 }
 
 // All at a desk of this name, which is then given up.
-fn measure<D: DeskName + Send + Sync, R: Threads + Wait + Clock + Print + Sync>(
-    rt: &R,
-    alloc: Global,
+fn measure<'a, D, R>(
+    rt: &'a R,
+    hold: &'a Hold,
     started: StartedDesk,
     wanted: Wanted,
 ) -> io::Result<()>
+where
+    D: DeskName + Send + Sync,
+    R: Threads + Wait + Clock + Print + AllocGlobal + Sync,
     requires name { IsNamed started D.name D.parts D.book D.root D.workers }
 {
-    let hold = Hold::new();
     let sink = SlowSink {
         rt,
-        hold: &hold,
+        hold,
         sleep: wanted.sleep(),
     };
-    let Ok((desk, mut passes)) = Desk::<D, _>::start(rt, alloc, started, sink) else {
+    let Ok((desk, mut passes)) = Desk::<D, _>::start(rt, rt.alloc(), started, sink) else {
         return Err(io::Error::from(io::ErrorKind::OutOfMemory));
     };
-    let figures = figures(rt, alloc, &desk, &mut passes, &hold, wanted);
+    let figures = figures(rt, rt.alloc(), &desk, &mut passes, hold, wanted);
     desk.abandon(rt);
     let [alone, four, beside] = figures?;
     let unit = if wanted.counts { "found" } else { "ns" };
     println!(rt; "lookup {alone} {unit}, four {four} {unit}, beside a held lock {beside} {unit}")
 }
 
-fn figures<D: DeskName + Send + Sync, S: JournalSink + Send, R: Threads + Wait + Clock + Sync>(
+// The figures of the three.
+fn figures<D, S, R>(
     rt: &R,
     alloc: Global,
     desk: &Desk<D, S>,
     passes: &mut [Pass<D>],
     hold: &Hold,
     wanted: Wanted,
-) -> io::Result<[u128; 3]> {
+) -> io::Result<[u128; 3]>
+where
+    D: DeskName + Send + Sync,
+    S: JournalSink + Send,
+    R: Threads + Wait + Clock + Sync,
+{
     let sought = Sought {
         name: name(alloc, wanted.principals / 2)?,
         times: wanted.times(),
