@@ -1,5 +1,5 @@
 -- What a worker holds of a desk.
-use Rattle.std.specs.Prelude.{ℕ, List, [], Bool, true, false, Option, None}
+use Rattle.std.specs.Prelude.{ℕ, List, [], Bool, true, false, None}
 use Rattle.chpw_table.specs.declared.history.Receipt.{Receipt}
 use Rattle.chpw_table.specs.declared.outcome.DecideFault.{DecideFault}
 use Rattle.chpw_table.specs.declared.outcome.DecideFault.TheVariants.{Full, NeedKeys, Memory}

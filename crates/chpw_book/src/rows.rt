@@ -1,5 +1,6 @@
 //! The rows that lookups show at first.
-ghost use Rattle.std.specs.Prelude.{◌≡◌, ◌≤◌, IfOk, map, max};
+ghost use Rattle.std.specs.Prelude.{◌≡◌, ◌≤◌, All, IfOk, map, max};
+ghost use Rattle.chpw_versions.specs.Rows.{HasPositive, IsPositive};
 ghost use Rattle.chpw_book.specs.Publishing.{row_under, table_rows};
 
 use chpw_rules::Name;
@@ -10,7 +11,7 @@ use std::alloc::{AllocError, Global};
 /// What the table shows of each of its names.
 pub(crate) fn rows_of(alloc: Global, table: &Table) -> Result<Rows, AllocError>
     ensures value { IfOk result (λ rows. rows ≡ table_rows table.now.state) }
-    ensures policy { 1 ≤ table.now.state.fixed.policy.iterations }
+    ensures positive { IfOk result IsPositive }
 {
     let policy = table.policy();
     let rows = all_rows(alloc, table)?;
@@ -20,6 +21,7 @@ pub(crate) fn rows_of(alloc: Global, table: &Table) -> Result<Rows, AllocError>
 fn all_rows(alloc: Global, table: &Table) -> Result<Vec<Row>, AllocError>
     ensures value { IfOk result (λ rows. rows.items
         ≡ map (λ p. row_under table.now.state p.name) table.now.state.principals) }
+    ensures positive { IfOk result (λ rows. All HasPositive rows.items) }
 {
     let mut rows = Vec::new(alloc);
     let mut place = 0u32;
@@ -36,6 +38,7 @@ fn all_rows(alloc: Global, table: &Table) -> Result<Vec<Row>, AllocError>
 
 fn row_of(table: &Table, name: &Name) -> Result<Row, AllocError>
     ensures value { IfOk result (λ row. row ≡ row_under table.now.state name.now) }
+    ensures positive { IfOk result HasPositive }
 {
     let copy = name.clone()?;
     Ok(match table.lookup(name) {

@@ -2,8 +2,8 @@
 ghost use Rattle.std.specs.Prelude.{◌≡◌};
 ghost use Rattle.chpw_book.specs.Starting.{IsNamed, workers_of};
 
-use crate::realm::{NOW, PASSWORD, Quiet, change, closed, is_full, name, table, verdict};
-use chpw_book::{AtDesk, Desk, DeskName, Pass, StartedDesk};
+use crate::realm::{NOW, PASSWORD, Quiet, change, closed, is_full, shown, table, verdict};
+use chpw_book::{AtDesk, Desk, DeskName, StartedDesk};
 use chpw_decider::Decider;
 use chpw_table::{DecideFault, Opened, Refused, Verdict};
 use std::alloc::Global;
@@ -87,21 +87,9 @@ fn derive_and_fill<D: DeskName, R: Wait + Abort>(
     assert!(rt; verdict(place.decide_deriving(NOW, first, PASSWORD)) == Some(Verdict::Done));
     assert!(rt; !pass.was_full());
     assert!(rt; is_full(desk.decide(rt, &mut pass, NOW, second)) && pass.was_full());
-    show_kvno(rt, alloc, &desk, &mut pass);
+    assert!(rt; shown(rt, alloc, &desk, &mut pass) == (2, 1));
     passes.push(pass).ok().expect(rt, "a place");
     let (history, full) = closed(rt, desk, passes).expect(rt, "all agree");
     assert!(rt; history.len() == 1 && full);
     Ok(())
-}
-
-// Alice's newest key has kvno 2.
-fn show_kvno<D: DeskName, R: Wait + Abort>(
-    rt: &R,
-    alloc: Global,
-    desk: &Desk<D, Quiet>,
-    pass: &mut Pass<D>,
-) {
-    let alice = name(alloc, 0).ok().expect(rt, "a name");
-    let shown = desk.lookup(pass, &alice).ok().expect(rt, "entered").expect(rt, "a principal");
-    assert!(rt; shown.kvno == 2 && shown.seen == 1);
 }

@@ -169,3 +169,16 @@ pub fn closed<D: DeskName, R: Wait>(
         }
     }
 }
+
+/// Alice's newest version, and how many changes the lookup saw.
+pub fn shown<D: DeskName, R: Abort>(
+    rt: &R,
+    alloc: Global,
+    desk: &Desk<D, Quiet>,
+    pass: &mut Pass<D>,
+) -> (u32, u32) {
+    let alice = name(alloc, 0).ok().expect(rt, "a name");
+    let found = desk.lookup(pass, &alice).ok().expect(rt, "entered");
+    let found = found.expect(rt, "a principal");
+    (found.kvno, found.seen)
+}

@@ -2,7 +2,7 @@
 ghost use Rattle.std.specs.Prelude.{◌≡◌, ◌<◌, All};
 ghost use Rattle.chpw_book.specs.Starting.{IsNamed, workers_of};
 
-use crate::realm::{NOW, PASSWORD, Quiet, change, closed, name, table, verdict};
+use crate::realm::{NOW, PASSWORD, Quiet, change, closed, shown, table, verdict};
 use chpw_book::{Desk, DeskName, Pass, StartedDesk};
 use chpw_table::{Opened, Verdict};
 use std::alloc::Global;
@@ -62,7 +62,7 @@ fn change_own<D: DeskName, R: Wait + Abort>(
     assert!(rt; pass.receipts().len() == 2 && !pass.was_full());
 }
 
-fn asked(rt: &impl Abort, alloc: Global, number: u8, cusec: u32) -> Opened {
+pub fn asked(rt: &impl Abort, alloc: Global, number: u8, cusec: u32) -> Opened {
     match change(alloc, number, cusec) {
         Ok(opened) => opened,
         Err(_) => panic!(rt; "a request"),
@@ -97,22 +97,11 @@ fn both_at<D: DeskName, E: DeskName, R: Wait + Abort>(
     let mut first = ones.pop().expect(rt, "a pass");
     let done = one.decide_deriving(rt, &mut first, NOW, opened, PASSWORD);
     assert!(rt; verdict(done) == Some(Verdict::Done));
-    assert!(rt; kvno(rt, alloc, &one, &mut first) == 2);
+    assert!(rt; shown(rt, alloc, &one, &mut first) == (2, 1));
     one.abandon(rt);
     let (two, mut twos) = Desk::<E, Quiet>::start(rt, alloc, started.1, Quiet)?;
     let mut second = twos.pop().expect(rt, "a pass");
-    assert!(rt; kvno(rt, alloc, &two, &mut second) == 1);
+    assert!(rt; shown(rt, alloc, &two, &mut second) == (1, 0));
     two.abandon(rt);
     Ok(())
-}
-
-// Alice's newest version.
-fn kvno<D: DeskName, R: Wait + Abort>(
-    rt: &R,
-    alloc: Global,
-    desk: &Desk<D, Quiet>,
-    pass: &mut Pass<D>,
-) -> u32 {
-    let alice = name(alloc, 0).ok().expect(rt, "a name");
-    desk.lookup(pass, &alice).ok().expect(rt, "entered").expect(rt, "a principal").kvno
 }

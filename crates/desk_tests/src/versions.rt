@@ -2,7 +2,8 @@
 ghost use Rattle.std.specs.Prelude.{◌≡◌};
 ghost use Rattle.chpw_book.specs.Starting.{IsNamed};
 
-use crate::realm::{NOW, PASSWORD, Quiet, change, closed, name, table, verdict};
+use crate::realm::{NOW, PASSWORD, Quiet, change, closed, shown, table, verdict};
+use crate::sides::asked;
 use chpw_book::{Desk, DeskName, Pass, StartedDesk};
 use chpw_table::{Opened, Verdict};
 use std::alloc::Global;
@@ -15,6 +16,7 @@ use std::thread::Threads;
 
 // How often alice's password is changed, and how often each other worker looks.
 const CHANGES: u32 = 40;
+
 const LOOKS: u32 = 500;
 
 #[test]
@@ -94,8 +96,18 @@ fn change_often<D: DeskName, R: Wait + Abort>(
     pass: &mut Pass<D>,
 ) {
     for number in 0..CHANGES {
-        let password = [b'N', b'e', b'w', b'-', b'p', b'a', b's', b's', b'0' + (number % 4) as u8];
-        let opened = change(alloc, 0, number).ok().expect(rt, "a request");
+        let password = [
+            b'N',
+            b'e',
+            b'w',
+            b'-',
+            b'p',
+            b'a',
+            b's',
+            b's',
+            b'0' + (number % 4) as u8,
+        ];
+        let opened = asked(rt, alloc, 0, number);
         let done = verdict(desk.decide_deriving(rt, pass, NOW, opened, &password));
         assert!(rt; done == Some(Verdict::Done));
         assert!(rt; shown(rt, alloc, desk, pass) == (number + 2, number + 1));
@@ -115,17 +127,4 @@ fn look_often<D: DeskName, R: Wait + Abort>(
         assert!(rt; changes >= seen && changes <= CHANGES && kvno == changes + 1);
         seen = changes;
     }
-}
-
-// Alice's newest version, and how many changes the lookup saw.
-fn shown<D: DeskName, R: Abort>(
-    rt: &R,
-    alloc: Global,
-    desk: &Desk<D, Quiet>,
-    pass: &mut Pass<D>,
-) -> (u32, u32) {
-    let alice = name(alloc, 0).ok().expect(rt, "a name");
-    let found = desk.lookup(pass, &alice).ok().expect(rt, "entered");
-    let found = found.expect(rt, "a principal");
-    (found.kvno, found.seen)
 }

@@ -92,7 +92,13 @@ fn closed<D: DeskName, R: Wait>(
 fn one_message_of_two_workers(rt: HostRuntime) -> Result<(), Fail> {
     let (service, table) = opening(rt.alloc(), 100)?;
     let message = request(rt.alloc(), asked("New-pass2"))?;
-    two_at::<Brand, _>(&rt, rt.alloc(), StartedDesk::of(table, 2), &service, &message)
+    two_at::<Brand, _>(
+        &rt,
+        rt.alloc(),
+        StartedDesk::of(table, 2),
+        &service,
+        &message,
+    )
 }
 
 // Both are held until both have opened it: one changes the password, and the other tells a replay.
@@ -138,12 +144,15 @@ fn two_at<D: DeskName + Send + Sync, R: Threads + Wait + Abort + Sync>(
         },
     );
     assert!(rt; (a == CHANGED && b == REPLAYED) || (a == REPLAYED && b == CHANGED));
-    let changer = if a == CHANGED {
-        &mut first
+    let (changer, other) = if a == CHANGED {
+        (&mut first, &mut second)
     } else {
-        &mut second
+        (&mut second, &mut first)
     };
-    assert!(rt; kvno_of_alice(rt, alloc, &desk, changer) == 2);
+    assert!(rt; shown_of_alice(rt, alloc, &desk, changer) == (2, 1));
+    other.learn(changer.front().expect(rt, "a front"));
+    assert!(rt; shown_of_alice(rt, alloc, &desk, other) == (2, 1));
+    assert!(rt; other.front().is_none());
     passes.push(first).ok().expect(rt, "a place");
     passes.push(second).ok().expect(rt, "a place");
     let (history, journal) = closed(rt, desk, passes).expect(rt, "all agree");
@@ -157,15 +166,63 @@ const REPLAYED: ReplyCode = ReplyCode {
     error: Some(34),
 };
 
-fn kvno_of_alice<D: DeskName, R: Wait + Abort>(
+// Alice's newest version, and how many changes the lookup saw.
+fn shown_of_alice<D: DeskName, R: Abort>(
     rt: &R,
     alloc: Global,
     desk: &Desk<D, MemorySink>,
     pass: &mut Pass<D>,
-) -> u32 {
+) -> (u32, u32) {
     let alice = Name::parse(alloc, "alice").ok().expect(rt, "memory");
     let alice = alice.expect(rt, "a name");
-    desk.lookup(pass, &alice).ok().expect(rt, "entered").expect(rt, "a principal").kvno
+    let found = desk.lookup(pass, &alice).ok().expect(rt, "entered");
+    let found = found.expect(rt, "a principal");
+    (found.kvno, found.seen)
+}
+
+#[test]
+fn failed_append(rt: HostRuntime) -> Result<(), Fail> {
+    let (service, table) = opening(rt.alloc(), 100)?;
+    let first = request(rt.alloc(), asked("New-pass2"))?;
+    let second = request(
+        rt.alloc(),
+        Asked {
+            client: "bob",
+            ..asked("New-pass3")
+        },
+    )?;
+    break_second::<Brand, _>(
+        &rt,
+        rt.alloc(),
+        StartedDesk::of(table, 1),
+        &service,
+        [&first, &second],
+    )
+}
+
+// Bob's change isn't accepted, and a lookup sees alice's alone.
+fn break_second<D: DeskName, R: Wait + Abort>(
+    rt: &R,
+    alloc: Global,
+    started: StartedDesk,
+    service: &Service,
+    messages: [&[u8]; 2],
+) -> Result<(), Fail>
+    requires name { IsNamed started D.name D.parts D.book D.root D.workers }
+{
+    let mut sink = MemorySink::new(alloc, ROOM)?;
+    sink.fail_at(2, 0);
+    let (desk, mut passes) = Desk::<D, MemorySink>::start(rt, alloc, started, sink)?;
+    let mut pass = passes.pop().expect(rt, "a pass");
+    let [first, second] = messages;
+    let one = answered(rt, alloc, service, &desk, &mut pass, &mut NoGate, first);
+    assert!(rt; one == CHANGED && shown_of_alice(rt, alloc, &desk, &mut pass) == (2, 1));
+    let two = answered(rt, alloc, service, &desk, &mut pass, &mut NoGate, second);
+    assert!(rt; two.code == 2 && shown_of_alice(rt, alloc, &desk, &mut pass) == (2, 1));
+    passes.push(pass).ok().expect(rt, "a place");
+    let (history, journal) = closed(rt, desk, passes).expect(rt, "all agree");
+    assert!(rt; history.len() == 2 && journal.bytes().len() == 66);
+    Ok(())
 }
 
 #[test]

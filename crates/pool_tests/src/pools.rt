@@ -95,7 +95,13 @@ fn give_up<D: DeskName, R: Machine>(rt: &R, desk: Desk<D, MemorySink>, pool: Poo
 fn two_connections(rt: HostRuntime) -> Result<(), Fail> {
     let (service, table) = opening(rt.alloc(), 100)?;
     let listener = TcpListener::bind(&rt, ("127.0.0.1", 0u16))?;
-    let pool = pool_of_two::<Brand, _>(&rt, rt.alloc(), StartedDesk::of(table, 2), &service, &listener)?;
+    let pool = pool_of_two::<Brand, _>(
+        &rt,
+        rt.alloc(),
+        StartedDesk::of(table, 2),
+        &service,
+        &listener,
+    )?;
     assert!(rt; pool.served == 2 && pool.fault.is_none());
     Ok(())
 }
@@ -142,7 +148,13 @@ fn ask_both<R: Machine>(rt: &R, alloc: Global, port: u16, seconds: i64, one: &[u
 fn the_second_answered_first(rt: HostRuntime) -> Result<(), Fail> {
     let (service, table) = opening(rt.alloc(), 100)?;
     let listener = TcpListener::bind(&rt, ("127.0.0.1", 0u16))?;
-    let pool = gated_pool::<Brand, _>(&rt, rt.alloc(), StartedDesk::of(table, 2), &service, &listener)?;
+    let pool = gated_pool::<Brand, _>(
+        &rt,
+        rt.alloc(),
+        StartedDesk::of(table, 2),
+        &service,
+        &listener,
+    )?;
     assert!(rt; pool.served == 2 && pool.fault.is_none());
     Ok(())
 }

@@ -2,7 +2,6 @@ use Rattle.std.proofs.Common.{◌≡◌, ◌||◌, ◌∙◌, ap, rules}
 use Rattle.chpw_table.specs.declared.request.Opened.{Opened}
 use Rattle.chpw_table.specs.Agreement.{Held}
 use Rattle.chpw_table.specs.Verdicts.{is_done}
-use Rattle.chpw_versions.specs.Known.{Shelved}
 use Rattle.chpw_book.specs.Publishing.{change_by, with_waiting}
 use Rattle.chpw_book.proofs.PublishLemmas.{told_as, shelves_next}
 use Rattle.chpw_book.proofs.deciding.decided.Goals as goal

@@ -1,9 +1,9 @@
-use Rattle.std.proofs.Common.{rules, arith, ap, sym, refl, subst, ℕ, ◌∙◌, ◌≡◌, ◌+◌, ◌<◌, ◌++◌, ◌∷◌, List, [], length, slice_set}
+use Rattle.std.proofs.Common.{rules, arith, ap, sym, refl, subst, ℕ, ◌∙◌, ◌≡◌, ◌+◌, ◌<◌, ◌++◌, ◌∷◌, [], length, slice_set}
 use Rattle.chpw_table.specs.declared.request.Opened.{Opened}
 use Rattle.chpw_table.specs.declared.history.Entry.{Entry}
 use Rattle.chpw_table.specs.declared.history.Receipt.{Receipt}
 use Rattle.chpw_table.specs.State.{State}
-use Rattle.chpw_table.specs.History.{IsLegal, missing, outcome}
+use Rattle.chpw_table.specs.History.{missing, outcome}
 use Rattle.chpw_table.specs.Refusals.{IsFirst}
 use Rattle.chpw_table.specs.declared.outcome.DecideFault.TheVariants.{NeedKeys}
 use Rattle.chpw_fronts.specs.Pens.{opening_of}
