@@ -7,7 +7,8 @@ use chpw_rules::Name;
 use chpw_table::{JournalSink, Opened, Verdict};
 use std::io;
 use std::sync::Wait;
-use std::thread::{Threads, join};
+use std::sync::atomic::{AtomicU64, Ordering};
+use std::thread::{self, Threads, join};
 use std::time::{Clock, Duration, Instant};
 
 /// A name, and how often a pass looks it up.
@@ -24,20 +25,20 @@ pub struct Looked {
     pub took: Duration,
 }
 
-/// The lookups of the first pass.
+/// The lookups of a pass.
 pub fn look_alone<D: DeskName, S: JournalSink, R: Clock>(
     rt: &R,
     desk: &Desk<D, S>,
-    passes: &mut [Pass<D>],
+    pass: &mut Pass<D>,
     sought: &Sought,
 ) -> io::Result<Looked> {
-    let [pass, ..] = passes else {
-        return Err(io::Error::from(io::ErrorKind::InvalidInput));
-    };
-    timed(rt, || found_by(desk, pass, sought))
+    let start = Instant::now(rt)?;
+    let found = found_by(desk, pass, sought);
+    let took = start.elapsed(rt)?;
+    Ok(Looked { found, took })
 }
 
-/// Those of four passes at once.
+/// Those of several passes at once, each in a thread of its own.
 pub fn look_together<D, S, R>(
     rt: &R,
     desk: &Desk<D, S>,
@@ -49,30 +50,43 @@ where
     S: JournalSink + Send,
     R: Threads + Clock + Sync,
 {
-    timed(rt, || found_by_four(rt, desk, passes, sought))
+    let found = AtomicU64::new(0);
+    let threads = passes.len().max(1);
+    let start = Instant::now(rt)?;
+    thread::for_each_mut(
+        rt,
+        passes,
+        threads,
+        &|_, pass| {
+            found.fetch_add(found_by(desk, pass, sought), Ordering::SeqCst);
+        },
+    );
+    let took = start.elapsed(rt)?;
+    Ok(Looked {
+        found: found.load(Ordering::SeqCst),
+        took,
+    })
 }
 
-/// Those of the first pass while a decision of the second holds the lock.
+/// Those of a pass while another's decision holds the lock.
 pub fn look_beside<D, S, R>(
     rt: &R,
     desk: &Desk<D, S>,
-    passes: &mut [Pass<D>],
+    pass: &mut Pass<D>,
     sought: &Sought,
-    hold: &Hold,
+    other: &mut Pass<D>,
     opened: Opened,
+    hold: &Hold,
 ) -> io::Result<Looked>
 where
     D: DeskName + Send + Sync,
     S: JournalSink + Send,
     R: Threads + Wait + Clock + Sync,
 {
-    let [first, second, ..] = passes else {
-        return Err(io::Error::from(io::ErrorKind::InvalidInput));
-    };
     let (decided, looked) = join(
         rt,
-        || desk.decide_deriving(rt, second, NOW, opened, PASSWORD).ok(),
-        || look_held(rt, desk, first, sought, hold),
+        || desk.decide_deriving(rt, other, NOW, opened, PASSWORD).ok(),
+        || look_held(rt, desk, pass, sought, hold),
     );
     if decided == Some(Verdict::Done) {
         looked
@@ -90,7 +104,7 @@ fn look_held<D: DeskName, S: JournalSink, R: Clock>(
     hold: &Hold,
 ) -> io::Result<Looked> {
     let begun = hold.has_begun(rt);
-    let looked = timed(rt, || found_by(desk, pass, sought));
+    let looked = look_alone(rt, desk, pass, sought);
     let held = hold.end();
     if begun && held {
         looked
@@ -99,17 +113,7 @@ fn look_held<D: DeskName, S: JournalSink, R: Clock>(
     }
 }
 
-// How long this work takes, which gives how many lookups found their name.
-fn timed<R: Clock, F: FnOnce() -> u64>(rt: &R, work: F) -> io::Result<Looked>
-    requires { F.pre work }
-{
-    let start = Instant::now(rt)?;
-    let found = work();
-    let took = start.elapsed(rt)?;
-    Ok(Looked { found, took })
-}
-
-// The lookups of one pass that find the name.
+// How many lookups of a pass find the name.
 fn found_by<D: DeskName, S: JournalSink>(
     desk: &Desk<D, S>,
     pass: &mut Pass<D>,
@@ -122,43 +126,4 @@ fn found_by<D: DeskName, S: JournalSink>(
         }
     }
     found
-}
-
-// Those of two passes at once.
-fn found_by_two<D, S, R>(
-    rt: &R,
-    desk: &Desk<D, S>,
-    one: &mut Pass<D>,
-    two: &mut Pass<D>,
-    sought: &Sought,
-) -> u64
-where
-    D: DeskName + Send + Sync,
-    S: JournalSink + Send,
-    R: Threads + Sync,
-{
-    let (a, b) = join(
-        rt,
-        || found_by(desk, one, sought),
-        || found_by(desk, two, sought),
-    );
-    a.saturating_add(b)
-}
-
-// Those of four passes at once; none where there aren't four.
-fn found_by_four<D, S, R>(rt: &R, desk: &Desk<D, S>, passes: &mut [Pass<D>], sought: &Sought) -> u64
-where
-    D: DeskName + Send + Sync,
-    S: JournalSink + Send,
-    R: Threads + Sync,
-{
-    let [one, two, three, four] = passes else {
-        return 0;
-    };
-    let (a, b) = join(
-        rt,
-        || found_by_two(rt, desk, one, two, sought),
-        || found_by_two(rt, desk, three, four, sought),
-    );
-    a.saturating_add(b)
 }

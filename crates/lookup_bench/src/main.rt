@@ -98,10 +98,10 @@ where
         hold,
         sleep: wanted.sleep(),
     };
-    let Ok((desk, mut passes)) = Desk::<D, _>::start(rt, rt.alloc(), started, sink) else {
+    let Ok((desk, passes)) = Desk::<D, _>::start(rt, rt.alloc(), started, sink) else {
         return Err(io::Error::from(io::ErrorKind::OutOfMemory));
     };
-    let figures = figures(rt, rt.alloc(), &desk, &mut passes, hold, wanted);
+    let figures = figures(rt, rt.alloc(), &desk, passes, hold, wanted);
     desk.abandon(rt);
     let [alone, four, beside] = figures?;
     let unit = if wanted.counts { "found" } else { "ns" };
@@ -113,7 +113,7 @@ fn figures<D, S, R>(
     rt: &R,
     alloc: Global,
     desk: &Desk<D, S>,
-    passes: &mut [Pass<D>],
+    mut passes: Vec<Pass<D>>,
     hold: &Hold,
     wanted: Wanted,
 ) -> io::Result<[u128; 3]>
@@ -127,9 +127,12 @@ where
         times: wanted.times(),
     };
     let opened = change(alloc, 0)?;
-    let alone = look_alone(rt, desk, passes, &sought)?;
-    let four = look_together(rt, desk, passes, &sought)?;
-    let beside = look_beside(rt, desk, passes, &sought, hold, opened)?;
+    let four = look_together(rt, desk, &mut passes, &sought)?;
+    let (Some(mut pass), Some(mut other)) = (passes.pop(), passes.pop()) else {
+        return Err(io::Error::from(io::ErrorKind::Other));
+    };
+    let alone = look_alone(rt, desk, &mut pass, &sought)?;
+    let beside = look_beside(rt, desk, &mut pass, &sought, &mut other, opened, hold)?;
     Ok([
         wanted.figure(alone),
         wanted.figure(four),
