@@ -14,6 +14,7 @@ use Rattle.chpw_fronts.specs.declared.entry.LogEntry.{LogEntry}
 use Rattle.chpw_fronts.specs.Changes.{named}
 use Rattle.chpw_fronts.specs.Pens.{changes_in, opening_of}
 use Rattle.chpw_versions.specs.declared.version.Version.{Version}
+use Rattle.chpw_versions.specs.declared.version.ListShown.{ListShown}
 use Rattle.chpw_versions.specs.declared.version.Operation.{Operation}
 use Rattle.chpw_versions.specs.declared.view.View.{View}
 use Rattle.chpw_versions.specs.Rows.{changed_at, names_of_rows, names_of, shown_in, IsPositive}
@@ -44,6 +45,10 @@ list_by before last (suc n) = before ++ last ∷ []
 -- the list that the version shows, all but the last change of which its mark knows
 abbrev pub list_shown : List LogEntry → Version → List KeyChange
 list_shown root x = list_by (changes_in root x.seen.log) (named (opening_of root) x.last) x.len
+
+-- the same of what is kept of the version
+abbrev pub list_of : List LogEntry → ListShown → List KeyChange
+list_of root s = list_by (changes_in root s.seen.log) (named (opening_of root) s.last) s.len
 
 -- the version is of the list named by this book and root, and shows these changes of it
 pub record ShowsList (book : Book) (root : List LogEntry) (list : List KeyChange) (x : Version) : Type 0 where

@@ -14,7 +14,6 @@ use chpw_rules::Name;
 use left_right::writer::Writer;
 use std::alloc::{AllocError, Global};
 use std::marker::Model;
-use std::snapshot::Snapshot;
 use std::sync::Wait;
 
 /// The writer of the versions. It is ended by `end` and never dropped. Contracts see the list that readers
@@ -87,7 +86,7 @@ impl<D: ListName> Shelf<D> {
         match writer.factory().reader() {
             Ok(mut reader) => {
                 reader.learn::<Learns>(writer.tell::<Tells>());
-                let shown = Snapshot::of(writer.published());
+                let shown = writer.published().shown();
                 put_back(&mut self.writer, writer);
                 Ok(Place::over(reader, shown, self.keeper.front()))
             }
