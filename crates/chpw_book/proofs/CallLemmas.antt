@@ -1,17 +1,13 @@
 -- What a call under the lock tells its caller.
 use Rattle.std.proofs.Common.{◌≡◌, ◌++◌, ◌∷◌, ℕ, List, [], ◌∙◌}
-use Rattle.std.specs.Prelude.{Option}
-use Rattle.chpw_rules.specs.declared.name.Name.{Name}
 use Rattle.chpw_table.specs.declared.times.Moment.{Moment}
 use Rattle.chpw_table.specs.declared.request.Opened.{Opened}
-use Rattle.chpw_table.specs.declared.table.Lookup.{Lookup}
 use Rattle.chpw_table.specs.declared.verdict.Verdict.{Verdict}
 use Rattle.chpw_table.specs.declared.outcome.DecideFault.{DecideFault}
 use Rattle.chpw_table.specs.declared.outcome.DecideFault.TheVariants.{Full, NeedKeys, Memory}
 use Rattle.chpw_table.specs.State.{State}
 use Rattle.chpw_table.specs.Agreement.{Held}
 use Rattle.chpw_table.specs.Refusals.{IsFirst}
-use Rattle.chpw_table.specs.Lookups.{lookup_of}
 use Rattle.chpw_table.specs.History.{IsLegal, missing, outcome}
 use Rattle.chpw_table.proofs.AgreementLemmas.{same_missing}
 use Rattle.chpw_decider.specs.Deciding.{AddsReceipt, IsFinal}
@@ -19,7 +15,8 @@ use Rattle.chpw_decider.specs.Entered.{AsksFor}
 use Rattle.chpw_book.specs.Passes.{Carried}
 use Rattle.chpw_book.specs.Receipts.{receipt_of}
 use Rattle.chpw_book.specs.Stored.{Stored, Replays, Adds}
-use Rattle.chpw_book.specs.Calls.{Notes, AsksAfter, IsShown}
+use Rattle.chpw_book.specs.Calls.{Notes, AsksAfter}
+use Rattle.chpw_book.specs.Publishing.{Tells}
 
 -- where no count is missing none is asked for
 pub final_of_first : (t : Held) (counts : List ℕ) (f : DecideFault) → counts ≡ [] → IsFirst t counts f → IsFinal f
@@ -29,8 +26,9 @@ final_of_first t counts Memory e h = tt
 
 -- the entry stands behind a history that replays
 pub notes_of_adds : (opening : State) (before later : Stored) (mine more : Carried) (now : Moment) (o : Opened) (v : Verdict)
-    → (a : Adds before later mine more now o v) → IsLegal opening (before.history ++ a.entry ∷ []) → Notes opening mine more now o v
-notes_of_adds opening before later mine more now o v a legal = record {
+    → (a : Adds before later mine more now o v) → IsLegal opening (before.history ++ a.entry ∷ []) → Tells opening before.history (before.history ++ a.entry ∷ []) mine.place more.place v
+    → Notes opening mine more now o v
+notes_of_adds opening before later mine more now o v a legal tells = record {
   before = before.history;
   entry = a.entry;
   legal = legal;
@@ -42,6 +40,7 @@ notes_of_adds opening before later mine more now o v a legal = record {
   receipts = a.receipts;
   share = a.share;
   same = a.same;
+  tells = tells;
 }
 
 asks_for : (t : Held) (counts missed : List ℕ) (f : DecideFault) → counts ≡ missed → IsFirst t counts f → AsksFor missed f
@@ -57,9 +56,6 @@ asks_of_first opening workers b now o f k h = record {
   legal = k.legal;
   asks = asks_for b.table (missing b.table.state now o) (missing (outcome opening b.history) now o) f (same_missing b.table.state (outcome opening b.history) now o k.agrees) h;
 }
-
-pub shown_of : (opening : State) (workers : ℕ) (b : Stored) (name : Name) (shown : Option Lookup) → Replays opening workers b → shown ≡ lookup_of b.table name → IsShown opening name shown
-shown_of opening workers b name shown k is = record { before = b.history; table = b.table; legal = k.legal; agrees = k.agrees; shown_is = is }
 
 -- the receipt of a call is one more of the pass
 pub adds_of_notes : (opening : State) (mine more : Carried) (now : Moment) (o : Opened) (v : Verdict) → Notes opening mine more now o v → AddsReceipt mine.receipts more.receipts now o v

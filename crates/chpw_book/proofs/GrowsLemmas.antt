@@ -36,7 +36,7 @@ mine_more w es e is = entries_more w es e ∙ ap (λ (b : Bool). if b then entri
 others_stay : (w : ℕ) (es : List Entry) (e : Entry) → (e.worker == w) ≡ false → entries_of w (es ++ e ∷ []) ≡ entries_of w es
 others_stay w es e is = entries_more w es e ∙ ap (λ (b : Bool). if b then entries_of w es ++ e ∷ [] else entries_of w es) is
 
-one_longer : {A : Type 0} (xs : List A) (x : A) → length (xs ++ x ∷ []) ≡ length xs + 1
+pub one_longer : {A : Type 0} (xs : List A) (x : A) → length (xs ++ x ∷ []) ≡ length xs + 1
 one_longer xs x = length-append xs (x ∷ [])
 
 range_more : (a n : ℕ) → range_with_len a (n + 1) ≡ range_with_len a n ++ (a + n) ∷ []

@@ -1,155 +1,175 @@
-//! What lies under the lock: the table with its history.
-ghost use Rattle.std.specs.Prelude.{◌≡◌, ◌-◌, ◌^◌, ◌<◌, ◌≤◌, [], IfOk, IfSome, IfNone, All, false, replicate};
-ghost use Rattle.chpw_table.specs.Lookups.{lookup_of};
+//! What lies under the lock: the table with its history, and the versions that lookups show.
+ghost use Rattle.std.specs.Prelude.{◌≡◌, ◌+◌, ◌^◌, ◌<◌, [], IfOk, IfErr, IfSome, IfNone, OnOk, IsSome, length, true, if◌then◌else◌};
+ghost use mathlib.Core.List.{IsPrefix};
+ghost use Rattle.chpw_fronts.specs.Pens.{opening_of};
+ghost use Rattle.chpw_table.specs.declared.outcome.DecideFault.TheVariants.{Full};
+ghost use Rattle.chpw_table.specs.History.{missing};
+ghost use Rattle.chpw_table.specs.Times.{IsMoment};
+ghost use Rattle.chpw_table.specs.Requests.{target_of};
+ghost use Rattle.chpw_table.specs.Completing.{salt_of, completed};
+ghost use Rattle.chpw_table.specs.Refusals.{IsFirst, AsksPositive};
+ghost use Rattle.chpw_table.specs.Verdicts.{is_done};
+ghost use Rattle.chpw_table.specs.Versions.{accepted};
+ghost use Rattle.chpw_decider.specs.Deciding.{IsCompletedFrom, IsFinal};
 ghost use Rattle.chpw_book.specs.Closing.{IsRefusal, IsWhole, is_full};
-ghost use Rattle.chpw_book.specs.Stored.{Replays};
-ghost use Rattle.chpw_book.specs.Calls.{IsShown};
+ghost use Rattle.chpw_book.specs.Stored.{Replays, Adds};
+ghost use Rattle.chpw_book.specs.Calls.{Notes, AsksAfter};
+ghost use Rattle.chpw_book.specs.Publishing.{published, told_list};
 
-use crate::closing::{CloseFault, Closed, close_fault};
+use crate::closing::{CloseFault, Closed};
 use crate::naming::DeskName;
 use crate::pass::Pass;
-use chpw_decider::JournaledTable;
-use chpw_rules::Name;
-use chpw_table::{Entry, JournalSink, Lookup, Table};
-use std::alloc::{AllocError, Global};
+use crate::store::Store;
+use chpw_table::{Entry, JournalSink, Moment, Opened, Refused, Verdict};
+use chpw_versions::Shelf;
 use std::marker::Model;
-use std::sync::ledger::Book as Totals;
+use std::sync::Wait;
 
-/// A table, and the history of what it decided.
+/// The table with its history, and the shelf whose versions lookups show beside the lock.
 ///
-/// Its type keeps the service's headline (`Replays`): the one-thread machine, replaying the history from
-/// the opening, gives exactly the verdicts stored and leads to this table; each worker's calls stand in
-/// it once each, numbered in that worker's order; the ledger's total is its length; and what the sink
-/// tells is its journal. A book is taken apart at a close, or when its desk is given up.
+/// Its type keeps that the published list is the history's accepted changes, and that of the history all
+/// that `Replays` says. A book is taken apart at a close, or when its desk is given up.
 pub struct Book<D: DeskName, S: JournalSink> {
-    pub(crate) journaled: JournaledTable<S>,
-    pub(crate) history: Vec<Entry>,
-    pub(crate) counts: Vec<u32>,
-    pub(crate) changes: u32,
-    pub(crate) totals: Totals<D>,
+    pub(crate) store: Store<D, S>,
+    pub(crate) shelf: Shelf<D>,
 }
 
 impl<D: DeskName, S: JournalSink> Model for Book<D, S> {
-    ghost use Rattle.std.specs.Prelude.{◌≤◌};
-    ghost use Rattle.chpw_book.specs.Stored.{Stored, Replays};
+    ghost use Rattle.chpw_fronts.specs.Pens.{opening_of};
+    ghost use Rattle.chpw_book.specs.Publishing.{Booked, Publishes};
 
-    ghost Value = { Stored };
+    ghost Value = { Booked };
 
-    ghost view = { λ b. record {
-      table = b.journaled.table;
-      history = b.history.items;
-      counts = b.counts.items;
-      changes = b.changes;
-      total = b.totals.total;
-      told = S.told b.journaled.sink;
-    } };
+    ghost view = { λ b. record { kept = b.store; list = b.shelf.list } };
 
-    ghost invariant = { λ b. Replays D.opening D.workers (record {
-      table = b.journaled.table;
-      history = b.history.items;
-      counts = b.counts.items;
-      changes = b.changes;
-      total = b.totals.total;
-      told = S.told b.journaled.sink;
-    }) × (D.workers ≤ 16) };
+    ghost invariant = { λ b.
+        Publishes (opening_of D.root) b.store.history b.store.table.state.broken b.shelf };
 }
 
 impl<D: DeskName, S: JournalSink> Book<D, S> {
-    /// A book with an empty history, for 1 to 16 workers. A sink that tells has told nothing.
-    pub(crate) fn start(
-        alloc: Global,
-        totals: Totals<D>,
-        journaled: JournaledTable<S>,
-        workers: u8,
-    ) -> Result<Book<D, S>, AllocError>
-    where
-        S: Drop,
-        requires name { (D.opening ≡ journaled.table.state) × (D.workers ≡ workers) }
-        requires workers { workers ≤ 16 }
-        requires totals { totals.total ≡ 0 }
-        requires told { IfSome (S.told journaled.sink) (λ bytes. bytes ≡ []) }
-        ensures value { IfOk result (λ b. b ≡ record {
-          table = journaled.table;
-          history = [];
-          counts = replicate workers 0;
-          changes = 0;
-          total = 0;
-          told = S.told journaled.sink;
-        }) }
-    {
-        let counts = Vec::from_elem(alloc, 0u32, usize::from(workers))?;
-        Ok(Book {
-            journaled,
-            history: Vec::new(alloc),
-            counts,
-            changes: 0,
-            totals,
-        })
-    }
-
     /// The entries so far.
     pub fn history(&self) -> &[Entry]
-        ensures value { result.now ≡ self.now.history }
-        ensures replays { Replays D.opening D.workers self.now }
+        ensures value { result.now ≡ self.now.kept.history }
+        ensures replays { Replays (opening_of D.root) D.workers self.now.kept }
+        ensures published { self.now.list ≡ accepted (opening_of D.root) self.now.kept.history }
     {
-        self.history.as_slice()
+        self.store.history()
     }
 
-    /// What the table shows of a name; none for an unknown one. The counts are at least 1.
-    pub fn lookup(&self, name: &Name) -> Option<Lookup>
-        ensures value { result ≡ lookup_of self.now.table name.now }
-        ensures positive { IfSome result (λ l. (1 ≤ l.policy) × All (λ n. 1 ≤ n) l.held) }
-        ensures shown { IsShown D.opening name.now result }
+    /// One event: an entry of the pass's worker at the end, and its receipt in the pass. Where it was
+    /// accepted, its change is published then, and the pass is told of it; this waits for lookups that
+    /// still read what it changes.
+    ///
+    /// `now` has seconds from 0 to `chpw_table::LAST_SECOND`. Refused as `Table::decide` refuses, and
+    /// then nothing has changed: `Full`, `NeedKeys`, `Memory`.
+    pub fn decide<R: Wait>(
+        &mut self,
+        rt: &R,
+        pass: &mut Pass<D>,
+        now: Moment,
+        opened: Opened,
+    ) -> Result<Verdict, Refused>
+        requires moment { IsMoment now }
+        ensures adds { IfOk result (λ v.
+            Adds self.old.kept self.new.kept pass.old pass.new now opened v) }
+        ensures room { OnOk result (self.old.kept.table.events < self.old.kept.table.max_entries) }
+        ensures first { IfErr result (λ r. IsFirst self.old.kept.table
+            (missing self.old.kept.table.state now opened) r.fault) }
+        ensures positive { IfErr result (λ r. AsksPositive r.fault) }
+        ensures unchanged { IfErr result (λ r.
+            (self.new ≡ self.old) × (pass.new ≡ pass.old) × (r.opened ≡ opened)) }
+        ensures notes { IfOk result (λ v.
+            Notes (opening_of D.root) pass.old pass.new now opened v) }
+        ensures asks { IfErr result (λ r. AsksAfter (opening_of D.root) now opened r.fault) }
+        ensures told { IsPrefix pass.old.place.told
+            (accepted (opening_of D.root) self.old.kept.history) }
     {
-        self.journaled.lookup(name)
+        self.shelf.has(pass.told());
+        let verdict = self.store.decide(&mut self.shelf, pass, now, opened)?;
+        tell(rt, &mut self.shelf, pass, verdict);
+        Ok(verdict)
+    }
+
+    /// The same, with the digest completed for this password as far as keys are missing, so that none
+    /// are asked for; `salt` is that of `Opened::salt`. The request that a refusal hands back may have
+    /// more of them.
+    pub fn decide_deriving<R: Wait>(
+        &mut self,
+        rt: &R,
+        pass: &mut Pass<D>,
+        now: Moment,
+        opened: Opened,
+        password: &[u8],
+        salt: &[u8],
+    ) -> Result<Verdict, Refused>
+        requires moment { IsMoment now }
+        requires salt { salt.now ≡ salt_of (target_of opened) }
+        ensures adds { IfOk result (λ v. (counts : _) × Adds self.old.kept self.new.kept
+            pass.old pass.new now (completed password.now counts opened) v) }
+        ensures never { IfErr result (λ r. IsFinal r.fault) }
+        ensures full { IfErr result (λ r.
+            r.fault ≡ Full → self.old.kept.table.events ≡ self.old.kept.table.max_entries) }
+        ensures unchanged { IfErr result (λ r. (self.new ≡ self.old) × (pass.new ≡ pass.old)
+            × IsCompletedFrom password.now opened r.opened) }
+        ensures notes { IfOk result (λ v. (counts : _) × Notes (opening_of D.root)
+            pass.old pass.new now (completed password.now counts opened) v) }
+        ensures told { IsPrefix pass.old.place.told
+            (accepted (opening_of D.root) self.old.kept.history) }
+    {
+        self.shelf.has(pass.told());
+        let verdict = self
+            .store
+            .decide_deriving(&mut self.shelf, pass, now, opened, password, salt)?;
+        tell(rt, &mut self.shelf, pass, verdict);
+        Ok(verdict)
     }
 
     /// Why these passes leave the book open; none where it may be closed.
     pub(crate) fn close_fault(&self, passes: &[Pass<D>]) -> Option<CloseFault>
-        ensures whole { IfNone result
-            (IsWhole self.now.history (is_full self.now.table) D.workers passes.now) }
-        ensures refusal { IfSome result (λ fault.
-            IsRefusal self.now.history (is_full self.now.table) D.workers passes.now fault) }
-        ensures replays { Replays D.opening D.workers self.now }
+        ensures whole { IfNone result (IsWhole self.now.kept.history
+            (is_full self.now.kept.table) D.workers passes.now) }
+        ensures refusal { IfSome result (λ fault. IsRefusal self.now.kept.history
+            (is_full self.now.kept.table) D.workers passes.now fault) }
+        ensures replays { Replays (opening_of D.root) D.workers self.now.kept }
     {
-        let workers = self.counts.len() as u8;
-        let full = self.journaled.table().is_full();
-        close_fault(self.history.as_slice(), full, workers, passes)
+        self.store.close_fault(passes)
     }
 
-    /// What is left of it.
-    pub(crate) fn into_closed(self) -> Closed<S>
-        ensures history { result.history.items ≡ self.history }
-        ensures table { result.table ≡ self.table }
-        ensures told { S.told result.sink ≡ self.told }
-        ensures replays { Replays D.opening D.workers self }
+    /// What is left of it, once no lookup reads.
+    pub(crate) fn into_closed<R: Wait>(self, rt: &R) -> Closed<S>
+        ensures history { result.history.items ≡ self.kept.history }
+        ensures table { result.table ≡ self.kept.table }
+        ensures told { S.told result.sink ≡ self.kept.told }
+        ensures replays { Replays (opening_of D.root) D.workers self.kept }
     {
-        let Book {
-            journaled,
-            history,
-            counts: _,
-            changes: _,
-            totals: _,
-        } = self;
-        let (table, sink) = journaled.into_parts();
-        Closed {
-            history,
-            table,
-            sink,
-        }
+        let Book { store, shelf } = self;
+        shelf.end(rt);
+        store.into_closed()
     }
 
-    /// Lets go of the book, with its history.
-    pub(crate) fn abandon(self)
+    /// Lets go of the book, with its history, once no lookup reads.
+    pub(crate) fn abandon<R: Wait>(self, rt: &R)
     where
         S: Drop,
     {
-        let Book {
-            journaled: _,
-            history: _,
-            counts: _,
-            changes: _,
-            totals: _,
-        } = self;
+        let Book { store, shelf } = self;
+        shelf.end(rt);
+        store.abandon();
+    }
+}
+
+// After this verdict: the change that waits is published, and the pass is told of it.
+fn tell<D: DeskName, R: Wait>(rt: &R, shelf: &mut Shelf<D>, pass: &mut Pass<D>, verdict: Verdict)
+    requires waits { is_done verdict ≡ true → IsSome shelf.old.waiting }
+    requires room { length shelf.old.list + 1 < 2 ^ 32 }
+    requires told { IsPrefix pass.old.place.told shelf.old.list }
+    ensures shelf { shelf.new ≡ published (is_done verdict) shelf.old }
+    ensures pass { pass.new ≡ record pass.old {
+      place = told_list (is_done verdict) shelf.new.list pass.old.place;
+    } }
+{
+    if verdict == Verdict::Done {
+        let front = shelf.publish(rt);
+        pass.tell(front);
     }
 }

@@ -1,5 +1,6 @@
 //! The close of a desk.
 ghost use Rattle.std.specs.Prelude.{◌≡◌, ◌<◌, ◌≤◌, ◌^◌, [], ◌∷◌, IfOk, IfErr, IfSome, IfNone, MatchBool, All, length, true, false, drop};
+ghost use Rattle.chpw_fronts.specs.Pens.{opening_of};
 ghost use Rattle.chpw_table.specs.History.{calls, outcome, IsLegal};
 ghost use Rattle.chpw_table.specs.Agreement.{Agrees};
 ghost use Rattle.chpw_table.specs.Journal.{journal};
@@ -13,7 +14,7 @@ use crate::desk::Desk;
 use crate::naming::DeskName;
 use crate::pass::Pass;
 use chpw_table::{Entry, JournalSink, Table};
-use std::sync::Mutex;
+use std::sync::{Mutex, Wait};
 
 /// Why a desk isn't closed, in the order of the tests.
 #[derive(Clone, Copy, PartialEq, Eq, Drop)]
@@ -42,25 +43,29 @@ pub struct CloseRefused<D: DeskName, S: JournalSink> {
 
 impl<D: DeskName, S: JournalSink> Desk<D, S> {
     /// The history, the table and the sink of a desk whose passes are all there, in any order, each with
-    /// the receipts of its worker's entries. Otherwise it stays open, and desk and passes are given back
+    /// the receipts of its worker's entries; it waits for lookups that still read. Otherwise it stays open, and desk and passes are given back
     /// as they were.
-    pub fn close(self, passes: Vec<Pass<D>>) -> Result<Closed<S>, CloseRefused<D, S>>
+    pub fn close<R: Wait>(
+        self,
+        rt: &R,
+        passes: Vec<Pass<D>>,
+    ) -> Result<Closed<S>, CloseRefused<D, S>>
         ensures whole { IfOk result (λ c.
             IsWhole c.history.items (is_full c.table) D.workers passes.items) }
-        ensures legal { IfOk result (λ c. IsLegal D.opening c.history.items
-            × Agrees c.table.state (outcome D.opening c.history.items)) }
+        ensures legal { IfOk result (λ c. IsLegal (opening_of D.root) c.history.items
+            × Agrees c.table.state (outcome (opening_of D.root) c.history.items)) }
         ensures numbered { IfOk result (λ c. IsNumbered c.history.items
             × AreOfWorkers D.workers c.history.items) }
         ensures told { IfOk result (λ c. IfSome (S.told c.sink) (λ bytes.
-            bytes ≡ journal D.opening c.history.items)) }
-        ensures refusal { IfErr result (λ r. (b : _) × Replays D.opening D.workers b
+            bytes ≡ journal (opening_of D.root) c.history.items)) }
+        ensures refusal { IfErr result (λ r. (b : _) × Replays (opening_of D.root) D.workers b
             × IsRefusal b.history (is_full b.table) D.workers passes.items r.fault) }
         ensures back { IfErr result (λ r. r.passes.items ≡ passes.items) }
     {
         let Desk { book } = self;
         let book = book.into_inner();
         match book.close_fault(passes.as_slice()) {
-            None => Ok(book.into_closed()),
+            None => Ok(book.into_closed(rt)),
             Some(fault) => Err(CloseRefused {
                 fault,
                 desk: Desk {

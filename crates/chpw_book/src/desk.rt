@@ -1,21 +1,29 @@
 //! The lock round the book.
-ghost use Rattle.std.specs.Prelude.{◌≡◌, ◌-◌, ◌^◌, ◌<◌, ◌≤◌, [], All, IfOk, IfErr, IfSome, map, false};
+ghost use Rattle.std.specs.Prelude.{◌≡◌, ◌-◌, ◌^◌, ◌<◌, ◌≤◌, [], All, IfOk, IfErr, IfSome, OnErr, map, false};
+ghost use mathlib.Core.List.{IsPrefix};
 ghost use Rattle.std.specs.List.{range_with_len};
+ghost use Rattle.chpw_fronts.specs.Pens.{opening_of};
 ghost use Rattle.chpw_table.specs.Times.{IsMoment};
 ghost use Rattle.chpw_table.specs.Completing.{completed};
 ghost use Rattle.chpw_table.specs.Refusals.{AsksPositive};
 ghost use Rattle.chpw_decider.specs.Deciding.{IsCompletedFrom, IsFinal};
 ghost use Rattle.chpw_book.specs.Passes.{refused_with, new_pass};
-ghost use Rattle.chpw_book.specs.Calls.{Notes, AsksAfter, IsShown};
+ghost use Rattle.chpw_book.specs.Calls.{Notes, AsksAfter};
+ghost use Rattle.chpw_book.specs.Starting.{IsNamed, table_of, workers_of};
+ghost use Rattle.chpw_versions.specs.Rows.{lookup_after};
 
 use crate::book::Book;
 use crate::naming::DeskName;
 use crate::pass::Pass;
+use crate::rows::rows_of;
+use crate::started::{StartFault, StartedDesk};
+use crate::store::Store;
 use chpw_decider::JournaledTable;
 use chpw_rules::Name;
-use chpw_table::{DecideFault, JournalSink, Lookup, Moment, Opened, Refused, Table, Verdict};
-use std::alloc::{AllocError, Global};
-use std::sync::ledger::{Blank, Share};
+use chpw_table::{DecideFault, JournalSink, Lookup, Moment, Opened, Refused, Verdict};
+use chpw_versions::{NotEntered, Shelf};
+use std::alloc::Global;
+use std::sync::ledger::Share;
 use std::sync::{Mutex, MutexGuard, Wait};
 
 /// A book that several workers decide at, each with a pass of its own. A desk is closed
@@ -25,37 +33,57 @@ pub struct Desk<D: DeskName, S: JournalSink> {
 }
 
 impl<D: DeskName, S: JournalSink> Desk<D, S> {
-    /// A desk over this table, with an empty history, and a pass for each of its 1 to 16 workers, in
-    /// their order.
+    /// A desk with an empty history, and a pass for each of its workers, in their order. None has seen
+    /// or was told a change.
     ///
     /// A sink that tells has told nothing; fewer than 2^64 - 1 of its appends have failed, or the
-    /// table is broken. After `AllocError` all that was handed in is gone.
-    pub fn start(
+    /// table is broken. After a fault all that was handed in is gone.
+    pub fn start<R: Wait>(
+        rt: &R,
         alloc: Global,
-        blank: Blank,
-        table: Table,
+        started: StartedDesk,
         sink: S,
-        workers: u8,
-    ) -> Result<(Desk<D, S>, Vec<Pass<D>>), AllocError>
+    ) -> Result<(Desk<D, S>, Vec<Pass<D>>), StartFault>
     where
         S: Drop,
-        requires workers { (1 ≤ workers) × (workers ≤ 16) × (D.workers ≡ workers) }
-        requires blank { (blank.name ≡ D.name) × (blank.parts ≡ D.parts)
-            × (blank.parts ≡ workers) }
-        requires opening { D.opening ≡ table.state }
+        requires name { IsNamed started D.name D.parts D.book D.root D.workers }
         requires told { IfSome (S.told sink) (λ bytes. bytes ≡ []) }
-        requires room { table.state.broken ≡ false → S.failed sink < 2 ^ 64 - 1 }
-        ensures passes { IfOk result (λ r. r.1.items ≡ map new_pass (range_with_len 0 workers)) }
+        requires room { (table_of started).state.broken ≡ false → S.failed sink < 2 ^ 64 - 1 }
+        ensures passes { IfOk result (λ r.
+            r.1.items ≡ map new_pass (range_with_len 0 (workers_of started))) }
     {
+        let StartedDesk {
+            table,
+            workers,
+            blank,
+            list,
+        } = started;
+        let rows = rows_of(alloc, &table)?;
+        let again = rows_of(alloc, &table)?;
+        let root = list.root();
+        let keeper = list.named::<D>();
+        let places = usize::from(workers);
+        let mut shelf = Shelf::start(rt, alloc, keeper, &root, rows, again, places)?;
         let (totals, all): (_, Share<D>) = blank.open::<D>();
-        let passes = Pass::of_all(alloc, all, workers)?;
-        let book = Book::start(alloc, totals, JournaledTable::of(table, sink), workers)?;
-        Ok((
-            Desk {
-                book: Mutex::new(book),
-            },
-            passes,
-        ))
+        let passes = match Pass::of_all(alloc, all, &mut shelf, workers) {
+            Ok(passes) => passes,
+            Err(fault) => {
+                shelf.end(rt);
+                return Err(fault);
+            }
+        };
+        match Store::start(alloc, totals, JournaledTable::of(table, sink), workers) {
+            Ok(store) => Ok((
+                Desk {
+                    book: Mutex::new(Book { store, shelf }),
+                },
+                passes,
+            )),
+            Err(_) => {
+                shelf.end(rt);
+                Err(StartFault::Memory)
+            }
+        }
     }
 
     /// One event under the lock; its receipt joins the pass.
@@ -70,14 +98,14 @@ impl<D: DeskName, S: JournalSink> Desk<D, S> {
         opened: Opened,
     ) -> Result<Verdict, Refused>
         requires moment { IsMoment now }
-        ensures receipt { IfOk result (λ v. Notes D.opening pass.old pass.new now opened v) }
+        ensures receipt { IfOk result (λ v. Notes (opening_of D.root) pass.old pass.new now opened v) }
         ensures refused { IfErr result (λ r.
             (pass.new ≡ refused_with r.fault pass.old) × (r.opened ≡ opened)) }
-        ensures asks { IfErr result (λ r. AsksAfter D.opening now opened r.fault) }
+        ensures asks { IfErr result (λ r. AsksAfter (opening_of D.root) now opened r.fault) }
         ensures positive { IfErr result (λ r. AsksPositive r.fault) }
     {
         let mut book = self.book.lock(rt);
-        let decided = book.decide(pass, now, opened);
+        let decided = book.decide(rt, pass, now, opened);
         MutexGuard::unlock(book);
         noted(pass, decided)
     }
@@ -95,7 +123,7 @@ impl<D: DeskName, S: JournalSink> Desk<D, S> {
     ) -> Result<Verdict, Refused>
         requires moment { IsMoment now }
         ensures receipt { IfOk result (λ v. (counts : _)
-            × Notes D.opening pass.old pass.new now (completed password.now counts opened) v) }
+            × Notes (opening_of D.root) pass.old pass.new now (completed password.now counts opened) v) }
         ensures refused { IfErr result (λ r. (pass.new ≡ refused_with r.fault pass.old)
             × IsCompletedFrom password.now opened r.opened) }
         ensures never { IfErr result (λ r. IsFinal r.fault) }
@@ -107,32 +135,36 @@ impl<D: DeskName, S: JournalSink> Desk<D, S> {
             });
         };
         let mut book = self.book.lock(rt);
-        let decided = book.decide_deriving(pass, now, opened, password, salt.as_slice());
+        let decided = book.decide_deriving(rt, pass, now, opened, password, salt.as_slice());
         MutexGuard::unlock(book);
         noted(pass, decided)
     }
 
-    /// What the table shows of a name, under the lock; none for an unknown one. The counts are at
-    /// least 1. The pass is as before.
-    pub fn lookup<R: Wait>(&self, rt: &R, pass: &mut Pass<D>, name: &Name) -> Option<Lookup>
-        ensures shown { IsShown D.opening name.now result }
-        ensures positive { IfSome result (λ l. (1 ≤ l.policy) × All (λ n. 1 ≤ n) l.held) }
-        ensures pass { pass.new ≡ pass.old }
+    /// What a table shows of a name after some list of accepted changes that begins with all that the
+    /// pass has seen and was told; none for an unknown name. It takes no lock and waits for nobody. The
+    /// counts are at least 1. After `NotEntered` the pass is as before.
+    pub fn lookup(&self, pass: &mut Pass<D>, name: &Name) -> Result<Option<Lookup>, NotEntered>
+        ensures later { IsPrefix pass.old.place.seen pass.new.place.seen }
+        ensures after { IfOk result (λ found. IsPrefix pass.old.place.told pass.new.place.seen) }
+        ensures shown { IfOk result (λ found.
+            found ≡ lookup_after (opening_of D.root) pass.new.place.seen name.now) }
+        ensures positive { IfOk result (λ found.
+            IfSome found (λ l. (1 ≤ l.policy) × All (λ n. 1 ≤ n) l.held)) }
+        ensures told { (pass.new.place.told ≡ pass.old.place.told)
+            × (pass.new.place.own ≡ pass.old.place.own) }
+        ensures rest { pass.new ≡ record pass.old { place = pass.new.place } }
+        ensures unchanged { OnErr result (pass.new ≡ pass.old) }
     {
-        let _ = pass;
-        let book = self.book.lock(rt);
-        let found = book.lookup(name);
-        MutexGuard::unlock(book);
-        found
+        pass.lookup(name)
     }
 
-    /// Gives the desk up without a close.
-    pub fn abandon(self)
+    /// Gives the desk up without a close, once no lookup reads.
+    pub fn abandon<R: Wait>(self, rt: &R)
     where
         S: Drop,
     {
         let Desk { book } = self;
-        book.into_inner().abandon();
+        book.into_inner().abandon(rt);
     }
 }
 

@@ -10,6 +10,9 @@ mod deciding;
 mod desk;
 mod naming;
 mod pass;
+mod rows;
+mod started;
+mod store;
 
 pub use agreeing::agree;
 pub use at_desk::AtDesk;
@@ -18,3 +21,4 @@ pub use closing::{CloseFault, CloseRefused, Closed};
 pub use desk::Desk;
 pub use naming::DeskName;
 pub use pass::Pass;
+pub use started::{StartFault, StartedDesk};

@@ -1,5 +1,6 @@
 //! The close of a service's desk.
 ghost use Rattle.std.specs.Prelude.{◌≡◌, IfOk, IfErr};
+ghost use Rattle.chpw_fronts.specs.Pens.{opening_of};
 ghost use Rattle.chpw_book.specs.Receipts.{changes_of};
 ghost use Rattle.chpw_service.specs.Tallies.{IsTally, IsMismatch};
 ghost use Rattle.chpw_service.specs.declared.fault.ServeFault.TheVariants.{CannotClose};
@@ -7,6 +8,7 @@ ghost use Rattle.chpw_service.specs.declared.fault.ServeFault.TheVariants.{Canno
 use crate::fault::ServeFault;
 use chpw_book::{CloseRefused, Closed, Desk, DeskName, Pass};
 use chpw_table::{Entry, JournalSink, Verdict};
+use std::sync::Wait;
 
 /// What a service did: its entries, and how many of them are changes.
 #[derive(Clone, Copy, Drop)]
@@ -16,15 +18,16 @@ pub(crate) struct Tally {
 }
 
 /// Closes a desk, and counts its history. A desk that can't be closed is given up.
-pub(crate) fn close_desk<'a, D: DeskName, S: JournalSink + Drop>(
+pub(crate) fn close_desk<'a, D: DeskName, S: JournalSink + Drop, R: Wait>(
+    rt: &R,
     desk: Desk<D, S>,
     passes: Vec<Pass<D>>,
 ) -> Result<Tally, ServeFault<'a>>
-    ensures tally { IfOk result (IsTally D.opening D.workers passes.items) }
+    ensures tally { IfOk result (IsTally (opening_of D.root) D.workers passes.items) }
     ensures refusal { IfErr result (λ fault. (fault ≡ CannotClose)
-        × IsMismatch D.opening D.workers passes.items) }
+        × IsMismatch (opening_of D.root) D.workers passes.items) }
 {
-    match desk.close(passes) {
+    match desk.close(rt, passes) {
         Ok(
             Closed {
                 history,
@@ -41,7 +44,7 @@ pub(crate) fn close_desk<'a, D: DeskName, S: JournalSink + Drop>(
                 desk,
                 passes: _,
             } = refused;
-            desk.abandon();
+            desk.abandon(rt);
             Err(ServeFault::CannotClose)
         }
     }

@@ -1,5 +1,6 @@
 //! The service on a port.
 ghost use Rattle.std.specs.Prelude.{◌≡◌, ◌≤◌, ◌⊎◌, IfOk, IfErr, OnOk, IfSome, None, length};
+ghost use Rattle.chpw_book.specs.Starting.{IsNamed, workers_of};
 ghost use Rattle.chpw_service.specs.Faults.{IsLate, IsOfService, told_as};
 ghost use Rattle.chpw_service.specs.declared.fault.ServeFault.TheVariants.{CannotListen, CannotPrint};
 
@@ -7,17 +8,15 @@ use crate::closing::{Tally, close_desk};
 use crate::fault::ServeFault;
 use crate::files::{read_seed, read_settings};
 use crate::opening::open_table;
-use chpw_book::{Desk, DeskName, Pass};
+use chpw_book::{Desk, DeskName, Pass, StartFault, StartedDesk};
 use chpw_journal::{FileSink, Journal};
 use chpw_messages::Service;
 use chpw_pool::{Pool, PoolFault, run_pool};
-use chpw_table::{JournalSink, Table};
-use std::alloc::{AllocError, Global};
+use chpw_table::JournalSink;
 use std::fs::{File, Files};
 use std::marker::Brand;
 use std::net::{Ipv4Addr, Net, TcpListener, TcpStream};
 use std::sync::Wait;
-use std::sync::ledger::Blank;
 use std::thread::Threads;
 use std::time::Clock;
 
@@ -75,8 +74,8 @@ pub fn serve<
         listener,
         seed,
     };
-    let blank = Blank::new(u64::from(options.workers));
-    serve_desk::<Brand, R>(rt, blank, table, sink, ready, options)
+    let started = StartedDesk::of(table, options.workers);
+    serve_desk::<Brand, R>(rt, started, sink, ready, options)
 }
 
 fn listen<'a, R: Net<Listener = TcpListener, Stream = TcpStream>>(
@@ -98,25 +97,21 @@ fn serve_desk<
     R: Threads + Wait + Clock + Print + AllocGlobal + Sync,
 >(
     rt: &R,
-    blank: Blank,
-    table: Table,
+    started: StartedDesk,
     sink: FileSink<File>,
     ready: Ready,
     options: ServeOptions<'a>,
 ) -> Result<(), ServeFault<'a>>
-    requires workers { (1 ≤ options.workers) × (options.workers ≤ 16) }
-    requires name { (blank.name ≡ D.name) × (blank.parts ≡ D.parts)
-        × (blank.parts ≡ options.workers) }
-    requires desk { (D.workers ≡ options.workers) × (D.opening ≡ table.state) }
+    requires workers { 1 ≤ workers_of started }
+    requires name { IsNamed started D.name D.parts D.book D.root D.workers }
     requires fresh { ⟦<FileSink<File> as JournalSink>⟧.failed sink ≡ 0 }
     ensures fault { IfErr result IsLate }
 {
-    let Ok((desk, mut passes)) = start_desk::<D>(rt.alloc(), blank, table, sink, options.workers)
-    else {
+    let Ok((desk, mut passes)) = start_desk::<D, R>(rt, started, sink) else {
         return Err(ServeFault::Memory);
     };
     if println!(rt; "listening on 127.0.0.1:{}", options.port).is_err() {
-        desk.abandon();
+        desk.abandon(rt);
         return Err(ServeFault::CannotPrint);
     }
     let pool = run_pool(
@@ -129,24 +124,20 @@ fn serve_desk<
         ready.seed,
         options.connections,
     );
-    let tally = close_desk(desk, passes)?;
+    let tally = close_desk(rt, desk, passes)?;
     end(rt, tally, pool)
 }
 
-fn start_desk<D: DeskName>(
-    alloc: Global,
-    blank: Blank,
-    table: Table,
+fn start_desk<D: DeskName, R: Wait + AllocGlobal>(
+    rt: &R,
+    started: StartedDesk,
     sink: FileSink<File>,
-    workers: u8,
-) -> Result<(Desk<D, FileSink<File>>, Vec<Pass<D>>), AllocError>
-    requires workers { (1 ≤ workers) × (workers ≤ 16) }
-    requires name { (blank.name ≡ D.name) × (blank.parts ≡ D.parts) × (blank.parts ≡ workers) }
-    requires desk { (D.workers ≡ workers) × (D.opening ≡ table.state) }
+) -> Result<(Desk<D, FileSink<File>>, Vec<Pass<D>>), StartFault>
+    requires name { IsNamed started D.name D.parts D.book D.root D.workers }
     requires fresh { ⟦<FileSink<File> as JournalSink>⟧.failed sink ≡ 0 }
-    ensures passes { IfOk result (λ r. length r.1.items ≡ workers) }
+    ensures passes { IfOk result (λ r. length r.1.items ≡ workers_of started) }
 {
-    Desk::start(alloc, blank, table, sink, workers)
+    Desk::start(rt, rt.alloc(), started, sink)
 }
 
 // Prints what was done, and tells why it ended early.

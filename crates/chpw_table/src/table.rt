@@ -150,6 +150,15 @@ impl Table {
         self.principals.get(place as usize).map(|p| &p.name)
     }
 
+    /// Its policy. The depth is at most 16, and the iteration count of new keys at least 1.
+    pub fn policy(&self) -> Policy
+        ensures value { result ≡ self.now.state.fixed.policy }
+        ensures depth { max result.depth 1 ≤ 16 }
+        ensures iterations { 1 ≤ result.iterations }
+    {
+        self.policy
+    }
+
     /// What the table shows of a name; none for an unknown one. The counts are at least 1, and 1 to
     /// 16 of them are held.
     pub fn lookup(&self, name: &Name) -> Option<Lookup>

@@ -1,5 +1,5 @@
 -- What each step on the versions keeps.
-use Rattle.std.proofs.Common.{◌≡◌, ◌≢◌, ℕ, ◌+◌, ◌<◌, List, [], ◌∷◌, ◌++◌, length, true, refl, sym, ◌∙◌, ap, subst, ⊎_elim, arith, length-append, set, Option, Some, IsSomeAnd, Result, Ok, Err, IsOk, MatchResult, if◌then◌else◌}
+use Rattle.std.proofs.Common.{◌≡◌, ◌≢◌, ℕ, ◌+◌, ◌<◌, ◌≤◌, List, [], ◌∷◌, ◌++◌, length, true, refl, sym, ◌∙◌, ap, subst, ⊎_elim, arith, length-append, set, Option, Some, IsSomeAnd, Result, Ok, Err, IsOk, MatchResult, if◌then◌else◌}
 use Rattle.std.specs.Prelude.{option_map}
 use mathlib.Core.Option.{some}
 use mathlib.Core.List.{IsPrefix}
@@ -18,9 +18,9 @@ use Rattle.chpw_fronts.proofs.ListLemmas.{prefix_self, prefix_trans, prefix_same
 use Rattle.chpw_versions.specs.declared.version.Version.{Version}
 use Rattle.chpw_versions.specs.declared.version.Operation.{Operation}
 use Rattle.chpw_versions.specs.declared.view.View.{View}
-use Rattle.chpw_versions.specs.Rows.{opening_rows, shown_in, lookup_with, lookup_after}
-use Rattle.chpw_versions.specs.Following.{applied, names_of_rows, IsNumberOf, HasNumber, list_by, list_shown, ShowsList, IsRuled, IsShelved, IsTied, Looked, Published, Settled, unknown, book_of}
-use Rattle.chpw_versions.proofs.RowLemmas.{names_changed, changed_shows, opening_shows, opening_names, shown_more}
+use Rattle.chpw_versions.specs.Rows.{Rowed, names_of_rows, shown_in, ShowsOpening, lookup_with, lookup_after}
+use Rattle.chpw_versions.specs.Following.{applied, IsNumberOf, HasNumber, list_by, list_shown, ShowsList, IsRuled, IsShelved, IsTied, Looked, Published, Settled, unknown, book_of}
+use Rattle.chpw_versions.proofs.RowLemmas.{names_changed, changed_shows, changed_positive, shown_more}
 
 abbrev AllTied : Version → List KeyChange → List View → Type 0
 AllTied x list views = (seat : ℕ) (v : View) → get_elem? views seat ≡ some v → IsTied x list v
@@ -68,9 +68,9 @@ looks seat v x views (list, is, each) at =
     )
 
 -- the version with one operation more shows the list with one change more
-pub goes_on : (b : Book) (r : List LogEntry) (list : List KeyChange) (x : Version) (o : Operation) → ShowsList b r list x → o.seen.book ≡ b → changes_in r o.seen.log ≡ list → HasNumber (opening_of r) o.change
+pub goes_on : (b : Book) (r : List LogEntry) (list : List KeyChange) (x : Version) (o : Operation) → ShowsList b r list x → o.seen.book ≡ b → changes_in r o.seen.log ≡ list → HasNumber (opening_of r) o.change → 1 ≤ o.change.count
     → length list + 1 < 4294967296 → ShowsList b r (list ++ named (opening_of r) o.change ∷ []) (applied x o)
-goes_on b r list x o is ob ol num room =
+goes_on b r list x o is ob ol num positive room =
     let c : KeyChange = named (opening_of r) o.change in
     let a = length-append list (c ∷ []) in
     let i = is.len_is in
@@ -87,13 +87,14 @@ goes_on b r list x o is ob ol num room =
           ∙ (ap (λ k. if is_same_name c.name name then option_map (with_change k c) (shown_in x.rows.rows name) else shown_in x.rows.rows name) is.kept
           ∙ (ap (λ s. if is_same_name c.name name then option_map (with_change (kept_count (opening_of r)) c) s else s) (is.shows name)
           ∙ sym (shown_more (opening_of r) list c name)));
+      positive = (is.positive.0, changed_positive x.rows.kept o.change o.change.number x.rows.rows positive is.positive.1);
       last = λ h. ap (λ l. l ++ c ∷ []) (sym ol);
     }
 
 -- the writer, which knows the whole list, makes the change of one operation
 pub published_at : (seat : ℕ) (b : Book) (r : List LogEntry) (v : View) (x : Version) (list : List KeyChange) (o : Operation) → IsShelved b r v x list → o.seen.book ≡ b → changes_in r o.seen.log ≡ list
-    → HasNumber (opening_of r) o.change → length list + 1 < 4294967296 → TurnsAt IsRuled seat v x (applied x o) Published
-published_at seat b r v x list o sh ob ol num room views (all, is, each) at =
+    → HasNumber (opening_of r) o.change → 1 ≤ o.change.count → length list + 1 < 4294967296 → TurnsAt IsRuled seat v x (applied x o) Published
+published_at seat b r v x list o sh ob ol num positive room views (all, is, each) at =
     let mine = each seat v at sh.0.0 in
     let pre : IsPrefix list all = subst (λ (l : List KeyChange). IsPrefix l all) sh.1 mine.2 in
     let long : length list ≡ length all = sym sh.2.len_is ∙ is.len_is in
@@ -101,22 +102,22 @@ published_at seat b r v x list o sh ob ol num room views (all, is, each) at =
     let y : Version = applied x o in
     let c : KeyChange = named (opening_of r) o.change in
     let w : View = record v { front = v.front ++ named (opening_of v.root) o.change ∷ [] } in
-    let next : ShowsList y.root.book y.root.log (list ++ c ∷ []) y = renamed b y.root.book r y.root.log (list ++ c ∷ []) y (sym sh.2.root_book) (sym sh.2.root_log) (goes_on b r list x o sh.2 ob ol num room) in
+    let next : ShowsList y.root.book y.root.log (list ++ c ∷ []) y = renamed b y.root.book r y.root.log (list ++ c ∷ []) y (sym sh.2.root_book) (sym sh.2.root_log) (goes_on b r list x o sh.2 ob ol num positive room) in
     let told : w.front ≡ list ++ c ∷ [] = ap (λ (l : List KeyChange). l ++ named (opening_of v.root) o.change ∷ []) sh.1 ∙ ap (λ l. list ++ named (opening_of l) o.change ∷ []) sh.0.2 in
     let own : IsPrefix w.front (list ++ c ∷ []) = subst (λ (l : List KeyChange). IsPrefix l (list ++ c ∷ [])) (sym told) (prefix_self (list ++ c ∷ [])) in
     let before : AllTied x list views = subst (λ (l : List KeyChange). AllTied x l views) (sym whole) each in
     (w, (list ++ c ∷ [], next, kept x y list (c ∷ []) views seat w refl before (λ k. (mine.0, mine.1, own))), refl)
 
 pub shelved_after : (b : Book) (r : List LogEntry) (v w : View) (x y : Version) (list : List KeyChange) (o : Operation) → IsShelved b r v x list → o.seen.book ≡ b → changes_in r o.seen.log ≡ list
-    → HasNumber (opening_of r) o.change → length list + 1 < 4294967296 → y ≡ applied x o → Published v x y w → IsShelved b r w y (list ++ named (opening_of r) o.change ∷ [])
-shelved_after b r v w x y list o sh ob ol num room is told =
+    → HasNumber (opening_of r) o.change → 1 ≤ o.change.count → length list + 1 < 4294967296 → y ≡ applied x o → Published v x y w → IsShelved b r w y (list ++ named (opening_of r) o.change ∷ [])
+shelved_after b r v w x y list o sh ob ol num positive room is told =
     let c : KeyChange = named (opening_of r) o.change in (
       (ap (λ (z : View). z.known) told ∙ sh.0.0, ap book_of told ∙ sh.0.1, ap (λ (z : View). z.root) told ∙ sh.0.2),
       ap (λ (z : View). z.front) told
           ∙ (ap (λ (l : List KeyChange). l ++ named (opening_of v.root) y.last ∷ []) sh.1
           ∙ (ap (λ l. list ++ named (opening_of l) y.last ∷ []) sh.0.2
           ∙ ap (λ (z : Version). list ++ named (opening_of r) z.last ∷ []) is)),
-      subst (λ (z : Version). ShowsList b r (list ++ c ∷ []) z) (sym is) (goes_on b r list x o sh.2 ob ol num room),
+      subst (λ (z : Version). ShowsList b r (list ++ c ∷ []) z) (sym is) (goes_on b r list x o sh.2 ob ol num positive room),
     )
 
 pub settles : (seat : ℕ) (v : View) (x y : Version) → y ≡ x → TurnsAt IsRuled seat v x y Settled
@@ -128,18 +129,23 @@ settles seat v x y e = subst (λ (z : Version). TurnsAt IsRuled seat v x z Settl
         (w, (list, is, same x list views seat w each (λ k. (refl, refl, (list, refl)))), ((refl, refl, refl), refl))
 
 -- the version at the opening shows no change
-pub opening_version : (x : Version) → x.len ≡ 0 → x.rows ≡ opening_rows (opening_of x.root.log) → x.seen ≡ x.root → ShowsList x.root.book x.root.log [] x
-opening_version x n rows seen = record {
-  root_book = refl;
-  root_log = refl;
-  seen_book = ap (λ m. m.book) seen;
-  len_is = n;
-  names = ap (λ r. names_of_rows r.rows) rows ∙ opening_names (opening_of x.root.log).principals;
-  kept = ap (λ r. r.kept) rows;
-  policy = ap (λ r. r.policy) rows;
-  shows = λ name. ap (λ r. shown_in r.rows name) rows ∙ opening_shows (opening_of x.root.log).principals name;
-  last = λ h. absurd (omega arith);
-}
+pub opening_version : (r : List LogEntry) (rows : Rowed) (x : Version) → x.len ≡ 0 → x.rows ≡ rows → x.root.log ≡ r → x.seen ≡ x.root → ShowsOpening (opening_of r) rows → ShowsList x.root.book x.root.log [] x
+opening_version r rows x n same log seen shows =
+    at (subst (λ l. ShowsOpening (opening_of l) x.rows) (sym log) (subst (λ (z : Rowed). ShowsOpening (opening_of r) z) (sym same) shows))
+  where
+    at : ShowsOpening (opening_of x.root.log) x.rows → ShowsList x.root.book x.root.log [] x
+    at all = record {
+      root_book = refl;
+      root_log = refl;
+      seen_book = ap (λ m. m.book) seen;
+      len_is = n;
+      names = all.names;
+      kept = all.kept;
+      policy = all.policy;
+      shows = all.shows;
+      positive = all.positive;
+      last = λ h. absurd (omega arith);
+    }
 
 pub shelved_first : (b : Book) (r : List LogEntry) (v w : View) (x y : Version) → y ≡ x → x.root.book ≡ b → x.root.log ≡ r → ShowsList x.root.book x.root.log [] x → Settled v x y w → IsShelved b r w y []
 shelved_first b r v w x y e eb er is told = (

@@ -1,22 +1,23 @@
 -- What a change does to the rows, and what they show.
 use Rattle.std.proofs.Common.{◌≡◌, ℕ, zero, suc, ◌+◌, ◌<◌, ◌≤◌, List, [], ◌∷◌, ◌++◌, map, length, get_or, set, Bool, true, false, not, cond, if◌then◌else◌, Option, Some, None, find, is_none, nat_lt, refl, sym, ◌∙◌, ap, subst, arith}
-use Rattle.std.specs.Prelude.{option_map, position, IsSome}
+use Rattle.std.specs.Prelude.{option_map, position, IsSome, IfSome, All}
 use Rattle.std.specs.List.{position_or_len}
 use Rattle.std.proofs.lemmas.List.{length-map}
+use Rattle.std.proofs.lemmas.List.Elements.{All-nil, All-cons, All-head, All-tail, All-take}
 use Rattle.std.proofs.lemmas.List.Sums.{fold-append}
 use Rattle.std.proofs.lemmas.List.Quantifiers.{position-Some}
 use Rattle.chpw_rules.specs.declared.name.Name.{Name}
 use Rattle.chpw_rules.specs.Names.{is_same_name}
 use Rattle.chpw_table.specs.declared.table.Principal.{Principal}
 use Rattle.chpw_table.specs.State.{State, keys_held, kept_count}
-use Rattle.chpw_table.specs.Versions.{KeyChange, Shown, shown, shown_keys, with_change}
+use Rattle.chpw_table.specs.Versions.{KeyChange, Shown, shown, with_change}
 use Rattle.chpw_table.proofs.NameLemmas.{is_same_name-Decides}
 use Rattle.chpw_table.proofs.PlaceLemmas.{has_name, no_keys}
 use Rattle.chpw_fronts.specs.declared.change.NumberedChange.{NumberedChange}
 use Rattle.chpw_fronts.specs.Changes.{name_at, named}
 use Rattle.chpw_versions.specs.declared.rows.Row.{Row}
-use Rattle.chpw_versions.specs.Rows.{opening_row, changed_row, changed_at, shown_in}
-use Rattle.chpw_versions.specs.Following.{names_of_rows, names_of, IsNumberOf, HasNumber}
+use Rattle.chpw_versions.specs.Rows.{names_of_rows, names_of, changed_row, changed_at, shown_in, HasPositive}
+use Rattle.chpw_versions.specs.Following.{IsNumberOf, HasNumber}
 
 -- a write of a changed row is the change at its place
 pub set-changed : (kept : ℕ) (c : NumberedChange) (n : ℕ) (rows : List Row) (d r : Row) → n < length rows → r ≡ changed_row kept c (get_or rows n d) → set rows n r ≡ changed_at kept c n rows
@@ -72,22 +73,23 @@ changed_shows kept c of [] n name h = absurd h
 changed_shows kept c of (r ∷ rs) zero name h = at_head kept c of r rs name h (is_same_name r.name name) refl
 changed_shows kept c of (r ∷ rs) (suc n) name h = behind kept c n of r rs name h.0 (changed_shows kept c of rs n name h.1) (is_same_name r.name name) refl
 
--- the rows at the opening show what it holds
-abbrev keys_shown : List Principal → Name → Option Shown
-keys_shown ps name = option_map shown_keys (option_map (λ (p : Principal). p.keys) (find (λ (p : Principal). is_same_name p.name name) ps))
+-- counts stay positive, where that of the change is
+pub changed_positive : (kept : ℕ) (c : NumberedChange) (n : ℕ) (rows : List Row) → 1 ≤ c.count → All HasPositive rows → All HasPositive (changed_at kept c n rows)
+changed_positive kept c n [] h all = All-nil HasPositive
+changed_positive kept c zero (r ∷ rs) h all =
+    let front : All (λ m. 1 ≤ m) (c.count ∷ r.counts) = All-cons (λ m. 1 ≤ m) c.count r.counts h (All-head HasPositive r rs all) in
+    All-cons HasPositive (changed_row kept c r) rs (All-take (λ m. 1 ≤ m) kept (c.count ∷ r.counts) front) (All-tail HasPositive r rs all)
+changed_positive kept c (suc n) (r ∷ rs) h all =
+    All-cons HasPositive r (changed_at kept c n rs) (All-head HasPositive r rs all) (changed_positive kept c n rs h (All-tail HasPositive r rs all))
 
-opening_head : (p : Principal) (ps : List Principal) (name : Name) → shown_in (map opening_row ps) name ≡ keys_shown ps name → (b : Bool) → is_same_name p.name name ≡ b
-    → shown_in (opening_row p ∷ map opening_row ps) name ≡ keys_shown (p ∷ ps) name
-opening_head p ps name ih true e = rw e refl
-opening_head p ps name ih false e = rw e ih
-
-pub opening_shows : (ps : List Principal) (name : Name) → shown_in (map opening_row ps) name ≡ option_map shown_keys (option_map (λ (p : Principal). p.keys) (find (λ (p : Principal). is_same_name p.name name) ps))
-opening_shows [] name = refl
-opening_shows (p ∷ ps) name = opening_head p ps name (opening_shows ps name) (is_same_name p.name name) refl
-
-pub opening_names : (ps : List Principal) → names_of_rows (map opening_row ps) ≡ map (λ (p : Principal). p.name) ps
-opening_names [] = refl
-opening_names (p ∷ ps) = ap (λ ns. p.name ∷ ns) (opening_names ps)
+-- and so are those of the row that is found
+pub found_positive : (is_it : Row → Bool) (rows : List Row) → All HasPositive rows → IfSome (find is_it rows) HasPositive
+found_positive is_it [] all = tt
+found_positive is_it (r ∷ rs) all = at (is_it r) refl (found_positive is_it rs (All-tail HasPositive r rs all))
+  where
+    at : (b : Bool) → is_it r ≡ b → IfSome (find is_it rs) HasPositive → IfSome (find is_it (r ∷ rs)) HasPositive
+    at true e rest = rw e (All-head HasPositive r rs all)
+    at false e rest = rw e rest
 
 -- the first place of a name is its number
 place_number : (rows : List Row) (name : Name) (n : ℕ) (d : Row) → n < length rows → is_same_name (get_or rows n d).name name ≡ true → ((k : ℕ) → k < n → is_same_name (get_or rows k d).name name ≡ false)

@@ -1,24 +1,23 @@
 -- The rule of the versions: there is a list that the version shows, and each view that knows whose list
 -- it is has a beginning of it.
-use Rattle.std.specs.Prelude.{◌≡◌, ℕ, ◌+◌, ◌<◌, ◌%◌, zero, suc, List, [], ◌∷◌, ◌++◌, length, map, true, false, Option, Some, None}
+use Rattle.std.specs.Prelude.{◌≡◌, ℕ, ◌+◌, ◌<◌, ◌≤◌, ◌%◌, zero, suc, List, [], ◌∷◌, ◌++◌, length, true, false, Option, Some, None}
 use mathlib.Core.Option.{some}
 use mathlib.Core.List.{IsPrefix}
 use lib.ListN.{get_elem?}
 use Rattle.logbook.specs.Pages.{Book}
 use Rattle.chpw_rules.specs.declared.name.Name.{Name}
 use Rattle.chpw_rules.specs.Names.{is_same_name}
-use Rattle.chpw_table.specs.declared.table.Principal.{Principal}
 use Rattle.chpw_table.specs.State.{State, kept_count, new_count}
 use Rattle.chpw_table.specs.Versions.{KeyChange, shown}
 use Rattle.chpw_fronts.specs.declared.change.NumberedChange.{NumberedChange}
 use Rattle.chpw_fronts.specs.declared.entry.LogEntry.{LogEntry}
 use Rattle.chpw_fronts.specs.Changes.{named}
 use Rattle.chpw_fronts.specs.Pens.{changes_in, opening_of}
-use Rattle.chpw_versions.specs.declared.rows.Row.{Row}
 use Rattle.chpw_versions.specs.declared.version.Version.{Version}
+use Rattle.chpw_versions.specs.declared.version.ListShown.{ListShown}
 use Rattle.chpw_versions.specs.declared.version.Operation.{Operation}
 use Rattle.chpw_versions.specs.declared.view.View.{View}
-use Rattle.chpw_versions.specs.Rows.{changed_at, shown_in}
+use Rattle.chpw_versions.specs.Rows.{changed_at, names_of_rows, names_of, shown_in, IsPositive}
 
 -- one operation more
 abbrev pub applied : Version → Operation → Version
@@ -28,12 +27,6 @@ applied x o = record x {
   last = o.change;
   seen = o.seen;
 }
-
-abbrev pub names_of_rows : List Row → List Name
-names_of_rows rows = map (λ (r : Row). r.name) rows
-
-abbrev pub names_of : State → List Name
-names_of opening = map (λ (p : Principal). p.name) opening.principals
 
 -- the first of these names that is the same as this one has this number
 abbrev pub IsNumberOf : List Name → Name → ℕ → Type 0
@@ -53,6 +46,10 @@ list_by before last (suc n) = before ++ last ∷ []
 abbrev pub list_shown : List LogEntry → Version → List KeyChange
 list_shown root x = list_by (changes_in root x.seen.log) (named (opening_of root) x.last) x.len
 
+-- the same of what is kept of the version
+abbrev pub list_of : List LogEntry → ListShown → List KeyChange
+list_of root s = list_by (changes_in root s.seen.log) (named (opening_of root) s.last) s.len
+
 -- the version is of the list named by this book and root, and shows these changes of it
 pub record ShowsList (book : Book) (root : List LogEntry) (list : List KeyChange) (x : Version) : Type 0 where
   pub root_book : x.root.book ≡ book
@@ -63,6 +60,7 @@ pub record ShowsList (book : Book) (root : List LogEntry) (list : List KeyChange
   pub kept : x.rows.kept ≡ kept_count (opening_of root)
   pub policy : x.rows.policy ≡ new_count (opening_of root)
   pub shows : (name : Name) → shown_in x.rows.rows name ≡ shown (opening_of root) list name
+  pub positive : IsPositive x.rows
   pub last : 0 < length list → list ≡ changes_in root x.seen.log ++ named (opening_of root) x.last ∷ []
 
 -- a view that knows nothing yet
@@ -97,12 +95,12 @@ Published v x y w = w ≡ record v { front = v.front ++ named (opening_of v.root
 abbrev pub Settled : View → Version → Version → View → Type 0
 Settled v x y w = IsOf y.root.book y.root.log w × (w.front ≡ [])
 
--- the operations that wait: none, or this change behind this list
+-- the operations that wait: none, or this change behind this list, with a count that is at least 1
 abbrev pub IsWaiting : Book → List LogEntry → List KeyChange → List Operation → Option NumberedChange → Type 0
 IsWaiting book root list ops None = ops ≡ []
 IsWaiting book root list ops (Some c) =
     (o : Operation) × (ops ≡ o ∷ []) × (o.change ≡ c) × (o.seen.book ≡ book) × (changes_in root o.seen.log ≡ list)
-    × HasNumber (opening_of root) c
+    × HasNumber (opening_of root) c × (1 ≤ c.count)
 
 -- what the writer holds shows this list, and it knows that
 abbrev pub IsShelved : Book → List LogEntry → View → Version → List KeyChange → Type 0

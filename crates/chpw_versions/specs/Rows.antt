@@ -1,13 +1,11 @@
 -- The published rows, a row for each principal in the opening's order, and what they show.
-use Rattle.std.specs.Prelude.{ℕ, zero, suc, List, [], ◌∷◌, Option, option_map, find, map, take, length}
+use Rattle.std.specs.Prelude.{◌≡◌, ℕ, zero, suc, ◌≤◌, List, [], ◌∷◌, Option, option_map, find, map, take, length, All}
 use Rattle.chpw_rules.specs.declared.name.Name.{Name}
 use Rattle.chpw_rules.specs.Names.{is_same_name}
-use Rattle.chpw_table.specs.declared.key.KeyRow.{KeyRow}
 use Rattle.chpw_table.specs.declared.table.Principal.{Principal}
 use Rattle.chpw_table.specs.declared.table.Lookup.{Lookup}
-use Rattle.chpw_table.specs.State.{State, new_count, kept_count}
-use Rattle.chpw_table.specs.Decision.{newest_kvno}
-use Rattle.chpw_table.specs.Versions.{KeyChange, Shown, shown}
+use Rattle.chpw_table.specs.State.{State, keys_held, new_count, kept_count}
+use Rattle.chpw_table.specs.Versions.{KeyChange, Shown, shown, shown_keys}
 use Rattle.chpw_fronts.specs.declared.change.NumberedChange.{NumberedChange}
 use Rattle.chpw_versions.specs.declared.rows.Row.{Row}
 
@@ -17,13 +15,19 @@ pub record Rowed : Type 0 where
   pub kept : ℕ
   pub policy : ℕ
 
--- a principal's row at the opening
-abbrev pub opening_row : Principal → Row
-opening_row p = record { name = p.name; kvno = newest_kvno p.keys; counts = map (λ (k : KeyRow). k.count) p.keys }
+abbrev pub names_of_rows : List Row → List Name
+names_of_rows rows = map (λ (r : Row). r.name) rows
 
--- the rows at the opening
-abbrev pub opening_rows : State → Rowed
-opening_rows opening = record { rows = map opening_row opening.principals; kept = kept_count opening; policy = new_count opening }
+abbrev pub names_of : State → List Name
+names_of opening = map (λ (p : Principal). p.name) opening.principals
+
+-- each of the row's counts is at least 1
+abbrev pub HasPositive : Row → Type 0
+HasPositive r = All (λ n. 1 ≤ n) r.counts
+
+-- and so is each of all rows, and that of new keys
+abbrev pub IsPositive : Rowed → Type 0
+IsPositive r = (1 ≤ r.policy) × All HasPositive r.rows
 
 -- its newest version, and its count before the others, of which the newest are kept
 abbrev pub changed_row : ℕ → NumberedChange → Row → Row
@@ -41,6 +45,14 @@ row_shown r = record { kvno = r.kvno; counts = r.counts }
 -- what the rows show of a name
 abbrev pub shown_in : List Row → Name → Option Shown
 shown_in rows name = option_map row_shown (find (λ (r : Row). is_same_name r.name name) rows)
+
+-- the rows have the opening's names, in its order, and show of each name what it holds; counts are at least 1
+pub record ShowsOpening (opening : State) (r : Rowed) : Type 0 where
+  pub names : names_of_rows r.rows ≡ names_of opening
+  pub kept : r.kept ≡ kept_count opening
+  pub policy : r.policy ≡ new_count opening
+  pub shows : (name : Name) → shown_in r.rows name ≡ option_map shown_keys (keys_held opening name)
+  pub positive : IsPositive r
 
 -- a lookup after so many changes
 abbrev pub lookup_with : ℕ → ℕ → Shown → Lookup

@@ -1,7 +1,7 @@
 //! The published rows.
-ghost use Rattle.std.specs.Prelude.{◌≡◌, ◌≤◌, ◌+◌, ◌∷◌, ◌++◌, length, take, find, position, option_map, option_copied};
+ghost use Rattle.std.specs.Prelude.{◌≡◌, ◌≤◌, ◌+◌, ◌∷◌, ◌++◌, length, All, IfSome, take, find, position, option_map, option_copied};
 ghost use Rattle.chpw_rules.specs.Names.{is_same_name};
-ghost use Rattle.chpw_versions.specs.Rows.{changed_at, changed_row, row_shown, shown_in, lookup_with};
+ghost use Rattle.chpw_versions.specs.Rows.{changed_at, changed_row, row_shown, shown_in, lookup_with, IsPositive};
 
 use chpw_fronts::NumberedChange;
 use chpw_rules::Name;
@@ -69,6 +69,8 @@ impl Rows {
     pub(crate) fn lookup(&self, name: &Name, seen: u32) -> Option<Lookup>
         ensures value { result
             ≡ option_map (lookup_with self.now.policy seen) (shown_in self.now.rows name.now) }
+        ensures positive { IsPositive self.now
+            → IfSome result (λ l. (1 ≤ l.policy) × All (λ n. 1 ≤ n) l.held) }
     {
         match self.find(name) {
             None => None,

@@ -1,9 +1,9 @@
 //! What lies under the lock: the writer of the versions, beside the one keeper of the list.
-ghost use Rattle.std.specs.Prelude.{◌≡◌, ◌+◌, ◌<◌, ◌^◌, ◌++◌, ◌∷◌, [], length, None, Some, IfOk, IfSome, IsSome, OnOk, OnErr};
+ghost use Rattle.std.specs.Prelude.{◌≡◌, ◌+◌, ◌<◌, ◌≤◌, ◌^◌, ◌++◌, ◌∷◌, [], length, None, Some, IfOk, IfSome, IsSome, OnOk, OnErr};
 ghost use mathlib.Core.List.{IsPrefix};
 ghost use Rattle.chpw_table.specs.State.{keys_held};
 ghost use Rattle.chpw_fronts.specs.Pens.{opening_of};
-ghost use Rattle.chpw_versions.specs.Rows.{opening_rows};
+ghost use Rattle.chpw_versions.specs.Rows.{ShowsOpening};
 
 use crate::place::Place;
 use crate::rows::Rows;
@@ -14,7 +14,6 @@ use chpw_rules::Name;
 use left_right::writer::Writer;
 use std::alloc::{AllocError, Global};
 use std::marker::Model;
-use std::snapshot::Snapshot;
 use std::sync::Wait;
 
 /// The writer of the versions. It is ended by `end` and never dropped. Contracts see the list that readers
@@ -47,7 +46,8 @@ impl<D: ListName> Model for Shelf<D> {
 
 impl<D: ListName> Shelf<D> {
     /// A shelf with an empty list and room for so many places, which shows these rows; `again` is a copy
-    /// of them. It may wait, as a publication does.
+    /// of them. They show the list's opening: a row for each principal, in its order, with counts of at
+    /// least 1. It may wait, as a publication does.
     pub fn start<R: Wait>(
         rt: &R,
         alloc: Global,
@@ -59,7 +59,7 @@ impl<D: ListName> Shelf<D> {
     ) -> Result<Shelf<D>, AllocError>
         requires places { (0 < places) × (places < 2 ^ 32) }
         requires root { (root.now.book ≡ D.book) × (root.now.log ≡ D.root) }
-        requires rows { (rows ≡ opening_rows (opening_of D.root)) × (again ≡ rows) }
+        requires rows { ShowsOpening (opening_of D.root) rows × (again ≡ rows) }
         requires keeper { keeper ≡ [] }
         ensures value { IfOk result (λ s. s ≡ record { list = []; waiting = None }) }
     {
@@ -86,7 +86,7 @@ impl<D: ListName> Shelf<D> {
         match writer.factory().reader() {
             Ok(mut reader) => {
                 reader.learn::<Learns>(writer.tell::<Tells>());
-                let shown = Snapshot::of(writer.published());
+                let shown = writer.published().shown();
                 put_back(&mut self.writer, writer);
                 Ok(Place::over(reader, shown, self.keeper.front()))
             }
@@ -98,10 +98,11 @@ impl<D: ListName> Shelf<D> {
     }
 
     /// The last growth before a change is accepted: from here on it waits. `kvno` is the name's new
-    /// version, and `count` the iteration count of its new keys.
+    /// version, and `count` the iteration count of its new keys, at least 1.
     pub fn prepare(&mut self, name: &Name, kvno: u32, count: u32) -> Result<(), AllocError>
         requires free { self.old.waiting ≡ None }
         requires known { IsSome (keys_held (opening_of D.root) name.now) }
+        requires positive { 1 ≤ count }
         ensures ok { OnOk result (self.new ≡ record {
           list = self.old.list;
           waiting = Some (record { name = name.now; kvno = kvno; count = count });

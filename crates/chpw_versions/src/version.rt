@@ -1,5 +1,6 @@
 //! The published value.
 ghost use Rattle.std.specs.Prelude.{◌≡◌};
+ghost use Rattle.chpw_versions.specs.Following.{list_of, list_shown};
 
 use crate::rows::Rows;
 use chpw_fronts::{Mark, NumberedChange};
@@ -17,6 +18,15 @@ pub struct Version {
     pub root: Mark,
 }
 
+/// Which list a version shows, with no rows: so many changes, the last of them, and what knows the list
+/// without the last.
+#[derive(Drop)]
+pub struct ListShown {
+    pub len: u32,
+    pub last: NumberedChange,
+    pub seen: Mark,
+}
+
 /// A change, with what knows the list before it.
 #[derive(Drop)]
 pub struct Operation {
@@ -25,6 +35,17 @@ pub struct Operation {
 }
 
 impl Version {
+    /// The list that it shows.
+    pub(crate) fn shown(&self) -> ListShown
+        ensures value { (root : _) → list_of root result ≡ list_shown root self.now }
+    {
+        ListShown {
+            len: self.len,
+            last: self.last,
+            seen: self.seen.again(),
+        }
+    }
+
     /// The version after no change.
     pub(crate) fn of(rows: Rows, root: &Mark) -> Version
         ensures value { (result.rows ≡ rows) × (result.len ≡ 0) × (result.seen ≡ root.now)

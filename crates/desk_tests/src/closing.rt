@@ -1,14 +1,14 @@
 //! One request of two workers, the close, and receipts that differ.
 ghost use Rattle.std.specs.Prelude.{◌≡◌, ◌^◌, ◌<◌, length};
+ghost use Rattle.chpw_book.specs.Starting.{IsNamed, workers_of};
 
 use crate::realm::{NOW, PASSWORD, Quiet, change, closed, table, verdict};
-use chpw_book::{CloseFault, CloseRefused, Desk, DeskName, Pass, agree};
-use chpw_table::{Entry, Opened, Receipt, Table, Verdict};
+use chpw_book::{CloseFault, CloseRefused, Desk, DeskName, Pass, StartedDesk, agree};
+use chpw_table::{Entry, Opened, Receipt, Verdict};
 use std::alloc::{AllocError, Global};
 use std::marker::Brand;
 use std::process::Abort;
 use std::sync::Wait;
-use std::sync::ledger::Blank;
 use std::test::Fail;
 use std::thread::{Threads, join};
 
@@ -17,22 +17,21 @@ fn one_request_of_two_workers(rt: HostRuntime) -> Result<(), Fail> {
     let table = table(&rt, rt.alloc(), 9)?;
     let one = change(rt.alloc(), 0, 1)?;
     let two = change(rt.alloc(), 0, 1)?;
-    two_at::<Brand, _>(&rt, rt.alloc(), Blank::new(2), table, one, two)
+    two_at::<Brand, _>(&rt, rt.alloc(), StartedDesk::of(table, 2), one, two)
 }
 
 // One of two workers changes the password, and the other's request is a replay.
 fn two_at<D: DeskName + Send + Sync, R: Threads + Wait + Abort + Sync>(
     rt: &R,
     alloc: Global,
-    blank: Blank,
-    table: Table,
+    started: StartedDesk,
     one: Opened,
     two: Opened,
 ) -> Result<(), Fail>
-    requires name { (blank.name ≡ D.name) × (blank.parts ≡ D.parts) × (blank.parts ≡ 2)
-        × (D.workers ≡ 2) × (D.opening ≡ table.state) }
+    requires name { IsNamed started D.name D.parts D.book D.root D.workers }
+    requires workers { workers_of started ≡ 2 }
 {
-    let (desk, mut passes) = Desk::<D, Quiet>::start(alloc, blank, table, Quiet, 2)?;
+    let (desk, mut passes) = Desk::<D, Quiet>::start(rt, alloc, started, Quiet)?;
     let mut second = passes.pop().expect(rt, "a pass");
     let mut first = passes.pop().expect(rt, "a pass");
     let shared = &desk;
@@ -47,19 +46,19 @@ fn two_at<D: DeskName + Send + Sync, R: Threads + Wait + Abort + Sync>(
     passes.push(second).ok().expect(rt, "a place");
     let (desk, mut passes) = refused(rt, desk, passes);
     passes.push(first).ok().expect(rt, "a place");
-    let (history, full) = closed(desk, passes).expect(rt, "all agree");
+    let (history, full) = closed(rt, desk, passes).expect(rt, "all agree");
     assert!(rt; history.len() == 2 && !full);
     Ok(())
 }
 
 // A desk without a worker's pass stays open, and is given back.
-fn refused<D: DeskName>(
-    rt: &impl Abort,
+fn refused<D: DeskName, R: Wait + Abort>(
+    rt: &R,
     desk: Desk<D, Quiet>,
     passes: Vec<Pass<D>>,
 ) -> (Desk<D, Quiet>, Vec<Pass<D>>) {
     let count = passes.len();
-    match desk.close(passes) {
+    match desk.close(rt, passes) {
         Ok(_) => panic!(rt; "a pass is missing"),
         Err(
             CloseRefused {

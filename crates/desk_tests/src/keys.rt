@@ -1,36 +1,35 @@
 //! Keys that are asked for, and a history that is full.
 ghost use Rattle.std.specs.Prelude.{◌≡◌};
+ghost use Rattle.chpw_book.specs.Starting.{IsNamed, workers_of};
 
-use crate::realm::{NOW, PASSWORD, Quiet, change, closed, is_full, name, table, verdict};
-use chpw_book::{AtDesk, Desk, DeskName, Pass};
+use crate::realm::{NOW, PASSWORD, Quiet, change, closed, is_full, shown, table, verdict};
+use chpw_book::{AtDesk, Desk, DeskName, StartedDesk};
 use chpw_decider::Decider;
-use chpw_table::{DecideFault, Opened, Refused, Table, Verdict};
+use chpw_table::{DecideFault, Opened, Refused, Verdict};
 use std::alloc::Global;
 use std::marker::Brand;
 use std::process::Abort;
 use std::sync::Wait;
-use std::sync::ledger::Blank;
 use std::test::Fail;
 
 #[test]
 fn keys_that_are_asked_for(rt: HostRuntime) -> Result<(), Fail> {
     let table = table(&rt, rt.alloc(), 2)?;
     let opened = change(rt.alloc(), 0, 1)?;
-    ask_and_complete::<Brand, _>(&rt, rt.alloc(), Blank::new(1), table, opened)
+    ask_and_complete::<Brand, _>(&rt, rt.alloc(), StartedDesk::of(table, 1), opened)
 }
 
 // The missing keys are named, and with them the same request is decided; the desk is given up.
 fn ask_and_complete<D: DeskName, R: Wait + Abort>(
     rt: &R,
     alloc: Global,
-    blank: Blank,
-    table: Table,
+    started: StartedDesk,
     opened: Opened,
 ) -> Result<(), Fail>
-    requires name { (blank.name ≡ D.name) × (blank.parts ≡ D.parts) × (blank.parts ≡ 1)
-        × (D.workers ≡ 1) × (D.opening ≡ table.state) }
+    requires name { IsNamed started D.name D.parts D.book D.root D.workers }
+    requires workers { workers_of started ≡ 1 }
 {
-    let (desk, mut passes) = Desk::<D, Quiet>::start(alloc, blank, table, Quiet, 1)?;
+    let (desk, mut passes) = Desk::<D, Quiet>::start(rt, alloc, started, Quiet)?;
     let mut pass = passes.pop().expect(rt, "a pass");
     let refused = desk
         .decide(rt, &mut pass, NOW, opened)
@@ -40,7 +39,7 @@ fn ask_and_complete<D: DeskName, R: Wait + Abort>(
     assert!(rt; pass.receipts().is_empty());
     assert!(rt; verdict(desk.decide(rt, &mut pass, NOW, opened)) == Some(Verdict::Done));
     assert!(rt; pass.receipts().len() == 1 && !pass.was_full());
-    desk.abandon();
+    desk.abandon(rt);
     Ok(())
 }
 
@@ -64,22 +63,21 @@ fn keys_derived_under_the_lock(rt: HostRuntime) -> Result<(), Fail> {
     let table = table(&rt, rt.alloc(), 1)?;
     let first = change(rt.alloc(), 0, 1)?;
     let second = change(rt.alloc(), 0, 2)?;
-    derive_and_fill::<Brand, _>(&rt, rt.alloc(), Blank::new(1), table, first, second)
+    derive_and_fill::<Brand, _>(&rt, rt.alloc(), StartedDesk::of(table, 1), first, second)
 }
 
 // Of a history of one entry the second request is refused, which the pass notes; the desk is closed.
 fn derive_and_fill<D: DeskName, R: Wait + Abort>(
     rt: &R,
     alloc: Global,
-    blank: Blank,
-    table: Table,
+    started: StartedDesk,
     first: Opened,
     second: Opened,
 ) -> Result<(), Fail>
-    requires name { (blank.name ≡ D.name) × (blank.parts ≡ D.parts) × (blank.parts ≡ 1)
-        × (D.workers ≡ 1) × (D.opening ≡ table.state) }
+    requires name { IsNamed started D.name D.parts D.book D.root D.workers }
+    requires workers { workers_of started ≡ 1 }
 {
-    let (desk, mut passes) = Desk::<D, Quiet>::start(alloc, blank, table, Quiet, 1)?;
+    let (desk, mut passes) = Desk::<D, Quiet>::start(rt, alloc, started, Quiet)?;
     let mut pass = passes.pop().expect(rt, "a pass");
     let mut place = AtDesk {
         rt,
@@ -89,21 +87,9 @@ fn derive_and_fill<D: DeskName, R: Wait + Abort>(
     assert!(rt; verdict(place.decide_deriving(NOW, first, PASSWORD)) == Some(Verdict::Done));
     assert!(rt; !pass.was_full());
     assert!(rt; is_full(desk.decide(rt, &mut pass, NOW, second)) && pass.was_full());
-    show_kvno(rt, alloc, &desk, &mut pass);
+    assert!(rt; shown(rt, alloc, &desk, &mut pass) == (2, 1));
     passes.push(pass).ok().expect(rt, "a place");
-    let (history, full) = closed(desk, passes).expect(rt, "all agree");
+    let (history, full) = closed(rt, desk, passes).expect(rt, "all agree");
     assert!(rt; history.len() == 1 && full);
     Ok(())
-}
-
-// Alice's newest key has kvno 2.
-fn show_kvno<D: DeskName, R: Wait + Abort>(
-    rt: &R,
-    alloc: Global,
-    desk: &Desk<D, Quiet>,
-    pass: &mut Pass<D>,
-) {
-    let alice = name(alloc, 0).ok().expect(rt, "a name");
-    let shown = desk.lookup(rt, pass, &alice).expect(rt, "a principal");
-    assert!(rt; shown.kvno == 2 && shown.seen == 1);
 }

@@ -9,3 +9,5 @@ mod keys;
 mod realm;
 #[cfg(test)]
 mod sides;
+#[cfg(test)]
+mod versions;

@@ -10,6 +10,7 @@ use chpw_table::{
 use krb_keys::Key;
 use std::alloc::{AllocError, Global};
 use std::process::Abort;
+use std::sync::Wait;
 use std::test::Fail;
 
 pub const NOW: Moment = Moment {
@@ -143,11 +144,12 @@ pub fn is_full(answer: Result<Verdict, Refused>) -> bool {
 
 /// The history of a desk that can be closed, and whether its table is full; a desk that can't be is
 /// given up.
-pub fn closed<D: DeskName>(
+pub fn closed<D: DeskName, R: Wait>(
+    rt: &R,
     desk: Desk<D, Quiet>,
     passes: Vec<Pass<D>>,
 ) -> Option<(Vec<Entry>, bool)> {
-    match desk.close(passes) {
+    match desk.close(rt, passes) {
         Ok(
             Closed {
                 history,
@@ -162,8 +164,21 @@ pub fn closed<D: DeskName>(
                 passes: _,
             },
         ) => {
-            desk.abandon();
+            desk.abandon(rt);
             None
         }
     }
+}
+
+/// Alice's newest version, and how many changes the lookup saw.
+pub fn shown<D: DeskName, R: Abort>(
+    rt: &R,
+    alloc: Global,
+    desk: &Desk<D, Quiet>,
+    pass: &mut Pass<D>,
+) -> (u32, u32) {
+    let alice = name(alloc, 0).ok().expect(rt, "a name");
+    let found = desk.lookup(pass, &alice).ok().expect(rt, "entered");
+    let found = found.expect(rt, "a principal");
+    (found.kvno, found.seen)
 }

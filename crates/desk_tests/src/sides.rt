@@ -1,14 +1,14 @@
 //! Workers side by side, and desks side by side.
 ghost use Rattle.std.specs.Prelude.{◌≡◌, ◌<◌, All};
+ghost use Rattle.chpw_book.specs.Starting.{IsNamed, workers_of};
 
-use crate::realm::{NOW, PASSWORD, Quiet, change, closed, name, table, verdict};
-use chpw_book::{Desk, DeskName, Pass};
-use chpw_table::{Opened, Table, Verdict};
+use crate::realm::{NOW, PASSWORD, Quiet, change, closed, shown, table, verdict};
+use chpw_book::{Desk, DeskName, Pass, StartedDesk};
+use chpw_table::{Opened, Verdict};
 use std::alloc::Global;
 use std::marker::Brand;
 use std::process::Abort;
 use std::sync::Wait;
-use std::sync::ledger::Blank;
 use std::test::Fail;
 use std::thread;
 use std::thread::Threads;
@@ -16,20 +16,19 @@ use std::thread::Threads;
 #[test]
 fn sixteen_workers(rt: HostRuntime) -> Result<(), Fail> {
     let table = table(&rt, rt.alloc(), 100)?;
-    all_at::<Brand, _>(&rt, rt.alloc(), Blank::new(16), table)
+    all_at::<Brand, _>(&rt, rt.alloc(), StartedDesk::of(table, 16))
 }
 
 // Each worker changes the password of a principal of its own, twice; then all is closed.
 fn all_at<D: DeskName + Send + Sync, R: Threads + Wait + Abort + Sync>(
     rt: &R,
     alloc: Global,
-    blank: Blank,
-    table: Table,
+    started: StartedDesk,
 ) -> Result<(), Fail>
-    requires name { (blank.name ≡ D.name) × (blank.parts ≡ D.parts) × (blank.parts ≡ 16)
-        × (D.workers ≡ 16) × (D.opening ≡ table.state) }
+    requires name { IsNamed started D.name D.parts D.book D.root D.workers }
+    requires workers { workers_of started ≡ 16 }
 {
-    let (desk, mut passes) = Desk::<D, Quiet>::start(alloc, blank, table, Quiet, 16)?;
+    let (desk, mut passes) = Desk::<D, Quiet>::start(rt, alloc, started, Quiet)?;
     let shared = &desk;
     thread::for_each_mut(
         rt,
@@ -39,7 +38,7 @@ fn all_at<D: DeskName + Send + Sync, R: Threads + Wait + Abort + Sync>(
             change_own(rt, alloc, shared, pass);
         },
     );
-    let (history, full) = closed(desk, passes).expect(rt, "all agree");
+    let (history, full) = closed(rt, desk, passes).expect(rt, "all agree");
     assert!(rt; history.len() == 32 && !full);
     for entry in &history {
         assert!(rt; entry.worker < 16 && (entry.number == 1 || entry.number == 2));
@@ -63,7 +62,7 @@ fn change_own<D: DeskName, R: Wait + Abort>(
     assert!(rt; pass.receipts().len() == 2 && !pass.was_full());
 }
 
-fn asked(rt: &impl Abort, alloc: Global, number: u8, cusec: u32) -> Opened {
+pub fn asked(rt: &impl Abort, alloc: Global, number: u8, cusec: u32) -> Opened {
     match change(alloc, number, cusec) {
         Ok(opened) => opened,
         Err(_) => panic!(rt; "a request"),
@@ -72,13 +71,13 @@ fn asked(rt: &impl Abort, alloc: Global, number: u8, cusec: u32) -> Opened {
 
 #[test]
 fn two_desks(rt: HostRuntime) -> Result<(), Fail> {
-    let tables = (table(&rt, rt.alloc(), 9)?, table(&rt, rt.alloc(), 9)?);
+    let first = table(&rt, rt.alloc(), 9)?;
+    let second = table(&rt, rt.alloc(), 9)?;
     let opened = change(rt.alloc(), 0, 1)?;
     both_at::<Brand, Brand, _>(
         &rt,
         rt.alloc(),
-        (Blank::new(1), Blank::new(1)),
-        tables,
+        (StartedDesk::of(first, 1), StartedDesk::of(second, 1)),
         opened,
     )
 }
@@ -88,35 +87,21 @@ fn two_desks(rt: HostRuntime) -> Result<(), Fail> {
 fn both_at<D: DeskName, E: DeskName, R: Wait + Abort>(
     rt: &R,
     alloc: Global,
-    blanks: (Blank, Blank),
-    tables: (Table, Table),
+    started: (StartedDesk, StartedDesk),
     opened: Opened,
 ) -> Result<(), Fail>
-    requires one { (blanks.0.name ≡ D.name) × (blanks.0.parts ≡ D.parts) × (blanks.0.parts ≡ 1)
-        × (D.workers ≡ 1) × (D.opening ≡ tables.0.state) }
-    requires two { (blanks.1.name ≡ E.name) × (blanks.1.parts ≡ E.parts) × (blanks.1.parts ≡ 1)
-        × (E.workers ≡ 1) × (E.opening ≡ tables.1.state) }
+    requires one { IsNamed started.0 D.name D.parts D.book D.root D.workers }
+    requires two { IsNamed started.1 E.name E.parts E.book E.root E.workers }
 {
-    let (one, mut ones) = Desk::<D, Quiet>::start(alloc, blanks.0, tables.0, Quiet, 1)?;
+    let (one, mut ones) = Desk::<D, Quiet>::start(rt, alloc, started.0, Quiet)?;
     let mut first = ones.pop().expect(rt, "a pass");
     let done = one.decide_deriving(rt, &mut first, NOW, opened, PASSWORD);
     assert!(rt; verdict(done) == Some(Verdict::Done));
-    assert!(rt; kvno(rt, alloc, &one, &mut first) == 2);
-    one.abandon();
-    let (two, mut twos) = Desk::<E, Quiet>::start(alloc, blanks.1, tables.1, Quiet, 1)?;
+    assert!(rt; shown(rt, alloc, &one, &mut first) == (2, 1));
+    one.abandon(rt);
+    let (two, mut twos) = Desk::<E, Quiet>::start(rt, alloc, started.1, Quiet)?;
     let mut second = twos.pop().expect(rt, "a pass");
-    assert!(rt; kvno(rt, alloc, &two, &mut second) == 1);
-    two.abandon();
+    assert!(rt; shown(rt, alloc, &two, &mut second) == (1, 0));
+    two.abandon(rt);
     Ok(())
-}
-
-// Alice's newest version.
-fn kvno<D: DeskName, R: Wait + Abort>(
-    rt: &R,
-    alloc: Global,
-    desk: &Desk<D, Quiet>,
-    pass: &mut Pass<D>,
-) -> u32 {
-    let alice = name(alloc, 0).ok().expect(rt, "a name");
-    desk.lookup(rt, pass, &alice).expect(rt, "a principal").kvno
 }

@@ -1,19 +1,19 @@
 //! Answers at a desk: one message of two workers, and a history that is full.
 ghost use Rattle.std.specs.Prelude.{◌≡◌};
+ghost use Rattle.chpw_book.specs.Starting.{IsNamed, workers_of};
 
 use crate::gates::Together;
 use crate::realm::opening;
 use chpw_answer::{Gate, NoGate, answer};
-use chpw_book::{AtDesk, CloseRefused, Closed, Desk, DeskName, Pass};
+use chpw_book::{AtDesk, CloseRefused, Closed, Desk, DeskName, Pass, StartedDesk};
 use chpw_journal::MemorySink;
 use chpw_messages::Service;
 use chpw_rules::Name;
-use chpw_table::{Entry, Moment, Table};
+use chpw_table::{Entry, Moment};
 use sample_client::{Asked, CHANGED, ReplyCode, request, told};
 use std::alloc::Global;
 use std::marker::Brand;
 use std::process::Abort;
-use std::sync::ledger::Blank;
 use std::sync::{Barrier, Wait};
 use std::test::Fail;
 use std::thread::{Threads, join};
@@ -62,11 +62,12 @@ fn answered<D: DeskName, G: Gate, R: Wait + Abort>(
 }
 
 // The history of a desk that can be closed, and its journal.
-fn closed<D: DeskName>(
+fn closed<D: DeskName, R: Wait>(
+    rt: &R,
     desk: Desk<D, MemorySink>,
     passes: Vec<Pass<D>>,
 ) -> Option<(Vec<Entry>, MemorySink)> {
-    match desk.close(passes) {
+    match desk.close(rt, passes) {
         Ok(
             Closed {
                 history,
@@ -81,7 +82,7 @@ fn closed<D: DeskName>(
                 passes: _,
             },
         ) => {
-            desk.abandon();
+            desk.abandon(rt);
             None
         }
     }
@@ -91,23 +92,28 @@ fn closed<D: DeskName>(
 fn one_message_of_two_workers(rt: HostRuntime) -> Result<(), Fail> {
     let (service, table) = opening(rt.alloc(), 100)?;
     let message = request(rt.alloc(), asked("New-pass2"))?;
-    two_at::<Brand, _>(&rt, rt.alloc(), Blank::new(2), table, &service, &message)
+    two_at::<Brand, _>(
+        &rt,
+        rt.alloc(),
+        StartedDesk::of(table, 2),
+        &service,
+        &message,
+    )
 }
 
 // Both are held until both have opened it: one changes the password, and the other tells a replay.
 fn two_at<D: DeskName + Send + Sync, R: Threads + Wait + Abort + Sync>(
     rt: &R,
     alloc: Global,
-    blank: Blank,
-    table: Table,
+    started: StartedDesk,
     service: &Service,
     message: &[u8],
 ) -> Result<(), Fail>
-    requires name { (blank.name ≡ D.name) × (blank.parts ≡ D.parts) × (blank.parts ≡ 2)
-        × (D.workers ≡ 2) × (D.opening ≡ table.state) }
+    requires name { IsNamed started D.name D.parts D.book D.root D.workers }
+    requires workers { workers_of started ≡ 2 }
 {
     let sink = MemorySink::new(alloc, ROOM)?;
-    let (desk, mut passes) = Desk::<D, MemorySink>::start(alloc, blank, table, sink, 2)?;
+    let (desk, mut passes) = Desk::<D, MemorySink>::start(rt, alloc, started, sink)?;
     let mut second = passes.pop().expect(rt, "a pass");
     let mut first = passes.pop().expect(rt, "a pass");
     let barrier = Barrier::new(2);
@@ -138,15 +144,18 @@ fn two_at<D: DeskName + Send + Sync, R: Threads + Wait + Abort + Sync>(
         },
     );
     assert!(rt; (a == CHANGED && b == REPLAYED) || (a == REPLAYED && b == CHANGED));
-    let changer = if a == CHANGED {
-        &mut first
+    let (changer, other) = if a == CHANGED {
+        (&mut first, &mut second)
     } else {
-        &mut second
+        (&mut second, &mut first)
     };
-    assert!(rt; kvno_of_alice(rt, alloc, &desk, changer) == 2);
+    assert!(rt; shown_of_alice(rt, alloc, &desk, changer) == (2, 1));
+    other.learn(changer.front().expect(rt, "a front"));
+    assert!(rt; shown_of_alice(rt, alloc, &desk, other) == (2, 1));
+    assert!(rt; other.front().is_none());
     passes.push(first).ok().expect(rt, "a place");
     passes.push(second).ok().expect(rt, "a place");
-    let (history, journal) = closed(desk, passes).expect(rt, "all agree");
+    let (history, journal) = closed(rt, desk, passes).expect(rt, "all agree");
     assert!(rt; history.len() == 2 && journal.bytes().len() == 66);
     Ok(())
 }
@@ -157,15 +166,63 @@ const REPLAYED: ReplyCode = ReplyCode {
     error: Some(34),
 };
 
-fn kvno_of_alice<D: DeskName, R: Wait + Abort>(
+// Alice's newest version, and how many changes the lookup saw.
+fn shown_of_alice<D: DeskName, R: Abort>(
     rt: &R,
     alloc: Global,
     desk: &Desk<D, MemorySink>,
     pass: &mut Pass<D>,
-) -> u32 {
+) -> (u32, u32) {
     let alice = Name::parse(alloc, "alice").ok().expect(rt, "memory");
     let alice = alice.expect(rt, "a name");
-    desk.lookup(rt, pass, &alice).expect(rt, "a principal").kvno
+    let found = desk.lookup(pass, &alice).ok().expect(rt, "entered");
+    let found = found.expect(rt, "a principal");
+    (found.kvno, found.seen)
+}
+
+#[test]
+fn failed_append(rt: HostRuntime) -> Result<(), Fail> {
+    let (service, table) = opening(rt.alloc(), 100)?;
+    let first = request(rt.alloc(), asked("New-pass2"))?;
+    let second = request(
+        rt.alloc(),
+        Asked {
+            client: "bob",
+            ..asked("New-pass3")
+        },
+    )?;
+    break_second::<Brand, _>(
+        &rt,
+        rt.alloc(),
+        StartedDesk::of(table, 1),
+        &service,
+        [&first, &second],
+    )
+}
+
+// Bob's change isn't accepted, and a lookup sees alice's alone.
+fn break_second<D: DeskName, R: Wait + Abort>(
+    rt: &R,
+    alloc: Global,
+    started: StartedDesk,
+    service: &Service,
+    messages: [&[u8]; 2],
+) -> Result<(), Fail>
+    requires name { IsNamed started D.name D.parts D.book D.root D.workers }
+{
+    let mut sink = MemorySink::new(alloc, ROOM)?;
+    sink.fail_at(2, 0);
+    let (desk, mut passes) = Desk::<D, MemorySink>::start(rt, alloc, started, sink)?;
+    let mut pass = passes.pop().expect(rt, "a pass");
+    let [first, second] = messages;
+    let one = answered(rt, alloc, service, &desk, &mut pass, &mut NoGate, first);
+    assert!(rt; one == CHANGED && shown_of_alice(rt, alloc, &desk, &mut pass) == (2, 1));
+    let two = answered(rt, alloc, service, &desk, &mut pass, &mut NoGate, second);
+    assert!(rt; two.code == 2 && shown_of_alice(rt, alloc, &desk, &mut pass) == (2, 1));
+    passes.push(pass).ok().expect(rt, "a place");
+    let (history, journal) = closed(rt, desk, passes).expect(rt, "all agree");
+    assert!(rt; history.len() == 2 && journal.bytes().len() == 66);
+    Ok(())
 }
 
 #[test]
@@ -176,8 +233,7 @@ fn full_history(rt: HostRuntime) -> Result<(), Fail> {
     fill::<Brand, _>(
         &rt,
         rt.alloc(),
-        Blank::new(1),
-        table,
+        StartedDesk::of(table, 1),
         &service,
         [&first, &second],
     )
@@ -187,16 +243,15 @@ fn full_history(rt: HostRuntime) -> Result<(), Fail> {
 fn fill<D: DeskName, R: Wait + Abort>(
     rt: &R,
     alloc: Global,
-    blank: Blank,
-    table: Table,
+    started: StartedDesk,
     service: &Service,
     messages: [&[u8]; 2],
 ) -> Result<(), Fail>
-    requires name { (blank.name ≡ D.name) × (blank.parts ≡ D.parts) × (blank.parts ≡ 1)
-        × (D.workers ≡ 1) × (D.opening ≡ table.state) }
+    requires name { IsNamed started D.name D.parts D.book D.root D.workers }
+    requires workers { workers_of started ≡ 1 }
 {
     let sink = MemorySink::new(alloc, ROOM)?;
-    let (desk, mut passes) = Desk::<D, MemorySink>::start(alloc, blank, table, sink, 1)?;
+    let (desk, mut passes) = Desk::<D, MemorySink>::start(rt, alloc, started, sink)?;
     let mut pass = passes.pop().expect(rt, "a pass");
     let [first, second] = messages;
     let one = answered(rt, alloc, service, &desk, &mut pass, &mut NoGate, first);
@@ -204,7 +259,7 @@ fn fill<D: DeskName, R: Wait + Abort>(
     let two = answered(rt, alloc, service, &desk, &mut pass, &mut NoGate, second);
     assert!(rt; two == FULL && pass.was_full());
     passes.push(pass).ok().expect(rt, "a place");
-    let (history, _journal) = closed(desk, passes).expect(rt, "all agree");
+    let (history, _journal) = closed(rt, desk, passes).expect(rt, "all agree");
     assert!(rt; history.len() == 1);
     Ok(())
 }

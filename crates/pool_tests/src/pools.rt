@@ -1,21 +1,20 @@
 //! Pools on this machine, with their clients.
 ghost use Rattle.std.specs.Prelude.{◌≡◌};
+ghost use Rattle.chpw_book.specs.Starting.{IsNamed, workers_of};
 
 use crate::gates::SecondFirst;
 use crate::realm::opening;
-use chpw_book::{Desk, DeskName};
+use chpw_book::{Desk, DeskName, StartedDesk};
 use chpw_frame::{Received, read_tcp, write_tcp};
 use chpw_journal::MemorySink;
 use chpw_messages::Service;
 use chpw_pool::{Pool, PoolFault, machine_moment, run_pool, run_pool_with};
-use chpw_table::Table;
 use sample_client::{Asked, CHANGED, request, told};
 use std::alloc::Global;
 use std::io::Write;
 use std::marker::Brand;
 use std::net::{Net, TcpListener, TcpStream};
 use std::process::Abort;
-use std::sync::ledger::Blank;
 use std::sync::{Mutex, Wait};
 use std::test::Fail;
 use std::thread::{Threads, join};
@@ -87,8 +86,8 @@ fn requests(alloc: Global, seconds: i64) -> Result<(Vec<u8>, Vec<u8>), Fail> {
 }
 
 // Of a pool that has served.
-fn give_up<D: DeskName>(desk: Desk<D, MemorySink>, pool: Pool) -> Pool {
-    desk.abandon();
+fn give_up<D: DeskName, R: Machine>(rt: &R, desk: Desk<D, MemorySink>, pool: Pool) -> Pool {
+    desk.abandon(rt);
     pool
 }
 
@@ -96,7 +95,13 @@ fn give_up<D: DeskName>(desk: Desk<D, MemorySink>, pool: Pool) -> Pool {
 fn two_connections(rt: HostRuntime) -> Result<(), Fail> {
     let (service, table) = opening(rt.alloc(), 100)?;
     let listener = TcpListener::bind(&rt, ("127.0.0.1", 0u16))?;
-    let pool = pool_of_two::<Brand, _>(&rt, rt.alloc(), Blank::new(2), table, &service, &listener)?;
+    let pool = pool_of_two::<Brand, _>(
+        &rt,
+        rt.alloc(),
+        StartedDesk::of(table, 2),
+        &service,
+        &listener,
+    )?;
     assert!(rt; pool.served == 2 && pool.fault.is_none());
     Ok(())
 }
@@ -105,19 +110,18 @@ fn two_connections(rt: HostRuntime) -> Result<(), Fail> {
 fn pool_of_two<D: DeskName + Send + Sync, R: Machine>(
     rt: &R,
     alloc: Global,
-    blank: Blank,
-    table: Table,
+    started: StartedDesk,
     service: &Service,
     listener: &TcpListener,
 ) -> Result<Pool, Fail>
-    requires name { (blank.name ≡ D.name) × (blank.parts ≡ D.parts) × (blank.parts ≡ 2)
-        × (D.workers ≡ 2) × (D.opening ≡ table.state) }
+    requires name { IsNamed started D.name D.parts D.book D.root D.workers }
+    requires workers { workers_of started ≡ 2 }
 {
     let port = listener.local_addr()?.port();
     let seconds = second(rt);
     let (alice, bob) = requests(alloc, seconds)?;
     let sink = MemorySink::new(alloc, ROOM)?;
-    let (desk, mut passes) = Desk::<D, MemorySink>::start(alloc, blank, table, sink, 2)?;
+    let (desk, mut passes) = Desk::<D, MemorySink>::start(rt, alloc, started, sink)?;
     let shared = &desk;
     let (pool, ()) = join(
         rt,
@@ -127,7 +131,7 @@ fn pool_of_two<D: DeskName + Send + Sync, R: Machine>(
         },
         || ask_both(rt, alloc, port, seconds, &alice, &bob),
     );
-    Ok(give_up(desk, pool))
+    Ok(give_up(rt, desk, pool))
 }
 
 // Both connections are there before either asks; the second is answered first.
@@ -144,7 +148,13 @@ fn ask_both<R: Machine>(rt: &R, alloc: Global, port: u16, seconds: i64, one: &[u
 fn the_second_answered_first(rt: HostRuntime) -> Result<(), Fail> {
     let (service, table) = opening(rt.alloc(), 100)?;
     let listener = TcpListener::bind(&rt, ("127.0.0.1", 0u16))?;
-    let pool = gated_pool::<Brand, _>(&rt, rt.alloc(), Blank::new(2), table, &service, &listener)?;
+    let pool = gated_pool::<Brand, _>(
+        &rt,
+        rt.alloc(),
+        StartedDesk::of(table, 2),
+        &service,
+        &listener,
+    )?;
     assert!(rt; pool.served == 2 && pool.fault.is_none());
     Ok(())
 }
@@ -153,13 +163,12 @@ fn the_second_answered_first(rt: HostRuntime) -> Result<(), Fail> {
 fn gated_pool<D: DeskName + Send + Sync, R: Machine>(
     rt: &R,
     alloc: Global,
-    blank: Blank,
-    table: Table,
+    started: StartedDesk,
     service: &Service,
     listener: &TcpListener,
 ) -> Result<Pool, Fail>
-    requires name { (blank.name ≡ D.name) × (blank.parts ≡ D.parts) × (blank.parts ≡ 2)
-        × (D.workers ≡ 2) × (D.opening ≡ table.state) }
+    requires name { IsNamed started D.name D.parts D.book D.root D.workers }
+    requires workers { workers_of started ≡ 2 }
 {
     let port = listener.local_addr()?.port();
     let seconds = second(rt);
@@ -167,7 +176,7 @@ fn gated_pool<D: DeskName + Send + Sync, R: Machine>(
     let answered = Mutex::new(false);
     let gates = vec![in alloc; gate(rt, true, &answered), gate(rt, false, &answered)]?;
     let sink = MemorySink::new(alloc, ROOM)?;
-    let (desk, mut passes) = Desk::<D, MemorySink>::start(alloc, blank, table, sink, 2)?;
+    let (desk, mut passes) = Desk::<D, MemorySink>::start(rt, alloc, started, sink)?;
     let shared = &desk;
     let (pool, ()) = join(
         rt,
@@ -187,7 +196,7 @@ fn gated_pool<D: DeskName + Send + Sync, R: Machine>(
         },
         || ask_both(rt, alloc, port, seconds, &alice, &bob),
     );
-    Ok(give_up(desk, pool))
+    Ok(give_up(rt, desk, pool))
 }
 
 fn gate<'a, R: Machine>(
@@ -209,8 +218,7 @@ fn a_connection_cut_off(rt: HostRuntime) -> Result<(), Fail> {
     let pool = pool_of_three::<Brand, _>(
         &rt,
         rt.alloc(),
-        Blank::new(2),
-        table,
+        StartedDesk::of(table, 2),
         &service,
         &listener,
     )?;
@@ -222,19 +230,18 @@ fn a_connection_cut_off(rt: HostRuntime) -> Result<(), Fail> {
 fn pool_of_three<D: DeskName + Send + Sync, R: Machine>(
     rt: &R,
     alloc: Global,
-    blank: Blank,
-    table: Table,
+    started: StartedDesk,
     service: &Service,
     listener: &TcpListener,
 ) -> Result<Pool, Fail>
-    requires name { (blank.name ≡ D.name) × (blank.parts ≡ D.parts) × (blank.parts ≡ 2)
-        × (D.workers ≡ 2) × (D.opening ≡ table.state) }
+    requires name { IsNamed started D.name D.parts D.book D.root D.workers }
+    requires workers { workers_of started ≡ 2 }
 {
     let port = listener.local_addr()?.port();
     let seconds = second(rt);
     let (alice, bob) = requests(alloc, seconds)?;
     let sink = MemorySink::new(alloc, ROOM)?;
-    let (desk, mut passes) = Desk::<D, MemorySink>::start(alloc, blank, table, sink, 2)?;
+    let (desk, mut passes) = Desk::<D, MemorySink>::start(rt, alloc, started, sink)?;
     let shared = &desk;
     let (pool, ()) = join(
         rt,
@@ -247,7 +254,7 @@ fn pool_of_three<D: DeskName + Send + Sync, R: Machine>(
             ask_both(rt, alloc, port, seconds, &alice, &bob);
         },
     );
-    Ok(give_up(desk, pool))
+    Ok(give_up(rt, desk, pool))
 }
 
 // A length of 256 bytes, and two of them.
@@ -263,8 +270,7 @@ fn nothing_to_accept(rt: HostRuntime) -> Result<(), Fail> {
     let pool = refused_pool::<Brand, _>(
         &rt,
         rt.alloc(),
-        Blank::new(1),
-        table,
+        StartedDesk::of(table, 1),
         &service,
         &listener,
     )?;
@@ -276,18 +282,17 @@ fn nothing_to_accept(rt: HostRuntime) -> Result<(), Fail> {
 fn refused_pool<D: DeskName + Send + Sync, R: Machine>(
     rt: &R,
     alloc: Global,
-    blank: Blank,
-    table: Table,
+    started: StartedDesk,
     service: &Service,
     listener: &TcpListener,
 ) -> Result<Pool, Fail>
-    requires name { (blank.name ≡ D.name) × (blank.parts ≡ D.parts) × (blank.parts ≡ 1)
-        × (D.workers ≡ 1) × (D.opening ≡ table.state) }
+    requires name { IsNamed started D.name D.parts D.book D.root D.workers }
+    requires workers { workers_of started ≡ 1 }
 {
     listener.set_nonblocking(true)?;
     let sink = MemorySink::new(alloc, ROOM)?;
-    let (desk, mut passes) = Desk::<D, MemorySink>::start(alloc, blank, table, sink, 1)?;
+    let (desk, mut passes) = Desk::<D, MemorySink>::start(rt, alloc, started, sink)?;
     assert!(rt; !passes.is_empty());
     let pool = run_pool(rt, alloc, listener, service, &desk, &mut passes, SEED, 2);
-    Ok(give_up(desk, pool))
+    Ok(give_up(rt, desk, pool))
 }

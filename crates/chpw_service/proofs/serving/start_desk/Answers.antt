@@ -2,9 +2,10 @@ use Rattle.std.proofs.Common.{◌∙◌, ap, length}
 use Rattle.std.proofs.lemmas.Result.{IfOk-weaker}
 use Rattle.std.proofs.lemmas.List.FromFn.{length-map-range_with_len}
 use Rattle.chpw_book.specs.Passes.{new_pass}
+use Rattle.chpw_book.specs.Starting.{workers_of}
 use Rattle.chpw_service.proofs.serving.start_desk.Goals as goal
 
 pub returns : goal.returns
 returns _ c = record {
-  passes = IfOk-weaker c.start.result _ _ (λ r is. ap length is ∙ length-map-range_with_len new_pass 0 c.args.workers) c.start.ensures.passes;
+  passes = IfOk-weaker c.start.result _ _ (λ r is. ap length is ∙ length-map-range_with_len new_pass 0 (workers_of c.args.started)) c.start.ensures.passes;
 }

@@ -1,7 +1,11 @@
+use Rattle.chpw_book.specs.Starting.{ledger_name, ledger_parts, book_of, root_of, workers_of}
 use Rattle.desk_tests.proofs.closing.one_request_of_two_workers.Given as goal
 
 abbrev pub ghosts-two_at-D-DeskName : goal.ghosts-two_at-D-DeskName
-ghosts-two_at-D-DeskName g a = record { opening = a.table.state; workers = 2 }
+ghosts-two_at-D-DeskName g a = record { workers = workers_of a.started }
 
 abbrev pub ghosts-two_at-D-Ledger : goal.ghosts-two_at-D-Ledger
-ghosts-two_at-D-Ledger g a = record { name = a.blank.name; parts = a.blank.parts }
+ghosts-two_at-D-Ledger g a = record { name = ledger_name a.started; parts = ledger_parts a.started }
+
+abbrev pub ghosts-two_at-D-ListName : goal.ghosts-two_at-D-ListName
+ghosts-two_at-D-ListName g a = record { book = book_of a.started; root = root_of a.started }

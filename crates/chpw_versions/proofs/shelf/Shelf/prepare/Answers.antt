@@ -45,7 +45,7 @@ invariant_of-self-in-Ok g c =
     let named_is = named_change (opening_of r) c.args.name.now change number in
     let shelved : IsShelved b r (view c.append.new.self.desk.place) c.append.new.self.desk.shown.value list = subst (λ d. IsShelved b r (view d.place) d.shown.value list) (sym c.append.ensures.desk) inv.0 in
     put_some c.put_back-in-Ok.new.place c.append.new.self (λ w. IsShelved b r (view w.desk.place) w.desk.shown.value list × IsWaiting b r list (drop w.behind w.log.items) (Some change))
-    c.put_back-in-Ok.ensures.value (shelved, (o, ops, refl, c.mark-2.ensures.value.0, c.mark-2.ensures.value.1 ∙ c.front.ensures.value, named_is.0))
+    c.put_back-in-Ok.ensures.value (shelved, (o, ops, refl, c.mark-2.ensures.value.0, c.mark-2.ensures.value.1 ∙ c.front.ensures.value, named_is.0, c.requires.positive))
 
 pub returns-clause-ok : goal.returns-clause-ok
 returns-clause-ok g c =

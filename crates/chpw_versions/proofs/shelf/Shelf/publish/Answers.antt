@@ -1,4 +1,4 @@
-use Rattle.std.proofs.Common.{◌≡◌, ◌∙◌, ◌+◌, ◌<◌, ◌++◌, ◌∷◌, [], List, length, drop, sym, ap, subst, Option, None}
+use Rattle.std.proofs.Common.{◌≡◌, ◌∙◌, ◌+◌, ◌<◌, ◌≤◌, ◌++◌, ◌∷◌, [], List, length, drop, sym, ap, subst, Option, None}
 use Rattle.left_right.specs.Sides.{view}
 use Rattle.crossbeam_utils.specs.Register.{TurnsAt}
 use Rattle.chpw_table.specs.Versions.{KeyChange}
@@ -19,11 +19,11 @@ publish_as-writer-requires g c next is =
     let w = c.in-Some-take.writer in
     let inv = of_some c.self.inside.writer w (λ w. IsShelved b r (view w.desk.place) w.desk.shown.value list × IsWaiting b r list (drop w.behind w.log.items) c.self.inside.waiting) (sym c.take.ensures.value ∙ c.in-Some-take.is) c.self.invariant in
     let waits = subst (λ (o : Option NumberedChange). IsWaiting b r list (drop w.behind w.log.items) o) c.in-Some.is inv.1 in
-    let num : HasNumber (opening_of r) waits.0.change = subst (λ (x : NumberedChange). HasNumber (opening_of r) x) (sym waits.2) waits.5 in
+    let fits : HasNumber (opening_of r) waits.0.change × (1 ≤ waits.0.change.count) = subst (λ (x : NumberedChange). HasNumber (opening_of r) x × (1 ≤ x.count)) (sym waits.2) (waits.5, waits.6) in
     let room : length list + 1 < 4294967296 = subst (λ (l : List KeyChange). length l + 1 < 4294967296) (sym (ap (λ (s : Shelved). s.list) c.self.view_is)) c.requires.room in
     let after = rw waits.1 at is in
     subst (λ (y : Version). TurnsAt IsRuled w.desk.place.id (view w.desk.place) w.desk.shown.value y Published) (sym after)
-    (published_at w.desk.place.id b r (view w.desk.place) w.desk.shown.value list waits.0 inv.0 waits.3 waits.4 num room)
+    (published_at w.desk.place.id b r (view w.desk.place) w.desk.shown.value list waits.0 inv.0 waits.3 waits.4 fits.0 fits.1 room)
 
 pub invariant_of-self : goal.invariant_of-self
 invariant_of-self g c =
@@ -33,14 +33,14 @@ invariant_of-self g c =
     let w = c.in-Some-take.writer in
     let inv = of_some c.self.inside.writer w (λ w. IsShelved b r (view w.desk.place) w.desk.shown.value list × IsWaiting b r list (drop w.behind w.log.items) c.self.inside.waiting) (sym c.take.ensures.value ∙ c.in-Some-take.is) c.self.invariant in
     let waits = subst (λ (o : Option NumberedChange). IsWaiting b r list (drop w.behind w.log.items) o) c.in-Some.is inv.1 in
-    let num : HasNumber (opening_of r) waits.0.change = subst (λ (x : NumberedChange). HasNumber (opening_of r) x) (sym waits.2) waits.5 in
+    let fits : HasNumber (opening_of r) waits.0.change × (1 ≤ waits.0.change.count) = subst (λ (x : NumberedChange). HasNumber (opening_of r) x × (1 ≤ x.count)) (sym waits.2) (waits.5, waits.6) in
     let room : length list + 1 < 4294967296 = subst (λ (l : List KeyChange). length l + 1 < 4294967296) (sym (ap (λ (s : Shelved). s.list) c.self.view_is)) c.requires.room in
     let values = ok_case c.publish_as-writer.result.1 _ _ (c.publish_as-writer.ensures.succeeds tt) c.publish_as-writer.ensures.values in
     let rule = ok_case c.publish_as-writer.result.1 _ _ (c.publish_as-writer.ensures.succeeds tt) c.publish_as-writer.ensures.rule in
     let x = w.desk.shown.value in
     let y = c.publish_as-writer.result.0.desk.shown.value in
     let after = rw waits.1 at values.1.0 in
-    let all = shelved_after b r (view w.desk.place) (view c.publish_as-writer.result.0.desk.place) x y list waits.0 inv.0 waits.3 waits.4 num room after rule.1 in
+    let all = shelved_after b r (view w.desk.place) (view c.publish_as-writer.result.0.desk.place) x y list waits.0 inv.0 waits.3 waits.4 fits.0 fits.1 room after rule.1 in
     let longer : list ++ named (opening_of r) waits.0.change ∷ [] ≡ c.append.new.self = ap (λ (n : NumberedChange). list ++ named (opening_of r) n ∷ []) waits.2 ∙ sym c.append.ensures.value in
     let all' = subst (λ (l : List KeyChange). IsShelved b r (view c.publish_as-writer.result.0.desk.place) y l) longer all in
     put_some c.put_back.new.place c.publish_as-writer.result.0 (λ w. IsShelved b r (view w.desk.place) w.desk.shown.value c.append.new.self × IsWaiting b r c.append.new.self (drop w.behind w.log.items) None)

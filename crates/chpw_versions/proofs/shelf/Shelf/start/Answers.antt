@@ -1,17 +1,16 @@
 use Rattle.std.proofs.Common.{◌∙◌, List, [], sym, ap, subst}
 use Rattle.left_right.specs.Sides.{view}
 use Rattle.chpw_table.specs.Versions.{KeyChange}
-use Rattle.chpw_fronts.specs.Pens.{opening_of}
-use Rattle.chpw_versions.specs.Rows.{opening_rows}
 use Rattle.chpw_versions.specs.Following.{IsShelved, ShowsList}
 use Rattle.chpw_versions.proofs.MoveLemmas.{opens, settles, opening_version, shelved_first, ok_case}
 use Rattle.chpw_versions.proofs.shelf.Shelf.start.Goals as goal
 
 pub new-requires-clause-rule : goal.new-requires-clause-rule
 new-requires-clause-rule g c =
+    let r = g.D.ListName.root in
     let v = c.of-first.ensures.value in
     let x = c.of-first.result in
-    opens x [] (opening_version x v.1 (v.0 ∙ (c.requires.rows.0 ∙ ap (λ l. opening_rows (opening_of l)) (sym c.requires.root.1 ∙ sym (ap (λ m. m.log) v.3)))) (v.2 ∙ sym v.3))
+    opens x [] (opening_version r c.args.rows x v.1 v.0 (ap (λ m. m.log) v.3 ∙ c.requires.root.1) (v.2 ∙ sym v.3) c.requires.rows.0)
 
 pub publish_as-writer-requires : goal.publish_as-writer-requires
 publish_as-writer-requires g c next is =
@@ -23,7 +22,7 @@ invariant_of-result g c =
     let r = g.D.ListName.root in
     let v = c.of-first.ensures.value in
     let x = c.of-first.result in
-    let shows : ShowsList x.root.book x.root.log [] x = opening_version x v.1 (v.0 ∙ (c.requires.rows.0 ∙ ap (λ l. opening_rows (opening_of l)) (sym c.requires.root.1 ∙ sym (ap (λ m. m.log) v.3)))) (v.2 ∙ sym v.3) in
+    let shows : ShowsList x.root.book x.root.log [] x = opening_version r c.args.rows x v.1 v.0 (ap (λ m. m.log) v.3 ∙ c.requires.root.1) (v.2 ∙ sym v.3) c.requires.rows.0 in
     let values = ok_case c.publish_as-writer.result.1 _ _ (c.publish_as-writer.ensures.succeeds tt) c.publish_as-writer.ensures.values in
     let rule = ok_case c.publish_as-writer.result.1 _ _ (c.publish_as-writer.ensures.succeeds tt) c.publish_as-writer.ensures.rule in
     let w = c.in_ok-writer.writer in

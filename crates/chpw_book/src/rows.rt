@@ -1,0 +1,56 @@
+//! The rows that lookups show at first.
+ghost use Rattle.std.specs.Prelude.{◌≡◌, ◌≤◌, All, IfOk, map, max};
+ghost use Rattle.chpw_versions.specs.Rows.{HasPositive, IsPositive};
+ghost use Rattle.chpw_book.specs.Publishing.{row_under, table_rows};
+
+use chpw_rules::Name;
+use chpw_table::{Counts, Table};
+use chpw_versions::{Row, Rows};
+use std::alloc::{AllocError, Global};
+
+/// What the table shows of each of its names.
+pub(crate) fn rows_of(alloc: Global, table: &Table) -> Result<Rows, AllocError>
+    ensures value { IfOk result (λ rows. rows ≡ table_rows table.now.state) }
+    ensures positive { IfOk result IsPositive }
+{
+    let policy = table.policy();
+    let rows = all_rows(alloc, table)?;
+    Ok(Rows::of(rows, policy.depth.max(1), policy.iterations))
+}
+
+fn all_rows(alloc: Global, table: &Table) -> Result<Vec<Row>, AllocError>
+    ensures value { IfOk result (λ rows. rows.items
+        ≡ map (λ p. row_under table.now.state p.name) table.now.state.principals) }
+    ensures positive { IfOk result (λ rows. All HasPositive rows.items) }
+{
+    let mut rows = Vec::new(alloc);
+    let mut place = 0u32;
+    while let Some(name) = table.name_at(place) {
+        rows.push(row_of(table, name)?)?;
+        // More names than that no memory holds.
+        let Some(next) = place.checked_add(1) else {
+            return Err(AllocError);
+        };
+        place = next;
+    }
+    Ok(rows)
+}
+
+fn row_of(table: &Table, name: &Name) -> Result<Row, AllocError>
+    ensures value { IfOk result (λ row. row ≡ row_under table.now.state name.now) }
+    ensures positive { IfOk result HasPositive }
+{
+    let copy = name.clone()?;
+    Ok(match table.lookup(name) {
+        None => Row {
+            name: copy,
+            kvno: 0,
+            counts: Counts::new(),
+        },
+        Some(found) => Row {
+            name: copy,
+            kvno: found.kvno,
+            counts: found.held,
+        },
+    })
+}

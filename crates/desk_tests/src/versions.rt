@@ -1,0 +1,130 @@
+//! What lookups show beside the lock.
+ghost use Rattle.std.specs.Prelude.{◌≡◌};
+ghost use Rattle.chpw_book.specs.Starting.{IsNamed};
+
+use crate::realm::{NOW, PASSWORD, Quiet, change, closed, shown, table, verdict};
+use crate::sides::asked;
+use chpw_book::{Desk, DeskName, Pass, StartedDesk};
+use chpw_table::{Opened, Verdict};
+use std::alloc::Global;
+use std::marker::Brand;
+use std::process::Abort;
+use std::sync::Wait;
+use std::test::Fail;
+use std::thread;
+use std::thread::Threads;
+
+// How often alice's password is changed, and how often each other worker looks.
+const CHANGES: u32 = 40;
+
+const LOOKS: u32 = 500;
+
+#[test]
+fn fronts_that_are_learnt(rt: HostRuntime) -> Result<(), Fail> {
+    let table = table(&rt, rt.alloc(), 9)?;
+    let opened = change(rt.alloc(), 0, 1)?;
+    three_at::<Brand, _>(&rt, rt.alloc(), StartedDesk::of(table, 3), opened)
+}
+
+// The first changes alice's password; the second and the third learn of it.
+fn three_at<D: DeskName, R: Wait + Abort>(
+    rt: &R,
+    alloc: Global,
+    started: StartedDesk,
+    opened: Opened,
+) -> Result<(), Fail>
+    requires name { IsNamed started D.name D.parts D.book D.root D.workers }
+{
+    let (desk, mut passes) = Desk::<D, Quiet>::start(rt, alloc, started, Quiet)?;
+    let mut third = passes.pop().expect(rt, "a pass");
+    let mut second = passes.pop().expect(rt, "a pass");
+    let mut first = passes.pop().expect(rt, "a pass");
+    assert!(rt; first.front().is_none() && second.front().is_none() && third.front().is_none());
+    assert!(rt; shown(rt, alloc, &desk, &mut third) == (1, 0));
+    let done = desk.decide_deriving(rt, &mut first, NOW, opened, PASSWORD);
+    assert!(rt; verdict(done) == Some(Verdict::Done));
+    let front = first.front().expect(rt, "a front");
+    assert!(rt; front.len() == 1);
+    second.learn(front);
+    third.learn(front);
+    assert!(rt; shown(rt, alloc, &desk, &mut second) == (2, 1));
+    assert!(rt; shown(rt, alloc, &desk, &mut third) == (2, 1));
+    assert!(rt; shown(rt, alloc, &desk, &mut first) == (2, 1));
+    assert!(rt; second.front().is_none() && third.front().is_none());
+    desk.abandon(rt);
+    Ok(())
+}
+
+#[test]
+fn lookups_beside_changes(rt: HostRuntime) -> Result<(), Fail> {
+    let table = table(&rt, rt.alloc(), 100)?;
+    all_at::<Brand, _>(&rt, rt.alloc(), StartedDesk::of(table, 16))
+}
+
+// One worker changes alice's password, and the others look.
+fn all_at<D: DeskName + Send + Sync, R: Threads + Wait + Abort + Sync>(
+    rt: &R,
+    alloc: Global,
+    started: StartedDesk,
+) -> Result<(), Fail>
+    requires name { IsNamed started D.name D.parts D.book D.root D.workers }
+{
+    let (desk, mut passes) = Desk::<D, Quiet>::start(rt, alloc, started, Quiet)?;
+    let shared = &desk;
+    thread::for_each_mut(
+        rt,
+        &mut passes,
+        16,
+        &|_, pass| {
+            if pass.worker() == 0 {
+                change_often(rt, alloc, shared, pass);
+            } else {
+                look_often(rt, alloc, shared, pass);
+            }
+        },
+    );
+    let (history, _) = closed(rt, desk, passes).expect(rt, "all agree");
+    assert!(rt; history.len() == CHANGES as usize);
+    Ok(())
+}
+
+// Each change is shown to its own worker at once.
+fn change_often<D: DeskName, R: Wait + Abort>(
+    rt: &R,
+    alloc: Global,
+    desk: &Desk<D, Quiet>,
+    pass: &mut Pass<D>,
+) {
+    for number in 0..CHANGES {
+        let password = [
+            b'N',
+            b'e',
+            b'w',
+            b'-',
+            b'p',
+            b'a',
+            b's',
+            b's',
+            b'0' + (number % 4) as u8,
+        ];
+        let opened = asked(rt, alloc, 0, number);
+        let done = verdict(desk.decide_deriving(rt, pass, NOW, opened, &password));
+        assert!(rt; done == Some(Verdict::Done));
+        assert!(rt; shown(rt, alloc, desk, pass) == (number + 2, number + 1));
+    }
+}
+
+// No lookup shows less than one before it, and each shows as many versions as changes.
+fn look_often<D: DeskName, R: Wait + Abort>(
+    rt: &R,
+    alloc: Global,
+    desk: &Desk<D, Quiet>,
+    pass: &mut Pass<D>,
+) {
+    let mut seen = 0;
+    for _ in 0..LOOKS {
+        let (kvno, changes) = shown(rt, alloc, desk, pass);
+        assert!(rt; changes >= seen && changes <= CHANGES && kvno == changes + 1);
+        seen = changes;
+    }
+}
