@@ -144,15 +144,11 @@ fn two_at<D: DeskName + Send + Sync, R: Threads + Wait + Abort + Sync>(
         },
     );
     assert!(rt; (a == CHANGED && b == REPLAYED) || (a == REPLAYED && b == CHANGED));
-    let (changer, other) = if a == CHANGED {
-        (&mut first, &mut second)
+    if a == CHANGED {
+        show_both(rt, alloc, &desk, &mut first, &mut second);
     } else {
-        (&mut second, &mut first)
-    };
-    assert!(rt; shown_of_alice(rt, alloc, &desk, changer) == (2, 1));
-    other.learn(changer.front().expect(rt, "a front"));
-    assert!(rt; shown_of_alice(rt, alloc, &desk, other) == (2, 1));
-    assert!(rt; other.front().is_none());
+        show_both(rt, alloc, &desk, &mut second, &mut first);
+    }
     passes.push(first).ok().expect(rt, "a place");
     passes.push(second).ok().expect(rt, "a place");
     let (history, journal) = closed(rt, desk, passes).expect(rt, "all agree");
@@ -165,6 +161,20 @@ const REPLAYED: ReplyCode = ReplyCode {
     code: 3,
     error: Some(34),
 };
+
+// The change is shown to the worker that made it, and to the other once that has learnt of it.
+fn show_both<D: DeskName, R: Abort>(
+    rt: &R,
+    alloc: Global,
+    desk: &Desk<D, MemorySink>,
+    changer: &mut Pass<D>,
+    other: &mut Pass<D>,
+) {
+    assert!(rt; shown_of_alice(rt, alloc, desk, changer) == (2, 1));
+    other.learn(changer.front().expect(rt, "a front"));
+    assert!(rt; shown_of_alice(rt, alloc, desk, other) == (2, 1));
+    assert!(rt; other.front().is_none());
+}
 
 // Alice's newest version, and how many changes the lookup saw.
 fn shown_of_alice<D: DeskName, R: Abort>(
