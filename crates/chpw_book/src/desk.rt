@@ -86,7 +86,8 @@ impl<D: DeskName, S: JournalSink> Desk<D, S> {
         }
     }
 
-    /// One event under the lock; its receipt joins the pass.
+    /// One event under the lock; its receipt joins the pass. Where the request was accepted, its change
+    /// is published before the lock is given back, and the pass is told of it.
     ///
     /// `now` has seconds from 0 to `chpw_table::LAST_SECOND`. Refused as `Table::decide` refuses, and
     /// then the pass is as before, but that it notes `Full`.
