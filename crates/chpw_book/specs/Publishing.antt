@@ -63,12 +63,12 @@ pub record Tells (opening : State) (before later : List Entry) (mine more : Know
   pub begins : IsPrefix mine.told (accepted opening before)
   pub tells : more ≡ told_list (is_done v) (accepted opening later) mine
 
--- a lookup shows nothing, or what a table shows after a list of changes that the pass has then seen, and
--- that begins with all that it had seen and was told
+-- a lookup shows nothing and leaves what is known, or it shows what a table shows after a list of changes
+-- that the pass has then seen, and that begins with all that it had seen and was told
 pub record MayShow (opening : State) (mine more : Known) (name : Name) (found : Option Lookup) : Type 0 where
   pub later : IsPrefix mine.seen more.seen
   pub told : (more.told ≡ mine.told) × (more.own ≡ mine.own)
-  pub shown : (found ≡ None) ⊎ (IsPrefix mine.told more.seen × (found ≡ lookup_after opening more.seen name))
+  pub shown : ((found ≡ None) × (more ≡ mine)) ⊎ (IsPrefix mine.told more.seen × (found ≡ lookup_after opening more.seen name))
 
 -- the row of a name whose keys are these
 abbrev pub row_with : Name → Option (List KeyRow) → Row
