@@ -1,3 +1,4 @@
 pub mod Protocol
 pub mod Types
 pub mod Values
+pub mod Refusals

@@ -1,0 +1,70 @@
+//! Numbers of refusals.
+
+/// The request was carried out (RFC 3244 section 2, as the result codes below).
+pub const KRB5_KPASSWD_SUCCESS: u16 = 0;
+
+/// The request isn't well formed.
+pub const KRB5_KPASSWD_MALFORMED: u16 = 1;
+
+/// The server failed, and the same request won't do better.
+pub const KRB5_KPASSWD_HARDERROR: u16 = 2;
+
+/// The request isn't authentic, or not of now.
+pub const KRB5_KPASSWD_AUTHERROR: u16 = 3;
+
+/// The new password is refused.
+pub const KRB5_KPASSWD_SOFTERROR: u16 = 4;
+
+/// The client may not set this password.
+pub const KRB5_KPASSWD_ACCESSDENIED: u16 = 5;
+
+/// The request is of another version.
+pub const KRB5_KPASSWD_BAD_VERSION: u16 = 6;
+
+/// The ticket must have the flag initial.
+pub const KRB5_KPASSWD_INITIAL_FLAG_NEEDED: u16 = 7;
+
+/// An encryption type that isn't supported (RFC 4120 section 7.5.9, as the error codes below).
+pub const KDC_ERR_ETYPE_NOSUPP: i32 = 14;
+
+/// A sealed part that can't be opened.
+pub const KRB_AP_ERR_BAD_INTEGRITY: i32 = 31;
+
+/// The ticket's time is over.
+pub const KRB_AP_ERR_TKT_EXPIRED: i32 = 32;
+
+/// The ticket isn't valid yet.
+pub const KRB_AP_ERR_TKT_NYV: i32 = 33;
+
+/// The request is a replay.
+pub const KRB_AP_ERR_REPEAT: i32 = 34;
+
+/// A ticket for another service.
+pub const KRB_AP_ERR_NOT_US: i32 = 35;
+
+/// Ticket and authenticator of different clients.
+pub const KRB_AP_ERR_BADMATCH: i32 = 36;
+
+/// The clocks differ by too much.
+pub const KRB_AP_ERR_SKEW: i32 = 37;
+
+/// Another address than the ticket's.
+pub const KRB_AP_ERR_BADADDR: i32 = 38;
+
+/// Another protocol version.
+pub const KRB_AP_ERR_BADVERSION: i32 = 39;
+
+/// Another message type.
+pub const KRB_AP_ERR_MSG_TYPE: i32 = 40;
+
+/// A service key of that version isn't held.
+pub const KRB_AP_ERR_BADKEYVER: i32 = 44;
+
+/// A key for the ticket isn't held.
+pub const KRB_AP_ERR_NOKEY: i32 = 45;
+
+/// Any other error.
+pub const KRB_ERR_GENERIC: i32 = 60;
+
+/// A message that is too long.
+pub const KRB_ERR_FIELD_TOOLONG: i32 = 61;
