@@ -1,12 +1,13 @@
 -- The next piece of a stream, by what was read of it.
-use Rattle.std.proofs.Common.{◌≡◌, ℕ, ◌+◌, ◌≤◌, ◌<◌, List, [], ◌++◌, length, take, drop, Option, Some, None, refl, sym, ◌∙◌, ap, arith, length-append}
+use Rattle.std.proofs.Common.{◌≡◌, ℕ, zero, suc, ◌+◌, ◌≤◌, ◌<◌, List, [], ◌++◌, length, take, drop, Option, Some, None, refl, sym, ◌∙◌, ap, arith, length-append, inl, inr}
 use Rattle.std.proofs.lemmas.List.{append-nil, length-take-le, drop-drop}
 use Rattle.std.proofs.Math.Seq.{take-append_seam, drop-append_seam}
 use Rattle.std.proofs.lemmas.Nat.{from_be_bytes-to_be_bytes_4}
 use Rattle.std.specs.Int.{from_be_bytes, to_be_bytes, w32}
 use Rattle.std.specs.Io.KnownBytes.{Consumes, IsAtEnd}
 use Rattle.chpw_frame.specs.Stream.{message, ended, cut_off, too_long, next_piece, behind_piece, stated_length, sent, longest}
-use Rattle.chpw_frame.specs.Receiving.{TakesPiece, IsLength}
+use Rattle.chpw_frame.specs.Receiving.{TakesPiece, ConsumesSome, IsLength}
+use Rattle.read_fully.proofs.FillingLemmas.{consumes_more}
 use Rattle.chpw_frame.proofs.Tests.{is_below, not_below}
 
 -- the tests of a stream's front
@@ -105,6 +106,21 @@ takes_message (Some s) (Some t) (Some left) header n body h g l c d =
     let got : take (stated_length s) (drop 4 s) ≡ body =
     ap (λ (k : ℕ). take k (drop 4 s)) (st ∙ sym l) ∙ (ap (λ (zs : List ℕ). take (length body) zs) bk ∙ take-append_seam body left) in
     (is_message s (omega (arith, st, g)) (omega (arith, sz, szt, st, l)) ∙ ap message got, sym (dropped s body left 4 bk))
+
+-- what was taken before a read failed
+pub begun_length : (old new : Option (List ℕ)) (buffer : List ℕ) (count : ℕ) → count < length buffer → length buffer ≡ 4 → Consumes old new (take count buffer) → ConsumesSome old new
+begun_length old new buffer zero q l h = ([], h, inl refl)
+begun_length old new buffer (suc k) q l h =
+    let size : length (take (suc k) buffer) ≡ suc k = length-taken (suc k) buffer (omega arith) in
+    (take (suc k) buffer, h, inr (is_cut_off (take (suc k) buffer) (omega (arith, size)) (omega (arith, size, q, l))))
+
+pub begun_body : (old mid new : Option (List ℕ)) (header : List ℕ) (n : ℕ) (buffer : List ℕ) (count : ℕ) → IsLength header n → n ≤ longest → length buffer ≡ n → count < n → Consumes old mid header → Consumes mid new (take count buffer) → ConsumesSome old new
+begun_body old mid new header n buffer count h g l k c d =
+    let body : List ℕ = take count buffer in
+    let part : length body ≡ count = length-taken count buffer (omega (arith, l, k)) in
+    let st : stated_length (header ++ body) ≡ n = stated header n h body in
+    let sz : length (header ++ body) ≡ 4 + length body = size header n h body in
+    (header ++ body, consumes_more old mid new header body c d, inr (is_cut_short (header ++ body) (omega (arith, sz)) (omega (arith, st, g)) (omega (arith, sz, st, part, k))))
 
 -- what was sent is the next piece
 pub sent_is_next : (bytes left : List ℕ) → length bytes ≤ longest → (next_piece (sent bytes ++ left) ≡ message bytes) × (behind_piece (message bytes) (sent bytes ++ left) ≡ left)

@@ -2,18 +2,19 @@
 ghost use Rattle.std.specs.Prelude.{◌≡◌, ◌==◌, ℕ, ◌≤◌, ◌<◌, List, ◌++◌, length, drop, if◌then◌else◌, Option, IfOk, OnOk, OnErr};
 ghost use Rattle.std.specs.Int.{to_be_bytes, w32};
 ghost use Rattle.std.specs.Io.KnownBytes.{Appends, Consumes, Keeps};
-ghost use Rattle.chpw_frame.specs.Stream.{sent};
+ghost use Rattle.chpw_frame.specs.Stream.{sent, longest};
 ghost use Rattle.chpw_frame.specs.declared.stream.Received.TheVariants.{Ended, CutOff};
-ghost use Rattle.chpw_frame.specs.Receiving.{IsReceived, IsFill, IsRead, IsLength, IsPut, AppendsFront};
+ghost use Rattle.chpw_frame.specs.Receiving.{IsReceived, TakesLength, IsLength, IsPut, AppendsFront};
 
+use read_fully::{Filled, fill, fill_vec};
 use std::alloc::{AllocError, Global};
-use std::io::{ErrorKind, Read, Write};
+use std::io::{Read, Write};
 
 /// Bytes of a message, at the most.
 pub const LONGEST_MESSAGE: usize = 65_535;
 
 /// Reads for one message, at the most, interrupted ones counted.
-pub const MAX_READS: u32 = 131_072;
+pub const MAX_READS: u64 = 131_072;
 
 /// What was read of a stream.
 #[derive(Drop)]
@@ -26,7 +27,7 @@ pub enum Received {
     CutOff,
     /// The length of a message is above 65,535; no byte of its body was read.
     TooLong,
-    /// A read failed, or the message took too many.
+    /// A read failed, or the message took too many; of the message not all was read.
     ReadFault,
 }
 
@@ -39,17 +40,17 @@ const FRONT_LEN: usize = 1_020;
 pub struct WriteFault;
 
 /// Reads the next message. An interrupted read is tried again. After `AllocError` the message's
-/// length was read, and no byte of its body.
+/// length was read, which is 65,535 at most, and no byte of its body.
 pub fn read_tcp<R: Read>(alloc: Global, reader: &mut R) -> Result<Received, AllocError>
     ensures piece { IfOk result (λ r. IsReceived r (R.remaining reader.old) (R.remaining reader.new)) }
-    ensures refused { OnErr result ((header : List ℕ) × (length header ≡ 4) × Consumes (R.remaining reader.old) (R.remaining reader.new) header) }
+    ensures refused { OnErr result (TakesLength (R.remaining reader.old) (R.remaining reader.new)) }
 {
     let mut reads = MAX_READS;
     let mut header = [0; 4];
     match fill(reader, &mut header, &mut reads) {
         Filled::Whole => {}
         Filled::Short(count) => return Ok(ended_after(count)),
-        Filled::Fault => return Ok(Received::ReadFault),
+        Filled::Fault(_) => return Ok(Received::ReadFault),
     }
     let length = u32::from_be_bytes(header) as usize;
     if length > LONGEST_MESSAGE {
@@ -74,87 +75,24 @@ fn read_body<R: Read>(
     alloc: Global,
     reader: &mut R,
     length: usize,
-    reads: &mut u32,
+    reads: &mut u64,
 ) -> Result<Received, AllocError>
-    requires fits { length ≤ 65535 }
+    requires fits { length ≤ longest }
     ensures piece { IfOk result (λ r. (before : Option (List ℕ)) (header : List ℕ) → IsLength header length
         → Consumes before (R.remaining reader.old) header → IsReceived r before (R.remaining reader.new)) }
     ensures unchanged { OnErr result (reader.new ≡ reader.old) }
 {
     let mut body = vec![in alloc; 0; length]?;
-    match fill_body(reader, &mut body, reads) {
+    match fill_vec(reader, &mut body, reads) {
         Filled::Whole => Ok(Received::Message(body)),
         Filled::Short(_) => Ok(Received::CutOff),
-        Filled::Fault => Ok(Received::ReadFault),
-    }
-}
-
-/// Fills a message's body.
-fn fill_body<R: Read>(reader: &mut R, body: &mut Vec<u8>, reads: &mut u32) -> Filled
-    ensures bytes { IsFill result body.new.items (R.remaining reader.old) (R.remaining reader.new) }
-    ensures length { length body.new.items ≡ length body.old.items }
-{
-    fill(reader, body.as_mut_slice(), reads)
-}
-
-/// How far a buffer was filled.
-#[derive(Clone, Copy, Drop)]
-enum Filled {
-    Whole,
-    /// Up to here; the stream ended.
-    Short(usize),
-    Fault,
-}
-
-/// Fills the buffer, in no more than so many reads, which it counts down.
-fn fill<R: Read>(reader: &mut R, buffer: &mut [u8], reads: &mut u32) -> Filled
-    ensures bytes { IsFill result buffer.new (R.remaining reader.old) (R.remaining reader.new) }
-{
-    let mut filled = 0;
-    while filled < buffer.len() {
-        if *reads == 0 {
-            return Filled::Fault;
-        }
-        *reads -= 1;
-        match read_once(reader, &mut buffer[filled..]) {
-            Step::Read(count) => filled += count,
-            Step::Ended => return Filled::Short(filled),
-            Step::Fault => return Filled::Fault,
-        }
-    }
-    Filled::Whole
-}
-
-/// What one read gave.
-#[derive(Clone, Copy, Drop)]
-enum Step {
-    /// So many bytes; none, where it was interrupted.
-    Read(usize),
-    Ended,
-    Fault,
-}
-
-/// One read into a buffer.
-fn read_once<R: Read>(reader: &mut R, buffer: &mut [u8]) -> Step
-    requires room { 0 < length buffer.old }
-    ensures bytes { IsRead result buffer.new (R.remaining reader.old) (R.remaining reader.new) }
-{
-    match reader.read(buffer) {
-        Ok(0) => Step::Ended,
-        Ok(count) => Step::Read(count),
-        Err(error) => {
-            if error.kind() == ErrorKind::Interrupted {
-                Step::Read(0)
-            } else {
-                Step::Fault
-            }
-        }
+        Filled::Fault(_) => Ok(Received::ReadFault),
     }
 }
 
 /// Writes a message behind its length. After a fault a part of that is out, from the front.
 pub fn write_tcp<W: Write>(writer: &mut W, bytes: &[u8]) -> Result<(), WriteFault>
-    requires fits { length bytes.now ≤ 65535 }
+    requires fits { length bytes.now ≤ longest }
     ensures whole { OnOk result (Appends (W.contents writer.old) (W.contents writer.new) (sent bytes.now)) }
     ensures front { OnErr result (AppendsFront (W.contents writer.old) (W.contents writer.new) (sent bytes.now)) }
 {

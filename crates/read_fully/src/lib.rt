@@ -1,0 +1,6 @@
+//! A buffer filled from a reader, in a bounded number of reads.
+#![tactic(auto)]
+
+mod filling;
+
+pub use filling::{Filled, fill, fill_vec};
