@@ -16,7 +16,7 @@ use Rattle.chpw_journal.specs.Receiving.{framed}
 use Rattle.chpw_journal.specs.Restoring.{is_there, IsRestored, IsRefused}
 use Rattle.chpw_journal.specs.Taking.{TakesRecord, IsRecordFault, IsSoFar}
 use Rattle.chpw_journal.proofs.CutLemmas.{header_states, length_short}
-use Rattle.chpw_journal.proofs.ReaderLemmas.{consumes_none, consumes_more}
+use Rattle.read_fully.proofs.FillingLemmas.{consumes_none, consumes_more}
 use Rattle.chpw_journal.proofs.RecordsLemmas.{records_more, restored_joined, next_more, text_short, framed_same}
 
 abbrev pub start_of : Held → Restored

@@ -5,10 +5,6 @@ use Rattle.std.specs.Io.KnownBytes.{Consumes, Keeps, IsAtEnd}
 use Rattle.chpw_rules.specs.Limits.{is_in}
 use Rattle.chpw_journal.specs.declared.reading.Next.{Next}
 use Rattle.chpw_journal.specs.declared.reading.Next.TheVariants as next
-use Rattle.chpw_journal.specs.declared.filling.Filled.{Filled}
-use Rattle.chpw_journal.specs.declared.filling.Filled.TheVariants as filled
-use Rattle.chpw_journal.specs.declared.filling.Step.{Step}
-use Rattle.chpw_journal.specs.declared.filling.Step.TheVariants as step
 use Rattle.chpw_journal.specs.Records.{record_lengths}
 use Rattle.chpw_journal.specs.Reading.{is_cut_off, HasBadLength}
 
@@ -39,20 +35,3 @@ CountsDown next.BadLength old new = new ≤ old
 CountsDown next.Ended old new = new ≤ old
 CountsDown next.Torn old new = new ≤ old
 CountsDown next.CannotRead old new = new ≤ old
-
--- what stands in a buffer that was filled
-abbrev pub IsFill : Filled → List ℕ → Option (List ℕ) → Option (List ℕ) → Type 0
-IsFill filled.Whole buffer old new = Consumes old new buffer
-IsFill (filled.Short count) buffer old new = Consumes old new (take count buffer) × IsAtEnd new × (count < length buffer)
-IsFill (filled.Fault count) buffer old new = Consumes old new (take count buffer) × (count < length buffer)
-
--- some bytes took a read at least
-abbrev pub FillCounts : Filled → ℕ → ℕ → ℕ → Type 0
-FillCounts filled.Whole n old new = (new ≤ old) × (0 < n → new < old)
-FillCounts (filled.Short count) n old new = new ≤ old
-FillCounts (filled.Fault count) n old new = new ≤ old
-
-abbrev pub IsRead : Step → List ℕ → Option (List ℕ) → Option (List ℕ) → Type 0
-IsRead (step.Read count) buffer old new = Consumes old new (take count buffer) × (count ≤ length buffer)
-IsRead step.Ended buffer old new = Keeps old new × IsAtEnd new
-IsRead step.Fault buffer old new = Keeps old new

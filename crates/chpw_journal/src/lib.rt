@@ -4,7 +4,6 @@
 mod change;
 mod fault;
 mod file_sink;
-mod filling;
 mod journal_file;
 pub mod laws;
 mod memory_sink;

@@ -1,10 +1,10 @@
 //! A journal's records, read one after the other.
 ghost use Rattle.std.specs.Prelude.{◌≡◌, ◌≤◌, IfOk, length};
 ghost use Rattle.std.specs.Int.{from_be_bytes, to_be_bytes, w16};
-ghost use Rattle.chpw_journal.specs.Receiving.{IsNext, IsBody, IsFill, CountsDown};
+ghost use Rattle.chpw_journal.specs.Receiving.{IsNext, IsBody, CountsDown};
 
-use crate::filling::{Filled, fill};
 use chpw_rules::Limits;
+use read_fully::{Filled, fill, fill_vec};
 use std::alloc::{AllocError, Global};
 use std::io::Read;
 
@@ -78,18 +78,9 @@ fn read_body<R: Read>(
     ensures count { reads.new ≤ reads.old }
 {
     let mut body = vec![in alloc; 0; length]?;
-    match fill_body(reader, &mut body, reads) {
+    match fill_vec(reader, &mut body, reads) {
         Filled::Whole => Ok(Next::Record(body)),
         Filled::Short(_) => Ok(Next::Torn),
         Filled::Fault(_) => Ok(Next::CannotRead),
     }
-}
-
-// Fills a record's body.
-fn fill_body<R: Read>(reader: &mut R, body: &mut Vec<u8>, reads: &mut u64) -> Filled
-    ensures bytes { IsFill result body.new.items (R.remaining reader.old) (R.remaining reader.new) }
-    ensures length { length body.new.items ≡ length body.old.items }
-    ensures count { reads.new ≤ reads.old }
-{
-    fill(reader, body.as_mut_slice(), reads)
 }
