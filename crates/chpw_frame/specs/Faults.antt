@@ -1,16 +1,12 @@
--- The reply to a message that can't be cut.
-use Rattle.std.specs.Prelude.{ℕ, ℤ, pos, List, codes}
+-- The reply to a message that can't be cut: result code (RFC 3244 section 2), error code of the
+-- KRB-ERROR (RFC 4120 section 7.5.9) and text.
+use Rattle.std.specs.Prelude.{codes}
+use Rattle.krb_der.specs.declared.codes.TheConstants.{KRB5_KPASSWD_MALFORMED, KRB5_KPASSWD_BAD_VERSION, KRB_ERR_GENERIC}
+use Rattle.krb_der.specs.Refusals.{Refusal}
 use Rattle.chpw_frame.specs.declared.fault.FrameFault.{FrameFault}
 use Rattle.chpw_frame.specs.declared.fault.FrameFault.TheVariants.{BadLength, BadVersion, BadParts}
 
--- the result code (RFC 3244 section 2), the error code of the KRB-ERROR (RFC 4120 section 7.5.9)
--- and the text
-pub record Refusal : Type 0 where
-  pub code : ℕ
-  pub error : ℤ
-  pub text : List ℕ
-
 abbrev pub refusal_of : FrameFault → Refusal
-refusal_of BadLength = record { code = 1; error = pos 60; text = codes "malformed" }
-refusal_of BadVersion = record { code = 6; error = pos 60; text = codes "bad version" }
-refusal_of BadParts = record { code = 1; error = pos 60; text = codes "malformed" }
+refusal_of BadLength = record { code = KRB5_KPASSWD_MALFORMED; error = KRB_ERR_GENERIC; text = codes "malformed" }
+refusal_of BadVersion = record { code = KRB5_KPASSWD_BAD_VERSION; error = KRB_ERR_GENERIC; text = codes "bad version" }
+refusal_of BadParts = record { code = KRB5_KPASSWD_MALFORMED; error = KRB_ERR_GENERIC; text = codes "malformed" }

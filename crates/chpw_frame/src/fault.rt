@@ -1,11 +1,14 @@
 //! Why a message can't be cut.
 ghost use Rattle.std.specs.Prelude.{◌≡◌};
+ghost use Rattle.krb_der.specs.Refusals.{said};
 ghost use Rattle.chpw_frame.specs.Faults.{refusal_of};
 
+use krb_der::Refusal;
+use krb_der::codes::{KRB_ERR_GENERIC, KRB5_KPASSWD_BAD_VERSION, KRB5_KPASSWD_MALFORMED};
 use thiserror::Error;
 
 /// What is wrong with a message's frame, in the order of the checks (RFC 3244 section 2). Each has
-/// the result code, the error code and the text of its reply.
+/// the result code and the error code of its reply.
 #[derive(Clone, Copy, PartialEq, Eq, Debug, Drop, Error)]
 pub enum FrameFault {
     /// It has under 6 bytes, or its length field isn't its length. 1, KRB_ERR_GENERIC (60).
@@ -19,40 +22,20 @@ pub enum FrameFault {
     BadParts,
 }
 
-/// KRB_ERR_GENERIC (RFC 4120 section 7.5.9).
-const GENERIC: i32 = 60;
-
 impl FrameFault {
-    /// The result code of its reply (RFC 3244 section 2).
-    pub fn code(self) -> u16
-        ensures value { result ≡ (refusal_of self).code }
+    /// What its reply says.
+    pub fn refusal(self) -> Refusal
+        ensures value { said result ≡ refusal_of self }
     {
-        match self {
-            FrameFault::BadLength => 1,
-            FrameFault::BadVersion => 6,
-            FrameFault::BadParts => 1,
-        }
-    }
-
-    /// The error code of its KRB-ERROR.
-    pub fn error(self) -> i32
-        ensures value { result ≡ (refusal_of self).error }
-    {
-        match self {
-            FrameFault::BadLength => GENERIC,
-            FrameFault::BadVersion => GENERIC,
-            FrameFault::BadParts => GENERIC,
-        }
-    }
-
-    /// The text of its reply.
-    pub fn text(self) -> &'static str
-        ensures value { result.now ≡ (refusal_of self).text }
-    {
-        match self {
-            FrameFault::BadLength => "malformed",
-            FrameFault::BadVersion => "bad version",
-            FrameFault::BadParts => "malformed",
+        let (code, text) = match self {
+            FrameFault::BadLength => (KRB5_KPASSWD_MALFORMED, "malformed"),
+            FrameFault::BadVersion => (KRB5_KPASSWD_BAD_VERSION, "bad version"),
+            FrameFault::BadParts => (KRB5_KPASSWD_MALFORMED, "malformed"),
+        };
+        Refusal {
+            code,
+            error: KRB_ERR_GENERIC,
+            text,
         }
     }
 }

@@ -2,6 +2,7 @@
 
 use chpw_frame::{FrameFault, Parts, join_reply, join_request, split_reply, split_request};
 use hex::{decode, encode};
+use krb_der::Refusal;
 use std::alloc::Global;
 use std::io;
 
@@ -37,7 +38,7 @@ fn shown_parts(alloc: Global, parts: Result<Parts<'_>, FrameFault>) -> io::Resul
             Ok(format!(in alloc; "version {version:04x} ap {ap} tail {tail}")?)
         }
         Err(fault) => {
-            let (code, error, text) = (fault.code(), fault.error(), fault.text());
+            let Refusal { code, error, text } = fault.refusal();
             Ok(format!(in alloc; "{fault:?} {code}/{error} {text}")?)
         }
     }
