@@ -8,17 +8,18 @@ use Rattle.chpw_table.specs.declared.times.Moment.{Moment}
 use Rattle.chpw_table.specs.declared.request.Opened.{Opened}
 use Rattle.chpw_table.specs.declared.verdict.Verdict.{Verdict}
 use Rattle.chpw_table.specs.declared.verdict.Verdict.TheVariants.{Skew, Replay, NotYet, Expired, BadPrivate, BadBody, Denied, NeedInitial, Unknown, Done}
-use Rattle.chpw_table.specs.declared.history.Entry.{Entry}
+use Rattle.chpw_table.specs.declared.history.Event.{Event}
+use Rattle.chpw_table.specs.declared.history.Event.TheVariants.{Ask}
 use Rattle.chpw_table.specs.declared.key.KeyRow.{KeyRow}
 use Rattle.chpw_table.specs.declared.table.Principal.{Principal}
 use Rattle.chpw_table.specs.Requests.{target_of}
-use Rattle.chpw_table.specs.State.{State, keys_held, kept_count}
+use Rattle.chpw_table.specs.State.{State, Fixed, keys_held, kept_count}
 use Rattle.chpw_table.specs.Verdicts.{is_done}
 use Rattle.chpw_table.specs.Decision.{verdict, newest_kvno, message_row}
 use Rattle.chpw_table.specs.Times.{clock_at}
 use Rattle.chpw_table.specs.Step.{step, after, new_key, with_key}
-use Rattle.chpw_table.specs.History.{step_entry}
-use Rattle.chpw_table.specs.Laws.{DoneRaisesTarget, OthersStay, entry_keys, keys_made, HoldsFew, KeepsNewest}
+use Rattle.chpw_table.specs.History.{IsJudged, step_event, step_entry, outcome}
+use Rattle.chpw_table.specs.Laws.{DoneRaisesTarget, OthersStay, event_keys, keys_made, HoldsFew, KeepsNewest}
 use Rattle.chpw_table.specs.Decision.{key_row}
 use Rattle.chpw_table.proofs.NameLemmas.{is_same_name-Decides, is_same_name-itself}
 
@@ -142,12 +143,6 @@ one_made kept key true held few = refl
 one_made kept key false None few = refl
 one_made kept key false (Some keys) few = ap Some (sym (take_all kept keys few))
 
-made_after : (s : State) (e : Entry) (name : Name) → e.verdict ≡ verdict s e.now e.opened e.io_failed → HoldsFew s
-    → keys_held (step_entry s e) name ≡ option_map (λ keys. take (kept_count s) (entry_keys s e name ++ keys)) (keys_held s name)
-made_after s e name legal few =
-    subst (λ (v : Verdict). keys_held (after v s e.now e.opened e.io_failed) name ≡ option_map (λ keys. take (kept_count s) (entry_keys s e name ++ keys)) (keys_held s name)) legal
-    (keys_after s e.verdict e.now e.opened e.io_failed name ∙ one_made (kept_count s) (new_key s e.opened) (is_done e.verdict && is_same_name (target_of e.opened).name name) (keys_held s name) (few name))
-
 joined : (kept : ℕ) (more made : List KeyRow) (held : Option (List KeyRow))
     → option_map (λ keys. take kept (more ++ keys)) (option_map (λ keys. take kept (made ++ keys)) held) ≡ option_map (λ keys. take kept ((more ++ made) ++ keys)) held
 joined kept more made None = refl
@@ -157,13 +152,30 @@ kept_all : (kept : ℕ) (held : Option (List KeyRow)) → IfSome held (λ keys. 
 kept_all kept None few = refl
 kept_all kept (Some keys) few = ap Some (sym (take_all kept keys few))
 
+made_after : (s : State) (now : Moment) (io : Bool) (event : Event) (name : Name) → IsJudged s now io event → HoldsFew s
+    → keys_held (step_event s now io event) name ≡ option_map (λ keys. take (kept_count s) (event_keys s event name ++ keys)) (keys_held s name)
+made_after s now io (Ask o v) name legal few =
+    subst (λ (w : Verdict). keys_held (after w s now o io) name ≡ option_map (λ keys. take (kept_count s) (event_keys s (Ask o v) name ++ keys)) (keys_held s name)) legal.verdict_is
+    (keys_after s v now o io name ∙ one_made (kept_count s) (new_key s o) (is_done v && is_same_name (target_of o).name name) (keys_held s name) (few name))
+
+-- what an event leaves fixed
+pub same_fixed : (s : State) (now : Moment) (io : Bool) (event : Event) → (step_event s now io event).fixed ≡ s.fixed
+same_fixed s now io (Ask o v) = refl
+
+pub same_kept : (s : State) (now : Moment) (io : Bool) (event : Event) → kept_count (step_event s now io event) ≡ kept_count s
+same_kept s now io event = ap (λ (f : Fixed). max f.policy.depth 1) (same_fixed s now io event)
+
 -- the law on the newest keys
 pub keeps_newest : KeepsNewest
 keeps_newest s [] name legal few = kept_all (kept_count s) (keys_held s name) (few name)
 keeps_newest s (e ∷ es) name legal few =
-    let here : (n : Name) → keys_held (step_entry s e) n ≡ option_map (λ keys. take (kept_count s) (entry_keys s e n ++ keys)) (keys_held s n) =
-    λ n. made_after s e n legal.0.verdict_is few in
-    let few' : HoldsFew (step_entry s e) = λ n. subst (λ (x : Option (List KeyRow)). IfSome x (λ keys. length keys ≤ kept_count s)) (sym (here n)) (few_take (kept_count s) (entry_keys s e n) (keys_held s n)) in
-    keeps_newest (step_entry s e) es name legal.1 few'
+    let here : (n : Name) → keys_held (step_entry s e) n ≡ option_map (λ keys. take (kept_count s) (event_keys s e.event n ++ keys)) (keys_held s n) =
+    λ n. made_after s e.now e.io_failed e.event n legal.0 few in
+    let same : kept_count (step_entry s e) ≡ kept_count s = same_kept s e.now e.io_failed e.event in
+    let few' : HoldsFew (step_entry s e) =
+    λ n. subst (λ (k : ℕ). IfSome (keys_held (step_entry s e) n) (λ keys. length keys ≤ k)) (sym same)
+    (subst (λ (x : Option (List KeyRow)). IfSome x (λ keys. length keys ≤ kept_count s)) (sym (here n)) (few_take (kept_count s) (event_keys s e.event n) (keys_held s n))) in
+    subst (λ (k : ℕ). keys_held (outcome (step_entry s e) es) name ≡ option_map (λ keys. take k (keys_made (step_entry s e) es name ++ keys)) (keys_held (step_entry s e) name)) same
+    (keeps_newest (step_entry s e) es name legal.1 few')
     ∙ (ap (λ (x : Option (List KeyRow)). option_map (λ keys. take (kept_count s) (keys_made (step_entry s e) es name ++ keys)) x) (here name)
-    ∙ joined (kept_count s) (keys_made (step_entry s e) es name) (entry_keys s e name) (keys_held s name))
+    ∙ joined (kept_count s) (keys_made (step_entry s e) es name) (event_keys s e.event name) (keys_held s name))

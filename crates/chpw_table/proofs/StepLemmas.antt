@@ -10,6 +10,8 @@ use Rattle.chpw_table.specs.declared.request.Opened.{Opened}
 use Rattle.chpw_table.specs.declared.request.RequestId.{RequestId}
 use Rattle.chpw_table.specs.declared.verdict.Verdict.{Verdict}
 use Rattle.chpw_table.specs.declared.verdict.Verdict.TheVariants.{Skew, Replay, NotYet, Expired, BadPrivate, BadBody, Denied, NeedInitial, Unknown, Short, Classes, Reused, LastVersion, Broken, Done}
+use Rattle.chpw_table.specs.declared.history.Event.{Event}
+use Rattle.chpw_table.specs.declared.history.Event.TheVariants.{Ask}
 use Rattle.chpw_table.specs.declared.history.Entry.{Entry}
 use Rattle.chpw_table.specs.Requests.{id_of, is_same_id}
 use Rattle.chpw_table.specs.State.{State, is_used}
@@ -17,7 +19,7 @@ use Rattle.chpw_table.specs.Verdicts.{adds_id, is_done}
 use Rattle.chpw_table.specs.Decision.{verdict, message_row}
 use Rattle.chpw_table.specs.Times.{is_far, clock_at}
 use Rattle.chpw_table.specs.Step.{after, step}
-use Rattle.chpw_table.specs.History.{step_entry, outcome}
+use Rattle.chpw_table.specs.History.{step_event, step_entry, outcome}
 use Rattle.chpw_table.specs.Laws.{RefusalKeepsKeys, UsedForGood, QuietRefusesFormer, AllBefore}
 use Rattle.chpw_table.proofs.NameLemmas.{is_same_id-itself}
 
@@ -67,10 +69,13 @@ used_after s v now o io id h = elim (adds_id v) as (λ b. list_any (λ (x : Requ
   | false ↦ h
 ]
 
+used_after_event : (s : State) (now : Moment) (io : Bool) (event : Event) (id : RequestId) → is_used s id ≡ true → is_used (step_event s now io event) id ≡ true
+used_after_event s now io (Ask o v) id h = used_after s (verdict s now o io) now o io id h
+
 used_throughout : (s : State) (es : List Entry) (id : RequestId) → is_used s id ≡ true → is_used (outcome s es) id ≡ true
 used_throughout s [] id h = h
 used_throughout s (e ∷ es) id h =
-    used_throughout (step_entry s e) es id (used_after s (verdict s e.now e.opened e.io_failed) e.now e.opened e.io_failed id h)
+    used_throughout (step_entry s e) es id (used_after_event s e.now e.io_failed e.event id h)
 
 -- what was used is no more than a replay
 used_verdict : (s : State) (now : Moment) (o : Opened) (io : Bool) → is_used s (id_of o) ≡ true → adds_id (verdict s now o io) ≡ false
@@ -114,9 +119,12 @@ near_clock s now o io h = near (is_far (clock_at s now) o.ctime) (int_le o.ctime
 clock_by : (s : State) (now : Moment) (start : ℤ) → s.clock ≤ℤ start → now.seconds ≤ℤ start → clock_at s now ≤ℤ start
 clock_by s now start a b = omega (arith, ints, clamps)
 
+clock_by_event : (s : State) (now : Moment) (io : Bool) (event : Event) (start : ℤ) → s.clock ≤ℤ start → now.seconds ≤ℤ start → (step_event s now io event).clock ≤ℤ start
+clock_by_event s now io (Ask o v) start a b = clock_by s now start a b
+
 clock_throughout : (s : State) (es : List Entry) (start : ℤ) → s.clock ≤ℤ start → AllBefore start es → (outcome s es).clock ≤ℤ start
 clock_throughout s [] start a b = a
-clock_throughout s (e ∷ es) start a b = clock_throughout (step_entry s e) es start (clock_by s e.now start a b.0) b.1
+clock_throughout s (e ∷ es) start a b = clock_throughout (step_entry s e) es start (clock_by_event s e.now e.io_failed e.event start a b.0) b.1
 
 quiet_covers : (clock ctime start : ℤ) → is_far clock ctime ≡ false → clock ≤ℤ start → int_le ctime (start +ℤ CLOCK_SKEW) ≡ true
 quiet_covers clock ctime start h g = grind (arith, ints)

@@ -3,6 +3,7 @@ use Rattle.std.proofs.Common.{◌≡◌, ℕ, List, [], ◌∷◌, ◌++◌, tru
 use Rattle.std.specs.Prelude.{negsuc}
 use Rattle.chpw_table.specs.declared.verdict.Verdict.{Verdict}
 use Rattle.chpw_table.specs.declared.verdict.Verdict.TheVariants.{Skew, Replay, Done}
+use Rattle.chpw_table.specs.declared.history.Event.TheVariants.{Ask}
 use Rattle.chpw_table.specs.declared.history.Entry.{Entry}
 use Rattle.chpw_table.specs.State.{State, opening_of, keys_held}
 use Rattle.chpw_table.specs.History.{IsLegal, calls}
@@ -33,7 +34,7 @@ pub four_alice : keys_held (ended 20 four_opening four) alice ≡ Some (key_row 
 four_alice = refl
 
 abbrev entry : ℕ → ℕ → Line → Verdict → Entry
-entry worker number l v = record { worker = worker; number = number; now = moment l.now; opened = l.opened; io_failed = l.io; verdict = v }
+entry worker number l v = record { worker = worker; number = number; now = moment l.now; io_failed = l.io; event = Ask l.opened v }
 
 -- two workers
 abbrev served : List Entry

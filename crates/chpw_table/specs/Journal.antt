@@ -1,17 +1,19 @@
--- The journal: a record for each accepted change. Numbers stand high byte first.
+-- The journal: a record for each accepted event. Numbers stand high byte first.
 use Rattle.std.specs.Prelude.{ℕ, List, [], ◌∷◌, ◌++◌, if◌then◌else◌, length}
 use Rattle.std.specs.Int.{w16, w32, to_be_bytes}
 use Rattle.std.specs.List.{flat_map}
 use Rattle.chpw_rules.specs.declared.name.Name.{Name}
 use Rattle.chpw_table.specs.declared.request.Opened.{Opened}
 use Rattle.chpw_table.specs.declared.verdict.Verdict.{Verdict}
+use Rattle.chpw_table.specs.declared.history.Event.{Event}
+use Rattle.chpw_table.specs.declared.history.Event.TheVariants.{Ask}
 use Rattle.chpw_table.specs.declared.history.Entry.{Entry}
 use Rattle.chpw_table.specs.declared.key.KeyRow.{KeyRow}
 use Rattle.chpw_table.specs.Requests.{target_of}
 use Rattle.chpw_table.specs.State.{State}
 use Rattle.chpw_table.specs.Verdicts.{is_done}
 use Rattle.chpw_table.specs.Step.{new_key}
-use Rattle.chpw_table.specs.History.{step_entry}
+use Rattle.chpw_table.specs.History.{is_accepted, step_entry}
 
 -- a component after its length
 abbrev pub part_bytes : List ℕ → List ℕ
@@ -33,11 +35,19 @@ change_bytes name k = version_bytes k ++ name_bytes name
 abbrev pub record_bytes : Name → KeyRow → List ℕ
 record_bytes name k = to_be_bytes w16 (length (change_bytes name k)) ++ change_bytes name k
 
--- what an event with this verdict appends
+-- what a decision with this verdict appends
 abbrev pub appended : State → Opened → Verdict → List ℕ
 appended s o v = if is_done v then record_bytes (target_of o).name (new_key s o) else []
 
--- the records of all accepted changes
+-- the record of an event that is accepted
+abbrev pub event_record : State → Event → List ℕ
+event_record s (Ask o v) = record_bytes (target_of o).name (new_key s o)
+
+-- what an event appends
+abbrev pub event_appended : State → Event → List ℕ
+event_appended s event = if is_accepted event then event_record s event else []
+
+-- the records of all accepted events
 abbrev pub journal : State → List Entry → List ℕ
 journal s [] = []
-journal s (e ∷ es) = appended s e.opened e.verdict ++ journal (step_entry s e) es
+journal s (e ∷ es) = event_appended s e.event ++ journal (step_entry s e) es

@@ -6,6 +6,8 @@ use Rattle.chpw_table.specs.declared.times.TheConstants.{CLOCK_SKEW}
 use Rattle.chpw_table.specs.declared.times.Moment.{Moment}
 use Rattle.chpw_table.specs.declared.request.Opened.{Opened}
 use Rattle.chpw_table.specs.declared.verdict.Verdict.TheVariants.{Skew, Done}
+use Rattle.chpw_table.specs.declared.history.Event.{Event}
+use Rattle.chpw_table.specs.declared.history.Event.TheVariants.{Ask}
 use Rattle.chpw_table.specs.declared.history.Entry.{Entry}
 use Rattle.chpw_table.specs.declared.key.KeyRow.{KeyRow}
 use Rattle.chpw_table.specs.Requests.{id_of, target_of}
@@ -42,16 +44,17 @@ UsedForGood = (s : State) (before : Moment) (used : Opened) (failed : Bool) (es 
     adds_id (verdict s before used failed) ≡ true → id_of o ≡ id_of used →
     adds_id (verdict (outcome (step s before used failed) es) now o io) ≡ false
 
--- the keys that the entries made for a name, newest first
-abbrev pub entry_keys : State → Entry → Name → List KeyRow
-entry_keys s e name =
-    if is_done e.verdict && is_same_name (target_of e.opened).name name
-    then new_key s e.opened ∷ []
+-- the key that an event made for a name
+abbrev pub event_keys : State → Event → Name → List KeyRow
+event_keys s (Ask o v) name =
+    if is_done v && is_same_name (target_of o).name name
+    then new_key s o ∷ []
     else []
 
+-- those that the entries made, newest first
 abbrev pub keys_made : State → List Entry → Name → List KeyRow
 keys_made s [] name = []
-keys_made s (e ∷ es) name = keys_made (step_entry s e) es name ++ entry_keys s e name
+keys_made s (e ∷ es) name = keys_made (step_entry s e) es name ++ event_keys s e.event name
 
 -- no name has more keys than are kept
 abbrev pub HoldsFew : State → Type 0

@@ -1,12 +1,20 @@
 //! Events in their order.
 ghost use Rattle.std.specs.Prelude.{◌≡◌, Decides, IfOk};
+ghost use Rattle.chpw_table.specs.History.{is_accepted};
 
 use crate::request::Opened;
 use crate::times::Moment;
 use crate::verdict::Verdict;
 use std::alloc::AllocError;
 
-/// One event: what was asked when, and the verdict.
+/// What was asked, and the verdict.
+#[derive(Drop)]
+pub enum Event {
+    /// A password was to be changed or set.
+    Ask { opened: Opened, verdict: Verdict },
+}
+
+/// One event, when it was, and whose.
 #[derive(Drop)]
 pub struct Entry {
     pub worker: u8,
@@ -14,10 +22,9 @@ pub struct Entry {
     pub number: u32,
     /// The moment that was handed in.
     pub now: Moment,
-    pub opened: Opened,
     /// Whether the append of this event failed.
     pub io_failed: bool,
-    pub verdict: Verdict,
+    pub event: Event,
 }
 
 /// What a worker keeps of an entry of its own.
@@ -32,6 +39,44 @@ pub struct Receipt {
     pub entry: Entry,
 }
 
+impl Event {
+    /// The same event once more.
+    pub fn clone(&self) -> Result<Event, AllocError>
+        ensures value { IfOk result (λ copy. copy ≡ self.now) }
+    {
+        match self {
+            Event::Ask { opened, verdict } => Ok(Event::Ask {
+                opened: opened.clone()?,
+                verdict: *verdict,
+            }),
+        }
+    }
+
+    /// Whether both are the same in every part.
+    pub fn is_same(&self, other: &Event) -> bool
+        ensures same { Decides result (self.now ≡ other.now) }
+    {
+        match (self, other) {
+            (
+                Event::Ask { opened, verdict },
+                Event::Ask {
+                    opened: asked,
+                    verdict: said,
+                },
+            ) => verdict == said && opened.is_same(asked),
+        }
+    }
+
+    /// Whether it was accepted.
+    pub fn is_accepted(&self) -> bool
+        ensures value { result ≡ is_accepted self.now }
+    {
+        match self {
+            Event::Ask { verdict, .. } => *verdict == Verdict::Done,
+        }
+    }
+}
+
 impl Entry {
     /// The same entry once more.
     pub fn clone(&self) -> Result<Entry, AllocError>
@@ -41,9 +86,8 @@ impl Entry {
             worker: self.worker,
             number: self.number,
             now: self.now,
-            opened: self.opened.clone()?,
             io_failed: self.io_failed,
-            verdict: self.verdict,
+            event: self.event.clone()?,
         })
     }
 
@@ -55,8 +99,7 @@ impl Entry {
             && self.number == other.number
             && self.now.is_same(other.now)
             && self.io_failed == other.io_failed
-            && self.verdict == other.verdict
-            && self.opened.is_same(&other.opened)
+            && self.event.is_same(&other.event)
     }
 }
 

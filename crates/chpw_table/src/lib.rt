@@ -20,7 +20,7 @@ mod verdict;
 pub use counts::{COUNTS_LIMIT, Counts};
 pub use derived::Derived;
 pub use digest::Digest;
-pub use history::{Entry, Receipt};
+pub use history::{Entry, Event, Receipt};
 pub use journal::record_bytes;
 pub use key::KeyRow;
 pub use outcome::{DecideFault, Outcome, Refused};

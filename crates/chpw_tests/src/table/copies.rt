@@ -1,7 +1,7 @@
 ghost use Rattle.std.specs.Prelude.{◌≡◌, ◌∷◌, []};
 
 use super::realm::change;
-use chpw_table::{Counts, Entry, Moment, Opened, Receipt, Verdict};
+use chpw_table::{Counts, Entry, Event, Moment, Opened, Receipt, Verdict};
 use std::test::Fail;
 
 fn four() -> Counts
@@ -31,9 +31,11 @@ fn entry(opened: Opened) -> Entry {
             seconds: 1000,
             micros: 0,
         },
-        opened,
         io_failed: false,
-        verdict: Verdict::Done,
+        event: Event::Ask {
+            opened,
+            verdict: Verdict::Done,
+        },
     }
 }
 
