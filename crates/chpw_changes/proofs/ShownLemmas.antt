@@ -1,8 +1,8 @@
 -- A lookup after the accepted changes shows what the table shows.
-use Rattle.std.proofs.Common.{◌≡◌, ℕ, List, length, map, Option, Some, None, refl, sym, ◌∙◌, ap}
+use Rattle.std.proofs.Common.{◌≡◌, ℕ, ◌+◌, List, length, map, Option, Some, None, refl, sym, ◌∙◌, ap}
 use Rattle.std.specs.Prelude.{option_map}
 use Rattle.chpw_table.specs.declared.key.KeyRow.{KeyRow}
-use Rattle.chpw_table.specs.State.{Fixed, keys_held, new_count}
+use Rattle.chpw_table.specs.State.{State, Fixed, keys_held, new_count}
 use Rattle.chpw_table.specs.Decision.{newest_kvno}
 use Rattle.chpw_table.specs.Versions.{Shown, accepted, shown_keys}
 use Rattle.chpw_table.proofs.VersionLemmas.{shows_held}
@@ -16,10 +16,12 @@ keys_shown policy seen None = refl
 keys_shown policy seen (Some keys) = refl
 
 pub histories_shown : LookupsShowHistories
-histories_shown opening history t name legal agrees seen =
-    let same : new_count t.state ≡ new_count opening = ap (λ (f : Fixed). f.policy.iterations) (agrees.fixed ∙ fixed_on opening history) in
-    ap (λ (x : Option Shown). option_map (lookup_with (new_count opening) (length (accepted opening history))) x) (shows_held opening history name legal)
-    ∙ (ap (λ (x : Option (List KeyRow)). option_map (lookup_with (new_count opening) (length (accepted opening history))) (option_map shown_keys x)) (sym (agrees.principals name))
-    ∙ (ap (λ (n : ℕ). option_map (lookup_with n (length (accepted opening history))) (option_map shown_keys (keys_held t.state name))) (sym same)
+histories_shown opening t history name legal agrees seen =
+    let s : State = opening.state in
+    let count : ℕ = opening.seen + length (accepted s history) in
+    let same : new_count t.state ≡ new_count s = ap (λ (f : Fixed). f.policy.iterations) (agrees.fixed ∙ fixed_on s history) in
+    ap (λ (x : Option Shown). option_map (lookup_with (new_count s) count) x) (shows_held s history name legal)
+    ∙ (ap (λ (x : Option (List KeyRow)). option_map (lookup_with (new_count s) count) (option_map shown_keys x)) (sym (agrees.principals name))
+    ∙ (ap (λ (n : ℕ). option_map (lookup_with n count) (option_map shown_keys (keys_held t.state name))) (sym same)
     ∙ (ap (λ (n : ℕ). option_map (lookup_with (new_count t.state) n) (option_map shown_keys (keys_held t.state name))) (sym seen)
     ∙ keys_shown (new_count t.state) t.seen (keys_held t.state name))))

@@ -9,7 +9,7 @@ ghost use Rattle.chpw_changes.specs.Shown.{LookupsShowHistories};
 /// name that the opening has. Each change raises by one the version that is shown before it, so no
 /// longer list shows an older one. A lookup after the list shows what a table shows to which the
 /// history leads.
-#[tactic(auto, using(crate::proofs::ChangeLemmas::accepted_on, crate::proofs::ChangeLemmas::changes_counted, crate::proofs::ChangeLemmas::beginnings, crate::proofs::KeptLemmas::kept_list, crate::proofs::KeptLemmas::known_before, crate::proofs::RiseLemmas::versions_rise, crate::proofs::RiseLemmas::no_older, crate::proofs::ShownLemmas::histories_shown))]
+#[tactic(auto, using(crate::proofs::ChangeLemmas::accepted_on, crate::proofs::ChangeLemmas::changes_counted, crate::proofs::ChangeLemmas::beginnings, crate::proofs::KeptLemmas::kept_list, crate::proofs::KeptLemmas::known_before, crate::proofs::RiseLemmas::versions_rise, chpw_versions::proofs::RiseLemmas::no_older, crate::proofs::ShownLemmas::histories_shown))]
 pub fn changes()
     ensures adds { EntryAddsItsChange }
     ensures counted { ChangesAreCounted }

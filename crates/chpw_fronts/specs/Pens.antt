@@ -1,6 +1,7 @@
 -- The list that the holders of one pen after another have written into the log.
 use Rattle.std.specs.Prelude.{◌≡◌, ℕ, ◌==◌, List, [], ◌∷◌, if◌then◌else◌, false, pos}
 use Rattle.chpw_table.specs.State.{State}
+use Rattle.chpw_table.specs.Agreement.{Held}
 use Rattle.chpw_table.specs.Versions.{KeyChange}
 use Rattle.chpw_fronts.specs.declared.entry.LogEntry.{LogEntry}
 
@@ -36,12 +37,15 @@ newest_or d [] = d
 newest_or d (e ∷ es) = newest_or e es
 
 -- A list is named by the log as it was when the list was opened: its newest entry has the list's first
--- pen, and the state of the table that it opens with.
+-- pen, and the table that it opens with.
 abbrev pub first_pen : List LogEntry → ℕ
 first_pen root = (newest_or no_entry root).next
 
-abbrev pub opening_of : List LogEntry → State
-opening_of root = (newest_or no_entry root).opening.state
+abbrev pub opening_table : List LogEntry → Held
+opening_table root = (newest_or no_entry root).opening
+
+abbrev pub opening_state : List LogEntry → State
+opening_state root = (opening_table root).state
 
 -- the accepted changes of that list in a log
 abbrev pub changes_in : List LogEntry → List LogEntry → List KeyChange

@@ -31,7 +31,9 @@ pub struct NumberedChange {
 
 impl NumberedChange {
     /// Stands where no change is.
-    pub(crate) fn none() -> NumberedChange {
+    pub fn none() -> NumberedChange
+        ensures value { result ≡ record { number = 0; kvno = 0; count = 0 } }
+    {
         NumberedChange {
             number: 0,
             kvno: 0,

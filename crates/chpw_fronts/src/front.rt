@@ -2,7 +2,7 @@
 ghost use Rattle.std.specs.Prelude.{◌≡◌, ◌<◌, ◌⊎◌, ◌++◌, ◌∷◌, [], IsTrue, length};
 ghost use mathlib.Core.List.{IsPrefix};
 ghost use Rattle.chpw_fronts.specs.Changes.{named, EndsWith};
-ghost use Rattle.chpw_fronts.specs.Pens.{opening_of, changes_in};
+ghost use Rattle.chpw_fronts.specs.Pens.{opening_state, changes_in};
 
 use crate::change::NumberedChange;
 use crate::entry::Mark;
@@ -22,14 +22,14 @@ impl<D: ListName> Model for Front<D> {
     ghost use Rattle.std.specs.Prelude.{◌≡◌, List, length};
     ghost use Rattle.chpw_table.specs.Versions.{KeyChange};
     ghost use Rattle.chpw_fronts.specs.Changes.{EndsWith};
-    ghost use Rattle.chpw_fronts.specs.Pens.{opening_of, changes_in};
+    ghost use Rattle.chpw_fronts.specs.Pens.{opening_state, changes_in};
 
     ghost Value = { List KeyChange };
 
     ghost view = { λ f. changes_in D.root f.seen.log };
 
     ghost invariant = { λ f. (f.len ≡ length (changes_in D.root f.seen.log)) × (f.seen.book ≡ D.book)
-        × EndsWith (opening_of D.root) (changes_in D.root f.seen.log) f.last };
+        × EndsWith (opening_state D.root) (changes_in D.root f.seen.log) f.last };
 }
 
 impl<D: ListName> Front<D> {
@@ -37,7 +37,7 @@ impl<D: ListName> Front<D> {
     pub(crate) fn of(seen: Mark, len: u32, last: NumberedChange) -> Front<D>
         requires book { seen.book ≡ D.book }
         requires len { len ≡ length (changes_in D.root seen.log) }
-        requires last { EndsWith (opening_of D.root) (changes_in D.root seen.log) last }
+        requires last { EndsWith (opening_state D.root) (changes_in D.root seen.log) last }
         ensures value { result ≡ changes_in D.root seen.log }
     {
         Front {
@@ -79,8 +79,8 @@ impl<D: ListName> Front<D> {
     pub fn begins(&self, seen: &Mark, last: NumberedChange, len: u32) -> bool
         requires book { seen.now.book ≡ D.book }
         ensures some { IsTrue result
-            → len ≡ length (changes_in D.root seen.now.log ++ named (opening_of D.root) last ∷ [])
-            → IsPrefix self.now (changes_in D.root seen.now.log ++ named (opening_of D.root) last ∷ []) }
+            → len ≡ length (changes_in D.root seen.now.log ++ named (opening_state D.root) last ∷ [])
+            → IsPrefix self.now (changes_in D.root seen.now.log ++ named (opening_state D.root) last ∷ []) }
         ensures none { IsTrue result → len ≡ 0 → self.now ≡ [] }
     {
         let mut both = self.seen.again();

@@ -3,7 +3,7 @@ ghost use Rattle.std.specs.Prelude.{◌≡◌, ◌+◌, ◌<◌, ◌^◌, ◌++�
 ghost use mathlib.Core.List.{IsPrefix};
 ghost use Rattle.logbook.specs.Pages.{may_write};
 ghost use Rattle.chpw_fronts.specs.Changes.{named};
-ghost use Rattle.chpw_fronts.specs.Pens.{first_pen, opening_of, changes_in, pen_after};
+ghost use Rattle.chpw_fronts.specs.Pens.{first_pen, opening_state, changes_in, pen_after};
 ghost use Rattle.chpw_fronts.specs.Rules.{head_of};
 
 use crate::change::NumberedChange;
@@ -31,7 +31,7 @@ impl<D: ListName> Model for Keeper<D> {
     ghost use Rattle.logbook.specs.Pages.{may_write};
     ghost use Rattle.chpw_table.specs.Versions.{KeyChange};
     ghost use Rattle.chpw_fronts.specs.Changes.{EndsWith};
-    ghost use Rattle.chpw_fronts.specs.Pens.{first_pen, opening_of, changes_in, pen_after};
+    ghost use Rattle.chpw_fronts.specs.Pens.{first_pen, opening_state, changes_in, pen_after};
     ghost use Rattle.chpw_fronts.specs.Rules.{head_of};
 
     ghost Value = { List KeyChange };
@@ -41,7 +41,7 @@ impl<D: ListName> Model for Keeper<D> {
     ghost invariant = { λ k. (k.len ≡ length (changes_in D.root k.seen.log)) × (k.seen.book ≡ D.book)
         × (k.head ≡ head_of D.book) × (k.pen.book ≡ D.book) × (k.pen.nib.right ≡ may_write)
         × (k.pen.nib.key ≡ pen_after (first_pen D.root) k.seen.log)
-        × EndsWith (opening_of D.root) (changes_in D.root k.seen.log) k.last };
+        × EndsWith (opening_state D.root) (changes_in D.root k.seen.log) k.last };
 }
 
 impl<D: ListName> Keeper<D> {
@@ -75,7 +75,7 @@ impl<D: ListName> Keeper<D> {
     /// Adds a change to the list. It takes no memory and doesn't fail.
     pub fn append(&mut self, change: NumberedChange)
         requires room { length self.old + 1 < 2 ^ 32 }
-        ensures value { self.new ≡ self.old ++ named (opening_of D.root) change ∷ [] }
+        ensures value { self.new ≡ self.old ++ named (opening_state D.root) change ∷ [] }
     {
         let fresh = made(&self.head, &self.seen);
         let pen = mem::replace(&mut self.pen, fresh);

@@ -6,20 +6,22 @@ use mathlib.Core.List.{IsPrefix}
 use lib.ListN.{get_elem?}
 use Rattle.crossbeam_utils.specs.Register.{Admits, TurnsAt, Forks, Merges}
 use Rattle.atomic_table.proofs.Lists.{at_set, at_snoc}
-use Rattle.logbook.specs.Pages.{Book}
+use Rattle.logbook.specs.Pages.{Book as LogName}
 use Rattle.chpw_rules.specs.declared.name.Name.{Name}
 use Rattle.chpw_rules.specs.Names.{is_same_name}
 use Rattle.chpw_table.specs.State.{kept_count, new_count}
 use Rattle.chpw_table.specs.Versions.{KeyChange, Shown, with_change}
 use Rattle.chpw_fronts.specs.declared.entry.LogEntry.{LogEntry}
 use Rattle.chpw_fronts.specs.Changes.{named}
-use Rattle.chpw_fronts.specs.Pens.{changes_in, opening_of}
+use Rattle.chpw_fronts.specs.Pens.{changes_in, opening_state, opening_table}
 use Rattle.chpw_fronts.proofs.ListLemmas.{prefix_self, prefix_trans, prefix_same}
 use Rattle.chpw_versions.specs.declared.version.Version.{Version}
 use Rattle.chpw_versions.specs.declared.version.Operation.{Operation}
 use Rattle.chpw_versions.specs.declared.view.View.{View}
 use Rattle.chpw_versions.specs.Rows.{Rowed, names_of_rows, shown_in, ShowsOpening, lookup_with, lookup_after}
-use Rattle.chpw_versions.specs.Following.{applied, IsNumberOf, HasNumber, list_by, list_shown, ShowsList, IsRuled, IsShelved, IsTied, Looked, Published, Settled, unknown, book_of}
+use Rattle.chpw_versions.specs.Rising.{IsNextVersion}
+use Rattle.chpw_versions.specs.Following.{applied, IsNumberOf, HasNumber, list_by, list_shown, ShowsList, IsRuled, IsShelved, IsTied, Looked, Published, Settled, unknown, log_of}
+use Rattle.chpw_versions.proofs.RiseLemmas.{next_on}
 use Rattle.chpw_versions.proofs.RowLemmas.{names_changed, changed_shows, changed_positive, shown_more}
 
 abbrev AllTied : Version → List KeyChange → List View → Type 0
@@ -55,7 +57,7 @@ admits x views (list, is, each) = (list, is, snoc x list views unknown each (unk
 pub opens : (x : Version) (list : List KeyChange) → ShowsList x.root.book x.root.log list x → IsRuled x (unknown ∷ [])
 opens x list is = (list, is, snoc x list [] unknown (λ j u at. absurd (cc)) (unknown_tied x list))
 
-pub renamed : (b b' : Book) (r r' : List LogEntry) (list : List KeyChange) (x : Version) → b ≡ b' → r ≡ r' → ShowsList b r list x → ShowsList b' r' list x
+pub renamed : (b b' : LogName) (r r' : List LogEntry) (list : List KeyChange) (x : Version) → b ≡ b' → r ≡ r' → ShowsList b r list x → ShowsList b' r' list x
 renamed b b' r r' list x e f is = subst (λ c. ShowsList c r' list x) e (subst (λ l. ShowsList b l list x) f is)
 
 pub looks : (seat : ℕ) (v : View) (x : Version) → TurnsAt IsRuled seat v x x Looked
@@ -64,60 +66,66 @@ looks seat v x views (list, is, each) at =
     let w : View = record v { front = list } in (
       w,
       (list, is, same x list views seat w each (λ k. let t = mine k in (t.0, t.1, prefix_self list))),
-      λ k. let t = mine k in ((k, refl, refl), t.2, renamed x.root.book (book_of v) x.root.log v.root list x (sym t.0) (sym t.1) is),
+      λ k. let t = mine k in ((k, refl, refl), t.2, renamed x.root.book (log_of v) x.root.log v.root list x (sym t.0) (sym t.1) is),
     )
 
 -- the version with one operation more shows the list with one change more
-pub goes_on : (b : Book) (r : List LogEntry) (list : List KeyChange) (x : Version) (o : Operation) → ShowsList b r list x → o.seen.book ≡ b → changes_in r o.seen.log ≡ list → HasNumber (opening_of r) o.change → 1 ≤ o.change.count
-    → length list + 1 < 4294967296 → ShowsList b r (list ++ named (opening_of r) o.change ∷ []) (applied x o)
-goes_on b r list x o is ob ol num positive room =
-    let c : KeyChange = named (opening_of r) o.change in
+pub goes_on : (b : LogName) (r : List LogEntry) (list : List KeyChange) (x : Version) (o : Operation) → ShowsList b r list x → o.seen.book ≡ b → changes_in r o.seen.log ≡ list → HasNumber (opening_state r) o.change → IsNextVersion (opening_state r) list (named (opening_state r) o.change)
+    → length list + 1 < 2147483648 → ShowsList b r (list ++ named (opening_state r) o.change ∷ []) (applied x o)
+goes_on b r list x o is ob ol num next room =
+    let c : KeyChange = named (opening_state r) o.change in
     let a = length-append list (c ∷ []) in
     let i = is.len_is in
+    let n = is.seen_is in
+    let few = is.few in
+    let count : 1 ≤ o.change.count = subst (λ m. 1 ≤ m) (is.policy ∙ sym next.3) is.positive.0 in
     let here : IsNumberOf (names_of_rows x.rows.rows) c.name o.change.number = subst (λ ns. IsNumberOf ns c.name o.change.number) (sym is.names) num in
     record {
       root_book = is.root_book;
       root_log = is.root_log;
       seen_book = ob;
       len_is = omega (arith, a, i, room);
+      few = few;
+      seen_is = omega (arith, a, n, few, room);
       names = names_changed x.rows.kept o.change o.change.number x.rows.rows ∙ is.names;
       kept = is.kept;
       policy = is.policy;
       shows = λ name. changed_shows x.rows.kept o.change c.name x.rows.rows o.change.number name here
           ∙ (ap (λ k. if is_same_name c.name name then option_map (with_change k c) (shown_in x.rows.rows name) else shown_in x.rows.rows name) is.kept
-          ∙ (ap (λ s. if is_same_name c.name name then option_map (with_change (kept_count (opening_of r)) c) s else s) (is.shows name)
-          ∙ sym (shown_more (opening_of r) list c name)));
-      positive = (is.positive.0, changed_positive x.rows.kept o.change o.change.number x.rows.rows positive is.positive.1);
+          ∙ (ap (λ s. if is_same_name c.name name then option_map (with_change (kept_count (opening_state r)) c) s else s) (is.shows name)
+          ∙ sym (shown_more (opening_state r) list c name)));
+      rise = next_on (opening_state r) [] list c is.rise next;
+      positive = (is.positive.0, changed_positive x.rows.kept o.change o.change.number x.rows.rows count is.positive.1);
       last = λ h. ap (λ l. l ++ c ∷ []) (sym ol);
     }
 
 -- the writer, which knows the whole list, makes the change of one operation
-pub published_at : (seat : ℕ) (b : Book) (r : List LogEntry) (v : View) (x : Version) (list : List KeyChange) (o : Operation) → IsShelved b r v x list → o.seen.book ≡ b → changes_in r o.seen.log ≡ list
-    → HasNumber (opening_of r) o.change → 1 ≤ o.change.count → length list + 1 < 4294967296 → TurnsAt IsRuled seat v x (applied x o) Published
-published_at seat b r v x list o sh ob ol num positive room views (all, is, each) at =
+pub published_at : (seat : ℕ) (b : LogName) (r : List LogEntry) (v : View) (x : Version) (list : List KeyChange) (o : Operation) → IsShelved b r v x list → o.seen.book ≡ b → changes_in r o.seen.log ≡ list
+    → HasNumber (opening_state r) o.change → IsNextVersion (opening_state r) list (named (opening_state r) o.change) → length list + 1 < 2147483648 → TurnsAt IsRuled seat v x (applied x o) Published
+published_at seat b r v x list o sh ob ol num next room views (all, is, each) at =
     let mine = each seat v at sh.0.0 in
     let pre : IsPrefix list all = subst (λ (l : List KeyChange). IsPrefix l all) sh.1 mine.2 in
     let long : length list ≡ length all = sym sh.2.len_is ∙ is.len_is in
     let whole : list ≡ all = prefix_same list all all pre (prefix_self all) long in
     let y : Version = applied x o in
-    let c : KeyChange = named (opening_of r) o.change in
-    let w : View = record v { front = v.front ++ named (opening_of v.root) o.change ∷ [] } in
-    let next : ShowsList y.root.book y.root.log (list ++ c ∷ []) y = renamed b y.root.book r y.root.log (list ++ c ∷ []) y (sym sh.2.root_book) (sym sh.2.root_log) (goes_on b r list x o sh.2 ob ol num positive room) in
-    let told : w.front ≡ list ++ c ∷ [] = ap (λ (l : List KeyChange). l ++ named (opening_of v.root) o.change ∷ []) sh.1 ∙ ap (λ l. list ++ named (opening_of l) o.change ∷ []) sh.0.2 in
+    let c : KeyChange = named (opening_state r) o.change in
+    let w : View = record v { front = v.front ++ named (opening_state v.root) o.change ∷ [] } in
+    let next : ShowsList y.root.book y.root.log (list ++ c ∷ []) y = renamed b y.root.book r y.root.log (list ++ c ∷ []) y (sym sh.2.root_book) (sym sh.2.root_log) (goes_on b r list x o sh.2 ob ol num next room) in
+    let told : w.front ≡ list ++ c ∷ [] = ap (λ (l : List KeyChange). l ++ named (opening_state v.root) o.change ∷ []) sh.1 ∙ ap (λ l. list ++ named (opening_state l) o.change ∷ []) sh.0.2 in
     let own : IsPrefix w.front (list ++ c ∷ []) = subst (λ (l : List KeyChange). IsPrefix l (list ++ c ∷ [])) (sym told) (prefix_self (list ++ c ∷ [])) in
     let before : AllTied x list views = subst (λ (l : List KeyChange). AllTied x l views) (sym whole) each in
     (w, (list ++ c ∷ [], next, kept x y list (c ∷ []) views seat w refl before (λ k. (mine.0, mine.1, own))), refl)
 
-pub shelved_after : (b : Book) (r : List LogEntry) (v w : View) (x y : Version) (list : List KeyChange) (o : Operation) → IsShelved b r v x list → o.seen.book ≡ b → changes_in r o.seen.log ≡ list
-    → HasNumber (opening_of r) o.change → 1 ≤ o.change.count → length list + 1 < 4294967296 → y ≡ applied x o → Published v x y w → IsShelved b r w y (list ++ named (opening_of r) o.change ∷ [])
-shelved_after b r v w x y list o sh ob ol num positive room is told =
-    let c : KeyChange = named (opening_of r) o.change in (
-      (ap (λ (z : View). z.known) told ∙ sh.0.0, ap book_of told ∙ sh.0.1, ap (λ (z : View). z.root) told ∙ sh.0.2),
+pub shelved_after : (b : LogName) (r : List LogEntry) (v w : View) (x y : Version) (list : List KeyChange) (o : Operation) → IsShelved b r v x list → o.seen.book ≡ b → changes_in r o.seen.log ≡ list
+    → HasNumber (opening_state r) o.change → IsNextVersion (opening_state r) list (named (opening_state r) o.change) → length list + 1 < 2147483648 → y ≡ applied x o → Published v x y w → IsShelved b r w y (list ++ named (opening_state r) o.change ∷ [])
+shelved_after b r v w x y list o sh ob ol num next room is told =
+    let c : KeyChange = named (opening_state r) o.change in (
+      (ap (λ (z : View). z.known) told ∙ sh.0.0, ap log_of told ∙ sh.0.1, ap (λ (z : View). z.root) told ∙ sh.0.2),
       ap (λ (z : View). z.front) told
-          ∙ (ap (λ (l : List KeyChange). l ++ named (opening_of v.root) y.last ∷ []) sh.1
-          ∙ (ap (λ l. list ++ named (opening_of l) y.last ∷ []) sh.0.2
-          ∙ ap (λ (z : Version). list ++ named (opening_of r) z.last ∷ []) is)),
-      subst (λ (z : Version). ShowsList b r (list ++ c ∷ []) z) (sym is) (goes_on b r list x o sh.2 ob ol num positive room),
+          ∙ (ap (λ (l : List KeyChange). l ++ named (opening_state v.root) y.last ∷ []) sh.1
+          ∙ (ap (λ l. list ++ named (opening_state l) y.last ∷ []) sh.0.2
+          ∙ ap (λ (z : Version). list ++ named (opening_state r) z.last ∷ []) is)),
+      subst (λ (z : Version). ShowsList b r (list ++ c ∷ []) z) (sym is) (goes_on b r list x o sh.2 ob ol num next room),
     )
 
 pub settles : (seat : ℕ) (v : View) (x y : Version) → y ≡ x → TurnsAt IsRuled seat v x y Settled
@@ -129,25 +137,28 @@ settles seat v x y e = subst (λ (z : Version). TurnsAt IsRuled seat v x z Settl
         (w, (list, is, same x list views seat w each (λ k. (refl, refl, (list, refl)))), ((refl, refl, refl), refl))
 
 -- the version at the opening shows no change
-pub opening_version : (r : List LogEntry) (rows : Rowed) (x : Version) → x.len ≡ 0 → x.rows ≡ rows → x.root.log ≡ r → x.seen ≡ x.root → ShowsOpening (opening_of r) rows → ShowsList x.root.book x.root.log [] x
+pub opening_version : (r : List LogEntry) (rows : Rowed) (x : Version) → x.len ≡ 0 → x.rows ≡ rows → x.root.log ≡ r → x.seen ≡ x.root → ShowsOpening (opening_table r) rows → ShowsList x.root.book x.root.log [] x
 opening_version r rows x n same log seen shows =
-    at (subst (λ l. ShowsOpening (opening_of l) x.rows) (sym log) (subst (λ (z : Rowed). ShowsOpening (opening_of r) z) (sym same) shows))
+    at (subst (λ l. ShowsOpening (opening_table l) x.rows) (sym log) (subst (λ (z : Rowed). ShowsOpening (opening_table r) z) (sym same) shows))
   where
-    at : ShowsOpening (opening_of x.root.log) x.rows → ShowsList x.root.book x.root.log [] x
+    at : ShowsOpening (opening_table x.root.log) x.rows → ShowsList x.root.book x.root.log [] x
     at all = record {
       root_book = refl;
       root_log = refl;
       seen_book = ap (λ m. m.book) seen;
       len_is = n;
+      few = all.few;
+      seen_is = (let e = all.seen in omega (arith, e));
       names = all.names;
       kept = all.kept;
       policy = all.policy;
       shows = all.shows;
+      rise = tt;
       positive = all.positive;
       last = λ h. absurd (omega arith);
     }
 
-pub shelved_first : (b : Book) (r : List LogEntry) (v w : View) (x y : Version) → y ≡ x → x.root.book ≡ b → x.root.log ≡ r → ShowsList x.root.book x.root.log [] x → Settled v x y w → IsShelved b r w y []
+pub shelved_first : (b : LogName) (r : List LogEntry) (v w : View) (x y : Version) → y ≡ x → x.root.book ≡ b → x.root.log ≡ r → ShowsList x.root.book x.root.log [] x → Settled v x y w → IsShelved b r w y []
 shelved_first b r v w x y e eb er is told = (
   (told.0.0, told.0.1 ∙ (ap (λ (z : Version). z.root.book) e ∙ eb), told.0.2 ∙ (ap (λ (z : Version). z.root.log) e ∙ er)),
   told.1,
@@ -175,26 +186,26 @@ ok_case (Ok a) P Q ok m = (a, m)
 ok_case (Err e) P Q ok m = absurd (cc)
 
 -- the list that a version shows is the one that its mark and last change make
-pub shown_list : (b : Book) (r : List LogEntry) (list : List KeyChange) (x : Version) → ShowsList b r list x → list ≡ list_shown r x
-shown_list b r [] x is = sym (ap (λ n. list_by (changes_in r x.seen.log) (named (opening_of r) x.last) n) is.len_is)
-shown_list b r (c ∷ cs) x is = is.last (omega arith) ∙ sym (ap (λ n. list_by (changes_in r x.seen.log) (named (opening_of r) x.last) n) is.len_is)
+pub shown_list : (b : LogName) (r : List LogEntry) (list : List KeyChange) (x : Version) → ShowsList b r list x → list ≡ list_shown r x
+shown_list b r [] x is = sym (ap (λ n. list_by (changes_in r x.seen.log) (named (opening_state r) x.last) n) is.len_is)
+shown_list b r (c ∷ cs) x is = is.last (omega arith) ∙ sym (ap (λ n. list_by (changes_in r x.seen.log) (named (opening_state r) x.last) n) is.len_is)
 
 -- what its rows show is what that list shows
-pub shown_by : (b : Book) (r : List LogEntry) (list : List KeyChange) (x : Version) (name : Name) → ShowsList b r list x
-    → option_map (lookup_with x.rows.policy x.len) (shown_in x.rows.rows name) ≡ lookup_after (opening_of r) (list_shown r x) name
+pub shown_by : (b : LogName) (r : List LogEntry) (list : List KeyChange) (x : Version) (name : Name) → ShowsList b r list x
+    → option_map (lookup_with x.rows.policy x.rows.seen) (shown_in x.rows.rows name) ≡ lookup_after (opening_table r) (list_shown r x) name
 shown_by b r list x name is =
     let e = shown_list b r list x is in
-    ap (λ p. option_map (lookup_with p x.len) (shown_in x.rows.rows name)) is.policy
-    ∙ (ap (λ n. option_map (lookup_with (new_count (opening_of r)) n) (shown_in x.rows.rows name)) is.len_is
-    ∙ (ap (λ (s : Option Shown). option_map (lookup_with (new_count (opening_of r)) (length list)) s) (is.shows name)
-    ∙ ap (λ l. lookup_after (opening_of r) l name) e))
+    ap (λ p. option_map (lookup_with p x.rows.seen) (shown_in x.rows.rows name)) is.policy
+    ∙ (ap (λ n. option_map (lookup_with (new_count (opening_state r)) n) (shown_in x.rows.rows name)) is.seen_is
+    ∙ (ap (λ (s : Option Shown). option_map (lookup_with (new_count (opening_state r)) ((opening_table r).seen + length list)) s) (is.shows name)
+    ∙ ap (λ l. lookup_after (opening_table r) l name) e))
 
 -- what is told begins it, where `Front::begins` says so
-pub begins_shown : (b : Book) (r : List LogEntry) (list told : List KeyChange) (x : Version) → ShowsList b r list x
-    → (x.len ≡ length (changes_in r x.seen.log ++ named (opening_of r) x.last ∷ []) → IsPrefix told (changes_in r x.seen.log ++ named (opening_of r) x.last ∷ []))
+pub begins_shown : (b : LogName) (r : List LogEntry) (list told : List KeyChange) (x : Version) → ShowsList b r list x
+    → (x.len ≡ length (changes_in r x.seen.log ++ named (opening_state r) x.last ∷ []) → IsPrefix told (changes_in r x.seen.log ++ named (opening_state r) x.last ∷ []))
     → (x.len ≡ 0 → told ≡ []) → IsPrefix told (list_shown r x)
 begins_shown b r [] told x is tells empty = subst (λ (l : List KeyChange). IsPrefix l (list_shown r x)) (sym (empty is.len_is)) (list_shown r x, refl)
 begins_shown b r (c ∷ cs) told x is tells empty =
     let all = is.last (omega arith) in
-    let long : x.len ≡ length (changes_in r x.seen.log ++ named (opening_of r) x.last ∷ []) = is.len_is ∙ ap length all in
+    let long : x.len ≡ length (changes_in r x.seen.log ++ named (opening_state r) x.last ∷ []) = is.len_is ∙ ap length all in
     subst (λ (l : List KeyChange). IsPrefix told l) (sym all ∙ shown_list b r (c ∷ cs) x is) (tells long)

@@ -1,22 +1,23 @@
 -- What a change does to the rows, and what they show.
-use Rattle.std.proofs.Common.{◌≡◌, ℕ, zero, suc, ◌+◌, ◌<◌, ◌≤◌, List, [], ◌∷◌, ◌++◌, map, length, get_or, set, Bool, true, false, not, cond, if◌then◌else◌, Option, Some, None, find, is_none, nat_lt, refl, sym, ◌∙◌, ap, subst, arith}
-use Rattle.std.specs.Prelude.{option_map, position, IsSome, IfSome, All}
+use Rattle.std.proofs.Common.{◌≡◌, ℕ, zero, suc, ◌<◌, ◌≤◌, List, [], ◌∷◌, ◌++◌, map, length, get_or, set, Bool, true, false, cond, if◌then◌else◌, Option, Some, None, find, nat_lt, refl, sym, ◌∙◌, ap, subst, arith}
+use Rattle.std.specs.Prelude.{option_map, position, IfSome, All}
 use Rattle.std.specs.List.{position_or_len}
-use Rattle.std.proofs.lemmas.List.{length-map}
+use Rattle.std.proofs.lemmas.Bool.Decides.{nat_tests}
+use Rattle.std.proofs.lemmas.Option.{none-some, slice_get_past}
+use Rattle.std.proofs.lemmas.List.Folds.{find_at}
 use Rattle.std.proofs.lemmas.List.Elements.{All-nil, All-cons, All-head, All-tail, All-take}
 use Rattle.std.proofs.lemmas.List.Sums.{fold-append}
 use Rattle.std.proofs.lemmas.List.Quantifiers.{position-Some}
 use Rattle.chpw_rules.specs.declared.name.Name.{Name}
 use Rattle.chpw_rules.specs.Names.{is_same_name}
 use Rattle.chpw_table.specs.declared.table.Principal.{Principal}
-use Rattle.chpw_table.specs.State.{State, keys_held, kept_count}
+use Rattle.chpw_table.specs.State.{State, kept_count}
 use Rattle.chpw_table.specs.Versions.{KeyChange, Shown, shown, with_change}
 use Rattle.chpw_table.proofs.NameLemmas.{is_same_name-Decides}
-use Rattle.chpw_table.proofs.PlaceLemmas.{has_name, no_keys}
 use Rattle.chpw_fronts.specs.declared.change.NumberedChange.{NumberedChange}
 use Rattle.chpw_fronts.specs.Changes.{name_at, named}
 use Rattle.chpw_versions.specs.declared.rows.Row.{Row}
-use Rattle.chpw_versions.specs.Rows.{names_of_rows, names_of, changed_row, changed_at, shown_in, HasPositive}
+use Rattle.chpw_versions.specs.Rows.{names_of_rows, names_of, changed_row, changed_at, row_shown, shown_in, HasPositive}
 use Rattle.chpw_versions.specs.Following.{IsNumberOf, HasNumber}
 
 -- a write of a changed row is the change at its place
@@ -116,30 +117,16 @@ named_change opening name c h =
     let is : name_at opening.principals c.number ≡ name = at_number opening.principals name c.number h in
     (subst (λ m. IsNumberOf (names_of opening) m c.number) (sym is) h, ap (λ m. change_for m c) is)
 
-place_in_names : {A : Type 0} (f : A → Name) (name : Name) (xs : List A) → position_or_len (λ (x : A). is_same_name (f x) name) xs ≡ position_or_len (λ (m : Name). is_same_name m name) (map f xs)
-place_in_names f name [] = refl
-place_in_names {A} f name (x ∷ xs) = step (is_same_name (f x) name) (place_in_names f name xs)
+-- a name that the rows show has a number
+pub has_number : (rows : List Row) (name : Name) (row : Shown) → shown_in rows name ≡ Some row → position (λ (r : Row). is_same_name r.name name) rows ≡ None → ⊥
+has_number rows name row h none = at (nat_lt (position_or_len (λ (r : Row). is_same_name r.name name) rows) (length rows)) refl none
   where
-    step : (b : Bool) → position_or_len (λ (y : A). is_same_name (f y) name) xs ≡ position_or_len (λ (m : Name). is_same_name m name) (map f xs)
-        → cond (not b) (1 + position_or_len (λ (y : A). is_same_name (f y) name) xs) 0 ≡ cond (not b) (1 + position_or_len (λ (m : Name). is_same_name m name) (map f xs)) 0
-    step true h = refl
-    step false h = ap (λ n. 1 + n) h
-
-in_names : {A : Type 0} (f : A → Name) (name : Name) (xs : List A) → position (λ (x : A). is_same_name (f x) name) xs ≡ position (λ (m : Name). is_same_name m name) (map f xs)
-in_names f name xs =
-    ap (λ i. cond (nat_lt i (length xs)) (Some i) None) (place_in_names f name xs)
-    ∙ ap (λ l. cond (nat_lt (position_or_len (λ (m : Name). is_same_name m name) (map f xs)) l) (Some (position_or_len (λ (m : Name). is_same_name m name) (map f xs))) None) (sym (length-map xs f))
-
-none_some : {A : Type 0} (o : Option A) → is_none o ≡ true → IsSome o → ⊥
-none_some None h s = cc
-none_some (Some x) h s = cc
-
--- a name that no row has holds no keys at the opening
-pub no_number : (opening : State) (rows : List Row) (name : Name) → names_of_rows rows ≡ names_of opening → position (λ (r : Row). is_same_name r.name name) rows ≡ None → IsSome (keys_held opening name) → ⊥
-no_number opening rows name e h s =
-    let among : position (has_name name) opening.principals ≡ None =
-    in_names (λ (p : Principal). p.name) name opening.principals ∙ (ap (λ ns. position (λ (m : Name). is_same_name m name) ns) (sym e) ∙ (sym (in_names (λ (r : Row). r.name) name rows) ∙ h)) in
-    none_some (keys_held opening name) (no_keys opening name among) s
+    at : (b : Bool) → nat_lt (position_or_len (λ (r : Row). is_same_name r.name name) rows) (length rows) ≡ b → cond b (Some (position_or_len (λ (r : Row). is_same_name r.name name) rows)) None ≡ None → ⊥
+    at true e k = cc
+    at false e k =
+        let past : length rows ≤ position_or_len (λ (r : Row). is_same_name r.name name) rows = grind (arith, nat_tests) in
+        let missing : find (λ (r : Row). is_same_name r.name name) rows ≡ None = find_at (λ (r : Row). is_same_name r.name name) rows ∙ slice_get_past rows (position_or_len (λ (r : Row). is_same_name r.name name) rows) past in
+        none-some row (sym (ap (λ (o : Option Row). option_map row_shown o) missing) ∙ h)
 
 -- one change more
 pub shown_more : (opening : State) (list : List KeyChange) (c : KeyChange) (name : Name) → shown opening (list ++ c ∷ []) name ≡ (if is_same_name c.name name then option_map (with_change (kept_count opening) c) (shown opening list name) else shown opening list name)

@@ -1,10 +1,10 @@
 -- The rule of the versions: there is a list that the version shows, and each view that knows whose list
 -- it is has a beginning of it.
-use Rattle.std.specs.Prelude.{◌≡◌, ℕ, ◌+◌, ◌<◌, ◌≤◌, ◌%◌, zero, suc, List, [], ◌∷◌, ◌++◌, length, true, false, Option, Some, None}
+use Rattle.std.specs.Prelude.{◌≡◌, ℕ, ◌+◌, ◌<◌, ◌%◌, zero, suc, List, [], ◌∷◌, ◌++◌, length, true, false, Option, Some, None}
 use mathlib.Core.Option.{some}
 use mathlib.Core.List.{IsPrefix}
 use lib.ListN.{get_elem?}
-use Rattle.logbook.specs.Pages.{Book}
+use Rattle.logbook.specs.Pages.{Book as LogName}
 use Rattle.chpw_rules.specs.declared.name.Name.{Name}
 use Rattle.chpw_rules.specs.Names.{is_same_name}
 use Rattle.chpw_table.specs.State.{State, kept_count, new_count}
@@ -12,17 +12,18 @@ use Rattle.chpw_table.specs.Versions.{KeyChange, shown}
 use Rattle.chpw_fronts.specs.declared.change.NumberedChange.{NumberedChange}
 use Rattle.chpw_fronts.specs.declared.entry.LogEntry.{LogEntry}
 use Rattle.chpw_fronts.specs.Changes.{named}
-use Rattle.chpw_fronts.specs.Pens.{changes_in, opening_of}
+use Rattle.chpw_fronts.specs.Pens.{changes_in, opening_state, opening_table}
 use Rattle.chpw_versions.specs.declared.version.Version.{Version}
 use Rattle.chpw_versions.specs.declared.version.ListShown.{ListShown}
 use Rattle.chpw_versions.specs.declared.version.Operation.{Operation}
 use Rattle.chpw_versions.specs.declared.view.View.{View}
-use Rattle.chpw_versions.specs.Rows.{changed_at, names_of_rows, names_of, shown_in, IsPositive}
+use Rattle.chpw_versions.specs.Rows.{rows_after, names_of_rows, names_of, shown_in, IsPositive}
+use Rattle.chpw_versions.specs.Rising.{IsNextVersion, AreNextVersions}
 
 -- one operation more
 abbrev pub applied : Version → Operation → Version
 applied x o = record x {
-  rows = record x.rows { rows = changed_at x.rows.kept o.change o.change.number x.rows.rows };
+  rows = rows_after o.change x.rows;
   len = (x.len + 1) % 4294967296;
   last = o.change;
   seen = o.seen;
@@ -44,38 +45,42 @@ list_by before last (suc n) = before ++ last ∷ []
 
 -- the list that the version shows, all but the last change of which its mark knows
 abbrev pub list_shown : List LogEntry → Version → List KeyChange
-list_shown root x = list_by (changes_in root x.seen.log) (named (opening_of root) x.last) x.len
+list_shown root x = list_by (changes_in root x.seen.log) (named (opening_state root) x.last) x.len
 
 -- the same of what is kept of the version
 abbrev pub list_of : List LogEntry → ListShown → List KeyChange
-list_of root s = list_by (changes_in root s.seen.log) (named (opening_of root) s.last) s.len
+list_of root s = list_by (changes_in root s.seen.log) (named (opening_state root) s.last) s.len
 
--- the version is of the list named by this book and root, and shows these changes of it
-pub record ShowsList (book : Book) (root : List LogEntry) (list : List KeyChange) (x : Version) : Type 0 where
-  pub root_book : x.root.book ≡ book
+-- The version is of the list named by this log and root, and shows these changes of it, along which
+-- versions rise. Its rows count them, and those that the table had accepted before.
+pub record ShowsList (log : LogName) (root : List LogEntry) (list : List KeyChange) (x : Version) : Type 0 where
+  pub root_book : x.root.book ≡ log
   pub root_log : x.root.log ≡ root
-  pub seen_book : x.seen.book ≡ book
+  pub seen_book : x.seen.book ≡ log
   pub len_is : x.len ≡ length list
-  pub names : names_of_rows x.rows.rows ≡ names_of (opening_of root)
-  pub kept : x.rows.kept ≡ kept_count (opening_of root)
-  pub policy : x.rows.policy ≡ new_count (opening_of root)
-  pub shows : (name : Name) → shown_in x.rows.rows name ≡ shown (opening_of root) list name
+  pub few : (opening_table root).seen < 2147483648
+  pub seen_is : x.rows.seen ≡ (opening_table root).seen + length list
+  pub names : names_of_rows x.rows.rows ≡ names_of (opening_state root)
+  pub kept : x.rows.kept ≡ kept_count (opening_state root)
+  pub policy : x.rows.policy ≡ new_count (opening_state root)
+  pub shows : (name : Name) → shown_in x.rows.rows name ≡ shown (opening_state root) list name
+  pub rise : AreNextVersions (opening_state root) [] list
   pub positive : IsPositive x.rows
-  pub last : 0 < length list → list ≡ changes_in root x.seen.log ++ named (opening_of root) x.last ∷ []
+  pub last : 0 < length list → list ≡ changes_in root x.seen.log ++ named (opening_state root) x.last ∷ []
 
 -- a view that knows nothing yet
 abbrev pub unknown : View
 unknown = record { known = false; number = 0; log_name = 0; cells_name = 0; root = []; front = [] }
 
-abbrev pub book_of : View → Book
-book_of v = record { number = v.number; log_name = v.log_name; cells_name = v.cells_name }
+abbrev pub log_of : View → LogName
+log_of v = record { number = v.number; log_name = v.log_name; cells_name = v.cells_name }
 
 -- the view knows whose list it is
-abbrev pub IsOf : Book → List LogEntry → View → Type 0
-IsOf book root v = (v.known ≡ true) × (book_of v ≡ book) × (v.root ≡ root)
+abbrev pub IsOf : LogName → List LogEntry → View → Type 0
+IsOf log root v = (v.known ≡ true) × (log_of v ≡ log) × (v.root ≡ root)
 
 abbrev pub IsTied : Version → List KeyChange → View → Type 0
-IsTied x list v = v.known ≡ true → (book_of v ≡ x.root.book) × (v.root ≡ x.root.log) × IsPrefix v.front list
+IsTied x list v = v.known ≡ true → (log_of v ≡ x.root.book) × (v.root ≡ x.root.log) × IsPrefix v.front list
 
 abbrev pub IsRuled : Version → List View → Type 0
 IsRuled x views =
@@ -85,26 +90,26 @@ IsRuled x views =
 -- a reader enters: the list goes on from what it saw, and the version shows it
 abbrev pub Looked : View → Version → Version → View → Type 0
 Looked v x y w =
-    v.known ≡ true → IsOf (book_of v) v.root w × IsPrefix v.front w.front × ShowsList (book_of v) v.root w.front y
+    v.known ≡ true → IsOf (log_of v) v.root w × IsPrefix v.front w.front × ShowsList (log_of v) v.root w.front y
 
 -- the writer publishes: the list that it knew has the last change behind it
 abbrev pub Published : View → Version → Version → View → Type 0
-Published v x y w = w ≡ record v { front = v.front ++ named (opening_of v.root) y.last ∷ [] }
+Published v x y w = w ≡ record v { front = v.front ++ named (opening_state v.root) y.last ∷ [] }
 
 -- the writer learns whose list it is
 abbrev pub Settled : View → Version → Version → View → Type 0
 Settled v x y w = IsOf y.root.book y.root.log w × (w.front ≡ [])
 
--- the operations that wait: none, or this change behind this list, with a count that is at least 1
-abbrev pub IsWaiting : Book → List LogEntry → List KeyChange → List Operation → Option NumberedChange → Type 0
-IsWaiting book root list ops None = ops ≡ []
-IsWaiting book root list ops (Some c) =
-    (o : Operation) × (ops ≡ o ∷ []) × (o.change ≡ c) × (o.seen.book ≡ book) × (changes_in root o.seen.log ≡ list)
-    × HasNumber (opening_of root) c × (1 ≤ c.count)
+-- the operations that wait: none, or this change, which may come behind this list
+abbrev pub IsWaiting : LogName → List LogEntry → List KeyChange → List Operation → Option NumberedChange → Type 0
+IsWaiting log root list ops None = ops ≡ []
+IsWaiting log root list ops (Some c) =
+    (o : Operation) × (ops ≡ o ∷ []) × (o.change ≡ c) × (o.seen.book ≡ log) × (changes_in root o.seen.log ≡ list)
+    × HasNumber (opening_state root) c × IsNextVersion (opening_state root) list (named (opening_state root) c)
 
 -- what the writer holds shows this list, and it knows that
-abbrev pub IsShelved : Book → List LogEntry → View → Version → List KeyChange → Type 0
-IsShelved book root v x list = IsOf book root v × (v.front ≡ list) × ShowsList book root list x
+abbrev pub IsShelved : LogName → List LogEntry → View → Version → List KeyChange → Type 0
+IsShelved log root v x list = IsOf log root v × (v.front ≡ list) × ShowsList log root list x
 
 -- what a reader that isn't lent knows
 abbrev pub front_by : {R : Type 0} → Option R → (R → View) → List KeyChange

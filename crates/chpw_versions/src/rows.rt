@@ -1,7 +1,7 @@
 //! The published rows.
 ghost use Rattle.std.specs.Prelude.{◌≡◌, ◌≤◌, ◌+◌, ◌∷◌, ◌++◌, length, All, IfSome, take, find, position, option_map, option_copied};
 ghost use Rattle.chpw_rules.specs.Names.{is_same_name};
-ghost use Rattle.chpw_versions.specs.Rows.{changed_at, changed_row, row_shown, shown_in, lookup_with, IsPositive};
+ghost use Rattle.chpw_versions.specs.Rows.{changed_at, changed_row, rows_after, row_shown, shown_in, lookup_with, IsPositive};
 
 use chpw_fronts::NumberedChange;
 use chpw_rules::Name;
@@ -19,12 +19,13 @@ pub struct Row {
 }
 
 /// A row for each principal, in the opening's order. Contracts see the rows, how many counts of a
-/// principal are kept, and the count of new keys.
+/// principal are kept, the count of new keys, and how many changes were accepted so far.
 #[derive(Drop)]
 pub struct Rows {
     rows: Vec<Row>,
     kept: u8,
     policy: u32,
+    seen: u32,
 }
 
 impl Model for Rows {
@@ -33,29 +34,40 @@ impl Model for Rows {
 
     ghost Value = { Rowed };
 
-    ghost view = { λ r. record { rows = r.rows.items; kept = r.kept; policy = r.policy } };
+    ghost view = { λ r. record {
+      rows = r.rows.items;
+      kept = r.kept;
+      policy = r.policy;
+      seen = r.seen;
+    } };
 
     ghost invariant = { λ r. (1 ≤ r.kept) × (r.kept ≤ 16) };
 }
 
 impl Rows {
     /// These rows. Of each principal the newest counts are kept, 1 to 16 of them; `policy` is the count
-    /// of new keys.
-    pub fn of(rows: Vec<Row>, kept: u8, policy: u32) -> Rows
+    /// of new keys, and `seen` how many changes were accepted so far.
+    pub fn of(rows: Vec<Row>, kept: u8, policy: u32, seen: u32) -> Rows
         requires kept { (1 ≤ kept) × (kept ≤ 16) }
-        ensures value { result ≡ record { rows = rows.items; kept = kept; policy = policy } }
+        ensures value { result
+            ≡ record { rows = rows.items; kept = kept; policy = policy; seen = seen } }
     {
-        Rows { rows, kept, policy }
+        Rows {
+            rows,
+            kept,
+            policy,
+            seen,
+        }
     }
 
-    /// Makes a change, in the row with its number; none where no row has it. It takes no memory and
+    /// Makes a change, in the row with its number; in none where no row has it. It takes no memory and
     /// doesn't fail.
     pub(crate) fn change(&mut self, change: NumberedChange)
-        ensures value { self.new
-            ≡ record self.old { rows = changed_at self.old.kept change change.number self.old.rows } }
+        ensures value { self.new ≡ rows_after change self.old }
     {
         let kept = self.kept;
         put(self.rows.as_mut_slice(), change, kept);
+        self.seen = self.seen.wrapping_add(1);
     }
 
     /// The number of a name: its place, from 0.
@@ -65,16 +77,16 @@ impl Rows {
         self.rows.iter().position(|r| r.name.is_same(name))
     }
 
-    /// What the rows show of a name after so many changes; none for an unknown one.
-    pub(crate) fn lookup(&self, name: &Name, seen: u32) -> Option<Lookup>
+    /// What the rows show of a name; none for an unknown one.
+    pub(crate) fn lookup(&self, name: &Name) -> Option<Lookup>
         ensures value { result
-            ≡ option_map (lookup_with self.now.policy seen) (shown_in self.now.rows name.now) }
+            ≡ option_map (lookup_with self.now.policy self.now.seen) (shown_in self.now.rows name.now) }
         ensures positive { IsPositive self.now
             → IfSome result (λ l. (1 ≤ l.policy) × All (λ n. 1 ≤ n) l.held) }
     {
         match self.find(name) {
             None => None,
-            Some(row) => Some(lookup_of(row, self.policy, seen)),
+            Some(row) => Some(lookup_of(row, self.policy, self.seen)),
         }
     }
 

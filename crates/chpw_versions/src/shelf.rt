@@ -1,9 +1,9 @@
 //! What lies under the lock: the writer of the versions, beside the one keeper of the list.
-ghost use Rattle.std.specs.Prelude.{◌≡◌, ◌+◌, ◌<◌, ◌≤◌, ◌^◌, ◌++◌, ◌∷◌, [], length, None, Some, IfOk, IfSome, IsSome, OnOk, OnErr};
+ghost use Rattle.std.specs.Prelude.{◌≡◌, ◌+◌, ◌<◌, ◌^◌, ◌++◌, ◌∷◌, [], length, None, Some, IfOk, IfSome, IsSome, OnOk, OnErr};
 ghost use mathlib.Core.List.{IsPrefix};
-ghost use Rattle.chpw_table.specs.State.{keys_held};
-ghost use Rattle.chpw_fronts.specs.Pens.{opening_of};
+ghost use Rattle.chpw_fronts.specs.Pens.{opening_state, opening_table};
 ghost use Rattle.chpw_versions.specs.Rows.{ShowsOpening};
+ghost use Rattle.chpw_versions.specs.Rising.{IsNextVersion};
 
 use crate::place::Place;
 use crate::rows::Rows;
@@ -28,7 +28,7 @@ impl<D: ListName> Model for Shelf<D> {
     ghost use Rattle.std.specs.Prelude.{IsSomeAnd, drop, option_map};
     ghost use Rattle.left_right.specs.Sides.{view as view_of};
     ghost use Rattle.chpw_fronts.specs.Changes.{named};
-    ghost use Rattle.chpw_fronts.specs.Pens.{opening_of};
+    ghost use Rattle.chpw_fronts.specs.Pens.{opening_state};
     ghost use Rattle.chpw_versions.specs.Known.{Shelved};
     ghost use Rattle.chpw_versions.specs.Following.{IsShelved, IsWaiting};
 
@@ -36,7 +36,7 @@ impl<D: ListName> Model for Shelf<D> {
 
     ghost view = { λ s. record {
       list = s.keeper;
-      waiting = option_map (named (opening_of D.root)) s.waiting;
+      waiting = option_map (named (opening_state D.root)) s.waiting;
     } };
 
     ghost invariant = { λ s. IsSomeAnd s.writer (λ w.
@@ -47,7 +47,7 @@ impl<D: ListName> Model for Shelf<D> {
 impl<D: ListName> Shelf<D> {
     /// A shelf with an empty list and room for so many places, which shows these rows; `again` is a copy
     /// of them. They show the list's opening: a row for each principal, in its order, with counts of at
-    /// least 1. It may wait, as a publication does.
+    /// least 1, and the changes that its table had accepted before. It may wait, as a publication does.
     pub fn start<R: Wait>(
         rt: &R,
         alloc: Global,
@@ -59,7 +59,7 @@ impl<D: ListName> Shelf<D> {
     ) -> Result<Shelf<D>, AllocError>
         requires places { (0 < places) × (places < 2 ^ 32) }
         requires root { (root.now.book ≡ D.book) × (root.now.log ≡ D.root) }
-        requires rows { ShowsOpening (opening_of D.root) rows × (again ≡ rows) }
+        requires rows { ShowsOpening (opening_table D.root) rows × (again ≡ rows) }
         requires keeper { keeper ≡ [] }
         ensures value { IfOk result (λ s. s ≡ record { list = []; waiting = None }) }
     {
@@ -97,12 +97,12 @@ impl<D: ListName> Shelf<D> {
         }
     }
 
-    /// The last growth before a change is accepted: from here on it waits. `kvno` is the name's new
-    /// version, and `count` the iteration count of its new keys, at least 1.
+    /// The last growth before a change is accepted: from here on it waits. `kvno` is one more than the
+    /// version that the list shows of the name, and `count` the iteration count of new keys.
     pub fn prepare(&mut self, name: &Name, kvno: u32, count: u32) -> Result<(), AllocError>
         requires free { self.old.waiting ≡ None }
-        requires known { IsSome (keys_held (opening_of D.root) name.now) }
-        requires positive { 1 ≤ count }
+        requires next { IsNextVersion (opening_state D.root) self.old.list
+            (record { name = name.now; kvno = kvno; count = count }) }
         ensures ok { OnOk result (self.new ≡ record {
           list = self.old.list;
           waiting = Some (record { name = name.now; kvno = kvno; count = count });
@@ -141,7 +141,7 @@ impl<D: ListName> Shelf<D> {
     /// doesn't fail, but waits for readers that still read the copy that it changes.
     pub fn publish<R: Wait>(&mut self, rt: &R) -> Front<D>
         requires waiting { IsSome self.old.waiting }
-        requires room { length self.old.list + 1 < 2 ^ 32 }
+        requires room { length self.old.list + 1 < 2 ^ 31 }
         ensures list { IfSome self.old.waiting (λ change.
             self.new ≡ record { list = self.old.list ++ change ∷ []; waiting = None }) }
         ensures front { result ≡ self.new.list }

@@ -55,11 +55,7 @@ impl Version {
         Version {
             rows,
             len: 0,
-            last: NumberedChange {
-                number: 0,
-                kvno: 0,
-                count: 0,
-            },
+            last: NumberedChange::none(),
             seen: root.again(),
             root: root.again(),
         }
