@@ -4,11 +4,8 @@ use Rattle.std.proofs.lemmas.List.{append-nil}
 use Rattle.std.proofs.lemmas.List.Sums.{sum_by-append}
 use mathlib.Core.List.{IsPrefix}
 use Rattle.chpw_table.specs.declared.history.Entry.{Entry}
-use Rattle.chpw_table.specs.Requests.{target_of}
-use Rattle.chpw_table.specs.Verdicts.{is_done}
-use Rattle.chpw_table.specs.Step.{new_key}
-use Rattle.chpw_table.specs.History.{step_entry, outcome}
-use Rattle.chpw_table.specs.Versions.{KeyChange, change_of, entry_change, accepted}
+use Rattle.chpw_table.specs.History.{is_accepted, step_entry, outcome}
+use Rattle.chpw_table.specs.Versions.{KeyChange, change_by, entry_change, accepted}
 use Rattle.chpw_changes.specs.Histories.{EntryAddsItsChange, ChangesAreCounted, BeginningsAreHistories}
 
 -- one entry more
@@ -26,8 +23,8 @@ one_counted false c cs n h = omega (arith, h)
 pub changes_counted : ChangesAreCounted
 changes_counted s [] = refl
 changes_counted s (e ∷ es) =
-    one_counted (is_done e.verdict) (change_of (target_of e.opened).name (new_key s e.opened)) (accepted (step_entry s e) es) _ (changes_counted (step_entry s e) es)
-    ∙ sym (sum_by-append (λ (x : Entry). if is_done x.verdict then 1 else 0) (e ∷ []) es)
+    one_counted (is_accepted e.event) (change_by s e.event) (accepted (step_entry s e) es) _ (changes_counted (step_entry s e) es)
+    ∙ sym (sum_by-append (λ (x : Entry). if is_accepted x.event then 1 else 0) (e ∷ []) es)
 
 -- a beginning of the list of an entry and others: none, or the entry's changes and then a beginning of the others'
 begun : (b : Bool) (c : KeyChange) (cs list : List KeyChange) → IsPrefix list ((if b then c ∷ [] else []) ++ cs)
@@ -51,4 +48,4 @@ beginnings s (e ∷ es) list p =
     (λ (some : (rest : List KeyChange) × IsPrefix rest (accepted (step_entry s e) es) × (entry_change s e ++ rest ≡ list)).
     let h = beginnings (step_entry s e) es some.0 some.1 in
     (e ∷ h.0, (h.1.0, ap (λ (xs : List Entry). e ∷ xs) h.1.1), ap (λ (cs : List KeyChange). entry_change s e ++ cs) h.2 ∙ some.2))
-    (begun (is_done e.verdict) (change_of (target_of e.opened).name (new_key s e.opened)) (accepted (step_entry s e) es) list p)
+    (begun (is_accepted e.event) (change_by s e.event) (accepted (step_entry s e) es) list p)

@@ -7,6 +7,8 @@ use Rattle.chpw_table.specs.declared.times.Moment.{Moment}
 use Rattle.chpw_table.specs.declared.request.Opened.{Opened}
 use Rattle.chpw_table.specs.declared.verdict.Verdict.{Verdict}
 use Rattle.chpw_table.specs.declared.verdict.Verdict.TheVariants.{Done}
+use Rattle.chpw_table.specs.declared.history.Event.{Event}
+use Rattle.chpw_table.specs.declared.history.Event.TheVariants.{Ask}
 use Rattle.chpw_table.specs.declared.history.Entry.{Entry}
 use Rattle.chpw_table.specs.declared.key.KeyRow.{KeyRow}
 use Rattle.chpw_table.specs.Requests.{target_of}
@@ -14,11 +16,11 @@ use Rattle.chpw_table.specs.State.{State, Fixed, keys_held, new_count}
 use Rattle.chpw_table.specs.Verdicts.{is_done}
 use Rattle.chpw_table.specs.Decision.{verdict, newest_kvno}
 use Rattle.chpw_table.specs.Step.{new_key}
-use Rattle.chpw_table.specs.History.{IsDecided, IsLegal, step_entry, outcome}
+use Rattle.chpw_table.specs.History.{IsJudged, IsLegal, is_accepted, step_entry, outcome}
 use Rattle.chpw_table.specs.Agreement.{Agrees}
 use Rattle.chpw_table.specs.Preparing.{IsNextRow}
-use Rattle.chpw_table.specs.Versions.{KeyChange, Shown, change_of, entry_change, accepted, shown, shown_keys}
-use Rattle.chpw_table.proofs.KeyLemmas.{done_raises_target}
+use Rattle.chpw_table.specs.Versions.{KeyChange, Shown, change_by, entry_change, accepted, shown, shown_keys}
+use Rattle.chpw_table.proofs.KeyLemmas.{done_raises_target, same_fixed}
 use Rattle.chpw_table.proofs.VersionLemmas.{shows_held}
 use Rattle.chpw_decider.proofs.KeepingLemmas.{legal_on, outcome_on}
 use Rattle.chpw_versions.specs.Rising.{IsNextVersion, AreNextVersions}
@@ -28,7 +30,7 @@ use Rattle.chpw_changes.proofs.ChangeLemmas.{accepted_on}
 -- what stays fixed along a history
 pub fixed_on : (s : State) (es : List Entry) → (outcome s es).fixed ≡ s.fixed
 fixed_on s [] = refl
-fixed_on s (e ∷ es) = fixed_on (step_entry s e) es
+fixed_on s (e ∷ es) = fixed_on (step_entry s e) es ∙ same_fixed s e.now e.io_failed e.event
 
 done_alone : (v : Verdict) → is_done v ≡ true → v ≡ Done
 done_alone Done h = refl
@@ -42,14 +44,14 @@ has_keys : (held : Option (List KeyRow)) → IsSome (option_map newest_kvno held
 has_keys None h = h
 has_keys (Some keys) h = search rules
 
--- the change of an accepted entry may come behind those before it
-entry_next : (opening : State) (es : List Entry) (e : Entry) → IsLegal opening es → IsDecided (outcome opening es) e.now e.opened e.io_failed e.verdict → is_done e.verdict ≡ true
-    → IsNextVersion opening (accepted opening es) (change_of (target_of e.opened).name (new_key (outcome opening es) e.opened))
-entry_next opening es e legal decided done =
+-- the change of an accepted event may come behind those before it
+event_next : (opening : State) (es : List Entry) (now : Moment) (io : Bool) (event : Event) → IsLegal opening es → IsJudged (outcome opening es) now io event → is_accepted event ≡ true
+    → IsNextVersion opening (accepted opening es) (change_by (outcome opening es) event)
+event_next opening es now io (Ask o v) legal decided done =
     let s : State = outcome opening es in
-    let name : Name = (target_of e.opened).name in
-    let is : verdict s e.now e.opened e.io_failed ≡ Done = sym decided.verdict_is ∙ done_alone e.verdict done in
-    let held = some_keys (keys_held s name) (has_keys (keys_held s name) (done_raises_target s e.now e.opened e.io_failed is).0) in (
+    let name : Name = (target_of o).name in
+    let is : verdict s now o io ≡ Done = sym decided.verdict_is ∙ done_alone v done in
+    let held = some_keys (keys_held s name) (has_keys (keys_held s name) (done_raises_target s now o io is).0) in (
       shown_keys held.0,
       shows_held opening es name legal ∙ ap (λ (x : Option (List KeyRow)). option_map shown_keys x) held.1,
       ap (λ (x : Option (List KeyRow)). newest_kvno (unwrap_or x []) + 1) held.1,
@@ -85,7 +87,7 @@ rise_on opening before (e ∷ es) legal more =
     let later : AreNextVersions opening (accepted opening before ++ entry_change s e) (accepted (step_entry s e) es) =
     subst (λ (t : State). AreNextVersions opening (accepted opening before ++ entry_change s e) (accepted t es)) (outcome_on opening before e)
     (subst (λ (cs : List KeyChange). AreNextVersions opening cs (accepted (outcome opening all) es)) (accepted_on opening before e) on) in
-    next_more opening (accepted opening before) (accepted (step_entry s e) es) (change_of (target_of e.opened).name (new_key s e.opened)) (is_done e.verdict) (λ done. entry_next opening before e legal more.0 done) later
+    next_more opening (accepted opening before) (accepted (step_entry s e) es) (change_by s e.event) (is_accepted e.event) (λ done. event_next opening before e.now e.io_failed e.event legal more.0 done) later
 
 pub versions_rise : VersionsRise
 versions_rise opening history legal = rise_on opening [] history tt legal

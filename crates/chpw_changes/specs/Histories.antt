@@ -1,15 +1,12 @@
 -- The list of accepted changes, along a history.
-use Rattle.std.specs.Prelude.{◌≡◌, List, [], ◌∷◌, ◌++◌, if◌then◌else◌, length, count_by, IsSome}
+use Rattle.std.specs.Prelude.{◌≡◌, List, [], ◌∷◌, ◌++◌, length, count_by, IsSome}
 use mathlib.Core.List.{IsPrefix}
 use Rattle.chpw_rules.specs.declared.name.Name.{Name}
 use Rattle.chpw_table.specs.declared.history.Entry.{Entry}
-use Rattle.chpw_table.specs.Requests.{target_of}
 use Rattle.chpw_table.specs.State.{State, keys_held}
-use Rattle.chpw_table.specs.Verdicts.{is_done}
-use Rattle.chpw_table.specs.Step.{new_key}
 use Rattle.chpw_table.specs.Agreement.{Agrees}
-use Rattle.chpw_table.specs.History.{outcome}
-use Rattle.chpw_table.specs.Versions.{KeyChange, change_of, entry_change, accepted}
+use Rattle.chpw_table.specs.History.{is_accepted, outcome}
+use Rattle.chpw_table.specs.Versions.{KeyChange, entry_change, accepted}
 
 -- one entry more adds its change at the end where it was accepted, and else none
 abbrev pub EntryAddsItsChange : Type 0
@@ -20,7 +17,7 @@ EntryAddsItsChange = (opening : State) (history : List Entry) (e : Entry) →
 -- the list is as long as there are accepted entries
 abbrev pub ChangesAreCounted : Type 0
 ChangesAreCounted = (opening : State) (history : List Entry) →
-    length (accepted opening history) ≡ count_by (λ (e : Entry). is_done e.verdict) history
+    length (accepted opening history) ≡ count_by (λ (e : Entry). is_accepted e.event) history
 
 -- each beginning of the list is the list of a beginning of the history
 abbrev pub BeginningsAreHistories : Type 0
@@ -28,14 +25,11 @@ BeginningsAreHistories = (opening : State) (history : List Entry) (list : List K
     IsPrefix list (accepted opening history) →
     (before : List Entry) × IsPrefix before history × (accepted opening before ≡ list)
 
--- so a list kept beside a table goes on with the change that the table makes of an accepted request
+-- so a list kept beside a table goes on with the change that the table makes of an accepted event
 abbrev pub KeptListsGoOn : Type 0
 KeptListsGoOn = (opening table : State) (history : List Entry) (list : List KeyChange) (e : Entry) →
     Agrees table (outcome opening history) → list ≡ accepted opening history →
-    (if is_done e.verdict
-    then list ++ change_of (target_of e.opened).name (new_key table e.opened) ∷ []
-    else list)
-    ≡ accepted opening (history ++ e ∷ [])
+    list ++ entry_change table e ≡ accepted opening (history ++ e ∷ [])
 
 -- whoever has keys after a history had some at the opening
 abbrev pub NamesAreTheOpenings : Type 0
