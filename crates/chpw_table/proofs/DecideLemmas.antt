@@ -3,7 +3,7 @@ use Rattle.std.proofs.Common.{◌≡◌, ℕ, List, [], ◌++◌, Bool, if◌the
 use Rattle.std.specs.Prelude.{option_map}
 use Rattle.chpw_table.specs.declared.times.Moment.{Moment}
 use Rattle.chpw_table.specs.declared.request.Opened.{Opened}
-use Rattle.chpw_table.specs.declared.outcome.DecideFault.{DecideFault}
+use Rattle.chpw_table.specs.declared.outcome.Refused.{Refused}
 use Rattle.chpw_table.specs.declared.verdict.Verdict.{Verdict}
 use Rattle.chpw_table.specs.declared.key.KeyRow.{KeyRow}
 use Rattle.chpw_table.specs.Requests.{target_of}
@@ -13,7 +13,7 @@ use Rattle.chpw_table.specs.Step.{step}
 use Rattle.chpw_table.specs.History.{IsDecided, missing}
 use Rattle.chpw_table.specs.Journal.{appended, record_bytes}
 use Rattle.chpw_table.specs.Agreement.{Held, Agrees}
-use Rattle.chpw_table.specs.Refusals.{IsFirst}
+use Rattle.chpw_table.specs.Refusals.{IsFirst, AsksPositive, IsRefused}
 use Rattle.chpw_table.proofs.AgreementLemmas.{same_verdict, same_missing, same_new_key, agrees_step}
 
 -- the verdict
@@ -37,5 +37,9 @@ pub told_for_all : (t s : State) (o : Opened) (v : Verdict) (before after : Opti
 told_for_all t s o v before after h a = h ∙ ap (λ (ys : List ℕ). option_map (λ (xs : List ℕ). xs ++ ys) before) (same_appended t s o v a)
 
 -- the first refusal
-pub first_for_all : (t : Held) (s : State) (now : Moment) (o : Opened) (fault : DecideFault) → IsFirst t (missing t.state now o) fault → Agrees t.state s → IsFirst t (missing s now o) fault
-first_for_all t s now o fault h a = subst (λ (counts : List ℕ). IsFirst t counts fault) (same_missing t.state s now o a) h
+pub refused_for_all : (t : Held) (now : Moment) (o : Opened) (r : Refused) → IsFirst t (missing t.state now o) r.fault → AsksPositive r.fault → r.opened ≡ o → IsRefused t now o r
+refused_for_all t now o r first positive same = record {
+  first = λ s a. subst (λ (counts : List ℕ). IsFirst t counts r.fault) (same_missing t.state s now o a) first;
+  positive = positive;
+  opened = same;
+}

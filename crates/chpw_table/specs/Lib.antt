@@ -13,6 +13,7 @@ pub mod Journal
 pub mod Agreement
 pub mod Laws
 pub mod Refusals
+pub mod Outcomes
 pub mod Restoring
 pub mod Lookups
 pub mod Replies

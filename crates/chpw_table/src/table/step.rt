@@ -2,14 +2,11 @@
 ghost use Rattle.std.specs.Prelude.{[], ◌≡◌, ◌||◌, ◌&&◌, ◌+◌, ◌-◌, ◌^◌, ◌<◌, ◌≤◌, ◌++◌, IfOk, IfErr, OnOk, OnErr, if◌then◌else◌, true, false, option_map, length};
 ghost use Rattle.chpw_rules.specs.Limits.{entry_counts};
 ghost use Rattle.chpw_table.specs.declared.verdict.Verdict.TheVariants.{Broken, Done};
-ghost use Rattle.chpw_table.specs.State.{State};
 ghost use Rattle.chpw_table.specs.Verdicts.{is_done};
 ghost use Rattle.chpw_table.specs.Times.{IsMoment};
-ghost use Rattle.chpw_table.specs.Step.{step};
-ghost use Rattle.chpw_table.specs.History.{IsDecided, missing};
 ghost use Rattle.chpw_table.specs.Journal.{appended};
-ghost use Rattle.chpw_table.specs.Agreement.{Agrees};
-ghost use Rattle.chpw_table.specs.Refusals.{IsFirst, AsksPositive};
+ghost use Rattle.chpw_table.specs.Outcomes.{Steps, Writes};
+ghost use Rattle.chpw_table.specs.Refusals.{IsRefused};
 ghost use Rattle.chpw_table.specs.Holding.{are_holders};
 ghost use Rattle.chpw_table.specs.Preparing.{IsReady};
 ghost use Rattle.chpw_table.specs.Entering.{IsEntered, with_append, with_event, with_broken, with_keys_at, with_change_at};
@@ -42,30 +39,13 @@ impl Table {
     ) -> Result<Outcome, Refused>
         requires moment { IsMoment now }
         requires sink { self.old.state.broken ≡ false → S.failed sink.old < 2 ^ 64 - 1 }
-        ensures legal { IfOk result (λ r. (s : State) → Agrees self.old.state s
-            → IsDecided s now opened r.io_failed r.verdict) }
-        ensures step { IfOk result (λ r. (s : State) → Agrees self.old.state s
-            → Agrees self.new.state (step s now opened r.io_failed)) }
-        ensures io { IfOk result (λ r. S.failed sink.new
-            ≡ (if r.io_failed then S.failed sink.old + 1 else S.failed sink.old)) }
-        ensures told { IfOk result (λ r. (s : State) → Agrees self.old.state s
-            → S.told sink.new
-            ≡ option_map (λ xs. xs ++ appended s opened r.verdict) (S.told sink.old)) }
-        ensures opened { IfOk result (λ r. r.opened ≡ opened) }
-        ensures counts { IfOk result (λ r. (self.new.events ≡ self.old.events + 1)
-            × (self.new.seen ≡ (if is_done r.verdict then self.old.seen + 1 else self.old.seen))
-            × (self.new.max_entries ≡ self.old.max_entries)) }
-        ensures room { OnOk result (self.old.events < self.old.max_entries) }
+        ensures steps { IfOk result (λ r. Steps self.old self.new now opened r) }
+        ensures writes { IfOk result (λ r.
+            Writes S.failed S.told self.old.state sink.old sink.new opened r) }
         ensures range { (entry_counts.low ≤ self.old.max_entries)
             × (self.old.max_entries ≤ entry_counts.high) }
-        ensures few { OnOk result (self.new.events < 2 ^ 32) }
-        ensures broken { IfOk result (λ r.
-            self.new.state.broken ≡ (self.old.state.broken || r.io_failed)) }
-        ensures first { IfErr result (λ r. (s : State) → Agrees self.old.state s
-            → IsFirst self.old (missing s now opened) r.fault) }
-        ensures positive { IfErr result (λ r. AsksPositive r.fault) }
-        ensures unchanged { IfErr result (λ r. (self.new ≡ self.old) × (sink.new ≡ sink.old)
-            × (r.opened ≡ opened)) }
+        ensures refused { IfErr result (λ r. IsRefused self.old now opened r) }
+        ensures unchanged { OnErr result ((self.new ≡ self.old) × (sink.new ≡ sink.old)) }
     {
         let prepared = self.prepare(now, opened)?;
         Ok(self.finish(prepared, sink))
@@ -79,23 +59,14 @@ impl Table {
     pub fn finish<S: JournalSink>(&mut self, prepared: Prepared, sink: &mut S) -> Outcome
         requires ready { IsReady self.old prepared }
         requires sink { self.old.state.broken ≡ false → S.failed sink.old < 2 ^ 64 - 1 }
-        ensures legal { (s : State) → Agrees self.old.state s
-            → IsDecided s prepared.moment prepared.opened result.io_failed result.verdict }
-        ensures step { (s : State) → Agrees self.old.state s
-            → Agrees self.new.state (step s prepared.moment prepared.opened result.io_failed) }
-        ensures io { S.failed sink.new
-            ≡ (if result.io_failed then S.failed sink.old + 1 else S.failed sink.old) }
-        ensures told { (s : State) → Agrees self.old.state s → S.told sink.new
-            ≡ option_map (λ xs. xs ++ appended s prepared.opened result.verdict)
-            (S.told sink.old) }
-        ensures opened { result.opened ≡ prepared.opened }
+        ensures steps { Steps self.old self.new prepared.moment prepared.opened result }
+        ensures writes { Writes S.failed S.told self.old.state sink.old sink.new
+            prepared.opened result }
         ensures row { result.verdict
             ≡ (if is_done prepared.row && result.io_failed then Broken else prepared.row) }
-        ensures counts { (self.new.events ≡ self.old.events + 1)
-            × (self.new.seen ≡ (if is_done result.verdict then self.old.seen + 1 else self.old.seen))
-            × (self.new.max_entries ≡ self.old.max_entries) }
-        ensures broken { self.new.state.broken ≡ (self.old.state.broken || result.io_failed) }
     {
+        // A field is read, so that the type's invariant is known here.
+        let _ = &self.principals;
         self.enter(prepared, sink)
     }
 
