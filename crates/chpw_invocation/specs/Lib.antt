@@ -1,3 +1,3 @@
-pub mod Asked
+pub mod Invocations
 pub mod Options
 pub mod Program

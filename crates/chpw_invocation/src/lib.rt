@@ -3,7 +3,9 @@
 #![tactic(auto)]
 
 mod invocation;
+mod matching;
 mod options;
 mod program;
 
-pub use invocation::{ClientOptions, Invocation, ServeOptions, command_of};
+pub use invocation::{ClientOptions, Invocation, ServeOptions};
+pub use matching::command_of;

@@ -12,8 +12,8 @@ use Rattle.chpw_rules.specs.declared.config.KeyBytes.{KeyBytes}
 use Rattle.chpw_rules.specs.declared.config.PrincipalRow.{PrincipalRow}
 use Rattle.chpw_rules.specs.declared.config.ServiceRow.{ServiceRow}
 use Rattle.chpw_rules.specs.declared.fault.Part.TheVariants.{Service, ServiceKey, Policy as PolicyPart, Rule as RulePart, Principal, PrincipalKey}
-use Rattle.chpw_rules.specs.declared.fault.Place.{Place}
-use Rattle.chpw_rules.specs.Faults.{UnlessMemory, place, placed}
+use Rattle.chpw_rules.specs.declared.fault.Location.{Location}
+use Rattle.chpw_rules.specs.Faults.{UnlessMemory, location, placed}
 use Rattle.chpw_rules.specs.declared.fault.ConfigError.{ConfigError}
 use Rattle.chpw_rules.specs.Fitting.{are_distinct, config_fits, is_same_principal, is_same_service_key, key_fits, kvnos_descend, policy_fits, principal_fits, principals_fit, rule_fits, rules_fit, service_fits, service_key_fits}
 use Rattle.chpw_rules.specs.Kinds.{a_flag, a_hex_key, a_list, a_name, a_number, a_table, a_target, a_text, item_count, optional}
@@ -36,7 +36,7 @@ service_key kvno etype key = record { kvno = kvno; etype = pos etype; key = key 
 service_row_fits : (before : List ServiceRow) (value : Data)
     → Gives (service_row before value) (λ row. (service_key_fits row ≡ true) × (list_any (is_same_service_key row) before ≡ false))
 service_row_fits before value =
-    let at = place ServiceKey (length before) in
+    let at = location ServiceKey (length before) in
     gives_then (placed at (a_table value)) _ (gives_any _) (λ members _.
     gives_key at (codes "kvno") (a_number kvnos) members _ (gives_number kvnos) (λ kvno in_kvnos.
     gives_key at (codes "etype") (a_number etypes) members _ (gives_number etypes) (λ etype in_etypes.
@@ -45,7 +45,7 @@ service_row_fits before value =
 
 policy_of_fits : (members : Members) → Gives (policy_of members) (λ policy. policy_fits policy ≡ true)
 policy_of_fits members =
-    let at = place PolicyPart 0 in
+    let at = location PolicyPart 0 in
     gives_key at (codes "min_length") (a_number min_lengths) members _ (gives_number min_lengths) (λ min_length in_lengths.
     gives_key at (codes "min_classes") (a_number min_class_counts) members _ (gives_number min_class_counts) (λ min_classes in_classes.
     gives_key at (codes "depth") (a_number depths) members _ (gives_number depths) (λ depth in_depths.
@@ -55,13 +55,13 @@ policy_of_fits members =
 
 rule_row_fits : (before : List Rule) (value : Data) → Gives (rule_row before value) (λ rule. rule_fits rule ≡ true)
 rule_row_fits before value =
-    let at = place RulePart (length before) in
+    let at = location RulePart (length before) in
     gives_then (placed at (a_table value)) _ (gives_any _) (λ members _.
     gives_key at (codes "actor") a_name members _ gives_name (λ actor actor_fits.
     gives_key at (codes "target") a_target members _ gives_target (λ target fits.
     gives_ok (λ rule. rule_fits rule ≡ true) _ (rw (actor_fits, fits)))))
 
-key_row_fits : (at : Place) (before : List KeyBytes) (value : Data)
+key_row_fits : (at : Location) (before : List KeyBytes) (value : Data)
     → Gives (key_row at before value) (λ key. (key_fits key ≡ true) × (comes_after before key.kvno ≡ true))
 key_row_fits at before value =
     gives_then (placed at (a_table value)) _ (gives_any _) (λ members _.
@@ -73,7 +73,7 @@ key_row_fits at before value =
     gives_ok (λ key. (key_fits key ≡ true) × (comes_after before key.kvno ≡ true)) _ (rw (in_kvnos, in_counts), after)))))))
 
 -- the keys of a principal
-keys_fit : (at : Place) (items : Items) → is_in key_counts (item_count items) ≡ true
+keys_fit : (at : Location) (items : Items) → is_in key_counts (item_count items) ≡ true
     → Gives (walk (key_row at) [] items) (λ keys. (is_in key_counts (length keys) ≡ true) × (list_all key_fits keys ≡ true) × (kvnos_descend keys ≡ true))
 keys_fit at items in_counts =
     let all : Gives (walk (key_row at) [] items) (λ keys. (list_all key_fits keys ≡ true) × (kvnos_descend keys ≡ true))
@@ -95,8 +95,8 @@ row_of name keys = record { name = name; keys = keys }
 principal_row_fits : (before : List PrincipalRow) (value : Data)
     → Gives (principal_row before value) (λ row. (principal_fits row ≡ true) × (list_any (is_same_name row.name) (names_of before) ≡ false))
 principal_row_fits before value =
-    let at = place Principal (length before) in
-    let keys_at = place PrincipalKey (length before) in
+    let at = location Principal (length before) in
+    let keys_at = location PrincipalKey (length before) in
     gives_then (placed at (a_table value)) _ (gives_any _) (λ members _.
     gives_key at (codes "name") a_name members _ gives_name (λ spelled name_fits.
     gives_then {Q = λ name. (is_name name ≡ true) × (list_any (is_same_name name) (names_of before) ≡ false)} (once at is_same_name (names_of before) spelled) _
@@ -181,20 +181,20 @@ config_of realm max_entries service policy rules principals = record {
 
 pub settings_fit : (file : Members) → Gives (settings file) Served
 settings_fit file =
-    let at = place Service 0 in
+    let at = location Service 0 in
     gives_key at (codes "service") a_table file _ (λ v. gives_any (a_table v)) (λ service _.
     gives_key at (codes "realm") (a_text realm_lengths) service _ (gives_text realm_lengths) (λ realm in_lengths.
     gives_then (optional at (codes "max_entries") (a_number entry_counts) entry_counts.high service) _
     (gives_optional {P = λ n. is_in entry_counts n ≡ true} at (codes "max_entries") (a_number entry_counts) entry_counts.high service refl (gives_number entry_counts)) (λ max_entries in_entries.
-    gives_key (place ServiceKey 0) (codes "key") (a_list service_key_counts) service _ (gives_list service_key_counts) (λ key_items in_counts.
+    gives_key (location ServiceKey 0) (codes "key") (a_list service_key_counts) service _ (gives_list service_key_counts) (λ key_items in_counts.
     gives_then (walk service_row [] key_items) _ (service_keys_fit key_items in_counts) (λ service_keys served.
-    gives_key (place PolicyPart 0) (codes "policy") a_table file _ (λ v. gives_any (a_table v)) (λ policy_table _.
+    gives_key (location PolicyPart 0) (codes "policy") a_table file _ (λ v. gives_any (a_table v)) (λ policy_table _.
     gives_then (policy_of policy_table) _ (policy_of_fits policy_table) (λ policy policy_fit.
-    gives_then (optional (place RulePart 0) (codes "rule") (a_list rule_counts) no_items file) _
-    (gives_optional {P = λ items. is_in rule_counts (item_count items) ≡ true} (place RulePart 0) (codes "rule") (a_list rule_counts) no_items file refl (gives_list rule_counts)) (λ rule_items in_rules.
+    gives_then (optional (location RulePart 0) (codes "rule") (a_list rule_counts) no_items file) _
+    (gives_optional {P = λ items. is_in rule_counts (item_count items) ≡ true} (location RulePart 0) (codes "rule") (a_list rule_counts) no_items file refl (gives_list rule_counts)) (λ rule_items in_rules.
     gives_then (walk rule_row [] rule_items) _ (rules_fit_all rule_items in_rules) (λ rules rules_ok.
-    gives_then (optional (place Principal 0) (codes "principal") (a_list principal_counts) no_items file) _
-    (gives_optional {P = λ items. is_in principal_counts (item_count items) ≡ true} (place Principal 0) (codes "principal") (a_list principal_counts) no_items file refl (gives_list principal_counts)) (λ principal_items in_principals.
+    gives_then (optional (location Principal 0) (codes "principal") (a_list principal_counts) no_items file) _
+    (gives_optional {P = λ items. is_in principal_counts (item_count items) ≡ true} (location Principal 0) (codes "principal") (a_list principal_counts) no_items file refl (gives_list principal_counts)) (λ principal_items in_principals.
     gives_then (walk principal_row [] principal_items) _ (principals_fit_all principal_items in_principals) (λ principals principals_ok.
     gives_ok Served (config_of realm max_entries service_keys policy rules principals)
     (rw (in_lengths, in_entries, served.1, policy_fit, rules_ok, principals_ok), served.0))))))))))))

@@ -6,10 +6,10 @@ use Rattle.std.specs.Str.{bytes_eq}
 use Rattle.std.proofs.lemmas.Bool.{cases_Bool}
 use Rattle.hex.specs.Hex.{decode_of}
 use Rattle.toml.specs.Data.{Data, Items, no_items, item, Members, get_member, as_integer, as_str, as_array}
-use Rattle.chpw_rules.specs.declared.fault.FaultKind.{FaultKind}
-use Rattle.chpw_rules.specs.declared.fault.FaultKind.TheVariants.{MissingKey, OutOfRange}
+use Rattle.chpw_rules.specs.declared.fault.ConfigFaultKind.{ConfigFaultKind}
+use Rattle.chpw_rules.specs.declared.fault.ConfigFaultKind.TheVariants.{MissingKey, OutOfRange}
 use Rattle.chpw_rules.specs.declared.fault.ConfigFault.{ConfigFault}
-use Rattle.chpw_rules.specs.declared.fault.Place.{Place}
+use Rattle.chpw_rules.specs.declared.fault.Location.{Location}
 use Rattle.chpw_rules.specs.declared.limits.Limits.{Limits}
 use Rattle.chpw_rules.specs.Faults.{◌>>=◌, fault_at, placed}
 use Rattle.chpw_rules.specs.Kinds.{of_kind, within, whole_number, a_number, a_text, a_list, a_name, a_target, a_hex_key, spelled_name, spelled_target, decoded, if_present, required, optional, item_count}
@@ -37,12 +37,12 @@ gives_then (Err e) f q next = gives_err _ e
 pub gives_any : {A E : Type 0} (r : Result A E) → Gives r (λ _. Unit {0})
 gives_any r = record { at = λ _ _. tt }
 
-pub gives_placed : {A : Type 0} {P : A → Type 0} (at : Place) (r : Result A FaultKind) → Gives r P → Gives (placed at r) P
+pub gives_placed : {A : Type 0} {P : A → Type 0} (at : Location) (r : Result A ConfigFaultKind) → Gives r P → Gives (placed at r) P
 gives_placed {P = P} at (Ok a) p = gives_ok P a (p.at a refl)
 gives_placed {P = P} at (Err kind) p = gives_err P _
 
 -- a key that has to be there
-pub gives_required : {A : Type 0} {P : A → Type 0} (at : Place) (key : List ℕ) (kind : Data → Result A FaultKind) (members : Members)
+pub gives_required : {A : Type 0} {P : A → Type 0} (at : Location) (key : List ℕ) (kind : Data → Result A ConfigFaultKind) (members : Members)
     → ((value : Data) → Gives (kind value) P) → Gives (required at key kind members) P
 gives_required {P = P} at key kind members each =
     elim (get_member key members) as (λ found. Gives (ok_or found (fault_at at MissingKey) >>= (λ v. placed at (kind v))) P) [
@@ -51,14 +51,14 @@ gives_required {P = P} at key kind members each =
     ]
 
 -- a key that has to be there, and the steps after it
-pub gives_key : {A B : Type 0} {Q : A → Type 0} {P : B → Type 0} (at : Place) (key : List ℕ) (kind : Data → Result A FaultKind)
+pub gives_key : {A B : Type 0} {Q : A → Type 0} {P : B → Type 0} (at : Location) (key : List ℕ) (kind : Data → Result A ConfigFaultKind)
     (members : Members) (next : A → Result B ConfigFault) → ((value : Data) → Gives (kind value) Q)
     → ((a : A) → Q a → Gives (next a) P) → Gives (required at key kind members >>= next) P
 gives_key at key kind members next each after =
     gives_then (required at key kind members) next (gives_required at key kind members each) after
 
 -- a key that may be left out
-pub gives_optional : {A : Type 0} {P : A → Type 0} (at : Place) (key : List ℕ) (kind : Data → Result A FaultKind) (default : A) (members : Members)
+pub gives_optional : {A : Type 0} {P : A → Type 0} (at : Location) (key : List ℕ) (kind : Data → Result A ConfigFaultKind) (default : A) (members : Members)
     → P default → ((value : Data) → Gives (kind value) P) → Gives (optional at key kind default members) P
 gives_optional {P = P} at key kind default members d each =
     elim (get_member key members) as (λ found. Gives (if_present at kind default found) P) [
@@ -66,7 +66,7 @@ gives_optional {P = P} at key kind default members d each =
       | Some v ↦ gives_placed at (kind v) (each v)
     ]
 
-pub gives_of_kind : {B A : Type 0} {P : A → Type 0} (o : Option B) (read : B → Result A FaultKind)
+pub gives_of_kind : {B A : Type 0} {P : A → Type 0} (o : Option B) (read : B → Result A ConfigFaultKind)
     → ((b : B) → Gives (read b) P) → Gives (of_kind o read) P
 gives_of_kind {P = P} None read each = gives_err P _
 gives_of_kind (Some b) read each = each b
@@ -122,7 +122,7 @@ gives_hex_key size value = gives_of_kind (as_str value) (λ text. decoded size (
 -- ---- lists
 
 -- an element that is the same as none before it
-pub gives_once : {A : Type 0} {P : A → Type 0} (at : Place) (same : A → A → Bool) (before : List A) (a : A)
+pub gives_once : {A : Type 0} {P : A → Type 0} (at : Location) (same : A → A → Bool) (before : List A) (a : A)
     → (list_any (same a) before ≡ false → P a) → Gives (once at same before a) P
 gives_once {P = P} at same before a new =
     elim (cases_Bool (list_any (same a) before)) [

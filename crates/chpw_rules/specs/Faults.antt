@@ -2,11 +2,11 @@
 -- answers.
 use Rattle.std.specs.Prelude.{◌≡◌, ℕ, List, ◌++◌, Result, Ok, Err, codes}
 use Rattle.std.specs.Fmt.{decimal}
-use Rattle.chpw_rules.specs.declared.fault.FaultKind.{FaultKind}
+use Rattle.chpw_rules.specs.declared.fault.ConfigFaultKind.{ConfigFaultKind}
 use Rattle.chpw_rules.specs.declared.fault.Part.{Part}
-use Rattle.chpw_rules.specs.declared.fault.FaultKind.TheVariants.{NotToml, MissingKey, WrongKind, OutOfRange, BadHex, Duplicate}
+use Rattle.chpw_rules.specs.declared.fault.ConfigFaultKind.TheVariants.{NotToml, MissingKey, WrongKind, OutOfRange, BadHex, Duplicate}
 use Rattle.chpw_rules.specs.declared.fault.Part.TheVariants.{File, Service, ServiceKey, Policy, Rule, Principal, PrincipalKey}
-use Rattle.chpw_rules.specs.declared.fault.Place.{Place}
+use Rattle.chpw_rules.specs.declared.fault.Location.{Location}
 use Rattle.chpw_rules.specs.declared.fault.ConfigFault.{ConfigFault}
 use Rattle.chpw_rules.specs.declared.fault.ConfigError.{ConfigError}
 use Rattle.chpw_rules.specs.declared.fault.ConfigError.TheVariants.{Fault, Memory}
@@ -18,18 +18,18 @@ Ok a >>= next = next a
 Err fault >>= next = Err fault
 
 -- a part of the file, and an index in its list
-abbrev pub place : Part → ℕ → Place
-place part index = record { part = part; index = index }
+abbrev pub location : Part → ℕ → Location
+location part index = record { part = part; index = index }
 
-abbrev pub fault_at : Place → FaultKind → ConfigFault
+abbrev pub fault_at : Location → ConfigFaultKind → ConfigFault
 fault_at at kind = record { kind = kind; part = at.part; index = at.index }
 
 -- the fault of a file that isn't TOML, or isn't UTF-8
 abbrev pub no_toml : ConfigFault
-no_toml = fault_at (place File 0) NotToml
+no_toml = fault_at (location File 0) NotToml
 
 -- a value, or the kind of its fault, at its place
-abbrev pub placed : {A : Type 0} → Place → Result A FaultKind → Result A ConfigFault
+abbrev pub placed : {A : Type 0} → Location → Result A ConfigFaultKind → Result A ConfigFault
 placed at (Ok a) = Ok a
 placed at (Err kind) = Err (fault_at at kind)
 
@@ -40,7 +40,7 @@ UnlessMemory (Err (Fault fault)) defined = defined ≡ Err fault
 UnlessMemory (Err Memory) defined = Unit {0}
 
 -- what the program prints of a kind, of a part, and of a fault
-abbrev pub kind_text : FaultKind → List ℕ
+abbrev pub kind_text : ConfigFaultKind → List ℕ
 kind_text NotToml = codes "C1"
 kind_text MissingKey = codes "C2"
 kind_text WrongKind = codes "C3"

@@ -9,11 +9,11 @@ use Rattle.chpw_rules.specs.declared.rules.Rule.{Rule}
 use Rattle.chpw_rules.specs.declared.config.KeyBytes.{KeyBytes}
 use Rattle.chpw_rules.specs.declared.config.PrincipalRow.{PrincipalRow}
 use Rattle.chpw_rules.specs.declared.config.ServiceRow.{ServiceRow}
-use Rattle.chpw_rules.specs.declared.fault.FaultKind.TheVariants.{OutOfRange, Duplicate}
+use Rattle.chpw_rules.specs.declared.fault.ConfigFaultKind.TheVariants.{OutOfRange, Duplicate}
 use Rattle.chpw_rules.specs.declared.fault.Part.TheVariants.{ServiceKey, Policy as PolicyPart, Rule as RulePart, Principal, PrincipalKey}
 use Rattle.chpw_rules.specs.declared.fault.ConfigFault.{ConfigFault}
-use Rattle.chpw_rules.specs.declared.fault.Place.{Place}
-use Rattle.chpw_rules.specs.Faults.{place, fault_at, placed, ◌>>=◌}
+use Rattle.chpw_rules.specs.declared.fault.Location.{Location}
+use Rattle.chpw_rules.specs.Faults.{location, fault_at, placed, ◌>>=◌}
 use Rattle.chpw_rules.specs.Fitting.{is_same_service_key}
 use Rattle.chpw_rules.specs.Names.{is_same_name}
 use Rattle.chpw_rules.specs.Kinds.{a_number, a_flag, a_name, a_target, a_hex_key, a_table, a_list, required}
@@ -27,13 +27,13 @@ walk read before (item value items) =
     read before value >>= (λ a. walk read (before ++ a ∷ []) items)
 
 -- an element that is the same as none before it
-abbrev pub once : {A : Type 0} → Place → (A → A → Bool) → List A → A → Result A ConfigFault
+abbrev pub once : {A : Type 0} → Location → (A → A → Bool) → List A → A → Result A ConfigFault
 once at same before a = if list_any (same a) before then Err (fault_at at Duplicate) else Ok a
 
 -- [[service.key]]: a service key
 abbrev pub service_row : List ServiceRow → Data → Result ServiceRow ConfigFault
 service_row before value = do
-  let at = place ServiceKey (length before)
+  let at = location ServiceKey (length before)
   members ← placed at (a_table value)
   kvno ← required at (codes "kvno") (a_number kvnos) members
   etype ← required at (codes "etype") (a_number etypes) members
@@ -43,7 +43,7 @@ service_row before value = do
 -- [policy]
 abbrev pub policy_of : Members → Result Policy ConfigFault
 policy_of members = do
-  let at = place PolicyPart 0
+  let at = location PolicyPart 0
   min_length ← required at (codes "min_length") (a_number min_lengths) members
   min_classes ← required at (codes "min_classes") (a_number min_class_counts) members
   depth ← required at (codes "depth") (a_number depths) members
@@ -60,7 +60,7 @@ policy_of members = do
 -- [[rule]]
 abbrev pub rule_row : List Rule → Data → Result Rule ConfigFault
 rule_row before value = do
-  let at = place RulePart (length before)
+  let at = location RulePart (length before)
   members ← placed at (a_table value)
   actor ← required at (codes "actor") a_name members
   target ← required at (codes "target") a_target members
@@ -72,12 +72,12 @@ comes_after [] kvno = true
 comes_after (newer ∷ []) kvno = kvno + 1 == newer.kvno
 comes_after (_ ∷ newer ∷ keys) kvno = comes_after (newer ∷ keys) kvno
 
-abbrev pub step_down : Place → List KeyBytes → ℕ → Result ℕ ConfigFault
+abbrev pub step_down : Location → List KeyBytes → ℕ → Result ℕ ConfigFault
 step_down at before kvno =
     if comes_after before kvno then Ok kvno else Err (fault_at at OutOfRange)
 
 -- [[principal.key]]: a key of the principal at this place
-abbrev pub key_row : Place → List KeyBytes → Data → Result KeyBytes ConfigFault
+abbrev pub key_row : Location → List KeyBytes → Data → Result KeyBytes ConfigFault
 key_row at before value = do
   members ← placed at (a_table value)
   kvno ← required at (codes "kvno") (a_number kvnos) members
@@ -93,8 +93,8 @@ names_of rows = map (λ row. row.name) rows
 -- [[principal]]: a principal, its name that of none before it, followed by its keys
 abbrev pub principal_row : List PrincipalRow → Data → Result PrincipalRow ConfigFault
 principal_row before value = do
-  let at = place Principal (length before)
-  let keys_at = place PrincipalKey (length before)
+  let at = location Principal (length before)
+  let keys_at = location PrincipalKey (length before)
   members ← placed at (a_table value)
   spelled ← required at (codes "name") a_name members
   name ← once at is_same_name (names_of before) spelled

@@ -6,7 +6,7 @@ use Rattle.toml.specs.Parse.{parse_document}
 use Rattle.chpw_rules.specs.declared.config.Config.{Config}
 use Rattle.chpw_rules.specs.declared.fault.Part.TheVariants.{Service, ServiceKey, Policy as PolicyPart, Rule as RulePart, Principal}
 use Rattle.chpw_rules.specs.declared.fault.ConfigFault.{ConfigFault}
-use Rattle.chpw_rules.specs.Faults.{place, no_toml, ◌>>=◌}
+use Rattle.chpw_rules.specs.Faults.{location, no_toml, ◌>>=◌}
 use Rattle.chpw_rules.specs.Kinds.{a_number, a_text, a_table, a_list, required, optional}
 use Rattle.chpw_rules.specs.Limits.{realm_lengths, entry_counts, service_key_counts, rule_counts, principal_counts}
 use Rattle.chpw_rules.specs.Rows.{policy_of, principal_row, rule_row, service_row, walk}
@@ -14,18 +14,18 @@ use Rattle.chpw_rules.specs.Rows.{policy_of, principal_row, rule_row, service_ro
 -- the whole file
 abbrev pub settings : Members → Result Config ConfigFault
 settings file = do
-  let at = place Service 0
+  let at = location Service 0
   service ← required at (codes "service") a_table file
   realm ← required at (codes "realm") (a_text realm_lengths) service
   max_entries ← optional at (codes "max_entries") (a_number entry_counts) entry_counts.high service
-  key_items ← required (place ServiceKey 0) (codes "key") (a_list service_key_counts) service
+  key_items ← required (location ServiceKey 0) (codes "key") (a_list service_key_counts) service
   service_keys ← walk service_row [] key_items
-  policy_table ← required (place PolicyPart 0) (codes "policy") a_table file
+  policy_table ← required (location PolicyPart 0) (codes "policy") a_table file
   policy ← policy_of policy_table
-  let rules_at = place RulePart 0
+  let rules_at = location RulePart 0
   rule_items ← optional rules_at (codes "rule") (a_list rule_counts) no_items file
   rules ← walk rule_row [] rule_items
-  let people_at = place Principal 0
+  let people_at = location Principal 0
   principal_items ← optional people_at (codes "principal") (a_list principal_counts) no_items file
   principals ← walk principal_row [] principal_items
   Ok (record {

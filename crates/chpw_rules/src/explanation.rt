@@ -1,6 +1,6 @@
 //! What is wrong with a configuration, in words for a person: the part by its place and its name,
 //! the key, and what it must be.
-use crate::fault::{ConfigError, ConfigFault, FaultKind, Part, Place};
+use crate::fault::{ConfigError, ConfigFault, ConfigFaultKind, Location, Part};
 use crate::limits::{
     AES128_LENGTH, AES256_LENGTH, COMPONENT_COUNTS, COMPONENT_LENGTHS, DEFAULT_ENTRIES, DEPTHS,
     ENTRY_COUNTS, ETYPES, ITERATION_COUNTS, KEY_COUNTS, KVNOS, Limits, MIN_CLASS_COUNTS,
@@ -259,15 +259,15 @@ fn keys_fault(alloc: Global, table: &Table, keys: &[Key]) -> Result<Option<Strin
 
 // The length that a key of the table's encryption type has.
 fn aes_key_length(table: &Table) -> usize {
-    match Place::of(Part::ServiceKey, 0).number(table, "etype", ETYPES) {
+    match Location::of(Part::ServiceKey, 0).number(table, "etype", ETYPES) {
         Ok(etype) => key_length(etype),
         Err(_) => AES256_LENGTH,
     }
 }
 
 // The fault of a key, as the configuration's reader finds it.
-fn fault_of(alloc: Global, table: &Table, key: Key) -> Result<Option<FaultKind>, AllocError> {
-    let at = Place::of(Part::File, 0);
+fn fault_of(alloc: Global, table: &Table, key: Key) -> Result<Option<ConfigFaultKind>, AllocError> {
+    let at = Location::of(Part::File, 0);
     let (name, holds) = key;
     let read = match holds {
         Holds::Number(limits) => at
@@ -296,15 +296,20 @@ fn fault_of(alloc: Global, table: &Table, key: Key) -> Result<Option<FaultKind>,
 }
 
 // What is wrong with a key, and what it must be.
-fn sentence(alloc: Global, table: &Table, key: Key, kind: FaultKind) -> Result<String, AllocError> {
+fn sentence(
+    alloc: Global,
+    table: &Table,
+    key: Key,
+    kind: ConfigFaultKind,
+) -> Result<String, AllocError> {
     let (name, holds) = key;
     match kind {
-        FaultKind::MissingKey => format!(in alloc; "{name} is missing"),
-        FaultKind::WrongKind => {
+        ConfigFaultKind::MissingKey => format!(in alloc; "{name} is missing"),
+        ConfigFaultKind::WrongKind => {
             let noun = kind_text(holds);
             format!(in alloc; "{name} must be {noun}")
         }
-        FaultKind::BadHex => {
+        ConfigFaultKind::BadHex => {
             format!(in alloc; "{name} must be hexadecimal digits, two for each byte")
         }
         _ => {

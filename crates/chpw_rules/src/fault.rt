@@ -8,7 +8,7 @@ use thiserror::Error;
 /// What is wrong. Of one key, `MissingKey`, `WrongKind`, `BadHex` and `OutOfRange` are looked for
 /// in this order. A kind is displayed as its code, `C1` to `C6`.
 #[derive(Clone, Copy, Debug, Drop)]
-pub enum FaultKind {
+pub enum ConfigFaultKind {
     /// The file isn't TOML.
     NotToml,
     /// A key is missing.
@@ -46,13 +46,13 @@ pub enum Part {
 /// The first fault of a configuration, displayed as `C4 policy 0`.
 #[derive(Clone, Copy, Debug, Drop, Error)]
 pub struct ConfigFault {
-    pub kind: FaultKind,
+    pub kind: ConfigFaultKind,
     pub part: Part,
     /// The place in the part's list, from 0. For a principal's key it is the principal's.
     pub index: usize,
 }
 
-impl FaultKind {
+impl ConfigFaultKind {
     ghost use Rattle.chpw_rules.specs.Faults.{kind_text};
 
     /// The letter and number that the program prints.
@@ -60,12 +60,12 @@ impl FaultKind {
         ensures value { result.now ≡ kind_text self }
     {
         match self {
-            FaultKind::NotToml => "C1",
-            FaultKind::MissingKey => "C2",
-            FaultKind::WrongKind => "C3",
-            FaultKind::OutOfRange => "C4",
-            FaultKind::BadHex => "C5",
-            FaultKind::Duplicate => "C6",
+            ConfigFaultKind::NotToml => "C1",
+            ConfigFaultKind::MissingKey => "C2",
+            ConfigFaultKind::WrongKind => "C3",
+            ConfigFaultKind::OutOfRange => "C4",
+            ConfigFaultKind::BadHex => "C5",
+            ConfigFaultKind::Duplicate => "C6",
         }
     }
 }
@@ -96,11 +96,11 @@ impl ConfigFault {
     pub fn not_toml() -> ConfigFault
         ensures value { result ≡ no_toml }
     {
-        Place::of(Part::File, 0).fault(FaultKind::NotToml)
+        Location::of(Part::File, 0).fault(ConfigFaultKind::NotToml)
     }
 }
 
-impl fmt::Display for FaultKind {
+impl fmt::Display for ConfigFaultKind {
     ghost use Rattle.std.specs.Prelude.{Some};
     ghost use Rattle.chpw_rules.specs.Faults.{kind_text};
 
@@ -135,21 +135,21 @@ impl fmt::Display for ConfigFault {
 
 /// Where a fault is found, and where the keys of a table are read (`keys`).
 #[derive(Clone, Copy, Drop)]
-pub struct Place {
+pub struct Location {
     pub part: Part,
     pub index: usize,
 }
 
-impl Place {
-    ghost use Rattle.chpw_rules.specs.Faults.{fault_at, place};
+impl Location {
+    ghost use Rattle.chpw_rules.specs.Faults.{fault_at, location};
 
-    pub fn of(part: Part, index: usize) -> Place
-        ensures value { result ≡ place part index }
+    pub fn of(part: Part, index: usize) -> Location
+        ensures value { result ≡ location part index }
     {
-        Place { part, index }
+        Location { part, index }
     }
 
-    pub fn fault(self, kind: FaultKind) -> ConfigFault
+    pub fn fault(self, kind: ConfigFaultKind) -> ConfigFault
         ensures value { result ≡ fault_at self kind }
     {
         ConfigFault {

@@ -7,7 +7,7 @@ ghost use Rattle.chpw_rules.specs.Faults.{UnlessMemory, placed};
 ghost use Rattle.chpw_rules.specs.Names.{name_of};
 ghost use Rattle.chpw_rules.specs.Kinds.{a_flag, a_hex_key, a_list, a_name, a_number, a_table, a_target, a_text, any_text, optional, present, required};
 
-use crate::fault::{ConfigError, ConfigFault, FaultKind, Place};
+use crate::fault::{ConfigError, ConfigFault, ConfigFaultKind, Location};
 use crate::kinds::{a_flag, a_list, a_number, a_table, a_text};
 use crate::limits::Limits;
 use crate::name::Name;
@@ -30,7 +30,7 @@ fn get<'a>(table: &'a Table, key: &str) -> Option<&'a Value>
     table.get(key)
 }
 
-impl Place {
+impl Location {
     // The value of a key that has to be there.
     fn present<'a>(self, table: &'a Table, key: &str) -> Result<&'a Value, ConfigFault>
         ensures value { MatchResult result
@@ -38,7 +38,7 @@ impl Place {
             (λ fault. present self key.now (table_view table.now) ≡ Err fault) }
     {
         match get(table, key) {
-            None => Err(self.fault(FaultKind::MissingKey)),
+            None => Err(self.fault(ConfigFaultKind::MissingKey)),
             Some(value) => Ok(value),
         }
     }
@@ -50,7 +50,7 @@ impl Place {
             (λ fault. required self key.now any_text (table_view table.now) ≡ Err fault) }
     {
         let value = self.present(table, key)?;
-        value.as_str().ok_or(self.fault(FaultKind::WrongKind))
+        value.as_str().ok_or(self.fault(ConfigFaultKind::WrongKind))
     }
 
     /// A whole number within the limits.
@@ -95,7 +95,7 @@ impl Place {
         let text = self.any_text(table, key)?;
         match Name::parse(alloc, text)? {
             Some(name) => Ok(Named { name, text }),
-            None => Err(ConfigError::Fault(self.fault(FaultKind::OutOfRange))),
+            None => Err(ConfigError::Fault(self.fault(ConfigFaultKind::OutOfRange))),
         }
     }
 
@@ -115,7 +115,7 @@ impl Place {
         }
         match Name::parse(alloc, text)? {
             Some(name) => Ok(Some(name)),
-            None => Err(ConfigError::Fault(self.fault(FaultKind::OutOfRange))),
+            None => Err(ConfigError::Fault(self.fault(ConfigFaultKind::OutOfRange))),
         }
     }
 
@@ -149,9 +149,9 @@ impl Place {
         let text = self.any_text(table, key)?;
         match hex::decode(alloc, text) {
             Ok(key) if key.len() == size => Ok(key),
-            Ok(_) => Err(ConfigError::Fault(self.fault(FaultKind::OutOfRange))),
+            Ok(_) => Err(ConfigError::Fault(self.fault(ConfigFaultKind::OutOfRange))),
             Err(FromHexError::OutOfMemory) => Err(ConfigError::Memory),
-            Err(_) => Err(ConfigError::Fault(self.fault(FaultKind::BadHex))),
+            Err(_) => Err(ConfigError::Fault(self.fault(ConfigFaultKind::BadHex))),
         }
     }
 

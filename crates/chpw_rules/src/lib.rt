@@ -18,7 +18,7 @@ mod seen;
 
 pub use config::{Config, KeyBytes, PrincipalRow, ServiceRow};
 pub use explanation::explain;
-pub use fault::{ConfigError, ConfigFault, FaultKind, Part};
+pub use fault::{ConfigError, ConfigFault, ConfigFaultKind, Part};
 pub use items::Items;
 pub use limits::{
     AES128_LENGTH, AES256_LENGTH, COMPONENT_COUNTS, COMPONENT_LENGTHS, DEFAULT_ENTRIES, DEPTHS,

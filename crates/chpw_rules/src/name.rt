@@ -1,5 +1,5 @@
 //! Principal names.
-ghost use Rattle.std.specs.Prelude.{◌≡◌, map, IfOk, IfSome};
+ghost use Rattle.std.specs.Prelude.{◌≡◌, map, true, IfOk, IfSome};
 ghost use Rattle.std.specs.List.{join_with_byte};
 ghost use Rattle.chpw_rules.specs.Names.{is_component, is_name, is_same_name, name_of, parts_of};
 
@@ -20,6 +20,7 @@ impl Name {
         ensures value { IfOk result (λ found. found ≡ name_of text.now) }
         ensures whole { IfOk result (λ found.
             IfSome found (λ name. join_with_byte 47 name.parts ≡ text.now)) }
+        ensures fits { IfOk result (λ found. IfSome found (λ name. is_name name ≡ true)) }
     {
         let parts = pieces(alloc, text)?;
         let parts = copies(alloc, parts.as_slice())?;

@@ -9,7 +9,7 @@ ghost use Rattle.chpw_rules.specs.Rows.{comes_after, key_row, names_of, policy_o
 ghost use Rattle.chpw_rules.specs.Settings.{settings, settings_of};
 
 use crate::config::{Config, KeyBytes, PrincipalRow, ServiceRow};
-use crate::fault::{ConfigError, ConfigFault, FaultKind, Part, Place};
+use crate::fault::{ConfigError, ConfigFault, ConfigFaultKind, Location, Part};
 use crate::fitting::stands_in;
 use crate::items::Items;
 use crate::kinds::a_table;
@@ -28,7 +28,7 @@ use toml::{Table, Value};
 fn read_policy(table: &Table) -> Result<Policy, ConfigFault>
     ensures value { result ≡ policy_of (table_view table.now) }
 {
-    let at = Place::of(Part::Policy, 0);
+    let at = Location::of(Part::Policy, 0);
     Ok(Policy {
         min_length: at.number(table, "min_length", MIN_LENGTHS)? as u32,
         min_classes: at.number(table, "min_classes", MIN_CLASS_COUNTS)? as u8,
@@ -45,7 +45,7 @@ fn read_service_key(
 ) -> Result<ServiceRow, ConfigError>
     ensures value { UnlessMemory result (service_row before.now (view value.now)) }
 {
-    let at = Place::of(Part::ServiceKey, before.len());
+    let at = Location::of(Part::ServiceKey, before.len());
     let table = a_table(value).map_err(|kind| at.fault(kind))?;
     let kvno = at.number(table, "kvno", KVNOS)?;
     let etype = at.number(table, "etype", ETYPES)?;
@@ -56,7 +56,7 @@ fn read_service_key(
         key: Items::of(key),
     };
     if stands_in(&row, before) {
-        return Err(ConfigError::Fault(at.fault(FaultKind::Duplicate)));
+        return Err(ConfigError::Fault(at.fault(ConfigFaultKind::Duplicate)));
     }
     Ok(row)
 }
@@ -76,7 +76,7 @@ fn read_service_keys(alloc: Global, list: &[Value]) -> Result<Vec<ServiceRow>, C
 fn read_rule(alloc: Global, before: &[Rule], value: &Value) -> Result<Rule, ConfigError>
     ensures value { UnlessMemory result (rule_row before.now (view value.now)) }
 {
-    let at = Place::of(Part::Rule, before.len());
+    let at = Location::of(Part::Rule, before.len());
     let table = a_table(value).map_err(|kind| at.fault(kind))?;
     let actor = at.name(alloc, table, "actor")?.name;
     let target = at.target(alloc, table, "target")?;
@@ -107,7 +107,7 @@ fn comes_after(before: &[KeyBytes], kvno: u32) -> bool
 
 fn read_key(
     alloc: Global,
-    at: Place,
+    at: Location,
     before: &[KeyBytes],
     value: &Value,
 ) -> Result<KeyBytes, ConfigError>
@@ -116,7 +116,7 @@ fn read_key(
     let table = a_table(value).map_err(|kind| at.fault(kind))?;
     let kvno = at.number(table, "kvno", KVNOS)? as u32;
     if !comes_after(before, kvno) {
-        return Err(ConfigError::Fault(at.fault(FaultKind::OutOfRange)));
+        return Err(ConfigError::Fault(at.fault(ConfigFaultKind::OutOfRange)));
     }
     let iterations = at.number(table, "iterations", ITERATION_COUNTS)?;
     let aes128 = at.hex_key(alloc, table, "aes128", AES128_LENGTH)?;
@@ -132,7 +132,7 @@ fn read_key(
     Ok(key)
 }
 
-fn read_keys(alloc: Global, at: Place, list: &[Value]) -> Result<Vec<KeyBytes>, ConfigError>
+fn read_keys(alloc: Global, at: Location, list: &[Value]) -> Result<Vec<KeyBytes>, ConfigError>
     ensures value { UnlessMemory (result_map_both (λ keys. keys.items) (λ error. error) result)
         (walk (key_row at) [] (items_view list.now)) }
 {
@@ -154,12 +154,12 @@ fn read_principal<'a>(
     ensures value { UnlessMemory result (principal_row before.now (view value.now)) }
     ensures knows { IfOk result (λ row. Knows seen.new (names_of before.now ++ row.name ∷ [])) }
 {
-    let at = Place::of(Part::Principal, before.len());
-    let keys_at = Place::of(Part::PrincipalKey, before.len());
+    let at = Location::of(Part::Principal, before.len());
+    let keys_at = Location::of(Part::PrincipalKey, before.len());
     let table = a_table(value).map_err(|kind| at.fault(kind))?;
     let named = at.name(alloc, table, "name")?;
     if !add_name(seen, named.text)? {
-        return Err(ConfigError::Fault(at.fault(FaultKind::Duplicate)));
+        return Err(ConfigError::Fault(at.fault(ConfigFaultKind::Duplicate)));
     }
     let list = keys_at.list(table, "key", KEY_COUNTS)?;
     let keys = Items::of(read_keys(alloc, keys_at, list)?);
@@ -185,11 +185,11 @@ fn read_principals(alloc: Global, list: &[Value]) -> Result<Vec<PrincipalRow>, C
 fn read_settings(alloc: Global, file: &Table) -> Result<Config, ConfigError>
     ensures value { UnlessMemory result (settings (table_view file.now)) }
 {
-    let service_at = Place::of(Part::Service, 0);
-    let service_keys_at = Place::of(Part::ServiceKey, 0);
-    let policy_at = Place::of(Part::Policy, 0);
-    let rules_at = Place::of(Part::Rule, 0);
-    let principals_at = Place::of(Part::Principal, 0);
+    let service_at = Location::of(Part::Service, 0);
+    let service_keys_at = Location::of(Part::ServiceKey, 0);
+    let policy_at = Location::of(Part::Policy, 0);
+    let rules_at = Location::of(Part::Rule, 0);
+    let principals_at = Location::of(Part::Principal, 0);
     let service = service_at.table(file, "service")?;
     let realm = service_at.text(service, "realm", REALM_LENGTHS)?;
     let max_entries = service_at.number_or(service, "max_entries", ENTRY_COUNTS, DEFAULT_ENTRIES)?;

@@ -100,25 +100,6 @@ where
         + AllocGlobal
         + Sync,
 {
-    let ServeOptions {
-        config,
-        journal,
-        seed,
-        port,
-        workers,
-        connections,
-    } = options;
-    if workers == 0 || workers > 16 {
-        return Ending::Misused;
-    }
-    let options = chpw_service::ServeOptions {
-        config,
-        journal,
-        seed,
-        port,
-        workers,
-        connections,
-    };
     match serve(rt, options) {
         Ok(()) => Ending::Good,
         Err(fault) => Ending::Unserved(fault),

@@ -4,9 +4,9 @@
 mod closing;
 mod fault;
 mod files;
-mod opening;
+mod starting;
 mod serving;
 
 pub use fault::ServeFault;
 pub use files::{read_seed, read_settings};
-pub use serving::{ServeOptions, serve};
+pub use serving::serve;

@@ -7,8 +7,9 @@ ghost use Rattle.chpw_service.specs.declared.fault.ServeFault.TheVariants.{Canno
 use crate::closing::{Tally, close_desk};
 use crate::fault::ServeFault;
 use crate::files::{read_seed, read_settings};
-use crate::opening::open_table;
+use crate::starting::open_table;
 use chpw_book::{Desk, DeskName, Pass, StartFault, StartedDesk};
+use chpw_invocation::ServeOptions;
 use chpw_journal::{FileSink, Journal};
 use chpw_messages::Service;
 use chpw_pool::{Pool, PoolFault, run_pool};
@@ -19,18 +20,6 @@ use std::net::{Ipv4Addr, Net, TcpListener, TcpStream};
 use std::sync::Wait;
 use std::thread::Threads;
 use std::time::Clock;
-
-/// What `serve` is asked for: three files, the port, 1 to 16 workers, and after how many connections
-/// it ends.
-#[derive(Clone, Copy, Drop)]
-pub struct ServeOptions<'a> {
-    pub config: &'a str,
-    pub journal: &'a str,
-    pub seed: &'a str,
-    pub port: u16,
-    pub workers: u8,
-    pub connections: u32,
-}
 
 // What the workers serve with.
 #[derive(Drop)]
@@ -55,7 +44,6 @@ pub fn serve<
         + AllocGlobal
         + Sync,
 >(rt: &R, options: ServeOptions<'a>) -> Result<(), ServeFault<'a>>
-    requires workers { (1 ≤ options.workers) × (options.workers ≤ 16) }
     ensures fault { IfErr result (IsOfService options.entry) }
 {
     let config = read_settings(rt, options.config)?;

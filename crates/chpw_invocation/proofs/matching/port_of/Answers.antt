@@ -3,7 +3,7 @@ use Rattle.std.specs.Str.Parse.{ParsesUnsigned, ExplainsUnsignedError, HasUnsign
 use Rattle.clap.specs.Words.{found_of, one_text}
 use Rattle.clap.proofs.WalkLemmas.{one_text-rows}
 use Rattle.chpw_invocation.proofs.PortLemmas.{number_read}
-use Rattle.chpw_invocation.proofs.invocation.port_of.Goals as goal
+use Rattle.chpw_invocation.proofs.matching.port_of.Goals as goal
 
 pub returns-in-Some : goal.returns-in-Some
 returns-in-Some c =

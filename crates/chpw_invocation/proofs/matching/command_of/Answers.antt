@@ -4,8 +4,8 @@ use Rattle.clap.specs.Words.{App, Row, Text, app_of, is_simple, subcommand_of}
 use Rattle.clap.specs.Faults.{fault_of, is_simple_and_free}
 use Rattle.clap.specs.Kinds.{HasKind}
 use Rattle.chpw_invocation.specs.Program.{program}
-use Rattle.chpw_invocation.specs.Asked.{AsksFor, IsRefusal}
-use Rattle.chpw_invocation.proofs.invocation.command_of.Goals as goal
+use Rattle.chpw_invocation.specs.Invocations.{AsksFor, IsRefusal}
+use Rattle.chpw_invocation.proofs.matching.command_of.Goals as goal
 
 pub returns-in-Some-clause-asked : goal.returns-in-Some-clause-asked
 returns-in-Some-clause-asked c =
