@@ -141,6 +141,14 @@ impl Table {
         self.events == self.max_entries
     }
 
+    /// How many changes it has accepted, of all principals.
+    pub fn seen(&self) -> u32
+        ensures value { result ≡ self.now.seen }
+        ensures few { result ≤ entry_counts.high }
+    {
+        self.seen
+    }
+
     /// The name of the principal at this place, from 0 in the table's order; none from their number
     /// on. No name stands at two places.
     pub fn name_at(&self, place: u32) -> Option<&Name>

@@ -1,5 +1,6 @@
 use super::realm::name;
-use chpw_table::{KeyRow, Verdict, record_bytes, replies};
+use chpw_table::{KeyRow, Verdict, record_bytes};
+use krb_der::codes::{KRB_AP_ERR_REPEAT, KRB5_KPASSWD_AUTHERROR};
 use std::alloc::AllocError;
 
 #[test]
@@ -24,8 +25,8 @@ fn record_of_a_change(rt: HostRuntime) -> Result<(), AllocError> {
 
 #[test]
 fn answers(rt: HostRuntime) {
-    assert!(rt; Verdict::Replay.code() == replies::KRB5_KPASSWD_AUTHERROR);
-    assert!(rt; Verdict::Replay.error() == Some(replies::KRB_AP_ERR_REPEAT));
+    assert!(rt; Verdict::Replay.code() == KRB5_KPASSWD_AUTHERROR);
+    assert!(rt; Verdict::Replay.error() == Some(KRB_AP_ERR_REPEAT));
     assert!(rt; Verdict::Denied.error().is_none() && Verdict::Classes.text().len() == 25);
     assert!(rt; Verdict::Expired.adds_id() && !Verdict::Expired.reads_keys());
 }
