@@ -4,14 +4,15 @@ use Rattle.std.specs.Prelude.{◌==◌, option_map}
 use Rattle.std.proofs.lemmas.Bool.Decides.{nat_tests}
 use Rattle.chpw_table.specs.declared.verdict.Verdict.{Verdict}
 use Rattle.chpw_table.specs.declared.outcome.DecideFault.{DecideFault}
+use Rattle.chpw_table.specs.declared.outcome.Outcome.{Outcome}
 use Rattle.chpw_table.specs.declared.outcome.DecideFault.TheVariants as fault
 use Rattle.chpw_table.specs.State.{State}
 use Rattle.chpw_table.specs.Verdicts.{is_done}
 use Rattle.chpw_table.specs.Decision.{verdict}
 use Rattle.chpw_table.specs.Step.{step}
 use Rattle.chpw_table.specs.History.{IsDecided, missing}
-use Rattle.chpw_table.specs.Journal.{appended}
 use Rattle.chpw_table.specs.Agreement.{Held, Agrees}
+use Rattle.chpw_table.specs.Outcomes.{Steps, Writes}
 use Rattle.chpw_table.specs.Refusals.{IsFirst}
 use Rattle.chpw_commands.specs.declared.drill.asking.Asked.{Asked}
 use Rattle.chpw_commands.specs.declared.drill.printed.Response.{Response}
@@ -21,16 +22,6 @@ use Rattle.chpw_commands.specs.declared.drill.sink.RequestSink.{RequestSink}
 use Rattle.chpw_commands.specs.Stages.{Machine, append_fails, response_at, response_to, machine_after}
 use Rattle.chpw_commands.specs.Following.{Runs, refusal_of}
 use Rattle.chpw_commands.proofs.AppendLemmas.{failed_of, told_of, io_is}
-
--- the clauses of a decision
-pub record Decided (d : Drill) (a : Asked) (io : Bool) (v : Verdict) (k : RequestSink) (t : Held) : Type 0 where
-  pub legal : (s : State) → Agrees d.table.state s → IsDecided s a.now a.opened io v
-  pub steps : (s : State) → Agrees d.table.state s → Agrees t.state (step s a.now a.opened io)
-  pub counted : failed_of k ≡ (if io then failed_of (record { fails = d.fails; failed = 0 }) + 1 else failed_of (record { fails = d.fails; failed = 0 }))
-  pub told : (s : State) → Agrees d.table.state s → told_of k ≡ option_map (λ xs. xs ++ appended s a.opened v) (told_of (record { fails = d.fails; failed = 0 }))
-  pub events : t.events ≡ d.table.events + 1
-  pub max_entries : t.max_entries ≡ d.table.max_entries
-  pub room : d.table.events < d.table.max_entries
 
 response_said : (b : Bool) (ns : List ℕ) (v : Verdict) → b ≡ false → ns ≡ [] → (if b then Full else response_at ns v) ≡ Said v
 response_said true ns v e f = cc
@@ -43,28 +34,29 @@ is_below m n h = grind (arith, nat_tests)
 is_full : (m n : ℕ) → m ≡ n → (m == n) ≡ true
 is_full m n h = grind (arith, nat_tests)
 
-module _ (d : Drill) (a : Asked) (io : Bool) (v : Verdict) (k : RequestSink) (t : Held) (c : Decided d a io v k t) (m : Machine) (r : Runs d m) where
-  same_io : io ≡ append_fails m a
-  same_io = io_is d.fails io k m.state a.now a.opened v (c.legal m.state r.state) c.counted (c.told m.state r.state)
+module _ (d : Drill) (a : Asked) (x : Outcome) (k : RequestSink) (t : Held) (c : Steps d.table t a.now a.opened x)
+    (w : Writes failed_of told_of d.table.state (record { fails = d.fails; failed = 0 }) k a.opened x) (m : Machine) (r : Runs d m) where
+  same_io : x.io_failed ≡ append_fails m a
+  same_io = io_is d.fails x.io_failed k m.state a.now a.opened x.verdict (c.legal m.state r.state) w.io (w.tells m.state r.state)
       ∙ ap (λ (b : Bool). b && is_done (verdict m.state a.now a.opened false)) r.fails
 
-  pub said_is : Said v ≡ response_to m a
+  pub said_is : Said x.verdict ≡ response_to m a
   said_is =
-      let here : IsDecided m.state a.now a.opened io v = c.legal m.state r.state in
+      let here : IsDecided m.state a.now a.opened x.io_failed x.verdict = c.legal m.state r.state in
       let low : m.events < m.max_entries = rw (← r.events, ← r.max_entries) c.room in
-      ap (λ (w : Verdict). Said w) (here.verdict_is ∙ ap (λ (b : Bool). verdict m.state a.now a.opened b) same_io)
+      ap (λ (v : Verdict). Said v) (here.verdict_is ∙ ap (λ (b : Bool). verdict m.state a.now a.opened b) same_io)
       ∙ sym (response_said (m.events == m.max_entries) (missing m.state a.now a.opened) (verdict m.state a.now a.opened (append_fails m a)) (is_below m.events m.max_entries low) here.derived)
 
-  pub runs_on : Runs (record { table = t; realm = d.realm; fails = d.fails && not io }) (machine_after (response_to m a) m a)
+  pub runs_on : Runs (record { table = t; realm = d.realm; fails = d.fails && not x.io_failed }) (machine_after (response_to m a) m a)
   runs_on =
-      let after : Runs (record { table = t; realm = d.realm; fails = d.fails && not io }) (machine_after (Said v) m a) = record {
-        state = subst (λ (b : Bool). Agrees t.state (step m.state a.now a.opened b)) same_io (c.steps m.state r.state);
+      let after : Runs (record { table = t; realm = d.realm; fails = d.fails && not x.io_failed }) (machine_after (Said x.verdict) m a) = record {
+        state = subst (λ (b : Bool). Agrees t.state (step m.state a.now a.opened b)) same_io (c.agrees m.state r.state);
         events = c.events ∙ ap (λ (n : ℕ). n + 1) r.events;
         max_entries = c.max_entries ∙ r.max_entries;
-        fails = ap (λ (b : Bool). b && not io) r.fails ∙ ap (λ (b : Bool). m.fails && not b) same_io;
+        fails = ap (λ (b : Bool). b && not x.io_failed) r.fails ∙ ap (λ (b : Bool). m.fails && not b) same_io;
         realm = r.realm;
       } in
-      subst (λ (x : Response). Runs (record { table = t; realm = d.realm; fails = d.fails && not io }) (machine_after x m a)) said_is after
+      subst (λ (y : Response). Runs (record { table = t; realm = d.realm; fails = d.fails && not x.io_failed }) (machine_after y m a)) said_is after
 
 response_needs : (b : Bool) (ns : List ℕ) (v : Verdict) → b ≡ false → ns ≢ [] → (if b then Full else response_at ns v) ≡ Need ns
 response_needs true ns v e f = cc

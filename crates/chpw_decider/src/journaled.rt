@@ -1,15 +1,11 @@
 //! A table with the sink of its journal.
-ghost use Rattle.std.specs.Prelude.{◌≡◌, ◌≤◌, ◌-◌, ◌^◌, ◌<◌, ◌+◌, ◌++◌, ◌&&◌, ◌||◌, if◌then◌else◌, false, All, IfOk, IfErr, IfSome, OnOk, option_map};
+ghost use Rattle.std.specs.Prelude.{◌≡◌, ◌≤◌, ◌-◌, ◌^◌, ◌<◌, ◌&&◌, if◌then◌else◌, false, All, IfOk, IfErr, IfSome};
 ghost use Rattle.chpw_table.specs.declared.verdict.Verdict.TheVariants.{Broken};
 ghost use Rattle.chpw_table.specs.Verdicts.{is_done};
 ghost use Rattle.chpw_table.specs.Preparing.{IsReady};
-ghost use Rattle.chpw_table.specs.State.{State};
-ghost use Rattle.chpw_table.specs.Agreement.{Agrees};
-ghost use Rattle.chpw_table.specs.History.{IsDecided, missing};
-ghost use Rattle.chpw_table.specs.Step.{step};
 ghost use Rattle.chpw_table.specs.Times.{IsMoment};
-ghost use Rattle.chpw_table.specs.Journal.{appended};
-ghost use Rattle.chpw_table.specs.Refusals.{IsFirst, AsksPositive};
+ghost use Rattle.chpw_table.specs.Outcomes.{Steps, Writes};
+ghost use Rattle.chpw_table.specs.Refusals.{IsRefused};
 ghost use Rattle.chpw_table.specs.Lookups.{lookup_of};
 
 use chpw_rules::Name;
@@ -34,62 +30,25 @@ impl<S: JournalSink> JournaledTable<S> {
         JournaledTable { table, sink }
     }
 
-    /// One step of the machine (`Table::decide`).
-    pub fn decide(&mut self, now: Moment, opened: Opened) -> Result<Outcome, Refused>
-        requires moment { IsMoment now }
-        ensures legal { IfOk result (λ r. (s : State) → Agrees self.old.table.state s
-            → IsDecided s now opened r.io_failed r.verdict) }
-        ensures step { IfOk result (λ r. (s : State) → Agrees self.old.table.state s
-            → Agrees self.new.table.state (step s now opened r.io_failed)) }
-        ensures told { IfOk result (λ r. (s : State) → Agrees self.old.table.state s
-            → S.told self.new.sink
-            ≡ option_map (λ xs. xs ++ appended s opened r.verdict) (S.told self.old.sink)) }
-        ensures opened { IfOk result (λ r. r.opened ≡ opened) }
-        ensures counts { IfOk result (λ r. (self.new.table.events ≡ self.old.table.events + 1)
-            × (self.new.table.max_entries ≡ self.old.table.max_entries)) }
-        ensures few { OnOk result (self.new.table.events < 2 ^ 32) }
-        ensures first { IfErr result (λ r.
-            IsFirst self.old.table (missing self.old.table.state now opened) r.fault) }
-        ensures positive { IfErr result (λ r. AsksPositive r.fault) }
-        ensures unchanged { IfErr result (λ r. (self.new.table ≡ self.old.table)
-            × (self.new.sink ≡ self.old.sink) × (r.opened ≡ opened)) }
-    {
-        let JournaledTable { table, sink } = self;
-        table.decide(now, opened, sink)
-    }
-
     /// Prepares a step, with all that it takes of memory (`Table::prepare`). Both stay as they are.
     pub fn prepare(&mut self, now: Moment, opened: Opened) -> Result<Prepared, Refused>
         requires moment { IsMoment now }
         ensures ready { IfOk result (λ p. IsReady self.old.table p) }
         ensures parts { IfOk result (λ p. (p.moment ≡ now) × (p.opened ≡ opened)) }
-        ensures few { OnOk result (self.old.table.events < 2 ^ 32 - 1) }
-        ensures first { IfErr result (λ r.
-            IsFirst self.old.table (missing self.old.table.state now opened) r.fault) }
-        ensures positive { IfErr result (λ r. AsksPositive r.fault) }
-        ensures back { IfErr result (λ r. r.opened ≡ opened) }
+        ensures refused { IfErr result (λ r. IsRefused self.old.table now opened r) }
         ensures unchanged { (self.new.table ≡ self.old.table) × (self.new.sink ≡ self.old.sink) }
     {
         self.table.prepare(now, opened)
     }
 
-    /// Goes the step that was prepared (`Table::finish`). It takes no memory and can't be refused.
+    /// Makes the step that was prepared (`Table::finish`). It takes no memory and can't be refused.
     pub fn finish(&mut self, prepared: Prepared) -> Outcome
         requires ready { IsReady self.old.table prepared }
-        ensures legal { (s : State) → Agrees self.old.table.state s
-            → IsDecided s prepared.moment prepared.opened result.io_failed result.verdict }
-        ensures step { (s : State) → Agrees self.old.table.state s
-            → Agrees self.new.table.state (step s prepared.moment prepared.opened result.io_failed) }
-        ensures told { (s : State) → Agrees self.old.table.state s → S.told self.new.sink
-            ≡ option_map (λ xs. xs ++ appended s prepared.opened result.verdict)
-            (S.told self.old.sink) }
-        ensures opened { result.opened ≡ prepared.opened }
+        ensures steps { Steps self.old.table self.new.table prepared.moment prepared.opened result }
+        ensures writes { Writes S.failed S.told self.old.table.state self.old.sink self.new.sink
+            prepared.opened result }
         ensures row { result.verdict
             ≡ (if is_done prepared.row && result.io_failed then Broken else prepared.row) }
-        ensures counts { (self.new.table.events ≡ self.old.table.events + 1)
-            × (self.new.table.max_entries ≡ self.old.table.max_entries) }
-        ensures broken { self.new.table.state.broken
-            ≡ (self.old.table.state.broken || result.io_failed) }
     {
         let JournaledTable { table, sink } = self;
         table.finish(prepared, sink)
@@ -110,7 +69,7 @@ impl<S: JournalSink> JournaledTable<S> {
         &self.table
     }
 
-    /// Both apart.
+    /// Takes them apart.
     pub fn into_parts(self) -> (Table, S)
         ensures value { result ≡ (self.table, self.sink) }
     {
