@@ -23,12 +23,12 @@ use Rattle.chpw_decider.specs.Deciding.{AddsReceipt}
 use Rattle.chpw_decider.specs.Keeping.{Kept, IsFullAt, IsOpenedLike, entries}
 use Rattle.chpw_answer.specs.declared.messages.Seal.{Seal}
 use Rattle.chpw_answer.specs.Requests.{Request, Opens, refused, opened, opened_under}
-use Rattle.chpw_answer.specs.Answers.{Replies, IsAnswer, history_full, reply}
+use Rattle.chpw_answer.specs.Answers.{IsAnswer, history_full, reply}
 use Rattle.chpw_answer.specs.Judging.{judged}
 use Rattle.chpw_answer.proofs.JudgingLemmas.{judged_alike}
 use Rattle.chpw_serve.specs.Draws.{Drawn}
-use Rattle.chpw_serve.specs.Serving.{Place, Turn, message_too_long}
-use Rattle.chpw_serve.specs.Replies.{Draw, Run, verdict_of, is_full, run_after, reply_to, written_for, replies}
+use Rattle.chpw_serve.specs.Serving.{StreamState, Turn, message_too_long}
+use Rattle.chpw_serve.specs.StreamReplies.{Draw, Run, verdict_of, is_full, run_after, reply_to, written_for, replies}
 use Rattle.chpw_serve.specs.ServedAlone.{run_of, AreOwnOf, IsReceiptOf}
 
 -- ---- a history, and a receipt in it
