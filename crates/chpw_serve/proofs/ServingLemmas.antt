@@ -1,11 +1,20 @@
 -- Serving, turn after turn.
-use Rattle.std.proofs.Common.{◌≡◌, ℕ, ◌+◌, ◌≤◌, ◌<◌, List, [], ◌∷◌, ◌++◌, length, refl, ◌∙◌, ap, arith, length-append}
+use Rattle.std.proofs.Common.{◌≡◌, ℕ, ◌+◌, ◌≤◌, ◌<◌, List, [], ◌∷◌, ◌++◌, length, inr, refl, sym, ◌∙◌, ap, arith, length-append}
+use Rattle.std.proofs.lemmas.List.{append-nil}
+use Rattle.chpw_frame.specs.Stream.{too_long}
+use Rattle.chpw_frame.specs.Receiving.{TakesPiece}
 use Rattle.chpw_table.specs.declared.times.Moment.{Moment}
+use Rattle.chpw_table.specs.declared.history.Receipt.{Receipt}
+use Rattle.chpw_answer.specs.Answers.{AddsOne}
 use Rattle.chpw_serve.specs.declared.serving.Ended.{Ended}
 use Rattle.chpw_serve.specs.declared.serving.Ended.TheVariants as end
 use Rattle.chpw_serve.specs.Draws.{Drawn}
-use Rattle.chpw_serve.specs.Serving.{StreamState, Turn, Serves, EndsBy, IsServed}
+use Rattle.chpw_serve.specs.Serving.{StreamState, Turn, Serves, EndsBy, IsServed, IsRefused}
 use Rattle.chpw_serve.proofs.DrawLemmas.{drawn_on}
+
+-- who decides, left as it was
+pub adds_none : {D : Type 0} (gathered : D → List Receipt) (follows : D → D → Type 0) (d : D) → follows d d → AddsOne gathered follows d d
+adds_none gathered follows d h = (([], sym (append-nil (gathered d)), omega arith), h)
 
 module _ {C X D : Type 0} (answers : List ℕ → List ℕ → Moment → D → D → List ℕ → Type 0) (adds : D → D → Type 0) (refusal : Moment → List ℕ) (moments : C → Moment → C → Type 0) (random : X → ℕ → X → Type 0) where
   -- so many turns were served
@@ -34,6 +43,17 @@ module _ {C X D : Type 0} (answers : List ℕ → List ℕ → Moment → D → 
   so_far_ends start now final n end.WriteFault h less g = record { turns = h.turns; last = now; served = h.served; end_is = (omega (arith, h.count, less), g) }
   so_far_ends start now final n end.Memory h less g = record { turns = h.turns; last = now; served = h.served; end_is = (omega (arith, h.count, less), g) }
   so_far_ends start now final n end.Count h less g = absurd g
+
+  -- a message that is too long, refused
+  pub too_long_ends : (now final : StreamState C X D) (e : Ended) → TakesPiece too_long now.left final.left → IsRefused refusal moments random e now.around final.around → final.decider ≡ now.decider → adds now.decider final.decider
+      → EndsBy answers adds refusal moments random e now final
+  too_long_ends now final end.TooLong h r same a = (h, r, same)
+  too_long_ends now final end.WriteFault h r same a = inr (h, r, same)
+  too_long_ends now final end.Memory h r same a = (r, a)
+  too_long_ends now final end.Input h r same a = absurd r
+  too_long_ends now final end.CutOff h r same a = absurd r
+  too_long_ends now final end.ReadFault h r same a = absurd r
+  too_long_ends now final end.Count h r same a = absurd r
 
   pub so_far_counted : (start now : StreamState C X D) (n : ℕ) → SoFar start now n → 65536 ≤ n → IsServed answers adds refusal moments random end.Count start now
   so_far_counted start now n h many = record { turns = h.turns; last = now; served = h.served; end_is = (omega (arith, h.count, h.few, many), refl) }

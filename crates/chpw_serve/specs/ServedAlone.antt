@@ -73,9 +73,9 @@ IsEndOf _ stream draws = Unit {0}
 abbrev pub Leaves : Ended → List ℕ → Option (List ℕ) → Type 0
 Leaves end.Input rest left = left ≡ Some []
 Leaves end.CutOff rest left = left ≡ Some []
-Leaves _ rest left = left ≡ Some rest
 Leaves end.ReadFault rest left = ConsumesSome (Some rest) left
 Leaves end.Memory rest left = Unit {0}
+Leaves _ rest left = left ≡ Some rest
 
 -- the bytes written grew by these; after a failed write by some of them, from the front
 abbrev pub Writes : Ended → Option (List ℕ) → Option (List ℕ) → List ℕ → Type 0
