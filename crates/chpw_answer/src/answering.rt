@@ -13,7 +13,7 @@ use crate::messages::{Incoming, Messages, OpensTo, Seal};
 use chpw_decider::Decider;
 use chpw_table::{Moment, Verdict};
 use krb_der::Refusal;
-use krb_der::codes::{KRB5_KPASSWD_HARDERROR, KRB_ERR_GENERIC};
+use krb_der::codes::{KRB_ERR_GENERIC, KRB5_KPASSWD_HARDERROR};
 use std::alloc::{AllocError, Global};
 
 /// A reply, and whether its message opened.
@@ -70,7 +70,10 @@ pub fn answer_message<M: Messages, D: Decider, G: Gate>(
         OpensTo::Opened(incoming) => incoming,
         OpensTo::Refused(refusal) => {
             let bytes = service.make_error(alloc, refusal, drawn.now)?;
-            return Ok(Answered { bytes, opened: false });
+            return Ok(Answered {
+                bytes,
+                opened: false,
+            });
         }
     };
     let Incoming {
@@ -84,7 +87,10 @@ pub fn answer_message<M: Messages, D: Decider, G: Gate>(
         Decision::Full => service.make_error(alloc, history_full(), drawn.now)?,
         Decision::Verdict(verdict) => reply(alloc, service, &seal, verdict, drawn)?,
     };
-    Ok(Answered { bytes, opened: true })
+    Ok(Answered {
+        bytes,
+        opened: true,
+    })
 }
 
 /// What a full history is answered with.

@@ -1,5 +1,5 @@
 -- The turns of a stream, one after the other, are those of the machine of one thread.
-use Rattle.std.proofs.Common.{◌≡◌, ℕ, ◌+◌, ◌≤◌, List, [], ◌∷◌, ◌++◌, Option, Some, None, refl, sym, ◌∙◌, ap, subst, append_assoc, inl, inr, length, arith}
+use Rattle.std.proofs.Common.{◌≡◌, ℕ, ◌+◌, ◌≤◌, List, [], ◌∷◌, ◌++◌, Option, Some, None, refl, sym, ◌∙◌, ap, subst, append_assoc, length, arith}
 use Rattle.std.specs.Prelude.{map}
 use Rattle.std.specs.List.{flat_map}
 use Rattle.std.proofs.lemmas.List.{append-nil}
@@ -17,7 +17,7 @@ use Rattle.chpw_answer.specs.declared.messages.Seal.{Seal}
 use Rattle.chpw_answer.specs.Requests.{Opens}
 use Rattle.chpw_serve.specs.Draws.{Drawn}
 use Rattle.chpw_serve.specs.Serving.{StreamState, Turn, Serves, Answers, message_too_long}
-use Rattle.chpw_serve.specs.StreamReplies.{Draw, Run, run_after, reply_to, written_for, replies}
+use Rattle.chpw_serve.specs.StreamReplies.{Draw, Run, run_after, written_for, replies}
 use Rattle.chpw_serve.specs.ServedAlone.{AnsweringAlone, AddsOneAlone, IsDrawnFor, AreDrawnFor, left_behind, AreReceipts}
 use Rattle.chpw_serve.proofs.DrawLemmas.{drawn_more}
 use Rattle.chpw_serve.proofs.StreamRepliesLemmas.{run_at, Answered, IsFront, answered}

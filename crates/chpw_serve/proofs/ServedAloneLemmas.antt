@@ -18,11 +18,10 @@ use Rattle.chpw_answer.specs.Answers.{IsAnswer}
 use Rattle.chpw_serve.specs.declared.serving.Ended.{Ended}
 use Rattle.chpw_serve.specs.declared.serving.Ended.TheVariants as end
 use Rattle.chpw_serve.specs.Draws.{Drawn}
-use Rattle.chpw_serve.specs.Serving.{StreamState, Around, Turn, Refuses, Answers, IsEnd, IsServed, message_too_long}
+use Rattle.chpw_serve.specs.Serving.{StreamState, Around, Turn, Refuses, IsEnd, IsServed, message_too_long}
 use Rattle.chpw_serve.specs.StreamReplies.{Draw, Run, written_for, replies}
-use Rattle.chpw_serve.specs.ServedAlone.{AnsweringAlone, AddsOneAlone, run_of, IsDrawnFor, AreDrawnFor, left_behind, IsEndOf, Leaves, Writes, HasDrawn, AreReceipts, AreMore, AddsReceipts, IsServedAlone}
+use Rattle.chpw_serve.specs.ServedAlone.{AnsweringAlone, AddsOneAlone, run_of, IsDrawnFor, AreDrawnFor, left_behind, IsEndOf, Leaves, Writes, HasDrawn, AreReceipts, AreMore, IsServedAlone}
 use Rattle.chpw_serve.proofs.ChainLemmas.{took, moments_of, words_of, opening_stays, Chain, turn_of, first, drawn_first, chain}
-use Rattle.chpw_serve.proofs.StreamRepliesLemmas.{IsFront}
 
 pub at_most : (b : Bool) (m n : ℕ) → MatchBool b (m ≡ n) (m < n) → m ≤ n
 at_most true m n h = omega (arith, h)

@@ -6,6 +6,7 @@ use Rattle.std.specs.Io.KnownBytes.{Appends}
 use Rattle.chpw_frame.specs.Stream.{Piece, message, ended, cut_off, too_long, next_piece, behind_piece}
 use Rattle.chpw_frame.specs.Receiving.{ConsumesSome, AppendsFront}
 use Rattle.chpw_table.specs.declared.times.Moment.{Moment}
+use Rattle.chpw_table.specs.declared.history.Event.TheVariants.{Ask}
 use Rattle.chpw_table.specs.declared.history.Receipt.{Receipt}
 use Rattle.chpw_table.specs.History.{outcome}
 use Rattle.chpw_table.specs.Replies.{Answer}
@@ -90,10 +91,9 @@ HasDrawn gives _ before xs after = Drawn gives before xs after
 -- the receipt of a request: of this moment, this append, and the machine's verdict
 pub record IsReceiptOf (run : Run) (d : Draw) (q : Request) (r : Receipt) : Type 0 where
   pub counts : List ℕ
-  pub opened_is : r.entry.opened ≡ opened_under counts q
+  pub event_is : r.entry.event ≡ Ask (opened_under counts q) (verdict_of run d q)
   pub now_is : r.entry.now ≡ d.moment
   pub io_is : r.entry.io_failed ≡ d.io
-  pub verdict_is : r.entry.verdict ≡ verdict_of run d q
 
 -- one for a request that was decided, and none where the machine was full
 abbrev pub IsOwnOf : Bool → Run → Draw → Request → List Receipt → Type 0

@@ -26,12 +26,7 @@ impl Gate for Noting {
 }
 
 /// The places that the worker passed with these messages, and how the stream ended.
-pub fn gated(
-    alloc: Global,
-    world: World,
-    how: How,
-    messages: &[&Message],
-) -> io::Result<String> {
+pub fn gated(alloc: Global, world: World, how: How, messages: &[&Message]) -> io::Result<String> {
     let stream = stream_of(alloc, messages)?;
     let World { service, alone } = world;
     let mut alone = alone;
