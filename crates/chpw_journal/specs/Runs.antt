@@ -1,4 +1,4 @@
--- The journals of runs of the service, one after the other, and the changes in them.
+-- The journals of runs of the service, one after the other, and the records in them.
 use Rattle.std.specs.Prelude.{◌≡◌, ℕ, ◌≤◌, List, [], ◌∷◌, ◌++◌, length, true, IsSome, IfSome, if◌then◌else◌}
 use Rattle.chpw_rules.specs.declared.name.Name.{Name}
 use Rattle.chpw_rules.specs.Names.{is_name}
@@ -11,16 +11,16 @@ use Rattle.chpw_table.specs.Decision.{newest_kvno}
 use Rattle.chpw_table.specs.Step.{new_key}
 use Rattle.chpw_table.specs.History.{step_entry, outcome, IsLegal}
 use Rattle.chpw_table.specs.Journal.{journal}
-use Rattle.chpw_journal.specs.declared.change.Change.{Change}
+use Rattle.chpw_journal.specs.declared.record.Record.{Record}
 
--- the change of an accepted entry
-abbrev pub entry_changes : State → Entry → List Change
-entry_changes s e = if is_done e.verdict then record { name = (target_of e.opened).name; key = new_key s e.opened } ∷ [] else []
+-- the record of an accepted entry
+abbrev pub entry_records : State → Entry → List Record
+entry_records s e = if is_done e.verdict then record { name = (target_of e.opened).name; key = new_key s e.opened } ∷ [] else []
 
--- the changes of all accepted entries, in their order
-abbrev pub changes_of : State → List Entry → List Change
-changes_of s [] = []
-changes_of s (e ∷ es) = entry_changes s e ++ changes_of (step_entry s e) es
+-- the records of all accepted entries, in their order
+abbrev pub records_of : State → List Entry → List Record
+records_of s [] = []
+records_of s (e ∷ es) = entry_records s e ++ records_of (step_entry s e) es
 
 -- the same principals with the same keys, of which as many are kept
 pub record SameKeys (s t : State) : Type 0 where
@@ -50,14 +50,14 @@ abbrev pub AreRuns : State → List Run → Type 0
 AreRuns s [] = Unit {0}
 AreRuns s (r ∷ rs) = SameKeys s r.opening × IsSound r.opening × IsLegal r.opening r.history × AreWhole r.opening r.history × AreRuns (outcome r.opening r.history) rs
 
--- what the runs left behind: a journal, its changes, and a state with the principals
+-- what the runs left behind: a journal, its records, and a state with the principals
 abbrev pub journals : List Run → List ℕ
 journals [] = []
 journals (r ∷ rs) = journal r.opening r.history ++ journals rs
 
-abbrev pub changes_in : List Run → List Change
-changes_in [] = []
-changes_in (r ∷ rs) = changes_of r.opening r.history ++ changes_in rs
+abbrev pub records_in : List Run → List Record
+records_in [] = []
+records_in (r ∷ rs) = records_of r.opening r.history ++ records_in rs
 
 abbrev pub last_state : State → List Run → State
 last_state s [] = s
