@@ -9,6 +9,8 @@ use Rattle.chpw_table.specs.declared.verdict.Verdict.{Verdict}
 use Rattle.chpw_table.specs.declared.verdict.Verdict.TheVariants.{Skew, Replay, NotYet, Expired, BadPrivate, BadBody, Denied, NeedInitial, Unknown, Short, Classes, Reused, LastVersion, Broken, Done}
 use Rattle.chpw_table.specs.declared.times.Moment.{Moment}
 use Rattle.chpw_table.specs.declared.request.Opened.{Opened}
+use Rattle.chpw_table.specs.declared.history.Event.{Event}
+use Rattle.chpw_table.specs.declared.history.Event.TheVariants.{Ask}
 use Rattle.chpw_table.specs.declared.history.Entry.{Entry}
 use Rattle.chpw_table.specs.declared.key.KeyRow.{KeyRow}
 use Rattle.chpw_table.specs.Requests.{target_of}
@@ -16,8 +18,8 @@ use Rattle.chpw_table.specs.State.{State, keys_held, kept_count}
 use Rattle.chpw_table.specs.Verdicts.{is_done}
 use Rattle.chpw_table.specs.Decision.{verdict, key_row, newest_kvno}
 use Rattle.chpw_table.specs.Step.{step, new_key}
-use Rattle.chpw_table.specs.History.{step_entry, outcome, IsLegal, IsDecided}
-use Rattle.chpw_table.specs.Journal.{journal, record_bytes}
+use Rattle.chpw_table.specs.History.{step_event, step_entry, outcome, is_accepted, IsLegal, IsJudged, IsDecided}
+use Rattle.chpw_table.specs.Journal.{journal, event_record}
 use Rattle.chpw_table.specs.Entering.{with_append}
 use Rattle.chpw_table.specs.Restoring.{with_kept_key, IsNextKey}
 use Rattle.chpw_table.proofs.AppendLemmas.{verdict_written}
@@ -26,7 +28,7 @@ use Rattle.chpw_table.proofs.KeyLemmas.{keys_after, keys_put, put, kept_some, ne
 use Rattle.chpw_journal.specs.declared.record.Record.{Record}
 use Rattle.chpw_journal.specs.Records.{RecordFits, record_text, records_text}
 use Rattle.chpw_journal.specs.JournalText.{restored, AreNext, Begins}
-use Rattle.chpw_journal.specs.Runs.{records_of, SameKeys, IsSound, AreWhole, Run, AreRuns, journals, records_in, last_state}
+use Rattle.chpw_journal.specs.Runs.{record_by, records_of, SameKeys, IsSound, BringsWhole, AreWhole, Run, AreRuns, journals, records_in, last_state}
 use Rattle.chpw_journal.specs.Laws.{ReadsJournals, RecordsAreJournals, RestoresKeys}
 use Rattle.chpw_journal.proofs.RecordsLemmas.{records_joined, restored_joined, next_joined}
 use Rattle.chpw_journal.proofs.StopLemmas.{reads_one}
@@ -77,9 +79,6 @@ is_some None keys h = absurd (no h)
     no k = cc
 is_some (Some others) keys h = search rules
 
-abbrev record_in : State → Opened → Record
-record_in s o = record { name = (target_of o).name; key = new_key s o }
-
 low_kvno : (n : ℕ) → is_in kvnos (n + 1) ≡ true → n + 1 ≤ 4294967295
 low_kvno n h = grind (arith, nat_tests)
 
@@ -104,7 +103,7 @@ module _ (s : State) (now : Moment) (o : Opened) (io : Bool) (v : Verdict) (soun
       (newest_low (keys_held s (target_of o).name) k.0 k.1 (sound.versions (target_of o).name))
       (done_version s o (accepted_row s now o io v d h))
 
-  fits : (length (new_key s o).aes128 ≡ 16) × (length (new_key s o).aes256 ≡ 32) → RecordFits (record_in s o)
+  fits : (length (new_key s o).aes128 ≡ 16) × (length (new_key s o).aes256 ≡ 32) → RecordFits (record_by s (Ask o v))
   fits w =
       let k = held in
       record {
@@ -180,26 +179,29 @@ sound_after s now o io v sound d = record {
     low name true h false = sound.versions name
     low name false h c = sound.versions name
 
+sound_event : (s : State) (now : Moment) (io : Bool) (event : Event) → IsSound s → IsJudged s now io event → IsSound (step_event s now io event)
+sound_event s now io (Ask o v) sound d = sound_after s now o io v sound d
+
 -- ---- histories and runs
 
 abbrev Follows : State → List Record → State → Type 0
 Follows t records last = AreNext t records × SameKeys (restored t records) last
 
-entry_next : (t s last : State) (now : Moment) (o : Opened) (io : Bool) (v : Verdict) (rs : List Record) → SameKeys t s → IsSound s → IsDecided s now o io v
-    → (is_done v ≡ true → (length (new_key s o).aes128 ≡ 16) × (length (new_key s o).aes256 ≡ 32))
-    → ((u : State) → SameKeys u (step s now o io) → Follows u rs last)
-    → (b : Bool) → is_done v ≡ b → Follows t ((if b then record_in s o ∷ [] else []) ++ rs) last
-entry_next t s last now o io v rs same sound d w ih true h =
+event_next : (t s last : State) (now : Moment) (io : Bool) (event : Event) (rs : List Record) → SameKeys t s → IsSound s → IsJudged s now io event
+    → (is_accepted event ≡ true → BringsWhole s event)
+    → ((u : State) → SameKeys u (step_event s now io event) → Follows u rs last)
+    → (b : Bool) → is_accepted event ≡ b → Follows t ((if b then record_by s event ∷ [] else []) ++ rs) last
+event_next t s last now io (Ask o v) rs same sound d w ih true h =
     let n = ih (with_kept_key (target_of o).name (new_key s o) t) (same_after_done t s now o io v d h same) in
     ((fits s now o io v sound d h (w h), next_key s now o io v sound d h t same, n.0), n.1)
-entry_next t s last now o io v rs same sound d w ih false h = ih t (same_after_other t s now o io v d h same)
+event_next t s last now io (Ask o v) rs same sound d w ih false h = ih t (same_after_other t s now o io v d h same)
 
 history_next : (t s : State) (es : List Entry) → SameKeys t s → IsSound s → IsLegal s es → AreWhole s es → Follows t (records_of s es) (outcome s es)
 history_next t s [] same sound legal w = (tt, same)
 history_next t s (e ∷ es) same sound legal w =
-    entry_next t s (outcome (step_entry s e) es) e.now e.opened e.io_failed e.verdict (records_of (step_entry s e) es) same sound legal.0 w.0
-    (λ u same2. history_next u (step_entry s e) es same2 (sound_after s e.now e.opened e.io_failed e.verdict sound legal.0) legal.1 w.1)
-    (is_done e.verdict) refl
+    event_next t s (outcome (step_entry s e) es) e.now e.io_failed e.event (records_of (step_entry s e) es) same sound legal.0 w.0
+    (λ u same2. history_next u (step_entry s e) es same2 (sound_event s e.now e.io_failed e.event sound legal.0) legal.1 w.1)
+    (is_accepted e.event) refl
 
 same_next : (t s u : State) → SameKeys t s → SameKeys s u → SameKeys t u
 same_next t s u h g = record { kept = h.kept ∙ g.kept; keys = λ name. h.keys name ∙ g.keys name }
@@ -216,14 +218,17 @@ runs_next t s (r ∷ rs) same h =
 same_itself : (s : State) → SameKeys s s
 same_itself s = record { kept = refl; keys = λ name. refl }
 
-entry_text : (s : State) (o : Opened) (rs : List Record) (more : List ℕ) → records_text rs ≡ more → (b : Bool)
-    → records_text ((if b then record_in s o ∷ [] else []) ++ rs) ≡ (if b then record_bytes (target_of o).name (new_key s o) else []) ++ more
-entry_text s o rs more h true = ap (λ (xs : List ℕ). record_text (record_in s o) ++ xs) h
-entry_text s o rs more h false = h
+record_is : (s : State) (event : Event) → record_text (record_by s event) ≡ event_record s event
+record_is s (Ask o v) = refl
+
+event_text : (s : State) (event : Event) (rs : List Record) (more : List ℕ) → records_text rs ≡ more → (b : Bool)
+    → records_text ((if b then record_by s event ∷ [] else []) ++ rs) ≡ (if b then event_record s event else []) ++ more
+event_text s event rs more h true = ap (λ (xs : List ℕ). record_text (record_by s event) ++ xs) h ∙ ap (λ (xs : List ℕ). xs ++ more) (record_is s event)
+event_text s event rs more h false = h
 
 history_records : (s : State) (es : List Entry) → records_text (records_of s es) ≡ journal s es
 history_records s [] = refl
-history_records s (e ∷ es) = entry_text s e.opened (records_of (step_entry s e) es) (journal (step_entry s e) es) (history_records (step_entry s e) es) (is_done e.verdict)
+history_records s (e ∷ es) = event_text s e.event (records_of (step_entry s e) es) (journal (step_entry s e) es) (history_records (step_entry s e) es) (is_accepted e.event)
 
 pub records_are_journals : RecordsAreJournals
 records_are_journals [] = refl
