@@ -2,7 +2,7 @@
 # Processor seconds that the gate's parts take of each crate, from nothing and one after the other: its
 # proof, its tests, its must-fail edits. All crates, in the order of crates.txt, or those of the
 # arguments; the libraries below them are built first where they aren't. It works on a copy, and takes
-# three hours and more for all. A line is `CRATE PROOF TESTS EDITS`, the last `all PROOF TESTS EDITS`.
+# three hours and more for all. It prints rows for the table in docs/GATE.md, at last one for all.
 set -euo pipefail
 cd "$(dirname "$0")/.."
 copy=$(mktemp -d)
@@ -30,14 +30,14 @@ for name in "${names[@]}"; do
   done
   rm -rf "$crate/out"
   proof=$(spent "$crate" rt "$proves" --jobs 1) tests=0 edits=0
-  if grep -q '#\[test\]' -r "$crate/src"; then
+  if grep -rq '#\[test\]' "$crate/src"; then
     mv "$crate/out" "$copy/kept"
     tests=$(spent "$crate" rt test --jobs 1)
     rm -rf "$crate/out"
     mv "$copy/kept" "$crate/out"
   fi
   [ ! -d "$crate/must-fail" ] || edits=$(spent . rt must-fail "$name")
-  echo "$name $proof $tests $edits"
+  echo "| $name | $proof | $tests | $edits |"
   all=($((all[0] + proof)) $((all[1] + tests)) $((all[2] + edits)))
 done
-echo "all ${all[*]}"
+printf '| all | %s | %s | %s |\n' "${all[@]}"
