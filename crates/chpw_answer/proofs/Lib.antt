@@ -1,3 +1,4 @@
+pub mod AnsweringLemmas
 pub mod CompletingLemmas
 pub mod JudgingLemmas
 pub mod TextLemmas

@@ -1,5 +1,6 @@
 -- The answer to a message (RFC 3244 section 2).
-use Rattle.std.specs.Prelude.{◌≡◌, ◌≤◌, ℕ, ℤ, pos, List, ◌++◌, length, Bool, true, false, Option, Some, None, codes, ◌⊎◌}
+use Rattle.std.specs.Prelude.{◌≡◌, ◌≤◌, ℕ, ℤ, List, ◌++◌, length, Bool, true, false, Option, Some, None, codes, ◌⊎◌}
+use Rattle.krb_der.specs.declared.codes.TheConstants.{KRB5_KPASSWD_HARDERROR, KRB_ERR_GENERIC}
 use Rattle.chpw_table.specs.declared.times.Moment.{Moment}
 use Rattle.chpw_table.specs.declared.history.Receipt.{Receipt}
 use Rattle.chpw_table.specs.declared.verdict.Verdict.{Verdict}
@@ -10,7 +11,7 @@ use Rattle.chpw_answer.specs.Requests.{Request, Opens, refused, opened, opened_u
 
 -- where the history has no room for one event more
 abbrev pub history_full : Answer
-history_full = by_error 2 (pos 60) (codes "history full")
+history_full = by_error KRB5_KPASSWD_HARDERROR KRB_ERR_GENERIC (codes "history full")
 
 -- the frames of a KRB-ERROR, and of an AP-REP and a KRB-PRIV under a request's keys
 module _ (error_frame : Answer → Moment → List ℕ) (private_frame : Seal → Answer → List ℕ → List ℕ) where
@@ -24,20 +25,27 @@ module _ (error_frame : Answer → Moment → List ℕ) (private_frame : Seal �
 
   -- no receipt, and the history is full; or a receipt of this request with some keys derived, and
   -- its verdict's reply
-  abbrev pub IsAnswerTo : Type 0 → Request → List ℕ → Moment → List Receipt → List Receipt → List ℕ → Type 0
-  IsAnswerTo full q words now old new bytes =
+  abbrev pub AnswersRequest : Type 0 → Request → List ℕ → Moment → List Receipt → List Receipt → List ℕ → Type 0
+  AnswersRequest full q words now old new bytes =
       ((new ≡ old) × full × (bytes ≡ error_frame history_full now))
       ⊎ ((v : Verdict) × (counts : List ℕ) × AddsReceipt old new now (opened_under counts q) v
       × (bytes ≡ reply q.seal v words now))
 
   -- these bytes answer what was opened, and the receipts became these
-  abbrev pub Replies : Type 0 → Opens → List ℕ → Moment → List Receipt → List Receipt → List ℕ → Type 0
-  Replies full (refused a) words now old new bytes = (new ≡ old) × (bytes ≡ error_frame a now)
-  Replies full (opened q) words now old new bytes = IsAnswerTo full q words now old new bytes
+  abbrev pub AnswersOpened : Type 0 → Opens → List ℕ → Moment → List Receipt → List Receipt → List ℕ → Type 0
+  AnswersOpened full (refused a) words now old new bytes = (new ≡ old) × (bytes ≡ error_frame a now)
+  AnswersOpened full (opened q) words now old new bytes = AnswersRequest full q words now old new bytes
 
   -- they answer a message that opens so
   abbrev pub IsAnswer : Type 0 → (Opens → Type 0) → List ℕ → Moment → List Receipt → List Receipt → List ℕ → Type 0
-  IsAnswer full opens words now old new bytes = (o : Opens) × opens o × Replies full o words now old new bytes
+  IsAnswer full opens words now old new bytes = (o : Opens) × opens o × AnswersOpened full o words now old new bytes
+
+  -- a message was answered by these bytes, which fit a frame, and who decides went on: its receipts
+  -- are these, and it may be full with them
+  pub record Answering {D : Type 0} (opens : List ℕ → Opens → Type 0) (gathered : D → List Receipt) (full : D → List Receipt → Type 0) (follows : D → D → Type 0) (text words : List ℕ) (now : Moment) (before after : D) (bytes : List ℕ) : Type 0 where
+    pub reply : IsAnswer (full after (gathered after)) (opens text) words now (gathered before) (gathered after) bytes
+    pub fits : length bytes ≤ 65535
+    pub goes_on : follows before after
 
 -- whether a message opened
 abbrev pub is_opened : Opens → Bool
@@ -47,3 +55,7 @@ is_opened (opened q) = true
 -- the receipts grew by one at the most
 abbrev pub AddsAtMostOne : List Receipt → List Receipt → Type 0
 AddsAtMostOne old new = (own : List Receipt) × (new ≡ old ++ own) × (length own ≤ 1)
+
+-- who decides went on, and has a receipt more at the most
+abbrev pub AddsOne : {D : Type 0} → (D → List Receipt) → (D → D → Type 0) → D → D → Type 0
+AddsOne gathered follows before after = AddsAtMostOne (gathered before) (gathered after) × follows before after

@@ -1,21 +1,20 @@
 //! The answer to one message.
-ghost use Rattle.std.specs.Prelude.{◌≡◌, ◌≤◌, ◌<◌, length, IfOk, OnErr, pos, codes};
+ghost use Rattle.std.specs.Prelude.{◌≡◌, ◌≤◌, ◌<◌, length, IfOk, OnErr};
 ghost use Rattle.chpw_table.specs.Times.{IsMoment};
-ghost use Rattle.chpw_answer.specs.Requests.{Request};
-ghost use Rattle.chpw_answer.specs.Holding.{IsIncoming, IsReplyTime};
-ghost use Rattle.chpw_answer.specs.Answers.{AddsAtMostOne, IsAnswer, IsAnswerTo, reply as reply_to};
+ghost use Rattle.chpw_answer.specs.Requests.{Opens};
+ghost use Rattle.chpw_answer.specs.Holding.{IsReplyTime, answer_in};
+ghost use Rattle.chpw_answer.specs.Answers.{Answering, AddsOne, is_opened, history_full as full_answer, reply as reply_to};
 
 use crate::completing::derive_shown;
 use crate::deciding::{Decision, decide};
+use crate::drawing::Drawing;
 use crate::gate::{Gate, Spot};
-use crate::messages::{Incoming, Messages, Opening, Seal};
-use crate::refusal::Refusal;
+use crate::messages::{Incoming, Messages, OpensTo, Seal};
 use chpw_decider::Decider;
 use chpw_table::{Moment, Verdict};
+use krb_der::Refusal;
+use krb_der::codes::{KRB_ERR_GENERIC, KRB5_KPASSWD_HARDERROR};
 use std::alloc::{AllocError, Global};
-
-/// KRB_ERR_GENERIC (RFC 4120 section 7.5.9).
-const GENERIC: i32 = 60;
 
 /// A reply, and whether its message opened.
 #[derive(Drop)]
@@ -40,14 +39,13 @@ pub fn answer<M: Messages, D: Decider, G: Gate>(
 ) -> Result<Vec<u8>, AllocError>
     requires moment { IsMoment now }
     requires micros { now.micros < 1000000 }
-    ensures reply { IfOk result (λ bytes. IsAnswer (M.error_frame service.now) (M.private_frame service.now)
-        (D.may_be_full decider.new (D.gathered decider.new)) (M.opens service.now peer message.now)
-        words now (D.gathered decider.old) (D.gathered decider.new) bytes.items) }
-    ensures fits { IfOk result (λ bytes. length bytes.items ≤ 65535) }
-    ensures refused { OnErr result (AddsAtMostOne (D.gathered decider.old) (D.gathered decider.new)) }
-    ensures follows { D.follows decider.old decider.new }
+    ensures answers { IfOk result (λ bytes. Answering (M.error_frame service.now) (M.private_frame service.now)
+        (M.opens service.now peer) D.gathered D.may_be_full D.follows
+        message.now words now decider.old decider.new bytes.items) }
+    ensures refused { OnErr result (AddsOne D.gathered D.follows decider.old decider.new) }
 {
-    let answer = answer_message(alloc, service, peer, message, decider, gate, words, now)?;
+    let drawn = Drawing { now, words };
+    let answer = answer_message(alloc, service, peer, message, decider, gate, drawn)?;
     Ok(answer.bytes)
 }
 
@@ -59,51 +57,25 @@ pub fn answer_message<M: Messages, D: Decider, G: Gate>(
     message: &[u8],
     decider: &mut D,
     gate: &mut G,
-    words: [u32; 9],
-    now: Moment,
+    drawn: Drawing,
 ) -> Result<Answered, AllocError>
-    requires moment { IsMoment now }
-    requires micros { now.micros < 1000000 }
-    ensures reply { IfOk result (λ a. IsAnswer (M.error_frame service.now) (M.private_frame service.now)
-        (D.may_be_full decider.new (D.gathered decider.new)) (M.opens service.now peer message.now)
-        words now (D.gathered decider.old) (D.gathered decider.new) a.bytes.items) }
-    ensures fits { IfOk result (λ a. length a.bytes.items ≤ 65535) }
-    ensures refused { OnErr result (AddsAtMostOne (D.gathered decider.old) (D.gathered decider.new)) }
-    ensures follows { D.follows decider.old decider.new }
+    ensures answers { IfOk result (λ a. Answering (M.error_frame service.now) (M.private_frame service.now)
+        (M.opens service.now peer) D.gathered D.may_be_full D.follows
+        message.now drawn.words drawn.now decider.old decider.new a.bytes.items) }
+    ensures opened { IfOk result (λ a.
+        (o : Opens) × M.opens service.now peer message.now o × (a.opened ≡ is_opened o)) }
+    ensures refused { OnErr result (AddsOne D.gathered D.follows decider.old decider.new) }
 {
-    match service.open(alloc, peer, message)? {
-        Opening::Refused(refusal) => Ok(Answered {
-            bytes: service.make_error(alloc, refusal, now)?,
-            opened: false,
-        }),
-        Opening::Opened(incoming) => Ok(Answered {
-            bytes: answer_opened(alloc, service, incoming, decider, gate, words, now)?,
-            opened: true,
-        }),
-    }
-}
-
-/// The reply to a request that opened.
-fn answer_opened<M: Messages, D: Decider, G: Gate>(
-    alloc: Global,
-    service: &M,
-    incoming: Incoming,
-    decider: &mut D,
-    gate: &mut G,
-    words: [u32; 9],
-    now: Moment,
-) -> Result<Vec<u8>, AllocError>
-    requires moment { IsMoment now }
-    requires micros { now.micros < 1000000 }
-    requires times { IsReplyTime incoming.seal }
-    ensures reply { IfOk result (λ bytes. (q : Request) → IsIncoming q incoming
-        → IsAnswerTo (M.error_frame service.now) (M.private_frame service.now)
-        (D.may_be_full decider.new (D.gathered decider.new)) q words now
-        (D.gathered decider.old) (D.gathered decider.new) bytes.items) }
-    ensures fits { IfOk result (λ bytes. length bytes.items ≤ 65535) }
-    ensures refused { OnErr result (AddsAtMostOne (D.gathered decider.old) (D.gathered decider.new)) }
-    ensures follows { D.follows decider.old decider.new }
-{
+    let incoming = match service.open(alloc, peer, message)? {
+        OpensTo::Opened(incoming) => incoming,
+        OpensTo::Refused(refusal) => {
+            let bytes = service.make_error(alloc, refusal, drawn.now)?;
+            return Ok(Answered {
+                bytes,
+                opened: false,
+            });
+        }
+    };
     let Incoming {
         opened,
         password,
@@ -111,21 +83,23 @@ fn answer_opened<M: Messages, D: Decider, G: Gate>(
     } = incoming;
     let ready = derive_shown(service.realm(), decider, opened, password.as_slice())?;
     gate.at(Spot::Opened);
-    match decide(decider, now, ready, password.as_slice())? {
-        Decision::Full => service.make_error(alloc, history_full(), now),
-        Decision::Verdict(verdict) => reply(alloc, service, &seal, verdict, words, now),
-    }
+    let bytes = match decide(decider, drawn.now, ready, password.as_slice())? {
+        Decision::Full => service.make_error(alloc, history_full(), drawn.now)?,
+        Decision::Verdict(verdict) => reply(alloc, service, &seal, verdict, drawn)?,
+    };
+    Ok(Answered {
+        bytes,
+        opened: true,
+    })
 }
 
 /// What a full history is answered with.
 fn history_full() -> Refusal
-    ensures code { result.code ≡ 2 }
-    ensures error { result.error ≡ pos 60 }
-    ensures text { result.text.now ≡ codes "history full" }
+    ensures value { answer_in result ≡ full_answer }
 {
     Refusal {
-        code: 2,
-        error: GENERIC,
+        code: KRB5_KPASSWD_HARDERROR,
+        error: KRB_ERR_GENERIC,
         text: "history full",
     }
 }
@@ -137,25 +111,22 @@ fn reply<M: Messages>(
     service: &M,
     seal: &Seal,
     verdict: Verdict,
-    words: [u32; 9],
-    now: Moment,
+    drawn: Drawing,
 ) -> Result<Vec<u8>, AllocError>
-    requires moment { IsMoment now }
-    requires micros { now.micros < 1000000 }
     requires times { IsReplyTime seal.now }
     ensures reply { IfOk result (λ bytes. bytes.items
-        ≡ reply_to (M.error_frame service.now) (M.private_frame service.now) seal.now verdict words now) }
+        ≡ reply_to (M.error_frame service.now) (M.private_frame service.now) seal.now verdict drawn.words drawn.now) }
     ensures fits { IfOk result (λ bytes. length bytes.items ≤ 65535) }
 {
     match verdict.error() {
-        None => service.make_private(alloc, seal, verdict.code(), verdict.text(), words),
+        None => service.make_private(alloc, seal, verdict.code(), verdict.text(), drawn.words),
         Some(error) => {
             let refusal = Refusal {
                 code: verdict.code(),
                 error,
                 text: verdict.text(),
             };
-            service.make_error(alloc, refusal, now)
+            service.make_error(alloc, refusal, drawn.now)
         }
     }
 }

@@ -23,7 +23,7 @@ pub(crate) enum Decision {
 enum Try {
     Verdict(Verdict),
     Full,
-    /// Keys were wanting, and are derived.
+    /// Keys were missing, and are derived now.
     Again(Opened),
 }
 

@@ -4,12 +4,12 @@
 mod answering;
 mod completing;
 mod deciding;
+mod drawing;
 mod gate;
 pub mod laws;
 mod messages;
-mod refusal;
 
 pub use answering::{Answered, answer, answer_message};
+pub use drawing::Drawing;
 pub use gate::{Gate, NoGate, Spot};
-pub use messages::{Incoming, Messages, Opening, Seal};
-pub use refusal::Refusal;
+pub use messages::{Incoming, Messages, OpensTo, Seal};

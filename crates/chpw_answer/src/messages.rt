@@ -2,14 +2,14 @@
 ghost use Rattle.std.specs.Prelude.{◌≡◌, ◌≤◌, ◌<◌, ℕ, List, length, IfOk};
 ghost use Rattle.chpw_table.specs.declared.times.Moment.{Moment};
 ghost use Rattle.chpw_table.specs.Times.{IsMoment};
-ghost use Rattle.chpw_table.specs.Replies.{Answer};
+ghost use Rattle.chpw_table.specs.Replies.{Answer, by_private};
 ghost use Rattle.chpw_answer.specs.declared.messages.Seal.{Seal};
 ghost use Rattle.chpw_answer.specs.Requests.{Opens};
-ghost use Rattle.chpw_answer.specs.Holding.{IsInTime, IsOpening, IsReplyTime, answer_in};
+ghost use Rattle.chpw_answer.specs.Holding.{IsInTime, IsOpensTo, IsReplyTime, answer_in};
 
-use crate::refusal::Refusal;
 use chpw_rules::Items;
 use chpw_table::{Moment, Opened};
+use krb_der::Refusal;
 use krb_keys::Key;
 use std::alloc::{AllocError, Global};
 
@@ -37,7 +37,7 @@ pub struct Incoming {
 
 /// What a message opens to.
 #[derive(Drop)]
-pub enum Opening {
+pub enum OpensTo {
     Refused(Refusal),
     Opened(Incoming),
 }
@@ -57,8 +57,8 @@ pub trait Messages {
     fn realm(&self) -> &[u8];
 
     /// Opens a message from this peer, an IPv4 address, high byte first.
-    fn open(&self, alloc: Global, peer: [u8; 4], message: &[u8]) -> Result<Opening, AllocError>
-        ensures opening { IfOk result (λ found. (o : Opens) × opens self.now peer message.now o × IsOpening o found) }
+    fn open(&self, alloc: Global, peer: [u8; 4], message: &[u8]) -> Result<OpensTo, AllocError>
+        ensures opening { IfOk result (λ found. (o : Opens) × opens self.now peer message.now o × IsOpensTo o found) }
         ensures times { IfOk result IsInTime };
 
     /// The reply that is a KRB-ERROR of this moment, whose microseconds are below 1,000,000.
@@ -85,6 +85,6 @@ pub trait Messages {
         requires times { IsReplyTime seal.now }
         requires text { length text.now ≤ 100 }
         ensures frame { IfOk result (λ bytes. bytes.items
-            ≡ private_frame self.now seal.now (record { code = code; error = None; text = text.now }) words) }
+            ≡ private_frame self.now seal.now (by_private code text.now) words) }
         ensures fits { IfOk result (λ bytes. length bytes.items ≤ 65535) };
 }

@@ -10,7 +10,7 @@ use Rattle.krb_der.specs.Types.{change_passwd_data, principal_name}
 use Rattle.krb_der.specs.Values.{principal_name_value, change_passwd_data_value}
 use Rattle.krb_der.specs.declared.change_passwd_data.ChangePasswdData.{ChangePasswdData}
 use Rattle.krb_der.specs.declared.principal_name.PrincipalName.{PrincipalName}
-use Rattle.chpw_frame.specs.declared.change_data.Change.{Change}
+use Rattle.chpw_frame.specs.declared.change_data.ChangeData.{ChangeData}
 use Rattle.chpw_frame.specs.declared.change_data.ChangeTarget.{ChangeTarget}
 use Rattle.chpw_frame.specs.ChangeData.{change_value, IsChange, IsNoChange, Finds}
 use Rattle.chpw_frame.specs.Asked.{asks, asked}
@@ -50,7 +50,7 @@ no_name name h = cc
 no_realm : (realm : List ℕ) → Some realm ≡ None → ⊥
 no_realm realm h = cc
 
-change_of : List ℕ → PrincipalName → Option (List ℕ) → Change
+change_of : List ℕ → PrincipalName → Option (List ℕ) → ChangeData
 change_of password name realm = record { password = password; target = Some (record { name = name; realm = realm }) }
 
 -- a change of the same value is what is asked
@@ -73,7 +73,7 @@ complete_of password own None None (Some target) h = absurd (no_name target.name
 complete_of password own None (Some realm) (Some target) h = absurd (no_name target.name (ap (λ (v : Value change_passwd_data). v.1.0) h))
 complete_of password own None (Some realm) None h = absurd (no_realm realm (ap (λ (v : Value change_passwd_data). v.1.1.0) (sym h)))
 
-pub asks_complete : (fields : ChangePasswdData) (change : Change) → change_value change ≡ change_passwd_data_value fields → Finds (asked fields) change
+pub asks_complete : (fields : ChangePasswdData) (change : ChangeData) → change_value change ≡ change_passwd_data_value fields → Finds (asked fields) change
 asks_complete fields change h = complete_of fields.newpasswd change.password fields.targname fields.targrealm change.target h
 
 -- a text that is refused has no value

@@ -9,27 +9,27 @@ use Rattle.std.proofs.lemmas.List.Elements.{All-take, All-drop, All-head, All-ta
 use Rattle.std.proofs.Math.Seq.{take-append_seam, drop-append_seam}
 use Rattle.chpw_frame.specs.declared.fault.FrameFault.TheVariants.{BadLength, BadVersion, BadParts}
 use Rattle.chpw_frame.specs.Stream.{longest}
-use Rattle.chpw_frame.specs.Framing.{number_at, version_of, ap_length_of, ap_of, tail_of, is_whole, is_past_end, framed}
+use Rattle.chpw_frame.specs.Framing.{header_length, number_at, version_of, ap_length_of, ap_of, tail_of, is_whole, is_past_end, framed}
 use Rattle.chpw_frame.specs.Laws.{FramedIsWhole, WholeIsFramed}
 use Rattle.chpw_frame.proofs.Tests.{is_same, not_zero, not_below, same_is, not_below_is}
 
 module _ (version : ℕ) (xs tail : List ℕ) where
-  pub framed_length : length (framed version xs tail) ≡ 6 + length xs + length tail
+  pub framed_length : length (framed version xs tail) ≡ header_length + length xs + length tail
   framed_length = let e = length-append xs tail in omega (arith, e)
 
-  length_is : 6 + length xs + length tail ≤ longest → number_at (framed version xs tail) 0 ≡ 6 + length xs + length tail
-  length_is h = from_be_bytes-to_be_bytes_2 (6 + length xs + length tail) (omega (arith, h))
+  length_is : header_length + length xs + length tail ≤ longest → number_at (framed version xs tail) 0 ≡ header_length + length xs + length tail
+  length_is h = from_be_bytes-to_be_bytes_2 (header_length + length xs + length tail) (omega (arith, h))
 
   version_is : version < 2 ^ 16 → version_of (framed version xs tail) ≡ version
   version_is h = from_be_bytes-to_be_bytes_2 version h
 
-  ap_length_is : 6 + length xs + length tail ≤ longest → ap_length_of (framed version xs tail) ≡ length xs
+  ap_length_is : header_length + length xs + length tail ≤ longest → ap_length_of (framed version xs tail) ≡ length xs
   ap_length_is h = from_be_bytes-to_be_bytes_2 (length xs) (omega (arith, h))
 
-  ap_is : 6 + length xs + length tail ≤ longest → ap_of (framed version xs tail) ≡ xs
+  ap_is : header_length + length xs + length tail ≤ longest → ap_of (framed version xs tail) ≡ xs
   ap_is h = ap (λ (n : ℕ). take n (xs ++ tail)) (ap_length_is h) ∙ take-append_seam xs tail
 
-  tail_is : 6 + length xs + length tail ≤ longest → tail_of (framed version xs tail) ≡ tail
+  tail_is : header_length + length xs + length tail ≤ longest → tail_of (framed version xs tail) ≡ tail
   tail_is h = ap (λ (n : ℕ). drop n (xs ++ tail)) (ap_length_is h) ∙ drop-append_seam xs tail
 
 -- an AP part that may be empty, or isn't
@@ -42,11 +42,11 @@ framed_is_whole versions may_be_empty version xs tail taken v some h =
     let text = framed version xs tail in
     let size = framed_length version xs tail in
     let stated = length_is version xs tail h in
-    let a : nat_lt (length text) 6 ≡ false = not_below _ _ (omega (arith, size)) in
+    let a : nat_lt (length text) header_length ≡ false = not_below _ _ (omega (arith, size)) in
     let b : (number_at text 0 == length text) ≡ true = is_same _ _ (stated ∙ sym size) in
     let c : list_any (λ w. w == version_of text) versions ≡ true = ap (λ (n : ℕ). list_any (λ w. w == n) versions) (version_is version xs tail v) ∙ taken in
     let ap_length = ap_length_is version xs tail h in
-    let d : nat_lt (length text) (6 + ap_length_of text) ≡ false = not_below _ _ (omega (arith, size, ap_length)) in
+    let d : nat_lt (length text) (header_length + ap_length_of text) ≡ false = not_below _ _ (omega (arith, size, ap_length)) in
     let e : (not may_be_empty && (ap_length_of text == 0)) ≡ false = ap (λ (n : ℕ). not may_be_empty && (n == 0)) ap_length ∙ no_parts_fault may_be_empty (length xs) some in
     (rw (a, b, c, e, d) refl, version_is version xs tail v, ap_is version xs tail h, tail_is version xs tail h)
 
@@ -89,13 +89,13 @@ whole_is_framed versions may_be_empty (a ∷ b ∷ c ∷ d ∷ e ∷ f ∷ rest)
     let bytes : List ℕ = a ∷ b ∷ c ∷ d ∷ e ∷ f ∷ rest in
     let n : ℕ = ap_length_of bytes in
     let clear = cleared (is_whole bytes) (list_any (λ v. v == version_of bytes) versions) ((not may_be_empty && (n == 0)) || is_past_end bytes) none in
-    let stated : number_at bytes 0 ≡ length bytes = same_is (number_at bytes 0) (length bytes) (both_are (not (nat_lt (length bytes) 6)) (number_at bytes 0 == length bytes) clear.0) in
-    let within : 6 + n ≤ length bytes = not_below_is (length bytes) (6 + n) (neither (not may_be_empty && (n == 0)) (is_past_end bytes) clear.1) in
+    let stated : number_at bytes 0 ≡ length bytes = same_is (number_at bytes 0) (length bytes) (both_are (not (nat_lt (length bytes) header_length)) (number_at bytes 0 == length bytes) clear.0) in
+    let within : header_length + n ≤ length bytes = not_below_is (length bytes) (header_length + n) (neither (not may_be_empty && (n == 0)) (is_past_end bytes) clear.1) in
     let ap_length : length (take n rest) ≡ n = length-take-le n rest (omega (arith, within)) in
     let sum = length-parts n rest in
-    let whole : 6 + length (take n rest) + length (drop n rest) ≡ number_at bytes 0 = omega (arith, sum, stated) in
+    let whole : header_length + length (take n rest) + length (drop n rest) ≡ number_at bytes 0 = omega (arith, sum, stated) in
     let byte = λ (k : ℕ). λ (zs : List ℕ). λ (h : take 2 (drop k bytes) ≡ zs). subst (λ (ys : List ℕ). All (λ b. b < 256) ys) h (All-take (λ b. b < 256) 2 (drop k bytes) (All-drop (λ b. b < 256) k bytes small)) in
-    let l : to_be_bytes w16 (6 + length (take n rest) + length (drop n rest)) ≡ a ∷ b ∷ [] = field_is (a ∷ b ∷ []) (byte 0 (a ∷ b ∷ []) refl) refl _ whole in
+    let l : to_be_bytes w16 (header_length + length (take n rest) + length (drop n rest)) ≡ a ∷ b ∷ [] = field_is (a ∷ b ∷ []) (byte 0 (a ∷ b ∷ []) refl) refl _ whole in
     let v : to_be_bytes w16 (version_of bytes) ≡ c ∷ d ∷ [] = field_is (c ∷ d ∷ []) (byte 2 (c ∷ d ∷ []) refl) refl _ refl in
     let m : to_be_bytes w16 (length (take n rest)) ≡ e ∷ f ∷ [] = field_is (e ∷ f ∷ []) (byte 4 (e ∷ f ∷ []) refl) refl _ ap_length in
     sym (ap (λ (ls : List ℕ). ls ++ to_be_bytes w16 (version_of bytes) ++ to_be_bytes w16 (length (take n rest)) ++ take n rest ++ drop n rest) l

@@ -5,12 +5,12 @@ use Rattle.krb_elements.specs.Shapes.{Value, ◌&◌}
 use Rattle.krb_elements.specs.Grammar.{Spells}
 use Rattle.krb_der.specs.Types.{change_passwd_data}
 use Rattle.krb_der.specs.Values.{principal_name_value}
-use Rattle.chpw_frame.specs.declared.change_data.Change.{Change}
+use Rattle.chpw_frame.specs.declared.change_data.ChangeData.{ChangeData}
 use Rattle.chpw_frame.specs.declared.change_data.ChangeFault.{ChangeFault}
 use Rattle.chpw_frame.specs.declared.change_data.ChangeFault.TheVariants.{NotChangeData, RealmWithoutName, Memory}
 
 -- the fields newpasswd, targname and targrealm
-abbrev pub change_value : Change → Value change_passwd_data
+abbrev pub change_value : ChangeData → Value change_passwd_data
 change_value c =
     c.password
     & option_map (λ t. principal_name_value t.name) c.target
@@ -18,7 +18,7 @@ change_value c =
     & tt
 
 -- the bytes ask for this change
-abbrev pub IsChange : List ℕ → Change → Type 0
+abbrev pub IsChange : List ℕ → ChangeData → Type 0
 IsChange bytes change = Spells change_passwd_data bytes (change_value change)
 
 -- why they ask for none
@@ -29,7 +29,7 @@ IsNoChange RealmWithoutName bytes =
 IsNoChange Memory bytes = Unit {0}
 
 -- this change is found, unless memory ran out
-abbrev pub Finds : Result Change ChangeFault → Change → Type 0
+abbrev pub Finds : Result ChangeData ChangeFault → ChangeData → Type 0
 Finds (Ok found) change = found ≡ change
 Finds (Err NotChangeData) change = ⊥
 Finds (Err RealmWithoutName) change = ⊥

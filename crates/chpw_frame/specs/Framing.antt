@@ -20,6 +20,10 @@ reply_version = 0x0001
 abbrev pub reply_versions : List ℕ
 reply_versions = reply_version ∷ []
 
+-- message length, version and AP length have this many bytes
+abbrev pub header_length : ℕ
+header_length = 6
+
 -- the number in the two bytes at this place
 abbrev pub number_at : List ℕ → ℕ → ℕ
 number_at bytes place = from_be_bytes w16 (take 2 (drop place bytes))
@@ -31,18 +35,18 @@ abbrev pub ap_length_of : List ℕ → ℕ
 ap_length_of bytes = number_at bytes 4
 
 abbrev pub ap_of : List ℕ → List ℕ
-ap_of bytes = take (ap_length_of bytes) (drop 6 bytes)
+ap_of bytes = take (ap_length_of bytes) (drop header_length bytes)
 
 abbrev pub tail_of : List ℕ → List ℕ
-tail_of bytes = drop (ap_length_of bytes) (drop 6 bytes)
+tail_of bytes = drop (ap_length_of bytes) (drop header_length bytes)
 
 -- the length field is the length, header and all
 abbrev pub is_whole : List ℕ → Bool
-is_whole bytes = not (nat_lt (length bytes) 6) && (number_at bytes 0 == length bytes)
+is_whole bytes = not (nat_lt (length bytes) header_length) && (number_at bytes 0 == length bytes)
 
 -- the AP part ends behind the message
 abbrev pub is_past_end : List ℕ → Bool
-is_past_end bytes = nat_lt (length bytes) (6 + ap_length_of bytes)
+is_past_end bytes = nat_lt (length bytes) (header_length + ap_length_of bytes)
 
 -- the first fault of a message that may have these versions; an empty AP part is one in a request
 abbrev pub first_fault : List ℕ → Bool → List ℕ → Option FrameFault
@@ -55,7 +59,7 @@ first_fault versions may_be_empty bytes =
 -- the text with these parts
 abbrev pub framed : ℕ → List ℕ → List ℕ → List ℕ
 framed version ap tail =
-    to_be_bytes w16 (6 + length ap + length tail)
+    to_be_bytes w16 (header_length + length ap + length tail)
     ++ to_be_bytes w16 version
     ++ to_be_bytes w16 (length ap)
     ++ ap

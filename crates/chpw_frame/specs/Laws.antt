@@ -3,14 +3,14 @@ use Rattle.std.specs.Prelude.{◌≡◌, ℕ, ◌+◌, ◌==◌, ◌<◌, ◌≤
 use Rattle.std.specs.List.{list_any}
 use Rattle.chpw_frame.specs.declared.fault.FrameFault.TheVariants.{BadLength, BadVersion, BadParts}
 use Rattle.chpw_frame.specs.Stream.{message, ended, cut_off, too_long, longest, next_piece, behind_piece, sent}
-use Rattle.chpw_frame.specs.Framing.{request_versions, reply_versions, version_of, ap_of, tail_of, first_fault, framed}
+use Rattle.chpw_frame.specs.Framing.{header_length, request_versions, reply_versions, version_of, ap_of, tail_of, first_fault, framed}
 use Rattle.chpw_frame.specs.Cuts.{End, Cuts}
 
 -- a framed text of a version that is taken has no fault, and the parts that it was made of
 abbrev pub FramedIsWhole : Type 0
 FramedIsWhole = (versions : List ℕ) (may_be_empty : Bool) (version : ℕ) (ap tail : List ℕ)
     → list_any (λ v. v == version) versions ≡ true → version < 2 ^ 16
-    → (may_be_empty ≡ false → 0 < length ap) → 6 + length ap + length tail ≤ longest
+    → (may_be_empty ≡ false → 0 < length ap) → header_length + length ap + length tail ≤ longest
     → (first_fault versions may_be_empty (framed version ap tail) ≡ None)
     × (version_of (framed version ap tail) ≡ version)
     × (ap_of (framed version ap tail) ≡ ap)

@@ -1,6 +1,6 @@
 //! What a request asks: a new password, and whose it is.
 ghost use Rattle.std.specs.Prelude.{◌≡◌, IfOk, IfErr};
-ghost use Rattle.chpw_frame.specs.declared.change_data.Change.{Change};
+ghost use Rattle.chpw_frame.specs.declared.change_data.ChangeData.{ChangeData};
 ghost use Rattle.chpw_frame.specs.ChangeData.{IsChange, IsNoChange, Finds};
 ghost use Rattle.chpw_frame.specs.Asked.{asked};
 
@@ -12,7 +12,7 @@ use thiserror::Error;
 
 /// A new password, and whose it is (RFC 3244 section 2).
 #[derive(Drop)]
-pub struct Change {
+pub struct ChangeData {
     pub password: OctetString,
     /// Absent: the client.
     pub target: Option<ChangeTarget>,
@@ -41,9 +41,9 @@ pub enum ChangeFault {
 }
 
 /// The change that a KRB-PRIV's user-data asks for, a ChangePasswdData (RFC 3244 section 2).
-pub fn read_change_data(alloc: Global, bytes: &[u8]) -> Result<Change, ChangeFault>
+pub fn read_change_data(alloc: Global, bytes: &[u8]) -> Result<ChangeData, ChangeFault>
     ensures sound { IfOk result (λ change. IsChange bytes.now change) }
-    ensures complete { (change : Change) → IsChange bytes.now change → Finds result change }
+    ensures complete { (change : ChangeData) → IsChange bytes.now change → Finds result change }
     ensures first { IfErr result (λ fault. IsNoChange fault bytes.now) }
 {
     match read_change_passwd_data(alloc, bytes) {
@@ -54,15 +54,15 @@ pub fn read_change_data(alloc: Global, bytes: &[u8]) -> Result<Change, ChangeFau
 }
 
 /// The change that a ChangePasswdData asks for.
-fn change_of(fields: ChangePasswdData) -> Result<Change, ChangeFault>
+fn change_of(fields: ChangePasswdData) -> Result<ChangeData, ChangeFault>
     ensures value { result ≡ asked fields }
 {
     match (fields.targname, fields.targrealm) {
-        (Some(name), realm) => Ok(Change {
+        (Some(name), realm) => Ok(ChangeData {
             password: fields.newpasswd,
             target: Some(ChangeTarget { name, realm }),
         }),
-        (None, None) => Ok(Change {
+        (None, None) => Ok(ChangeData {
             password: fields.newpasswd,
             target: None,
         }),

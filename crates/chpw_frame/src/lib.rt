@@ -9,7 +9,7 @@ mod reply;
 mod request;
 mod stream;
 
-pub use change_data::{Change, ChangeFault, ChangeTarget, read_change_data};
+pub use change_data::{ChangeData, ChangeFault, ChangeTarget, read_change_data};
 pub use fault::FrameFault;
 pub use parts::Parts;
 pub use reply::{REPLY_VERSION, join_reply, split_reply};

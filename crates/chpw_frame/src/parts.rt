@@ -1,9 +1,13 @@
 //! The parts of a message, request or reply.
 ghost use Rattle.std.specs.Prelude.{◌≡◌, ◌+◌, ◌≤◌, length, IfOk, IfErr, OnOk, Some, None};
-ghost use Rattle.chpw_frame.specs.Framing.{first_fault, version_of, ap_of, tail_of, framed};
+ghost use Rattle.chpw_frame.specs.Framing.{first_fault, version_of, ap_of, tail_of, framed, header_length};
+ghost use Rattle.chpw_frame.specs.Stream.{longest};
 
 use crate::fault::FrameFault;
 use std::alloc::{AllocError, Global};
+
+/// Bytes of message length, version and AP length.
+const HEADER_LENGTH: usize = 6;
 
 /// The parts of a message (RFC 3244 section 2).
 #[derive(Clone, Copy, Drop)]
@@ -55,11 +59,11 @@ pub(crate) fn join(
     ap: &[u8],
     tail: &[u8],
 ) -> Result<Vec<u8>, AllocError>
-    requires fits { 6 + length ap.now + length tail.now ≤ 65535 }
+    requires fits { header_length + length ap.now + length tail.now ≤ longest }
     ensures text { IfOk result (λ bytes. bytes.items ≡ framed version ap.now tail.now) }
 {
     let ap_length = ap.len() as u16;
-    let whole_length = (6 + ap.len() + tail.len()) as u16;
+    let whole_length = (HEADER_LENGTH + ap.len() + tail.len()) as u16;
     let mut bytes = Vec::with_capacity(alloc, usize::from(whole_length))?;
     bytes.extend_from_slice(&whole_length.to_be_bytes())?;
     bytes.extend_from_slice(&version.to_be_bytes())?;

@@ -1,6 +1,7 @@
 //! A reply: an AP-REP and a KRB-PRIV, or a KRB-ERROR alone.
 ghost use Rattle.std.specs.Prelude.{◌≡◌, ◌+◌, ◌≤◌, length, IfOk, IfErr, OnOk, Some, None, true};
-ghost use Rattle.chpw_frame.specs.Framing.{reply_versions, reply_version, first_fault, version_of, ap_of, tail_of, framed};
+ghost use Rattle.chpw_frame.specs.Framing.{reply_versions, reply_version, first_fault, version_of, ap_of, tail_of, framed, header_length};
+ghost use Rattle.chpw_frame.specs.Stream.{longest};
 
 use crate::fault::FrameFault;
 use crate::parts::{Parts, join, split};
@@ -23,7 +24,7 @@ pub fn split_reply(bytes: &[u8]) -> Result<Parts<'_>, FrameFault>
 
 /// The reply with these parts, of 65,535 bytes at most.
 pub fn join_reply(alloc: Global, ap: &[u8], tail: &[u8]) -> Result<Vec<u8>, AllocError>
-    requires fits { 6 + length ap.now + length tail.now ≤ 65535 }
+    requires fits { header_length + length ap.now + length tail.now ≤ longest }
     ensures text { IfOk result (λ bytes. bytes.items ≡ framed reply_version ap.now tail.now) }
 {
     join(alloc, REPLY_VERSION, ap, tail)

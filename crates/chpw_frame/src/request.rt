@@ -1,6 +1,7 @@
 //! A request: an AP-REQ and a KRB-PRIV.
 ghost use Rattle.std.specs.Prelude.{◌≡◌, ◌+◌, ◌≤◌, ◌<◌, length, IfOk, IfErr, OnOk, Some, None, false};
-ghost use Rattle.chpw_frame.specs.Framing.{request_versions, request_version, first_fault, version_of, ap_of, tail_of, framed};
+ghost use Rattle.chpw_frame.specs.Framing.{request_versions, request_version, first_fault, version_of, ap_of, tail_of, framed, header_length};
+ghost use Rattle.chpw_frame.specs.Stream.{longest};
 
 use crate::fault::FrameFault;
 use crate::parts::{Parts, join, split};
@@ -26,7 +27,7 @@ pub fn split_request(bytes: &[u8]) -> Result<Parts<'_>, FrameFault>
 /// The request with these parts, of 65,535 bytes at most.
 pub fn join_request(alloc: Global, ap: &[u8], tail: &[u8]) -> Result<Vec<u8>, AllocError>
     requires some { 0 < length ap.now }
-    requires fits { 6 + length ap.now + length tail.now ≤ 65535 }
+    requires fits { header_length + length ap.now + length tail.now ≤ longest }
     ensures text { IfOk result (λ bytes. bytes.items ≡ framed request_version ap.now tail.now) }
 {
     join(alloc, REQUEST_VERSION, ap, tail)

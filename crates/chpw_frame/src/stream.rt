@@ -103,7 +103,7 @@ pub fn write_tcp<W: Write>(writer: &mut W, bytes: &[u8]) -> Result<(), WriteFaul
 
 /// Writes a length and the first bytes of its message, in one write where the writer takes all.
 fn put_front<W: Write>(writer: &mut W, size: u32, front: &[u8]) -> Result<(), WriteFault>
-    requires few { length front.now ≤ 1020 }
+    requires few { length front.now ≤ FRONT_LEN }
     ensures whole { OnOk result (Appends (W.contents writer.old) (W.contents writer.new)
         (to_be_bytes w32 size ++ front.now)) }
     ensures front { OnErr result (AppendsFront (W.contents writer.old) (W.contents writer.new)

@@ -6,8 +6,8 @@ use Rattle.std.proofs.lemmas.Nat.{from_be_bytes-to_be_bytes_2}
 use Rattle.chpw_rules.specs.Limits.{is_in}
 use Rattle.chpw_table.proofs.BoolLemmas.{both}
 use Rattle.chpw_journal.specs.Records.{stated_length, record_lengths}
-use Rattle.chpw_journal.specs.Reading.{is_cut_off}
-use Rattle.chpw_journal.specs.Receiving.{IsHeader}
+use Rattle.chpw_journal.specs.JournalText.{is_cut_off}
+use Rattle.chpw_journal.specs.NextRecord.{IsHeader}
 
 pub below : (m n : ℕ) → m < n → nat_lt m n ≡ true
 below m n h = grind (arith, nat_tests)

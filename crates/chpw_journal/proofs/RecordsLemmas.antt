@@ -1,4 +1,4 @@
--- The records of changes, joined: one more at the end, and what begins with one.
+-- The texts of records, joined: one more at the end, and what begins with one.
 use Rattle.std.proofs.Common.{◌≡◌, ℕ, ◌+◌, ◌^◌, ◌≤◌, ◌<◌, List, [], ◌∷◌, ◌++◌, length, refl, sym, ◌∙◌, ap, arith, length-append, append_assoc, append-nil}
 use Rattle.std.specs.Int.{from_be_bytes, to_be_bytes, w16}
 use Rattle.std.proofs.lemmas.Nat.{from_be_bytes-to_be_bytes_2}
@@ -6,38 +6,38 @@ use Rattle.chpw_table.specs.State.{State}
 use Rattle.chpw_table.specs.Journal.{version_bytes, name_bytes}
 use Rattle.chpw_table.specs.Restoring.{with_kept_key, IsNextKey}
 use Rattle.chpw_table.proofs.JournalLemmas.{name_short}
-use Rattle.chpw_journal.specs.declared.change.Change.{Change}
-use Rattle.chpw_journal.specs.Records.{ChangeFits, change_text, record_text, records_text}
-use Rattle.chpw_journal.specs.Reading.{AreNext, restored}
-use Rattle.chpw_journal.specs.Receiving.{framed}
+use Rattle.chpw_journal.specs.declared.record.Record.{Record}
+use Rattle.chpw_journal.specs.Records.{RecordFits, body_text, record_text, records_text}
+use Rattle.chpw_journal.specs.JournalText.{AreNext, restored}
+use Rattle.chpw_journal.specs.NextRecord.{framed}
 use Rattle.chpw_journal.proofs.ListLemmas.{front_same}
 use Rattle.chpw_journal.proofs.VersionLemmas.{version_length}
 
-pub records_more : (cs : List Change) (c : Change) → records_text (cs ++ c ∷ []) ≡ records_text cs ++ record_text c
+pub records_more : (cs : List Record) (c : Record) → records_text (cs ++ c ∷ []) ≡ records_text cs ++ record_text c
 records_more [] c = append-nil (record_text c)
 records_more (d ∷ cs) c = ap (λ (xs : List ℕ). record_text d ++ xs) (records_more cs c) ∙ sym (append_assoc (record_text d) (records_text cs) (record_text c))
 
-pub records_joined : (cs ds : List Change) → records_text (cs ++ ds) ≡ records_text cs ++ records_text ds
+pub records_joined : (cs ds : List Record) → records_text (cs ++ ds) ≡ records_text cs ++ records_text ds
 records_joined [] ds = refl
 records_joined (c ∷ cs) ds = ap (λ (xs : List ℕ). record_text c ++ xs) (records_joined cs ds) ∙ sym (append_assoc (record_text c) (records_text cs) (records_text ds))
 
-pub restored_joined : (s : State) (cs ds : List Change) → restored s (cs ++ ds) ≡ restored (restored s cs) ds
+pub restored_joined : (s : State) (cs ds : List Record) → restored s (cs ++ ds) ≡ restored (restored s cs) ds
 restored_joined s [] ds = refl
 restored_joined s (c ∷ cs) ds = restored_joined (with_kept_key c.name c.key s) cs ds
 
-pub next_joined : (s : State) (cs ds : List Change) → AreNext s cs → AreNext (restored s cs) ds → AreNext s (cs ++ ds)
+pub next_joined : (s : State) (cs ds : List Record) → AreNext s cs → AreNext (restored s cs) ds → AreNext s (cs ++ ds)
 next_joined s [] ds h g = g
 next_joined s (c ∷ cs) ds h g = (h.0, h.1, next_joined (with_kept_key c.name c.key s) cs ds h.2 g)
 
-pub next_more : (s : State) (cs : List Change) (c : Change) → AreNext s cs → ChangeFits c → IsNextKey (restored s cs) c.name c.key → AreNext s (cs ++ c ∷ [])
+pub next_more : (s : State) (cs : List Record) (c : Record) → AreNext s cs → RecordFits c → IsNextKey (restored s cs) c.name c.key → AreNext s (cs ++ c ∷ [])
 next_more s cs c h f k = next_joined s cs (c ∷ []) h (f, k, tt)
 
--- a change's record is short
-pub text_short : (c : Change) → ChangeFits c → length (change_text c) ≤ 1090
+-- a record is short
+pub text_short : (c : Record) → RecordFits c → length (body_text c) ≤ 1090
 text_short c f =
     let v = version_length c.key f.aes128 f.aes256 in
     let n = name_short c.name f.name in
-    let s : length (change_text c) ≡ length (version_bytes c.key) + length (name_bytes c.name) = length-append (version_bytes c.key) (name_bytes c.name) in
+    let s : length (body_text c) ≡ length (version_bytes c.key) + length (name_bytes c.name) = length-append (version_bytes c.key) (name_bytes c.name) in
     omega (arith, s, v, n)
 
 -- two records that begin a text are the same

@@ -6,13 +6,13 @@ use Rattle.std.proofs.lemmas.List.{take-append-le}
 use Rattle.chpw_rules.specs.Limits.{is_in}
 use Rattle.chpw_table.specs.State.{State}
 use Rattle.chpw_table.specs.Agreement.{Held, Agrees}
-use Rattle.chpw_journal.specs.declared.change.Change.{Change}
+use Rattle.chpw_journal.specs.declared.record.Record.{Record}
 use Rattle.chpw_journal.specs.declared.fault.RestoreFault.{RestoreFault}
 use Rattle.chpw_journal.specs.declared.fault.RestoreFault.TheVariants.{BadRecord, WrongVersion, UnknownPrincipal, CannotRead, Memory}
 use Rattle.chpw_journal.specs.declared.restoring.Restored.{Restored}
-use Rattle.chpw_journal.specs.Records.{ChangeFits, change_text, record_text, records_text, stated_length, record_lengths}
-use Rattle.chpw_journal.specs.Reading.{restored, is_cut_off, HasBadLength, HasBadBody, Begins}
-use Rattle.chpw_journal.specs.Receiving.{framed}
+use Rattle.chpw_journal.specs.Records.{RecordFits, body_text, record_text, records_text, stated_length, record_lengths}
+use Rattle.chpw_journal.specs.JournalText.{restored, is_cut_off, HasBadLength, HasBadBody, Begins}
+use Rattle.chpw_journal.specs.NextRecord.{framed}
 use Rattle.chpw_journal.specs.Restoring.{is_there, IsRestored, IsRefused}
 use Rattle.chpw_journal.specs.Taking.{TakesRecord, IsRecordFault, IsSoFar}
 use Rattle.chpw_journal.proofs.CutLemmas.{header_states, length_short}
@@ -24,7 +24,7 @@ start_of before = record { table = before; records = 0; kept = 0; torn = false }
 
 pub so_far_start : (before : Held) (old : Option (List ℕ)) → IsSoFar before old old (start_of before)
 so_far_start before old = record {
-  changes = [];
+  whole_records = [];
   read = consumes_none old;
   table = λ s a. (tt, a);
   events = refl;
@@ -37,30 +37,30 @@ so_far_start before old = record {
 
 pub so_far_next : (before : Held) (old now new : Option (List ℕ)) (r later : Restored) (body : List ℕ) → IsSoFar before old now r → Consumes now new (framed body) → TakesRecord r later body → IsSoFar before old new later
 so_far_next before old now new r later body h d t =
-    let text : framed body ≡ record_text t.change = ap framed t.text in
-    let more : records_text (h.changes ++ t.change ∷ []) ≡ records_text h.changes ++ framed body = records_more h.changes t.change ∙ ap (λ (xs : List ℕ). records_text h.changes ++ xs) (sym text) in
+    let text : framed body ≡ record_text t.taken = ap framed t.text in
+    let more : records_text (h.whole_records ++ t.taken ∷ []) ≡ records_text h.whole_records ++ framed body = records_more h.whole_records t.taken ∙ ap (λ (xs : List ℕ). records_text h.whole_records ++ xs) (sym text) in
     let size : length (framed body) ≡ 2 + length body = length-append (to_be_bytes w16 (length body)) body in
     record {
-      changes = h.changes ++ t.change ∷ [];
-      read = subst (Consumes old new) (sym more) (consumes_more old now new (records_text h.changes) (framed body) h.read d);
+      whole_records = h.whole_records ++ t.taken ∷ [];
+      read = subst (Consumes old new) (sym more) (consumes_more old now new (records_text h.whole_records) (framed body) h.read d);
       table = λ s a.
           let g = h.table s a in
-          let u = t.table (restored s h.changes) g.1 in
-          (next_more s h.changes t.change g.0 t.fits u.0, subst (Agrees later.table.state) (sym (restored_joined s h.changes (t.change ∷ []))) u.1);
+          let u = t.table (restored s h.whole_records) g.1 in
+          (next_more s h.whole_records t.taken g.0 t.fits u.0, subst (Agrees later.table.state) (sym (restored_joined s h.whole_records (t.taken ∷ []))) u.1);
       events = t.events ∙ h.events;
       seen = t.seen ∙ h.seen;
       max_entries = t.max_entries ∙ h.max_entries;
-      records = t.records ∙ (ap (λ n. n + 1) h.records ∙ sym (length-append h.changes (t.change ∷ [])));
-      kept = t.kept ∙ (ap (λ n. n + (2 + length body)) h.kept ∙ (ap (λ n. length (records_text h.changes) + n) (sym size) ∙ (sym (length-append (records_text h.changes) (framed body)) ∙ ap length (sym more))));
+      records = t.records ∙ (ap (λ n. n + 1) h.records ∙ sym (length-append h.whole_records (t.taken ∷ [])));
+      kept = t.kept ∙ (ap (λ n. n + (2 + length body)) h.kept ∙ (ap (λ n. length (records_text h.whole_records) + n) (sym size) ∙ (sym (length-append (records_text h.whole_records) (framed body)) ∙ ap length (sym more))));
       torn = t.torn ∙ h.torn;
     }
 
 -- the end, with this behind the last whole record
 pub ended_with : (before : Held) (old now new : Option (List ℕ)) (r : Restored) (rest : List ℕ) → IsSoFar before old now r → Consumes now new rest → IsAtEnd new → is_cut_off rest ≡ true → IsRestored before old new (record r { torn = is_there rest })
 ended_with before old now new r rest h d e cut = record {
-  changes = h.changes;
+  whole_records = h.whole_records;
   rest = rest;
-  read = consumes_more old now new (records_text h.changes) rest h.read d;
+  read = consumes_more old now new (records_text h.whole_records) rest h.read d;
   end = e;
   reading = λ s a. (record { text_is = refl; next = (h.table s a).0 }, cut);
   table = λ s a. (h.table s a).1;
@@ -91,11 +91,11 @@ ended_torn before old now new r rest h d e cut some =
 
 pub cannot_read : (before : Held) (old now new : Option (List ℕ)) (r : Restored) (rest : List ℕ) → IsSoFar before old now r → Consumes now new rest → is_cut_off rest ≡ true → IsRefused before old new CannotRead
 cannot_read before old now new r rest h d cut =
-    (h.changes, rest, consumes_more old now new (records_text h.changes) rest h.read d, λ s a. (record { text_is = refl; next = (h.table s a).0 }, cut))
+    (h.whole_records, rest, consumes_more old now new (records_text h.whole_records) rest h.read d, λ s a. (record { text_is = refl; next = (h.table s a).0 }, cut))
 
 -- what was read, and more behind it
-begins : (before : Held) (old now : Option (List ℕ)) (r : Restored) (h : IsSoFar before old now r) (s : State) (a : Agrees before.state s) (rest more : List ℕ) → Begins s ((records_text h.changes ++ rest) ++ more) h.changes (rest ++ more)
-begins before old now r h s a rest more = record { text_is = append_assoc (records_text h.changes) rest more; next = (h.table s a).0 }
+begins : (before : Held) (old now : Option (List ℕ)) (r : Restored) (h : IsSoFar before old now r) (s : State) (a : Agrees before.state s) (rest more : List ℕ) → Begins s ((records_text h.whole_records ++ rest) ++ more) h.whole_records (rest ++ more)
+begins before old now r h s a rest more = record { text_is = append_assoc (records_text h.whole_records) rest more; next = (h.table s a).0 }
 
 length_stays : (header more : List ℕ) → HasBadLength header → HasBadLength (header ++ more)
 length_stays header more h =
@@ -105,44 +105,44 @@ length_stays header more h =
 
 pub bad_length : (before : Held) (old now new : Option (List ℕ)) (r : Restored) (header : List ℕ) → IsSoFar before old now r → Consumes now new header → HasBadLength header → IsRefused before old new (BadRecord (r.records + 1))
 bad_length before old now new r header h d bad = (
-  records_text h.changes ++ header,
-  consumes_more old now new (records_text h.changes) header h.read d,
-  λ s more a. (h.changes, header ++ more, begins before old now r h s a header more, inl (length_stays header more bad), ap (λ n. n + 1) h.records),
+  records_text h.whole_records ++ header,
+  consumes_more old now new (records_text h.whole_records) header h.read d,
+  λ s more a. (h.whole_records, header ++ more, begins before old now r h s a header more, inl (length_stays header more bad), ap (λ n. n + 1) h.records),
 )
 
-bad_body : (body more : List ℕ) → is_in record_lengths (length body) ≡ true → ((c : Change) → ChangeFits c → body ≢ change_text c) → HasBadBody (framed body ++ more)
+bad_body : (body more : List ℕ) → is_in record_lengths (length body) ≡ true → ((c : Record) → RecordFits c → body ≢ body_text c) → HasBadBody (framed body ++ more)
 bad_body body more range none =
     let st : stated_length (framed body ++ more) ≡ length body = header_states (to_be_bytes w16 (length body)) (length body) (body ++ more) (refl, range) in
     let size : length (framed body ++ more) ≡ (2 + length body) + length more = length-append (framed body) more ∙ ap (λ n. n + length more) (length-append (to_be_bytes w16 (length body)) body) in
-    (omega (arith, st, size), λ c left f e. none c f (framed_same body more (change_text c) left (length_short (length body) range) (small c f) e).0)
+    (omega (arith, st, size), λ c left f e. none c f (framed_same body more (body_text c) left (length_short (length body) range) (small c f) e).0)
   where
-    small : (c : Change) → ChangeFits c → length (change_text c) < 2 ^ 16
+    small : (c : Record) → RecordFits c → length (body_text c) < 2 ^ 16
     small c f = omega (arith, text_short c f)
 
--- the text of a record that is that of a change
-of_change : (before : Held) (old now : Option (List ℕ)) (r : Restored) (h : IsSoFar before old now r) (s : State) (a : Agrees before.state s) (body more : List ℕ) (c : Change) → body ≡ change_text c
-    → Begins s ((records_text h.changes ++ framed body) ++ more) h.changes (record_text c ++ more)
-of_change before old now r h s a body more c e =
-    subst (λ (xs : List ℕ). Begins s ((records_text h.changes ++ framed body) ++ more) h.changes (xs ++ more)) (ap framed e) (begins before old now r h s a (framed body) more)
+-- the text of a record within the limits
+of_record : (before : Held) (old now : Option (List ℕ)) (r : Restored) (h : IsSoFar before old now r) (s : State) (a : Agrees before.state s) (body more : List ℕ) (c : Record) → body ≡ body_text c
+    → Begins s ((records_text h.whole_records ++ framed body) ++ more) h.whole_records (record_text c ++ more)
+of_record before old now r h s a body more c e =
+    subst (λ (xs : List ℕ). Begins s ((records_text h.whole_records ++ framed body) ++ more) h.whole_records (xs ++ more)) (ap framed e) (begins before old now r h s a (framed body) more)
 
 -- a record's fault
 pub record_fault : (before : Held) (old now new : Option (List ℕ)) (r : Restored) (body : List ℕ) (fault : RestoreFault) → IsSoFar before old now r → Consumes now new (framed body) → is_in record_lengths (length body) ≡ true → IsRecordFault r body fault → IsRefused before old new fault
 record_fault before old now new r body (BadRecord n) h d range f = (
-  records_text h.changes ++ framed body,
-  consumes_more old now new (records_text h.changes) (framed body) h.read d,
-  λ s more a. (h.changes, framed body ++ more, begins before old now r h s a (framed body) more, inr (bad_body body more range f.1), f.0 ∙ ap (λ k. k + 1) h.records),
+  records_text h.whole_records ++ framed body,
+  consumes_more old now new (records_text h.whole_records) (framed body) h.read d,
+  λ s more a. (h.whole_records, framed body ++ more, begins before old now r h s a (framed body) more, inr (bad_body body more range f.1), f.0 ∙ ap (λ k. k + 1) h.records),
 )
 record_fault before old now new r body (UnknownPrincipal n) h d range f = (
-  records_text h.changes ++ framed body,
-  consumes_more old now new (records_text h.changes) (framed body) h.read d,
-  λ s more a. (h.changes, f.1, record { left = more; begins = of_change before old now r h s a body more f.1 f.3; fits = f.2 }, f.4 (restored s h.changes) (h.table s a).1, f.0 ∙ ap (λ k. k + 1) h.records),
+  records_text h.whole_records ++ framed body,
+  consumes_more old now new (records_text h.whole_records) (framed body) h.read d,
+  λ s more a. (h.whole_records, f.1, record { left = more; begins = of_record before old now r h s a body more f.1 f.3; fits = f.2 }, f.4 (restored s h.whole_records) (h.table s a).1, f.0 ∙ ap (λ k. k + 1) h.records),
 )
 record_fault before old now new r body (WrongVersion n) h d range f = (
-  records_text h.changes ++ framed body,
-  consumes_more old now new (records_text h.changes) (framed body) h.read d,
+  records_text h.whole_records ++ framed body,
+  consumes_more old now new (records_text h.whole_records) (framed body) h.read d,
   λ s more a.
-      let k = f.4 (restored s h.changes) (h.table s a).1 in
-      (h.changes, f.1, k.0, record { left = more; begins = of_change before old now r h s a body more f.1 f.3; fits = f.2 }, k.1, k.2, f.0 ∙ ap (λ m. m + 1) h.records),
+      let k = f.4 (restored s h.whole_records) (h.table s a).1 in
+      (h.whole_records, f.1, k.0, record { left = more; begins = of_record before old now r h s a body more f.1 f.3; fits = f.2 }, k.1, k.2, f.0 ∙ ap (λ m. m + 1) h.records),
 )
 record_fault before old now new r body CannotRead h d range f = absurd f
 record_fault before old now new r body Memory h d range f = tt

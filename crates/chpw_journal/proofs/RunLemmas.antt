@@ -7,24 +7,28 @@ use Rattle.chpw_rules.specs.Names.{is_same_name}
 use Rattle.chpw_rules.specs.Limits.{is_in, kvnos}
 use Rattle.chpw_table.specs.declared.verdict.Verdict.{Verdict}
 use Rattle.chpw_table.specs.declared.verdict.Verdict.TheVariants.{Skew, Replay, NotYet, Expired, BadPrivate, BadBody, Denied, NeedInitial, Unknown, Short, Classes, Reused, LastVersion, Broken, Done}
+use Rattle.chpw_table.specs.declared.times.Moment.{Moment}
+use Rattle.chpw_table.specs.declared.request.Opened.{Opened}
+use Rattle.chpw_table.specs.declared.history.Event.{Event}
+use Rattle.chpw_table.specs.declared.history.Event.TheVariants.{Ask}
 use Rattle.chpw_table.specs.declared.history.Entry.{Entry}
 use Rattle.chpw_table.specs.declared.key.KeyRow.{KeyRow}
 use Rattle.chpw_table.specs.Requests.{target_of}
 use Rattle.chpw_table.specs.State.{State, keys_held, kept_count}
 use Rattle.chpw_table.specs.Verdicts.{is_done}
 use Rattle.chpw_table.specs.Decision.{verdict, key_row, newest_kvno}
-use Rattle.chpw_table.specs.Step.{new_key}
-use Rattle.chpw_table.specs.History.{step_entry, outcome, IsLegal, IsDecided}
-use Rattle.chpw_table.specs.Journal.{journal, record_bytes}
+use Rattle.chpw_table.specs.Step.{step, new_key}
+use Rattle.chpw_table.specs.History.{step_event, step_entry, outcome, is_accepted, IsLegal, IsJudged, IsDecided}
+use Rattle.chpw_table.specs.Journal.{journal, event_record}
 use Rattle.chpw_table.specs.Entering.{with_append}
 use Rattle.chpw_table.specs.Restoring.{with_kept_key, IsNextKey}
 use Rattle.chpw_table.proofs.AppendLemmas.{verdict_written}
 use Rattle.chpw_table.proofs.DoneLemmas.{done_key_row, done_held, done_version}
 use Rattle.chpw_table.proofs.KeyLemmas.{keys_after, keys_put, put, kept_some, newest_put}
-use Rattle.chpw_journal.specs.declared.change.Change.{Change}
-use Rattle.chpw_journal.specs.Records.{ChangeFits, record_text, records_text}
-use Rattle.chpw_journal.specs.Reading.{restored, AreNext, Begins}
-use Rattle.chpw_journal.specs.Runs.{changes_of, SameKeys, IsSound, AreWhole, Run, AreRuns, journals, changes_in, last_state}
+use Rattle.chpw_journal.specs.declared.record.Record.{Record}
+use Rattle.chpw_journal.specs.Records.{RecordFits, record_text, records_text}
+use Rattle.chpw_journal.specs.JournalText.{restored, AreNext, Begins}
+use Rattle.chpw_journal.specs.Runs.{record_by, records_of, SameKeys, IsSound, BringsWhole, AreWhole, Run, AreRuns, journals, records_in, last_state}
 use Rattle.chpw_journal.specs.Laws.{ReadsJournals, RecordsAreJournals, RestoresKeys}
 use Rattle.chpw_journal.proofs.RecordsLemmas.{records_joined, restored_joined, next_joined}
 use Rattle.chpw_journal.proofs.StopLemmas.{reads_one}
@@ -56,10 +60,10 @@ append_done io v h = at (is_done v && io) h
     at false k = k
 
 -- no row refuses what was accepted, were its append not to fail
-accepted_row : (s : State) (e : Entry) → IsDecided s e.now e.opened e.io_failed e.verdict → is_done e.verdict ≡ true → is_done (key_row s e.opened false) ≡ true
-accepted_row s e d h =
-    let v : verdict s e.now e.opened e.io_failed ≡ Done = sym d.verdict_is ∙ done_is e.verdict h in
-    done_key_row s e.now e.opened (append_done e.io_failed (verdict s e.now e.opened false) (sym (verdict_written s e.now e.opened e.io_failed) ∙ v))
+accepted_row : (s : State) (now : Moment) (o : Opened) (io : Bool) (v : Verdict) → IsDecided s now o io v → is_done v ≡ true → is_done (key_row s o false) ≡ true
+accepted_row s now o io v d h =
+    let is : verdict s now o io ≡ Done = sym d.verdict_is ∙ done_is v h in
+    done_key_row s now o (append_done io (verdict s now o false) (sym (verdict_written s now o io) ∙ is))
 
 some_keys : (o : Option (List KeyRow)) → is_none o ≡ false → (keys : List KeyRow) × (o ≡ Some keys)
 some_keys None h = absurd (no h)
@@ -75,9 +79,6 @@ is_some None keys h = absurd (no h)
     no k = cc
 is_some (Some others) keys h = search rules
 
-abbrev change_in : State → Entry → Change
-change_in s e = record { name = (target_of e.opened).name; key = new_key s e.opened }
-
 low_kvno : (n : ℕ) → is_in kvnos (n + 1) ≡ true → n + 1 ≤ 4294967295
 low_kvno n h = grind (arith, nat_tests)
 
@@ -91,64 +92,64 @@ newest_low None keys h low = absurd (no h)
     no k = cc
 newest_low (Some others) keys h low = low
 
-module _ (s : State) (e : Entry) (sound : IsSound s) (d : IsDecided s e.now e.opened e.io_failed e.verdict) (h : is_done e.verdict ≡ true) where
-  held : (keys : List KeyRow) × (keys_held s (target_of e.opened).name ≡ Some keys)
-  held = some_keys (keys_held s (target_of e.opened).name) (done_held s e.opened (accepted_row s e d h))
+module _ (s : State) (now : Moment) (o : Opened) (io : Bool) (v : Verdict) (sound : IsSound s) (d : IsDecided s now o io v) (h : is_done v ≡ true) where
+  held : (keys : List KeyRow) × (keys_held s (target_of o).name ≡ Some keys)
+  held = some_keys (keys_held s (target_of o).name) (done_held s o (accepted_row s now o io v d h))
 
-  kvno : is_in kvnos (new_key s e.opened).kvno ≡ true
+  kvno : is_in kvnos (new_key s o).kvno ≡ true
   kvno =
       let k = held in
-      next_kvno (newest_kvno (unwrap_or (keys_held s (target_of e.opened).name) []))
-      (newest_low (keys_held s (target_of e.opened).name) k.0 k.1 (sound.versions (target_of e.opened).name))
-      (done_version s e.opened (accepted_row s e d h))
+      next_kvno (newest_kvno (unwrap_or (keys_held s (target_of o).name) []))
+      (newest_low (keys_held s (target_of o).name) k.0 k.1 (sound.versions (target_of o).name))
+      (done_version s o (accepted_row s now o io v d h))
 
-  fits : (length (new_key s e.opened).aes128 ≡ 16) × (length (new_key s e.opened).aes256 ≡ 32) → ChangeFits (change_in s e)
+  fits : (length (new_key s o).aes128 ≡ 16) × (length (new_key s o).aes256 ≡ 32) → RecordFits (record_by s (Ask o v))
   fits w =
       let k = held in
       record {
-        name = sound.names (target_of e.opened).name (is_some (keys_held s (target_of e.opened).name) k.0 k.1);
+        name = sound.names (target_of o).name (is_some (keys_held s (target_of o).name) k.0 k.1);
         kvno = kvno;
         count = sound.count;
         aes128 = w.0;
         aes256 = w.1;
       }
 
-  next_key : (t : State) → SameKeys t s → IsNextKey t (target_of e.opened).name (new_key s e.opened)
+  next_key : (t : State) → SameKeys t s → IsNextKey t (target_of o).name (new_key s o)
   next_key t same =
       let k = held in
       record {
         keys = k.0;
-        held = same.keys (target_of e.opened).name ∙ k.1;
-        next = ap (λ (o : Option (List KeyRow)). newest_kvno (unwrap_or o []) + 1) k.1;
+        held = same.keys (target_of o).name ∙ k.1;
+        next = ap (λ (x : Option (List KeyRow)). newest_kvno (unwrap_or x []) + 1) k.1;
       }
 
--- ---- what an entry leaves
+-- ---- what an event leaves
 
--- the keys of a name after an entry
-after_entry : (s : State) (e : Entry) → IsDecided s e.now e.opened e.io_failed e.verdict → (name : Name)
-    → keys_held (step_entry s e) name ≡ (if is_done e.verdict && is_same_name (target_of e.opened).name name then option_map (put (kept_count s) (new_key s e.opened)) (keys_held s name) else keys_held s name)
-after_entry s e d name =
-    keys_after s (verdict s e.now e.opened e.io_failed) e.now e.opened e.io_failed name
-    ∙ ap (λ (v : Verdict). if is_done v && is_same_name (target_of e.opened).name name then option_map (put (kept_count s) (new_key s e.opened)) (keys_held s name) else keys_held s name) (sym d.verdict_is)
+-- the keys of a name after a decision
+after_decision : (s : State) (now : Moment) (o : Opened) (io : Bool) (v : Verdict) → IsDecided s now o io v → (name : Name)
+    → keys_held (step s now o io) name ≡ (if is_done v && is_same_name (target_of o).name name then option_map (put (kept_count s) (new_key s o)) (keys_held s name) else keys_held s name)
+after_decision s now o io v d name =
+    keys_after s (verdict s now o io) now o io name
+    ∙ ap (λ (w : Verdict). if is_done w && is_same_name (target_of o).name name then option_map (put (kept_count s) (new_key s o)) (keys_held s name) else keys_held s name) (sym d.verdict_is)
 
-same_after_done : (t s : State) (e : Entry) → IsDecided s e.now e.opened e.io_failed e.verdict → is_done e.verdict ≡ true → SameKeys t s → SameKeys (with_kept_key (target_of e.opened).name (new_key s e.opened) t) (step_entry s e)
-same_after_done t s e d h same = record {
+same_after_done : (t s : State) (now : Moment) (o : Opened) (io : Bool) (v : Verdict) → IsDecided s now o io v → is_done v ≡ true → SameKeys t s → SameKeys (with_kept_key (target_of o).name (new_key s o) t) (step s now o io)
+same_after_done t s now o io v d h same = record {
   kept = same.kept;
   keys = λ name.
-      keys_put (kept_count t) (target_of e.opened).name (new_key s e.opened) t.principals name
-      ∙ (ap (λ (k : ℕ). if is_same_name (target_of e.opened).name name then option_map (put k (new_key s e.opened)) (keys_held t name) else keys_held t name) same.kept
-      ∙ (ap (λ (o : Option (List KeyRow)). if is_same_name (target_of e.opened).name name then option_map (put (kept_count s) (new_key s e.opened)) o else o) (same.keys name)
-      ∙ (ap (λ (b : Bool). if b && is_same_name (target_of e.opened).name name then option_map (put (kept_count s) (new_key s e.opened)) (keys_held s name) else keys_held s name) (sym h)
-      ∙ sym (after_entry s e d name))));
+      keys_put (kept_count t) (target_of o).name (new_key s o) t.principals name
+      ∙ (ap (λ (k : ℕ). if is_same_name (target_of o).name name then option_map (put k (new_key s o)) (keys_held t name) else keys_held t name) same.kept
+      ∙ (ap (λ (x : Option (List KeyRow)). if is_same_name (target_of o).name name then option_map (put (kept_count s) (new_key s o)) x else x) (same.keys name)
+      ∙ (ap (λ (b : Bool). if b && is_same_name (target_of o).name name then option_map (put (kept_count s) (new_key s o)) (keys_held s name) else keys_held s name) (sym h)
+      ∙ sym (after_decision s now o io v d name))));
 }
 
-same_after_other : (t s : State) (e : Entry) → IsDecided s e.now e.opened e.io_failed e.verdict → is_done e.verdict ≡ false → SameKeys t s → SameKeys t (step_entry s e)
-same_after_other t s e d h same = record {
+same_after_other : (t s : State) (now : Moment) (o : Opened) (io : Bool) (v : Verdict) → IsDecided s now o io v → is_done v ≡ false → SameKeys t s → SameKeys t (step s now o io)
+same_after_other t s now o io v d h same = record {
   kept = same.kept;
   keys = λ name.
       same.keys name
-      ∙ (ap (λ (b : Bool). if b && is_same_name (target_of e.opened).name name then option_map (put (kept_count s) (new_key s e.opened)) (keys_held s name) else keys_held s name) (sym h)
-      ∙ sym (after_entry s e d name));
+      ∙ (ap (λ (b : Bool). if b && is_same_name (target_of o).name name then option_map (put (kept_count s) (new_key s o)) (keys_held s name) else keys_held s name) (sym h)
+      ∙ sym (after_decision s now o io v d name));
 }
 
 put_some : (b : Bool) (kept : ℕ) (key : KeyRow) (o : Option (List KeyRow)) → IsSome (if b then option_map (put kept key) o else o) → IsSome o
@@ -160,74 +161,80 @@ put_low : (kept : ℕ) (key : KeyRow) (o : Option (List KeyRow)) (k : ℕ) → k
 put_low kept key None k e h = tt
 put_low kept key (Some keys) k e h = subst (λ (n : ℕ). n ≤ 4294967295) (sym (newest_put kept k key keys e)) h
 
-sound_after : (s : State) (e : Entry) → IsSound s → IsDecided s e.now e.opened e.io_failed e.verdict → IsSound (step_entry s e)
-sound_after s e sound d = record {
+sound_after : (s : State) (now : Moment) (o : Opened) (io : Bool) (v : Verdict) → IsSound s → IsDecided s now o io v → IsSound (step s now o io)
+sound_after s now o io v sound d = record {
   count = sound.count;
-  names = λ name some. sound.names name (put_some (is_done e.verdict && is_same_name (target_of e.opened).name name) (kept_count s) (new_key s e.opened) (keys_held s name) (subst IsSome (after_entry s e d name) some));
+  names = λ name some. sound.names name (put_some (is_done v && is_same_name (target_of o).name name) (kept_count s) (new_key s o) (keys_held s name) (subst IsSome (after_decision s now o io v d name) some));
   versions = λ name.
-      subst (λ (o : Option (List KeyRow)). IfSome o (λ keys. newest_kvno keys ≤ 4294967295)) (sym (after_entry s e d name))
-      (low name (is_done e.verdict) refl (is_same_name (target_of e.opened).name name));
+      subst (λ (x : Option (List KeyRow)). IfSome x (λ keys. newest_kvno keys ≤ 4294967295)) (sym (after_decision s now o io v d name))
+      (low name (is_done v) refl (is_same_name (target_of o).name name));
 }
   where
-    low : (name : Name) (b : Bool) → is_done e.verdict ≡ b → (c : Bool)
-        → IfSome (if b && c then option_map (put (kept_count s) (new_key s e.opened)) (keys_held s name) else keys_held s name) (λ keys. newest_kvno keys ≤ 4294967295)
+    low : (name : Name) (b : Bool) → is_done v ≡ b → (c : Bool)
+        → IfSome (if b && c then option_map (put (kept_count s) (new_key s o)) (keys_held s name) else keys_held s name) (λ keys. newest_kvno keys ≤ 4294967295)
     low name true h true =
         let some = kept_some s.fixed.policy.depth in
-        put_low (kept_count s) (new_key s e.opened) (keys_held s name) some.0 some.1
-        (low_kvno (newest_kvno (unwrap_or (keys_held s (target_of e.opened).name) [])) (kvno s e sound d h))
+        put_low (kept_count s) (new_key s o) (keys_held s name) some.0 some.1
+        (low_kvno (newest_kvno (unwrap_or (keys_held s (target_of o).name) [])) (kvno s now o io v sound d h))
     low name true h false = sound.versions name
     low name false h c = sound.versions name
 
+sound_event : (s : State) (now : Moment) (io : Bool) (event : Event) → IsSound s → IsJudged s now io event → IsSound (step_event s now io event)
+sound_event s now io (Ask o v) sound d = sound_after s now o io v sound d
+
 -- ---- histories and runs
 
-abbrev Follows : State → List Change → State → Type 0
-Follows t changes last = AreNext t changes × SameKeys (restored t changes) last
+abbrev Follows : State → List Record → State → Type 0
+Follows t records last = AreNext t records × SameKeys (restored t records) last
 
-entry_next : (t s last : State) (e : Entry) (cs : List Change) → SameKeys t s → IsSound s → IsDecided s e.now e.opened e.io_failed e.verdict
-    → (is_done e.verdict ≡ true → (length (new_key s e.opened).aes128 ≡ 16) × (length (new_key s e.opened).aes256 ≡ 32))
-    → ((u : State) → SameKeys u (step_entry s e) → Follows u cs last)
-    → (b : Bool) → is_done e.verdict ≡ b → Follows t ((if b then change_in s e ∷ [] else []) ++ cs) last
-entry_next t s last e cs same sound d w ih true h =
-    let n = ih (with_kept_key (target_of e.opened).name (new_key s e.opened) t) (same_after_done t s e d h same) in
-    ((fits s e sound d h (w h), next_key s e sound d h t same, n.0), n.1)
-entry_next t s last e cs same sound d w ih false h = ih t (same_after_other t s e d h same)
+event_next : (t s last : State) (now : Moment) (io : Bool) (event : Event) (rs : List Record) → SameKeys t s → IsSound s → IsJudged s now io event
+    → (is_accepted event ≡ true → BringsWhole s event)
+    → ((u : State) → SameKeys u (step_event s now io event) → Follows u rs last)
+    → (b : Bool) → is_accepted event ≡ b → Follows t ((if b then record_by s event ∷ [] else []) ++ rs) last
+event_next t s last now io (Ask o v) rs same sound d w ih true h =
+    let n = ih (with_kept_key (target_of o).name (new_key s o) t) (same_after_done t s now o io v d h same) in
+    ((fits s now o io v sound d h (w h), next_key s now o io v sound d h t same, n.0), n.1)
+event_next t s last now io (Ask o v) rs same sound d w ih false h = ih t (same_after_other t s now o io v d h same)
 
-history_next : (t s : State) (es : List Entry) → SameKeys t s → IsSound s → IsLegal s es → AreWhole s es → Follows t (changes_of s es) (outcome s es)
+history_next : (t s : State) (es : List Entry) → SameKeys t s → IsSound s → IsLegal s es → AreWhole s es → Follows t (records_of s es) (outcome s es)
 history_next t s [] same sound legal w = (tt, same)
 history_next t s (e ∷ es) same sound legal w =
-    entry_next t s (outcome (step_entry s e) es) e (changes_of (step_entry s e) es) same sound legal.0 w.0
-    (λ u same2. history_next u (step_entry s e) es same2 (sound_after s e sound legal.0) legal.1 w.1)
-    (is_done e.verdict) refl
+    event_next t s (outcome (step_entry s e) es) e.now e.io_failed e.event (records_of (step_entry s e) es) same sound legal.0 w.0
+    (λ u same2. history_next u (step_entry s e) es same2 (sound_event s e.now e.io_failed e.event sound legal.0) legal.1 w.1)
+    (is_accepted e.event) refl
 
 same_next : (t s u : State) → SameKeys t s → SameKeys s u → SameKeys t u
 same_next t s u h g = record { kept = h.kept ∙ g.kept; keys = λ name. h.keys name ∙ g.keys name }
 
-runs_next : (t s : State) (runs : List Run) → SameKeys t s → AreRuns s runs → Follows t (changes_in runs) (last_state s runs)
+runs_next : (t s : State) (runs : List Run) → SameKeys t s → AreRuns s runs → Follows t (records_in runs) (last_state s runs)
 runs_next t s [] same h = (tt, same)
 runs_next t s (r ∷ rs) same h =
     let n = history_next t r.opening r.history (same_next t s r.opening same h.0) h.1 h.2 h.3 in
-    let m = runs_next (restored t (changes_of r.opening r.history)) (outcome r.opening r.history) rs n.1 h.4 in (
-      next_joined t (changes_of r.opening r.history) (changes_in rs) n.0 m.0,
-      subst (λ (u : State). SameKeys u (last_state (outcome r.opening r.history) rs)) (sym (restored_joined t (changes_of r.opening r.history) (changes_in rs))) m.1,
+    let m = runs_next (restored t (records_of r.opening r.history)) (outcome r.opening r.history) rs n.1 h.4 in (
+      next_joined t (records_of r.opening r.history) (records_in rs) n.0 m.0,
+      subst (λ (u : State). SameKeys u (last_state (outcome r.opening r.history) rs)) (sym (restored_joined t (records_of r.opening r.history) (records_in rs))) m.1,
     )
 
 same_itself : (s : State) → SameKeys s s
 same_itself s = record { kept = refl; keys = λ name. refl }
 
-entry_records : (s : State) (e : Entry) (cs : List Change) (more : List ℕ) → records_text cs ≡ more → (b : Bool)
-    → records_text ((if b then change_in s e ∷ [] else []) ++ cs) ≡ (if b then record_bytes (target_of e.opened).name (new_key s e.opened) else []) ++ more
-entry_records s e cs more h true = ap (λ (xs : List ℕ). record_text (change_in s e) ++ xs) h
-entry_records s e cs more h false = h
+record_is : (s : State) (event : Event) → record_text (record_by s event) ≡ event_record s event
+record_is s (Ask o v) = refl
 
-history_records : (s : State) (es : List Entry) → records_text (changes_of s es) ≡ journal s es
+event_text : (s : State) (event : Event) (rs : List Record) (more : List ℕ) → records_text rs ≡ more → (b : Bool)
+    → records_text ((if b then record_by s event ∷ [] else []) ++ rs) ≡ (if b then event_record s event else []) ++ more
+event_text s event rs more h true = ap (λ (xs : List ℕ). record_text (record_by s event) ++ xs) h ∙ ap (λ (xs : List ℕ). xs ++ more) (record_is s event)
+event_text s event rs more h false = h
+
+history_records : (s : State) (es : List Entry) → records_text (records_of s es) ≡ journal s es
 history_records s [] = refl
-history_records s (e ∷ es) = entry_records s e (changes_of (step_entry s e) es) (journal (step_entry s e) es) (history_records (step_entry s e) es) (is_done e.verdict)
+history_records s (e ∷ es) = event_text s e.event (records_of (step_entry s e) es) (journal (step_entry s e) es) (history_records (step_entry s e) es) (is_accepted e.event)
 
 pub records_are_journals : RecordsAreJournals
 records_are_journals [] = refl
 records_are_journals (r ∷ rs) =
-    records_joined (changes_of r.opening r.history) (changes_in rs)
-    ∙ (ap (λ (xs : List ℕ). xs ++ records_text (changes_in rs)) (history_records r.opening r.history)
+    records_joined (records_of r.opening r.history) (records_in rs)
+    ∙ (ap (λ (xs : List ℕ). xs ++ records_text (records_in rs)) (history_records r.opening r.history)
     ∙ ap (λ (xs : List ℕ). journal r.opening r.history ++ xs) (records_are_journals rs))
 
 pub restores_keys : RestoresKeys
@@ -235,6 +242,6 @@ restores_keys s runs h name = (runs_next s s runs (same_itself s) h).1.keys name
 
 pub reads_journals : ReadsJournals
 reads_journals s runs cut h c =
-    let text : journals runs ++ cut ≡ records_text (changes_in runs) ++ cut = ap (λ (xs : List ℕ). xs ++ cut) (sym (records_are_journals runs)) in
-    let begins : Begins s (journals runs ++ cut) (changes_in runs) cut = record { text_is = text; next = (runs_next s s runs (same_itself s) h).0 } in
-    ((begins, c), λ reading g. reads_one s (journals runs ++ cut) (changes_in runs) cut begins c reading g)
+    let text : journals runs ++ cut ≡ records_text (records_in runs) ++ cut = ap (λ (xs : List ℕ). xs ++ cut) (sym (records_are_journals runs)) in
+    let begins : Begins s (journals runs ++ cut) (records_in runs) cut = record { text_is = text; next = (runs_next s s runs (same_itself s) h).0 } in
+    ((begins, c), λ reading g. reads_one s (journals runs ++ cut) (records_in runs) cut begins c reading g)

@@ -12,10 +12,10 @@ use Rattle.chpw_table.specs.Journal.{part_bytes, name_bytes, version_bytes}
 use Rattle.chpw_table.specs.Restoring.{with_kept_key, IsNextKey}
 use Rattle.chpw_table.specs.Decision.{newest_kvno}
 use Rattle.chpw_table.proofs.BoolLemmas.{and_left, and_right}
-use Rattle.chpw_journal.specs.declared.change.Change.{Change}
-use Rattle.chpw_journal.specs.Versions.{key_at}
-use Rattle.chpw_journal.specs.Records.{ChangeFits, change_text, record_text, records_text, stated_length, record_lengths}
-use Rattle.chpw_journal.specs.Reading.{restored, AreNext, is_cut_off, HasBadLength, HasBadBody, Begins, Reading, whole, bad_record, unknown_principal, wrong_version, IsReading}
+use Rattle.chpw_journal.specs.declared.record.Record.{Record}
+use Rattle.chpw_journal.specs.RecordKeys.{key_at}
+use Rattle.chpw_journal.specs.Records.{RecordFits, body_text, record_text, records_text, stated_length, record_lengths}
+use Rattle.chpw_journal.specs.JournalText.{restored, AreNext, is_cut_off, HasBadLength, HasBadBody, Begins, Reading, whole, bad_record, unknown_principal, wrong_version, IsReading}
 use Rattle.chpw_journal.specs.Laws.{FrontsAreCutOff}
 use Rattle.chpw_journal.proofs.ListLemmas.{front_same}
 use Rattle.chpw_journal.proofs.PartsLemmas.{same_parts}
@@ -23,10 +23,10 @@ use Rattle.chpw_journal.proofs.VersionLemmas.{version_length, key_back, kvno_sho
 use Rattle.chpw_journal.proofs.CutLemmas.{header_states, cut_off_body, cut_off_header}
 use Rattle.chpw_journal.proofs.RecordsLemmas.{text_short, framed_same}
 
--- ---- a change's record is that of no other
+-- ---- a record's text is that of no other
 
-same_change : (c d : Change) → ChangeFits c → ChangeFits d → change_text c ≡ change_text d → c ≡ d
-same_change c d f g e =
+same_body : (c d : Record) → RecordFits c → RecordFits d → body_text c ≡ body_text d → c ≡ d
+same_body c d f g e =
     let l : length (version_bytes c.key) ≡ length (version_bytes d.key) = version_length c.key f.aes128 f.aes256 ∙ sym (version_length d.key g.aes128 g.aes256) in
     let r = front_same (version_bytes c.key) (name_bytes c.name) (version_bytes d.key) (name_bytes d.name) l e in
     let k : c.key ≡ d.key =
@@ -38,13 +38,13 @@ same_change c d f g e =
     tails : (m n : ℕ) (xs ys : List ℕ) → m ∷ xs ≡ n ∷ ys → xs ≡ ys
     tails m n xs ys h = cc
 
-small : (c : Change) → ChangeFits c → length (change_text c) < 2 ^ 16
+small : (c : Record) → RecordFits c → length (body_text c) < 2 ^ 16
 small c f = omega (arith, text_short c f)
 
-same_record : (c d : Change) (x y : List ℕ) → ChangeFits c → ChangeFits d → record_text c ++ x ≡ record_text d ++ y → (c ≡ d) × (x ≡ y)
+same_record : (c d : Record) (x y : List ℕ) → RecordFits c → RecordFits d → record_text c ++ x ≡ record_text d ++ y → (c ≡ d) × (x ≡ y)
 same_record c d x y f g e =
-    let r = framed_same (change_text c) x (change_text d) y (small c f) (small d g) e in
-    (same_change c d f g r.0, r.1)
+    let r = framed_same (body_text c) x (body_text d) y (small c f) (small d g) e in
+    (same_body c d f g r.0, r.1)
 
 -- ---- the length of a record
 
@@ -60,15 +60,15 @@ low_parts (p ∷ ps) h =
 in_range : (n : ℕ) → 60 ≤ n → n ≤ 1090 → is_in record_lengths n ≡ true
 in_range n h g = grind (arith, nat_tests)
 
-pub text_range : (c : Change) → ChangeFits c → is_in record_lengths (length (change_text c)) ≡ true
+pub text_range : (c : Record) → RecordFits c → is_in record_lengths (length (body_text c)) ≡ true
 text_range c f =
     let v = version_length c.key f.aes128 f.aes256 in
     let n = low_parts c.name.parts f.name in
-    let s : length (change_text c) ≡ length (version_bytes c.key) + length (name_bytes c.name) = length-append (version_bytes c.key) (name_bytes c.name) in
-    in_range (length (change_text c)) (omega (arith, s, v, n)) (text_short c f)
+    let s : length (body_text c) ≡ length (version_bytes c.key) + length (name_bytes c.name) = length-append (version_bytes c.key) (name_bytes c.name) in
+    in_range (length (body_text c)) (omega (arith, s, v, n)) (text_short c f)
 
-states : (c : Change) (left : List ℕ) → ChangeFits c → stated_length (record_text c ++ left) ≡ length (change_text c)
-states c left f = header_states (to_be_bytes w16 (length (change_text c))) (length (change_text c)) (change_text c ++ left) (refl, text_range c f)
+states : (c : Record) (left : List ℕ) → RecordFits c → stated_length (record_text c ++ left) ≡ length (body_text c)
+states c left f = header_states (to_be_bytes w16 (length (body_text c))) (length (body_text c)) (body_text c ++ left) (refl, text_range c f)
 
 -- ---- what is cut off, and what is not
 
@@ -87,11 +87,11 @@ there rest h =
     neither (nat_lt (length rest) 2) (is_in record_lengths (stated_length rest)) (nat_lt (length rest) (2 + stated_length rest))
     (not_below (length rest) 2 (omega (arith, h))) (not_below (length rest) (2 + stated_length rest) h)
 
-not_cut : (c : Change) (left : List ℕ) → ChangeFits c → is_cut_off (record_text c ++ left) ≡ false
+not_cut : (c : Record) (left : List ℕ) → RecordFits c → is_cut_off (record_text c ++ left) ≡ false
 not_cut c left f =
     let st = states c left f in
-    let size : length (record_text c ++ left) ≡ (2 + length (change_text c)) + length left =
-    length-append (record_text c) left ∙ ap (λ n. n + length left) (length-append (to_be_bytes w16 (length (change_text c))) (change_text c)) in
+    let size : length (record_text c ++ left) ≡ (2 + length (body_text c)) + length left =
+    length-append (record_text c) left ∙ ap (λ n. n + length left) (length-append (to_be_bytes w16 (length (body_text c))) (body_text c)) in
     there (record_text c ++ left) (omega (arith, st, size))
 
 apart : (b : Bool) → b ≡ true → b ≡ false → ⊥
@@ -108,14 +108,14 @@ pub fronts_are_cut_off : FrontsAreCutOff
 fronts_are_cut_off c zero f h = refl
 fronts_are_cut_off c (suc zero) f h = cut_off_header (take 1 (record_text c)) (lit< tt)
 fronts_are_cut_off c (suc (suc m)) f h =
-    let size : length (record_text c) ≡ 2 + length (change_text c) = length-append (to_be_bytes w16 (length (change_text c))) (change_text c) in
-    cut_off_body (to_be_bytes w16 (length (change_text c))) (length (change_text c)) (take m (change_text c)) (refl, text_range c f) (simp length-take (omega (arith, size, h)))
+    let size : length (record_text c) ≡ 2 + length (body_text c) = length-append (to_be_bytes w16 (length (body_text c))) (body_text c) in
+    cut_off_body (to_be_bytes w16 (length (body_text c))) (length (body_text c)) (take m (body_text c)) (refl, text_range c f) (simp length-take (omega (arith, size, h)))
 
 -- ---- records stop at one place
 
--- no change that goes on stands in front
+-- no record that goes on stands in front
 abbrev Stops : State → List ℕ → Type 0
-Stops s rest = (c : Change) (left : List ℕ) → ChangeFits c → IsNextKey s c.name c.key → rest ≡ record_text c ++ left → ⊥
+Stops s rest = (c : Record) (left : List ℕ) → RecordFits c → IsNextKey s c.name c.key → rest ≡ record_text c ++ left → ⊥
 
 stops_cut : (s : State) (rest : List ℕ) → is_cut_off rest ≡ true → Stops s rest
 stops_cut s rest cut c left f k e = apart (is_cut_off rest) cut (ap is_cut_off e ∙ not_cut c left f)
@@ -130,21 +130,21 @@ stops_bad s rest bad c left f k e =
 none_some : (o : Option (List KeyRow)) (keys : List KeyRow) → o ≡ None → o ≡ Some keys → ⊥
 none_some o keys h g = cc
 
-stops_unknown : (s : State) (d : Change) (more : List ℕ) → ChangeFits d → keys_held s d.name ≡ None → Stops s (record_text d ++ more)
+stops_unknown : (s : State) (d : Record) (more : List ℕ) → RecordFits d → keys_held s d.name ≡ None → Stops s (record_text d ++ more)
 stops_unknown s d more g none c left f k e =
     let same = (same_record d c more left g f e).0 in
-    none_some (keys_held s d.name) k.keys none (ap (λ (x : Change). keys_held s x.name) same ∙ k.held)
+    none_some (keys_held s d.name) k.keys none (ap (λ (x : Record). keys_held s x.name) same ∙ k.held)
 
 same_keys : (o : Option (List KeyRow)) (keys others : List KeyRow) → o ≡ Some keys → o ≡ Some others → keys ≡ others
 same_keys o keys others h g = cc
 
-stops_version : (s : State) (d : Change) (more : List ℕ) (keys : List KeyRow) → ChangeFits d → keys_held s d.name ≡ Some keys → d.key.kvno ≢ newest_kvno keys + 1 → Stops s (record_text d ++ more)
+stops_version : (s : State) (d : Record) (more : List ℕ) (keys : List KeyRow) → RecordFits d → keys_held s d.name ≡ Some keys → d.key.kvno ≢ newest_kvno keys + 1 → Stops s (record_text d ++ more)
 stops_version s d more keys g held wrong c left f k e =
     let same = (same_record d c more left g f e).0 in
-    let others = same_keys (keys_held s d.name) keys k.keys held (ap (λ (x : Change). keys_held s x.name) same ∙ k.held) in
-    wrong (ap (λ (x : Change). x.key.kvno) same ∙ (k.next ∙ ap (λ (ks : List KeyRow). newest_kvno ks + 1) (sym others)))
+    let others = same_keys (keys_held s d.name) keys k.keys held (ap (λ (x : Record). keys_held s x.name) same ∙ k.held) in
+    wrong (ap (λ (x : Record). x.key.kvno) same ∙ (k.next ∙ ap (λ (ks : List KeyRow). newest_kvno ks + 1) (sym others)))
 
-same_stop : (s : State) (cs ds : List Change) (x y : List ℕ) → AreNext s cs → AreNext s ds → Stops (restored s cs) x → Stops (restored s ds) y → records_text cs ++ x ≡ records_text ds ++ y → (cs ≡ ds) × (x ≡ y)
+same_stop : (s : State) (cs ds : List Record) (x y : List ℕ) → AreNext s cs → AreNext s ds → Stops (restored s cs) x → Stops (restored s ds) y → records_text cs ++ x ≡ records_text ds ++ y → (cs ≡ ds) × (x ≡ y)
 same_stop s [] [] x y h g p q e = (refl, e)
 same_stop s [] (d ∷ ds) x y h g p q e = absurd (p d (records_text ds ++ y) g.0 g.1 (e ∙ append_assoc (record_text d) (records_text ds) y))
 same_stop s (c ∷ cs) [] x y h g p q e = absurd (q c (records_text cs ++ x) h.0 h.1 (sym e ∙ append_assoc (record_text c) (records_text cs) x))
@@ -152,19 +152,19 @@ same_stop s (c ∷ cs) (d ∷ ds) x y h g p q e =
     let t : record_text c ++ (records_text cs ++ x) ≡ record_text d ++ (records_text ds ++ y) =
     sym (append_assoc (record_text c) (records_text cs) x) ∙ (e ∙ append_assoc (record_text d) (records_text ds) y) in
     let r = same_record c d (records_text cs ++ x) (records_text ds ++ y) h.0 g.0 t in
-    let g2 : AreNext (with_kept_key c.name c.key s) ds = subst (λ (z : Change). AreNext (with_kept_key z.name z.key s) ds) (sym r.0) g.2 in
-    let q2 : Stops (restored (with_kept_key c.name c.key s) ds) y = subst (λ (z : Change). Stops (restored (with_kept_key z.name z.key s) ds) y) (sym r.0) q in
+    let g2 : AreNext (with_kept_key c.name c.key s) ds = subst (λ (z : Record). AreNext (with_kept_key z.name z.key s) ds) (sym r.0) g.2 in
+    let q2 : Stops (restored (with_kept_key c.name c.key s) ds) y = subst (λ (z : Record). Stops (restored (with_kept_key z.name z.key s) ds) y) (sym r.0) q in
     let m = same_stop (with_kept_key c.name c.key s) cs ds x y h.2 g2 p q2 r.1 in
     (pair c d cs ds r.0 m.0, m.1)
   where
-    pair : (c d : Change) (cs ds : List Change) → c ≡ d → cs ≡ ds → c ∷ cs ≡ d ∷ ds
+    pair : (c d : Record) (cs ds : List Record) → c ≡ d → cs ≡ ds → c ∷ cs ≡ d ∷ ds
     pair c d cs ds h k = cc
 
-same_whole : (cs ds : List Change) (x y : List ℕ) → cs ≡ ds → x ≡ y → whole cs x ≡ whole ds y
+same_whole : (cs ds : List Record) (x y : List ℕ) → cs ≡ ds → x ≡ y → whole cs x ≡ whole ds y
 same_whole cs ds x y h k = cc
 
--- a text that comes to changes and a record that is cut off comes to nothing else
-pub reads_one : (s : State) (text : List ℕ) (cs : List Change) (cut : List ℕ) → Begins s text cs cut → is_cut_off cut ≡ true → (reading : Reading) → IsReading s text reading → reading ≡ whole cs cut
+-- a text that comes to whole records and one that is cut off comes to nothing else
+pub reads_one : (s : State) (text : List ℕ) (cs : List Record) (cut : List ℕ) → Begins s text cs cut → is_cut_off cut ≡ true → (reading : Reading) → IsReading s text reading → reading ≡ whole cs cut
 reads_one s text cs cut b c (whole ds rest) h =
     let m = same_stop s ds cs rest cut h.0.next b.next (stops_cut (restored s ds) rest h.1) (stops_cut (restored s cs) cut c) (sym h.0.text_is ∙ b.text_is) in
     same_whole ds cs rest cut m.0 m.1

@@ -4,28 +4,28 @@ use Rattle.chpw_rules.specs.declared.name.Name.{Name}
 use Rattle.chpw_rules.specs.declared.config.Config.{Config}
 use Rattle.chpw_rules.specs.Fitting.{config_fits}
 use Rattle.chpw_table.specs.State.{State, keys_held, opening_of}
-use Rattle.chpw_journal.specs.declared.change.Change.{Change}
-use Rattle.chpw_journal.specs.Records.{ChangeFits, record_text, records_text}
-use Rattle.chpw_journal.specs.Reading.{restored, is_cut_off, Reading, whole, IsReading}
-use Rattle.chpw_journal.specs.Runs.{IsSound, Run, AreRuns, journals, changes_in, last_state}
+use Rattle.chpw_journal.specs.declared.record.Record.{Record}
+use Rattle.chpw_journal.specs.Records.{RecordFits, record_text, records_text}
+use Rattle.chpw_journal.specs.JournalText.{restored, is_cut_off, Reading, whole, IsReading}
+use Rattle.chpw_journal.specs.Runs.{IsSound, Run, AreRuns, journals, records_in, last_state}
 
--- the journals of runs, with a record behind them that is cut off or nothing, read as their changes and in no other way
+-- the journals of runs, with a record behind them that is cut off or nothing, read as their records and in no other way
 abbrev pub ReadsJournals : Type 0
 ReadsJournals = (s : State) (runs : List Run) (cut : List ℕ) → AreRuns s runs → is_cut_off cut ≡ true →
-    IsReading s (journals runs ++ cut) (whole (changes_in runs) cut)
-    × ((reading : Reading) → IsReading s (journals runs ++ cut) reading → reading ≡ whole (changes_in runs) cut)
+    IsReading s (journals runs ++ cut) (whole (records_in runs) cut)
+    × ((reading : Reading) → IsReading s (journals runs ++ cut) reading → reading ≡ whole (records_in runs) cut)
 
--- the records of these changes are the journals
+-- these records are the journals
 abbrev pub RecordsAreJournals : Type 0
-RecordsAreJournals = (runs : List Run) → records_text (changes_in runs) ≡ journals runs
+RecordsAreJournals = (runs : List Run) → records_text (records_in runs) ≡ journals runs
 
 -- they give the keys that the last run left
 abbrev pub RestoresKeys : Type 0
-RestoresKeys = (s : State) (runs : List Run) → AreRuns s runs → (name : Name) → keys_held (restored s (changes_in runs)) name ≡ keys_held (last_state s runs) name
+RestoresKeys = (s : State) (runs : List Run) → AreRuns s runs → (name : Name) → keys_held (restored s (records_in runs)) name ≡ keys_held (last_state s runs) name
 
 -- a proper front of a record is cut off
 abbrev pub FrontsAreCutOff : Type 0
-FrontsAreCutOff = (c : Change) (n : ℕ) → ChangeFits c → n < length (record_text c) → is_cut_off (take n (record_text c)) ≡ true
+FrontsAreCutOff = (c : Record) (n : ℕ) → RecordFits c → n < length (record_text c) → is_cut_off (take n (record_text c)) ≡ true
 
 -- a configuration that fits opens with what is within the limits
 abbrev pub OpeningsAreSound : Type 0

@@ -7,25 +7,25 @@ use Rattle.chpw_rules.specs.declared.limits.Limits.{Limits}
 use Rattle.chpw_rules.specs.Limits.{range, is_in, kvnos, iteration_counts, aes128_length, aes256_length}
 use Rattle.chpw_rules.specs.Names.{is_name}
 use Rattle.chpw_table.specs.Journal.{change_bytes, record_bytes}
-use Rattle.chpw_journal.specs.declared.change.Change.{Change}
+use Rattle.chpw_journal.specs.declared.record.Record.{Record}
 
--- a change within the limits: 1 to 8 components of 1 to 128 bytes, kvno and iteration count in range, keys of 16 and 32 bytes
-pub record ChangeFits (c : Change) : Type 0 where
+-- a record within the limits: 1 to 8 components of 1 to 128 bytes, kvno and iteration count in range, keys of 16 and 32 bytes
+pub record RecordFits (c : Record) : Type 0 where
   pub name : is_name c.name ≡ true
   pub kvno : is_in kvnos c.key.kvno ≡ true
   pub count : is_in iteration_counts c.key.count ≡ true
   pub aes128 : length c.key.aes128 ≡ aes128_length
   pub aes256 : length c.key.aes256 ≡ aes256_length
 
--- a change's record, from behind its length, and whole
-abbrev pub change_text : Change → List ℕ
-change_text c = change_bytes c.name c.key
+-- a record's text, from behind its length, and whole
+abbrev pub body_text : Record → List ℕ
+body_text c = change_bytes c.name c.key
 
-abbrev pub record_text : Change → List ℕ
+abbrev pub record_text : Record → List ℕ
 record_text c = record_bytes c.name c.key
 
--- the records of changes, joined
-abbrev pub records_text : List Change → List ℕ
+-- the texts of records, joined
+abbrev pub records_text : List Record → List ℕ
 records_text [] = []
 records_text (c ∷ cs) = record_text c ++ records_text cs
 

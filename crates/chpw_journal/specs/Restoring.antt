@@ -1,16 +1,16 @@
--- What restoring gives: the table after a journal's changes, how many there are, how many bytes their
--- records have, and whether a torn record stands behind them; or the journal's first fault.
+-- What restoring gives: the table after a journal's records, how many there are, how many bytes they
+-- have, and whether a torn record stands behind them; or the journal's first fault.
 use Rattle.std.specs.Prelude.{◌≡◌, ℕ, List, [], ◌∷◌, ◌++◌, length, Bool, true, false, Option, codes}
 use Rattle.std.specs.Fmt.{decimal}
 use Rattle.std.specs.Io.KnownBytes.{Consumes, IsAtEnd}
 use Rattle.chpw_table.specs.State.{State}
 use Rattle.chpw_table.specs.Agreement.{Held, Agrees}
-use Rattle.chpw_journal.specs.declared.change.Change.{Change}
+use Rattle.chpw_journal.specs.declared.record.Record.{Record}
 use Rattle.chpw_journal.specs.declared.fault.RestoreFault.{RestoreFault}
 use Rattle.chpw_journal.specs.declared.fault.RestoreFault.TheVariants.{BadRecord, WrongVersion, UnknownPrincipal, CannotRead, Memory}
 use Rattle.chpw_journal.specs.declared.restoring.Restored.{Restored}
 use Rattle.chpw_journal.specs.Records.{records_text}
-use Rattle.chpw_journal.specs.Reading.{restored, Reading, whole, bad_record, unknown_principal, wrong_version, IsReading}
+use Rattle.chpw_journal.specs.JournalText.{restored, Reading, whole, bad_record, unknown_principal, wrong_version, IsReading}
 
 -- there is something
 abbrev pub is_there : List ℕ → Bool
@@ -19,17 +19,17 @@ is_there (x ∷ xs) = true
 
 -- a table restored from all that a reader had
 pub record IsRestored (before : Held) (old new : Option (List ℕ)) (r : Restored) : Type 0 where
-  pub changes : List Change
+  pub whole_records : List Record
   pub rest : List ℕ
-  pub read : Consumes old new (records_text changes ++ rest)
+  pub read : Consumes old new (records_text whole_records ++ rest)
   pub end : IsAtEnd new
-  pub reading : (s : State) → Agrees before.state s → IsReading s (records_text changes ++ rest) (whole changes rest)
-  pub table : (s : State) → Agrees before.state s → Agrees r.table.state (restored s changes)
+  pub reading : (s : State) → Agrees before.state s → IsReading s (records_text whole_records ++ rest) (whole whole_records rest)
+  pub table : (s : State) → Agrees before.state s → Agrees r.table.state (restored s whole_records)
   pub events : r.table.events ≡ before.events
   pub seen : r.table.seen ≡ before.seen
   pub max_entries : r.table.max_entries ≡ before.max_entries
-  pub records : r.records ≡ length changes
-  pub kept : r.kept ≡ length (records_text changes)
+  pub records : r.records ≡ length whole_records
+  pub kept : r.kept ≡ length (records_text whole_records)
   pub torn : r.torn ≡ is_there rest
 
 -- each text that begins with what was read has this fault
@@ -41,8 +41,8 @@ abbrev pub IsRefused : Held → Option (List ℕ) → Option (List ℕ) → Rest
 IsRefused before old new (BadRecord n) = (read : List ℕ) × Consumes old new read × AlwaysReads before read (bad_record n)
 IsRefused before old new (WrongVersion n) = (read : List ℕ) × Consumes old new read × AlwaysReads before read (wrong_version n)
 IsRefused before old new (UnknownPrincipal n) = (read : List ℕ) × Consumes old new read × AlwaysReads before read (unknown_principal n)
-IsRefused before old new CannotRead = (changes : List Change) × (rest : List ℕ) × Consumes old new (records_text changes ++ rest)
-    × ((s : State) → Agrees before.state s → IsReading s (records_text changes ++ rest) (whole changes rest))
+IsRefused before old new CannotRead = (whole_records : List Record) × (rest : List ℕ) × Consumes old new (records_text whole_records ++ rest)
+    × ((s : State) → Agrees before.state s → IsReading s (records_text whole_records ++ rest) (whole whole_records rest))
 IsRefused before old new Memory = Unit {0}
 
 -- a fault as it is printed

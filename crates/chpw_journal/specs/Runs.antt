@@ -1,26 +1,30 @@
--- The journals of runs of the service, one after the other, and the changes in them.
+-- The journals of runs of the service, one after the other, and the records in them.
 use Rattle.std.specs.Prelude.{◌≡◌, ℕ, ◌≤◌, List, [], ◌∷◌, ◌++◌, length, true, IsSome, IfSome, if◌then◌else◌}
 use Rattle.chpw_rules.specs.declared.name.Name.{Name}
 use Rattle.chpw_rules.specs.Names.{is_name}
 use Rattle.chpw_rules.specs.Limits.{is_in, kvnos, iteration_counts, aes128_length, aes256_length}
+use Rattle.chpw_table.specs.declared.history.Event.{Event}
+use Rattle.chpw_table.specs.declared.history.Event.TheVariants.{Ask}
 use Rattle.chpw_table.specs.declared.history.Entry.{Entry}
 use Rattle.chpw_table.specs.Requests.{target_of}
 use Rattle.chpw_table.specs.State.{State, keys_held, kept_count, new_count}
-use Rattle.chpw_table.specs.Verdicts.{is_done}
 use Rattle.chpw_table.specs.Decision.{newest_kvno}
 use Rattle.chpw_table.specs.Step.{new_key}
-use Rattle.chpw_table.specs.History.{step_entry, outcome, IsLegal}
+use Rattle.chpw_table.specs.History.{is_accepted, step_entry, outcome, IsLegal}
 use Rattle.chpw_table.specs.Journal.{journal}
-use Rattle.chpw_journal.specs.declared.change.Change.{Change}
+use Rattle.chpw_journal.specs.declared.record.Record.{Record}
 
--- the change of an accepted entry
-abbrev pub entry_changes : State → Entry → List Change
-entry_changes s e = if is_done e.verdict then record { name = (target_of e.opened).name; key = new_key s e.opened } ∷ [] else []
+-- the record of an event that is accepted
+abbrev pub record_by : State → Event → Record
+record_by s (Ask o v) = record { name = (target_of o).name; key = new_key s o }
 
--- the changes of all accepted entries, in their order
-abbrev pub changes_of : State → List Entry → List Change
-changes_of s [] = []
-changes_of s (e ∷ es) = entry_changes s e ++ changes_of (step_entry s e) es
+abbrev pub event_records : State → Event → List Record
+event_records s event = if is_accepted event then record_by s event ∷ [] else []
+
+-- the records of all accepted entries, in their order
+abbrev pub records_of : State → List Entry → List Record
+records_of s [] = []
+records_of s (e ∷ es) = event_records s e.event ++ records_of (step_entry s e) es
 
 -- the same principals with the same keys, of which as many are kept
 pub record SameKeys (s t : State) : Type 0 where
@@ -33,12 +37,13 @@ pub record IsSound (s : State) : Type 0 where
   pub names : (name : Name) → IsSome (keys_held s name) → is_name name ≡ true
   pub versions : (name : Name) → IfSome (keys_held s name) (λ keys. newest_kvno keys ≤ kvnos.high)
 
--- the keys that an accepted entry makes have as many bytes as the types of keys say
+-- the keys that an accepted event makes have as many bytes as the types of keys say
+abbrev pub BringsWhole : State → Event → Type 0
+BringsWhole s (Ask o v) = (length (new_key s o).aes128 ≡ aes128_length) × (length (new_key s o).aes256 ≡ aes256_length)
+
 abbrev pub AreWhole : State → List Entry → Type 0
 AreWhole s [] = Unit {0}
-AreWhole s (e ∷ es) =
-    (is_done e.verdict ≡ true → (length (new_key s e.opened).aes128 ≡ aes128_length) × (length (new_key s e.opened).aes256 ≡ aes256_length))
-    × AreWhole (step_entry s e) es
+AreWhole s (e ∷ es) = (is_accepted e.event ≡ true → BringsWhole s e.event) × AreWhole (step_entry s e) es
 
 -- a run of the service: the state that it opened with, and its history
 pub record Run : Type 0 where
@@ -50,14 +55,14 @@ abbrev pub AreRuns : State → List Run → Type 0
 AreRuns s [] = Unit {0}
 AreRuns s (r ∷ rs) = SameKeys s r.opening × IsSound r.opening × IsLegal r.opening r.history × AreWhole r.opening r.history × AreRuns (outcome r.opening r.history) rs
 
--- what the runs left behind: a journal, its changes, and a state with the principals
+-- what the runs left behind: a journal, its records, and a state with the principals
 abbrev pub journals : List Run → List ℕ
 journals [] = []
 journals (r ∷ rs) = journal r.opening r.history ++ journals rs
 
-abbrev pub changes_in : List Run → List Change
-changes_in [] = []
-changes_in (r ∷ rs) = changes_of r.opening r.history ++ changes_in rs
+abbrev pub records_in : List Run → List Record
+records_in [] = []
+records_in (r ∷ rs) = records_of r.opening r.history ++ records_in rs
 
 abbrev pub last_state : State → List Run → State
 last_state s [] = s

@@ -6,18 +6,18 @@ use Rattle.chpw_table.specs.State.{State, keys_held}
 use Rattle.chpw_table.specs.Decision.{newest_kvno}
 use Rattle.chpw_table.specs.Agreement.{Held, Agrees}
 use Rattle.chpw_table.specs.Restoring.{with_kept_key, IsNextKey}
-use Rattle.chpw_journal.specs.declared.change.Change.{Change}
+use Rattle.chpw_journal.specs.declared.record.Record.{Record}
 use Rattle.chpw_journal.specs.declared.fault.RestoreFault.{RestoreFault}
 use Rattle.chpw_journal.specs.declared.fault.RestoreFault.TheVariants.{BadRecord, WrongVersion, UnknownPrincipal, CannotRead, Memory}
 use Rattle.chpw_journal.specs.declared.restoring.Restored.{Restored}
-use Rattle.chpw_journal.specs.Records.{ChangeFits, change_text, records_text}
-use Rattle.chpw_journal.specs.Reading.{AreNext, restored}
+use Rattle.chpw_journal.specs.Records.{RecordFits, body_text, records_text}
+use Rattle.chpw_journal.specs.JournalText.{AreNext, restored}
 
 pub record TakesRecord (before later : Restored) (body : List ℕ) : Type 0 where
-  pub change : Change
-  pub fits : ChangeFits change
-  pub text : body ≡ change_text change
-  pub table : (s : State) → Agrees before.table.state s → IsNextKey s change.name change.key × Agrees later.table.state (with_kept_key change.name change.key s)
+  pub taken : Record
+  pub fits : RecordFits taken
+  pub text : body ≡ body_text taken
+  pub table : (s : State) → Agrees before.table.state s → IsNextKey s taken.name taken.key × Agrees later.table.state (with_kept_key taken.name taken.key s)
   pub events : later.table.events ≡ before.table.events
   pub seen : later.table.seen ≡ before.table.seen
   pub max_entries : later.table.max_entries ≡ before.table.max_entries
@@ -26,22 +26,22 @@ pub record TakesRecord (before later : Restored) (body : List ℕ) : Type 0 wher
   pub torn : later.torn ≡ before.torn
 
 abbrev pub IsRecordFault : Restored → List ℕ → RestoreFault → Type 0
-IsRecordFault before body (BadRecord n) = (n ≡ before.records + 1) × ((c : Change) → ChangeFits c → body ≢ change_text c)
-IsRecordFault before body (UnknownPrincipal n) = (n ≡ before.records + 1) × (c : Change) × ChangeFits c × (body ≡ change_text c)
+IsRecordFault before body (BadRecord n) = (n ≡ before.records + 1) × ((c : Record) → RecordFits c → body ≢ body_text c)
+IsRecordFault before body (UnknownPrincipal n) = (n ≡ before.records + 1) × (c : Record) × RecordFits c × (body ≡ body_text c)
     × ((s : State) → Agrees before.table.state s → keys_held s c.name ≡ None)
-IsRecordFault before body (WrongVersion n) = (n ≡ before.records + 1) × (c : Change) × ChangeFits c × (body ≡ change_text c)
+IsRecordFault before body (WrongVersion n) = (n ≡ before.records + 1) × (c : Record) × RecordFits c × (body ≡ body_text c)
     × ((s : State) → Agrees before.table.state s → (keys : List KeyRow) × (keys_held s c.name ≡ Some keys) × (c.key.kvno ≢ newest_kvno keys + 1))
 IsRecordFault before body CannotRead = ⊥
 IsRecordFault before body Memory = Unit {0}
 
 -- a table restored from the records read so far
 pub record IsSoFar (before : Held) (old now : Option (List ℕ)) (r : Restored) : Type 0 where
-  pub changes : List Change
-  pub read : Consumes old now (records_text changes)
-  pub table : (s : State) → Agrees before.state s → AreNext s changes × Agrees r.table.state (restored s changes)
+  pub whole_records : List Record
+  pub read : Consumes old now (records_text whole_records)
+  pub table : (s : State) → Agrees before.state s → AreNext s whole_records × Agrees r.table.state (restored s whole_records)
   pub events : r.table.events ≡ before.events
   pub seen : r.table.seen ≡ before.seen
   pub max_entries : r.table.max_entries ≡ before.max_entries
-  pub records : r.records ≡ length changes
-  pub kept : r.kept ≡ length (records_text changes)
+  pub records : r.records ≡ length whole_records
+  pub kept : r.kept ≡ length (records_text whole_records)
   pub torn : r.torn ≡ false

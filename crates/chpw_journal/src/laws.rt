@@ -3,7 +3,7 @@ ghost use Rattle.chpw_journal.specs.Laws.{ReadsJournals, RecordsAreJournals, Res
 
 /// The journals of runs of the service, each opened with the principals that the one before it left, are
 /// read as their accepted changes and in no other way, whether nothing or a torn record stands behind
-/// them; the changes' records are the journals, so as many bytes are kept; and they give each principal
+/// them; these records are the journals, so as many bytes are kept; and they give each principal
 /// the keys that the last run left. A proper front of a record is a torn record. What a
 /// configuration that fits opens with is within the limits that this asks of an opening.
 pub fn restoring()

@@ -1,7 +1,6 @@
 //! The journal: where its records go, and how a table is restored from them.
 #![tactic(auto)]
 
-mod change;
 mod fault;
 mod file_sink;
 mod journal_file;
@@ -9,6 +8,7 @@ pub mod laws;
 mod memory_sink;
 mod quiet;
 mod reading;
+mod record;
 mod restoring;
 
 pub use fault::RestoreFault;

@@ -1,7 +1,7 @@
 //! A journal's records, read one after the other.
 ghost use Rattle.std.specs.Prelude.{◌≡◌, ◌≤◌, IfOk, length};
 ghost use Rattle.std.specs.Int.{from_be_bytes, to_be_bytes, w16};
-ghost use Rattle.chpw_journal.specs.Receiving.{IsNext, IsBody, CountsDown};
+ghost use Rattle.chpw_journal.specs.NextRecord.{IsNext, IsBody, CountsDown};
 
 use chpw_rules::Limits;
 use read_fully::{Filled, fill, fill_vec};

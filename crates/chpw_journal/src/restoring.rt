@@ -4,20 +4,20 @@ ghost use Rattle.chpw_rules.specs.Limits.{is_in};
 ghost use Rattle.chpw_journal.specs.Restoring.{IsRestored, IsRefused};
 ghost use Rattle.chpw_journal.specs.Taking.{TakesRecord, IsRecordFault};
 
-use crate::change::Change;
 use crate::fault::RestoreFault;
 use crate::reading::{MAX_READS, Next, next_record};
+use crate::record::Record;
 use chpw_table::{KeyFault, Table};
 use std::alloc::Global;
 use std::io::Read;
 
-/// A table with the changes of a journal.
+/// A table with the changes in a journal's records.
 #[derive(Drop)]
 pub struct Restored {
     pub table: Table,
-    /// How many changes there were.
+    /// How many there were.
     pub records: u64,
-    /// The bytes of their records.
+    /// Their bytes.
     pub kept: u64,
     /// Whether a record stands behind them of which not all is there.
     pub torn: bool,
@@ -58,7 +58,7 @@ pub fn restore<R: Read>(
 }
 
 impl Restored {
-    // Puts the change of a record back, from behind the record's length.
+    // Puts the change in a record back; the record's text, from behind its length.
     fn take_record(&mut self, alloc: Global, body: &[u8]) -> Result<(), RestoreFault>
         requires few { self.old.records < 2 ^ 32 }
         requires short { self.old.kept ≤ 1092 * self.old.records }
@@ -67,10 +67,10 @@ impl Restored {
         ensures fault { IfErr result (λ fault. IsRecordFault self.old body.now fault) }
     {
         let number = self.records + 1;
-        let Some(change) = Change::read(alloc, body)? else {
+        let Some(record) = Record::read(alloc, body)? else {
             return Err(RestoreFault::BadRecord(number));
         };
-        match self.table.restore_key(&change.name, change.key) {
+        match self.table.restore_key(&record.name, record.key) {
             Ok(()) => {}
             Err(KeyFault::UnknownPrincipal) => return Err(RestoreFault::UnknownPrincipal(number)),
             Err(KeyFault::WrongVersion) => return Err(RestoreFault::WrongVersion(number)),

@@ -1,5 +1,5 @@
 -- The turns of a stream, one after the other, are those of the machine of one thread.
-use Rattle.std.proofs.Common.{◌≡◌, ℕ, ◌+◌, ◌≤◌, List, [], ◌∷◌, ◌++◌, Option, Some, None, refl, sym, ◌∙◌, ap, subst, append_assoc, inl, inr, length, arith}
+use Rattle.std.proofs.Common.{◌≡◌, ℕ, ◌+◌, ◌≤◌, List, [], ◌∷◌, ◌++◌, Option, Some, None, refl, sym, ◌∙◌, ap, subst, append_assoc, length, arith}
 use Rattle.std.specs.Prelude.{map}
 use Rattle.std.specs.List.{flat_map}
 use Rattle.std.proofs.lemmas.List.{append-nil}
@@ -16,11 +16,11 @@ use Rattle.chpw_decider.specs.Keeping.{Kept, IsFullAt, entries}
 use Rattle.chpw_answer.specs.declared.messages.Seal.{Seal}
 use Rattle.chpw_answer.specs.Requests.{Opens}
 use Rattle.chpw_serve.specs.Draws.{Drawn}
-use Rattle.chpw_serve.specs.Serving.{Place, Turn, Serves, Answers, message_too_long}
-use Rattle.chpw_serve.specs.Replies.{Draw, Run, run_after, reply_to, written_for, replies}
+use Rattle.chpw_serve.specs.Serving.{StreamState, Turn, Serves, Answers, message_too_long}
+use Rattle.chpw_serve.specs.StreamReplies.{Draw, Run, run_after, written_for, replies}
 use Rattle.chpw_serve.specs.ServedAlone.{AnsweringAlone, AddsOneAlone, IsDrawnFor, AreDrawnFor, left_behind, AreReceipts}
 use Rattle.chpw_serve.proofs.DrawLemmas.{drawn_more}
-use Rattle.chpw_serve.proofs.RepliesLemmas.{run_at, Answered, IsFront, answered}
+use Rattle.chpw_serve.proofs.StreamRepliesLemmas.{run_at, Answered, IsFront, answered}
 
 some_inside : (s t : List ℕ) → Some s ≡ Some t → s ≡ t
 some_inside s t e = cc
@@ -43,17 +43,17 @@ module _ {C X : Type 0} (error_frame : Answer → Moment → List ℕ) (private_
   abbrev pub refusal : Moment → List ℕ
   refusal now = error_frame message_too_long now
 
-  abbrev pub ServesAlone : Place C X Kept → Turn → Place C X Kept → Type 0
+  abbrev pub ServesAlone : StreamState C X Kept → Turn → StreamState C X Kept → Type 0
   ServesAlone before t after = Serves (AnsweringAlone error_frame private_frame opens) AddsOneAlone refusal moments random before t after
 
   -- the opening stays
-  pub opening_stays : (start : Place C X Kept) (turns : List Turn) (last : Place C X Kept) → Drawn ServesAlone start turns last → last.decider.opening ≡ start.decider.opening
-  opening_stays start [] last h = ap (λ (p : Place C X Kept). p.decider.opening) (sym h)
-  opening_stays start (t ∷ ts) last h = opening_stays h.0 ts last h.2 ∙ h.1.1.reply.1
+  pub opening_stays : (start : StreamState C X Kept) (turns : List Turn) (last : StreamState C X Kept) → Drawn ServesAlone start turns last → last.decider.opening ≡ start.decider.opening
+  opening_stays start [] last h = ap (λ (p : StreamState C X Kept). p.decider.opening) (sym h)
+  opening_stays start (t ∷ ts) last h = opening_stays h.0 ts last h.2 ∙ h.1.1.answer.goes_on
 
   module _ (opening : Held) (all : List Receipt) (legal : IsLegal opening.state (entries all)) (room : opening.events + length all ≤ opening.max_entries) where
     -- from the start of these turns to behind them, whatever is drawn after that
-    pub record Chain (start last : Place C X Kept) (turns : List Turn) (stream : List ℕ) : Type 0 where
+    pub record Chain (start last : StreamState C X Kept) (turns : List Turn) (stream : List ℕ) : Type 0 where
       pub rest : List ℕ
       pub bytes : List ℕ
       pub draws : List Draw
@@ -74,19 +74,19 @@ module _ {C X : Type 0} (error_frame : Answer → Moment → List ℕ) (private_
     abbrev pub run_behind : List Receipt → Run
     run_behind receipts = run_at error_frame private_frame opens opening receipts
 
-    abbrev pub IsTurn : Place C X Kept → Turn → Place C X Kept → Type 0
+    abbrev pub IsTurn : StreamState C X Kept → Turn → StreamState C X Kept → Type 0
     IsTurn before t after = Answered error_frame private_frame opens opening before.decider.receipts after.decider.receipts t.text t.words t.moment t.reply
 
     -- a turn is one of the machine
-    pub turn_of : (before after : Place C X Kept) (t : Turn) → Answers (AnsweringAlone error_frame private_frame opens) AddsOneAlone refusal moments random before t after → after.decider.opening ≡ opening
+    pub turn_of : (before after : StreamState C X Kept) (t : Turn) → Answers (AnsweringAlone error_frame private_frame opens) AddsOneAlone refusal moments random before t after → after.decider.opening ≡ opening
         → IsFront error_frame private_frame opens opening all legal room after.decider.receipts → IsTurn before t after
     turn_of before after t a like front =
         let rs = after.decider.receipts in
         answered error_frame private_frame opens opening all legal room (IsFullAt after.decider rs) before.decider.receipts rs t.text t.words t.moment t.reply front
-        (λ h. ap (λ (o : Held). o.events + length rs) (sym like) ∙ (h ∙ ap (λ (o : Held). o.max_entries) like)) a.reply.0
+        (λ h. ap (λ (o : Held). o.events + length rs) (sym like) ∙ (h ∙ ap (λ (o : Held). o.max_entries) like)) a.answer.reply
 
     -- its reply stands in front of the others
-    pub first : (before after : Place C X Kept) (t : Turn) (stream : List ℕ) (one : IsTurn before t after) (ds : List Draw) → next_piece stream ≡ message t.text
+    pub first : (before after : StreamState C X Kept) (t : Turn) (stream : List ℕ) (one : IsTurn before t after) (ds : List Draw) → next_piece stream ≡ message t.text
         → replies opening.max_entries error_frame private_frame stream (run_behind before.decider.receipts) (one.draw ∷ ds)
         ≡ sent t.reply ++ replies opening.max_entries error_frame private_frame (behind_piece (message t.text) stream) (run_behind after.decider.receipts) ds
     first before after t stream one ds e =
@@ -97,11 +97,11 @@ module _ {C X : Type 0} (error_frame : Answer → Moment → List ℕ) (private_
         ∙ (ap (λ (bs : List ℕ). sent bs ++ replies opening.max_entries error_frame private_frame (behind_piece (message t.text) stream) next ds) (sym one.reply_is)
         ∙ ap (λ (r : Run). sent t.reply ++ replies opening.max_entries error_frame private_frame (behind_piece (message t.text) stream) r ds) (sym one.goes_on))
 
-    pub drawn_first : (before after : Place C X Kept) (t : Turn) (stream : List ℕ) (one : IsTurn before t after) (ds : List Draw) → length t.words ≡ 9 → next_piece stream ≡ message t.text
+    pub drawn_first : (before after : StreamState C X Kept) (t : Turn) (stream : List ℕ) (one : IsTurn before t after) (ds : List Draw) → length t.words ≡ 9 → next_piece stream ≡ message t.text
         → IsDrawnFor opens (next_piece stream) one.draw ds
     drawn_first before after t stream one ds nine e = subst (λ (p : Piece). IsDrawnFor opens p one.draw ds) (sym e) (one.opens_so, ap length one.words_are ∙ nine)
 
-    here : (start : Place C X Kept) (stream : List ℕ) → start.left ≡ Some stream → Chain start start [] stream
+    here : (start : StreamState C X Kept) (stream : List ℕ) → start.left ≡ Some stream → Chain start start [] stream
     here start stream e = record {
       rest = stream;
       bytes = [];
@@ -119,7 +119,7 @@ module _ {C X : Type 0} (error_frame : Answer → Moment → List ℕ) (private_
       receipts_on = λ ds rs h. h;
     }
 
-    one_more : (start mid last : Place C X Kept) (t : Turn) (ts : List Turn) (stream : List ℕ) → ServesAlone start t mid → next_piece stream ≡ message t.text
+    one_more : (start mid last : StreamState C X Kept) (t : Turn) (ts : List Turn) (stream : List ℕ) → ServesAlone start t mid → next_piece stream ≡ message t.text
         → IsTurn start t mid → Chain mid last ts (behind_piece (message t.text) stream) → Chain start last (t ∷ ts) stream
     one_more start mid last t ts stream h e one more = record {
       rest = more.rest;
@@ -140,12 +140,12 @@ module _ {C X : Type 0} (error_frame : Answer → Moment → List ℕ) (private_
       receipts_on = λ ds rs g. (one.own, more.added ++ rs, append_assoc one.own more.added rs, one.own_are, subst (λ (r : Run). AreReceipts opening.max_entries r (more.draws ++ ds) (more.added ++ rs)) one.goes_on (more.receipts_on ds rs g));
     }
 
-    pub chain : (start : Place C X Kept) (turns : List Turn) (last : Place C X Kept) (stream : List ℕ) → Drawn ServesAlone start turns last → start.left ≡ Some stream → start.decider.opening ≡ opening
+    pub chain : (start : StreamState C X Kept) (turns : List Turn) (last : StreamState C X Kept) (stream : List ℕ) → Drawn ServesAlone start turns last → start.left ≡ Some stream → start.decider.opening ≡ opening
         → IsFront error_frame private_frame opens opening all legal room last.decider.receipts → Chain start last turns stream
-    chain start [] last stream h e like front = subst (λ (p : Place C X Kept). Chain start p [] stream) h (here start stream e)
+    chain start [] last stream h e like front = subst (λ (p : StreamState C X Kept). Chain start p [] stream) h (here start stream e)
     chain start (t ∷ ts) last stream h e like front =
         let k = took (message t.text) stream start.left h.0.left e h.1.0 in
-        let then_like = h.1.1.reply.1 ∙ like in
+        let then_like = h.1.1.answer.goes_on ∙ like in
         let more = chain h.0 ts last (behind_piece (message t.text) stream) h.2 k.1 then_like front in
         let ahead : IsFront error_frame private_frame opens opening all legal room h.0.decider.receipts = (more.added ++ front.0, front.1 ∙ (ap (λ (rs : List Receipt). rs ++ front.0) more.grown ∙ append_assoc h.0.decider.receipts more.added front.0)) in
         one_more start h.0 last t ts stream h.1 k.0 (turn_of start h.0 t h.1.1 then_like ahead) more

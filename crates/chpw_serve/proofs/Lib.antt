@@ -1,7 +1,7 @@
-pub mod RepliesLemmas
+pub mod StreamRepliesLemmas
 pub mod ChainLemmas
 pub mod ServedAloneLemmas
-pub mod WorkedReplies
+pub mod WorkedStreamReplies
 pub mod DrawLemmas
 pub mod ServingLemmas
 pub mod WordStreamLemmas

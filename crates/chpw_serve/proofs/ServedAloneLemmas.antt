@@ -18,11 +18,10 @@ use Rattle.chpw_answer.specs.Answers.{IsAnswer}
 use Rattle.chpw_serve.specs.declared.serving.Ended.{Ended}
 use Rattle.chpw_serve.specs.declared.serving.Ended.TheVariants as end
 use Rattle.chpw_serve.specs.Draws.{Drawn}
-use Rattle.chpw_serve.specs.Serving.{Place, Around, Turn, Refuses, Answers, IsEnd, IsServed, message_too_long}
-use Rattle.chpw_serve.specs.Replies.{Draw, Run, written_for, replies}
-use Rattle.chpw_serve.specs.ServedAlone.{AnsweringAlone, AddsOneAlone, run_of, IsDrawnFor, AreDrawnFor, left_behind, IsEndOf, Leaves, Writes, HasDrawn, AreReceipts, AreMore, AddsReceipts, IsServedAlone}
+use Rattle.chpw_serve.specs.Serving.{StreamState, Around, Turn, Refuses, IsEnd, IsServed, message_too_long}
+use Rattle.chpw_serve.specs.StreamReplies.{Draw, Run, written_for, replies}
+use Rattle.chpw_serve.specs.ServedAlone.{AnsweringAlone, AddsOneAlone, run_of, IsDrawnFor, AreDrawnFor, left_behind, IsEndOf, Leaves, Writes, HasDrawn, AreReceipts, AreMore, IsServedAlone}
 use Rattle.chpw_serve.proofs.ChainLemmas.{took, moments_of, words_of, opening_stays, Chain, turn_of, first, drawn_first, chain}
-use Rattle.chpw_serve.proofs.RepliesLemmas.{IsFront}
 
 pub at_most : (b : Bool) (m n : ℕ) → MatchBool b (m ≡ n) (m < n) → m ≤ n
 at_most true m n h = omega (arith, h)
@@ -32,7 +31,7 @@ module _ {C X : Type 0} (error_frame : Answer → Moment → List ℕ) (private_
   abbrev refused_by : Moment → List ℕ
   refused_by now = error_frame message_too_long now
 
-  abbrev EndsAlone : Ended → ℕ → Place C X Kept → Place C X Kept → Type 0
+  abbrev EndsAlone : Ended → ℕ → StreamState C X Kept → StreamState C X Kept → Type 0
   EndsAlone e n last final = IsEnd (AnsweringAlone error_frame private_frame opens) AddsOneAlone refused_by moments random e n last final
 
   -- the receipts grow, and the opening stays, at the end too
@@ -48,18 +47,18 @@ module _ {C X : Type 0} (error_frame : Answer → Moment → List ℕ) (private_
   answer_grows full text words now old new bytes (opened q, o, inl h) = ([], h.0 ∙ sym (append-nil old))
   answer_grows full text words now old new bytes (opened q, o, inr h) = (h.2.receipt ∷ [], h.2.added)
 
-  end_grows : (e : Ended) (n : ℕ) (last final : Place C X Kept) → EndsAlone e n last final → Grows last.decider final.decider
+  end_grows : (e : Ended) (n : ℕ) (last final : StreamState C X Kept) → EndsAlone e n last final → Grows last.decider final.decider
   unfolding Grows
   end_grows end.Input n last final (less, h) = stays last.decider final.decider h.1.1
   end_grows end.CutOff n last final (less, h) = stays last.decider final.decider h.1.1
   end_grows end.ReadFault n last final (less, h) = stays last.decider final.decider h.1.1
   end_grows end.TooLong n last final (less, h) = stays last.decider final.decider h.2
-  end_grows end.WriteFault n last final (less, inl h) = (answer_grows _ h.0.text h.0.words h.0.moment last.decider.receipts final.decider.receipts h.0.reply h.2.reply.0, h.2.reply.1)
+  end_grows end.WriteFault n last final (less, inl h) = (answer_grows _ h.0.text h.0.words h.0.moment last.decider.receipts final.decider.receipts h.0.reply h.2.answer.reply, h.2.answer.goes_on)
   end_grows end.WriteFault n last final (less, inr h) = stays last.decider final.decider h.2
   end_grows end.Memory n last final (less, h) = ((h.1.0.0, h.1.0.1), h.1.1)
-  end_grows end.Count n last final h = stays last.decider final.decider (ap (λ (p : Place C X Kept). p.decider) h.1)
+  end_grows end.Count n last final h = stays last.decider final.decider (ap (λ (p : StreamState C X Kept). p.decider) h.1)
 
-  module _ (start last final : Place C X Kept) (legal : IsLegal start.decider.opening.state (entries final.decider.receipts)) (room : start.decider.opening.events + length final.decider.receipts ≤ start.decider.opening.max_entries)
+  module _ (start last final : StreamState C X Kept) (legal : IsLegal start.decider.opening.state (entries final.decider.receipts)) (room : start.decider.opening.events + length final.decider.receipts ≤ start.decider.opening.max_entries)
       (turns : List Turn) (stream : List ℕ) (w : Chain error_frame private_frame opens moments random start.decider.opening final.decider.receipts legal room start last turns stream)
       (like : final.decider.opening ≡ start.decider.opening) where
     abbrev limit : ℕ
@@ -159,10 +158,10 @@ module _ {C X : Type 0} (error_frame : Answer → Moment → List ℕ) (private_
         close end.Memory [] [] h.1.0.0 (omega (arith, less)) tt refl (h.1.0.1 ∙ ap (λ (rs : List Receipt). rs ++ h.1.0.0) (sym (append-nil last.decider.receipts))) h.1.0.2
         tt tt (last.around.clock, clock_now last.around refl) (last.around.words, words_now last.around refl) (out_now final.around.out h.0)
     ends end.Count h =
-        let around : final.around ≡ last.around = ap (λ (p : Place C X Kept). p.around) h.1 in
+        let around : final.around ≡ last.around = ap (λ (p : StreamState C X Kept). p.around) h.1 in
         let count = w.count [] in
-        close end.Count [] [] [] (omega (arith, h.0)) tt refl (none_more (ap (λ (p : Place C X Kept). p.decider) h.1)) refl
-        (omega (arith, count, h.0)) (ap (λ (p : Place C X Kept). p.left) h.1 ∙ w.left) (clock_now final.around around) (words_now final.around around) (out_now final.around.out (ap (λ (a : Around C X). a.out) around))
+        close end.Count [] [] [] (omega (arith, h.0)) tt refl (none_more (ap (λ (p : StreamState C X Kept). p.decider) h.1)) refl
+        (omega (arith, count, h.0)) (ap (λ (p : StreamState C X Kept). p.left) h.1 ∙ w.left) (clock_now final.around around) (words_now final.around around) (out_now final.around.out (ap (λ (a : Around C X). a.out) around))
     ends end.TooLong (less, h) =
         let next = took too_long w.rest last.left final.left w.left h.0 in
         let r = h.1.1 in
@@ -189,7 +188,7 @@ module _ {C X : Type 0} (error_frame : Answer → Moment → List ℕ) (private_
         (front_then d (sent t.reply) (first error_frame private_frame opens moments random start.decider.opening final.decider.receipts legal room last final t w.rest one [] next.0 ∙ append-nil (sent t.reply)) h.3)
 
   -- the whole, where the history kept in the end is legal and has room
-  pub served_alone : (e : Ended) (start final : Place C X Kept) (stream : List ℕ) → IsServed (AnsweringAlone error_frame private_frame opens) AddsOneAlone refused_by moments random e start final
+  pub served_alone : (e : Ended) (start final : StreamState C X Kept) (stream : List ℕ) → IsServed (AnsweringAlone error_frame private_frame opens) AddsOneAlone refused_by moments random e start final
       → start.left ≡ Some stream → IsKept final.decider → final.decider.table.events ≤ final.decider.table.max_entries → IsServedAlone error_frame private_frame opens moments random e stream start final
   unfolding Grows
   served_alone e start final stream h is kept few =
@@ -204,7 +203,7 @@ module _ {C X : Type 0} (error_frame : Answer → Moment → List ℕ) (private_
       ends start last final legal room h.turns stream w like e h.end_is
 
   -- where the reader tells its bytes
-  pub served_alone_of : (e : Ended) (start final : Place C X Kept) (given : Option (List ℕ)) → start.left ≡ given → IsServed (AnsweringAlone error_frame private_frame opens) AddsOneAlone refused_by moments random e start final
+  pub served_alone_of : (e : Ended) (start final : StreamState C X Kept) (given : Option (List ℕ)) → start.left ≡ given → IsServed (AnsweringAlone error_frame private_frame opens) AddsOneAlone refused_by moments random e start final
       → IsKept final.decider → final.decider.table.events ≤ final.decider.table.max_entries → IfSome given (λ stream. IsServedAlone error_frame private_frame opens moments random e stream start final)
   served_alone_of e start final None is h kept few = tt
   served_alone_of e start final (Some stream) is h kept few = served_alone e start final stream h is kept few

@@ -1,4 +1,4 @@
-pub mod Replies
+pub mod StreamReplies
 pub mod ServedAlone
 pub mod Draws
 pub mod Serving

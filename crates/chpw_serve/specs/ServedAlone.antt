@@ -6,17 +6,19 @@ use Rattle.std.specs.Io.KnownBytes.{Appends}
 use Rattle.chpw_frame.specs.Stream.{Piece, message, ended, cut_off, too_long, next_piece, behind_piece}
 use Rattle.chpw_frame.specs.Receiving.{ConsumesSome, AppendsFront}
 use Rattle.chpw_table.specs.declared.times.Moment.{Moment}
+use Rattle.chpw_table.specs.declared.history.Event.TheVariants.{Ask}
 use Rattle.chpw_table.specs.declared.history.Receipt.{Receipt}
 use Rattle.chpw_table.specs.History.{outcome}
 use Rattle.chpw_table.specs.Replies.{Answer}
 use Rattle.chpw_decider.specs.Keeping.{Kept, IsFullAt, IsOpenedLike, entries}
 use Rattle.chpw_answer.specs.declared.messages.Seal.{Seal}
 use Rattle.chpw_answer.specs.Requests.{Request, Opens, refused, opened, opened_under}
+use Rattle.chpw_answer.specs.Answers.{Answering, AddsOne}
 use Rattle.chpw_serve.specs.declared.serving.Ended.{Ended}
 use Rattle.chpw_serve.specs.declared.serving.Ended.TheVariants as end
 use Rattle.chpw_serve.specs.Draws.{Drawn}
-use Rattle.chpw_serve.specs.Serving.{Place, Answering, AddsOne, message_too_long}
-use Rattle.chpw_serve.specs.Replies.{Draw, Run, verdict_of, is_full, run_after, replies}
+use Rattle.chpw_serve.specs.Serving.{StreamState, message_too_long}
+use Rattle.chpw_serve.specs.StreamReplies.{Draw, Run, verdict_of, is_full, run_after, replies}
 
 -- what a message is answered by a table that one thread has alone
 abbrev pub AnsweringAlone : (Answer → Moment → List ℕ) → (Seal → Answer → List ℕ → List ℕ) → (List ℕ → Opens → Type 0)
@@ -66,47 +68,32 @@ IsEndOf end.Input stream draws = next_piece (left_behind stream draws) ≡ ended
 IsEndOf end.CutOff stream draws = next_piece (left_behind stream draws) ≡ cut_off
 IsEndOf end.TooLong stream draws = EndsTooLong stream draws
 IsEndOf end.Count stream draws = length draws ≡ 65536
-IsEndOf end.ReadFault stream draws = Unit {0}
-IsEndOf end.WriteFault stream draws = Unit {0}
-IsEndOf end.Memory stream draws = Unit {0}
+IsEndOf _ stream draws = Unit {0}
 
 -- what is left to read, of these bytes behind the messages answered
 abbrev pub Leaves : Ended → List ℕ → Option (List ℕ) → Type 0
 Leaves end.Input rest left = left ≡ Some []
 Leaves end.CutOff rest left = left ≡ Some []
-Leaves end.TooLong rest left = left ≡ Some rest
-Leaves end.Count rest left = left ≡ Some rest
-Leaves end.WriteFault rest left = left ≡ Some rest
 Leaves end.ReadFault rest left = ConsumesSome (Some rest) left
 Leaves end.Memory rest left = Unit {0}
+Leaves _ rest left = left ≡ Some rest
 
 -- the bytes written grew by these; after a failed write by some of them, from the front
 abbrev pub Writes : Ended → Option (List ℕ) → Option (List ℕ) → List ℕ → Type 0
 Writes end.WriteFault old new bytes = AppendsFront old new bytes
-Writes end.Input old new bytes = Appends old new bytes
-Writes end.CutOff old new bytes = Appends old new bytes
-Writes end.TooLong old new bytes = Appends old new bytes
-Writes end.ReadFault old new bytes = Appends old new bytes
-Writes end.Count old new bytes = Appends old new bytes
-Writes end.Memory old new bytes = Appends old new bytes
+Writes _ old new bytes = Appends old new bytes
 
 -- the source gave these and no more; after want of memory it may have given more
 abbrev pub HasDrawn : {S A : Type 0} → (S → A → S → Type 0) → Ended → S → List A → S → Type 0
 HasDrawn {S} gives end.Memory before xs after = (m : S) × Drawn gives before xs m
-HasDrawn gives end.Input before xs after = Drawn gives before xs after
-HasDrawn gives end.CutOff before xs after = Drawn gives before xs after
-HasDrawn gives end.TooLong before xs after = Drawn gives before xs after
-HasDrawn gives end.ReadFault before xs after = Drawn gives before xs after
-HasDrawn gives end.WriteFault before xs after = Drawn gives before xs after
-HasDrawn gives end.Count before xs after = Drawn gives before xs after
+HasDrawn gives _ before xs after = Drawn gives before xs after
 
 -- the receipt of a request: of this moment, this append, and the machine's verdict
 pub record IsReceiptOf (run : Run) (d : Draw) (q : Request) (r : Receipt) : Type 0 where
   pub counts : List ℕ
-  pub opened_is : r.entry.opened ≡ opened_under counts q
+  pub event_is : r.entry.event ≡ Ask (opened_under counts q) (verdict_of run d q)
   pub now_is : r.entry.now ≡ d.moment
   pub io_is : r.entry.io_failed ≡ d.io
-  pub verdict_is : r.entry.verdict ≡ verdict_of run d q
 
 -- one for a request that was decided, and none where the machine was full
 abbrev pub IsOwnOf : Bool → Run → Draw → Request → List Receipt → Type 0
@@ -128,12 +115,7 @@ AreReceipts limit run (d ∷ ds) receipts =
 -- no receipt more; after want of memory one at the most
 abbrev pub AreMore : Ended → List Receipt → Type 0
 AreMore end.Memory more = length more ≤ 1
-AreMore end.Input more = more ≡ []
-AreMore end.CutOff more = more ≡ []
-AreMore end.TooLong more = more ≡ []
-AreMore end.ReadFault more = more ≡ []
-AreMore end.WriteFault more = more ≡ []
-AreMore end.Count more = more ≡ []
+AreMore _ more = more ≡ []
 
 -- the receipts grew by those of the messages
 abbrev pub AddsReceipts : Ended → ℕ → Run → List Draw → List Receipt → List Receipt → Type 0
@@ -142,7 +124,7 @@ AddsReceipts e limit run draws old new =
     × AreReceipts limit run draws added × AreMore e more
 
 -- with these frames, where messages open so, and clock and words give so: the whole
-pub record IsServedAlone {C X : Type 0} (error_frame : Answer → Moment → List ℕ) (private_frame : Seal → Answer → List ℕ → List ℕ) (opens : List ℕ → Opens → Type 0) (moments : C → Moment → C → Type 0) (random : X → ℕ → X → Type 0) (e : Ended) (stream : List ℕ) (start final : Place C X Kept) : Type 0 where
+pub record IsServedAlone {C X : Type 0} (error_frame : Answer → Moment → List ℕ) (private_frame : Seal → Answer → List ℕ → List ℕ) (opens : List ℕ → Opens → Type 0) (moments : C → Moment → C → Type 0) (random : X → ℕ → X → Type 0) (e : Ended) (stream : List ℕ) (start final : StreamState C X Kept) : Type 0 where
   pub draws : List Draw
   pub drawn_for : AreDrawnFor opens stream draws
   pub few : length draws ≤ 65536

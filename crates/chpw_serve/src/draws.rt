@@ -4,6 +4,7 @@ ghost use Rattle.chpw_table.specs.declared.times.Moment.{Moment};
 ghost use Rattle.chpw_table.specs.Times.{IsMoment};
 ghost use Rattle.chpw_serve.specs.Draws.{Drawn};
 
+use chpw_answer::Drawing;
 use chpw_table::Moment;
 
 /// A clock.
@@ -27,16 +28,8 @@ pub trait Words {
         ensures given { gives self.old result self.new };
 }
 
-/// The moment and the nine words of a message.
-#[derive(Clone, Copy, Drop)]
-pub(crate) struct Drawing {
-    pub now: Moment,
-    pub words: [u32; 9],
-}
-
-/// Draws them.
-pub(crate) fn draw_both<C: Clock, X: Words>(clock: &mut C, words: &mut X) -> Drawing
-    ensures range { IsMoment result.now × (result.now.micros < 1000000) }
+/// Draws for a message: its moment, and nine words.
+pub(crate) fn draw<C: Clock, X: Words>(clock: &mut C, words: &mut X) -> Drawing
     ensures moment { C.gives clock.old result.now clock.new }
     ensures words { Drawn X.gives words.old result.words words.new }
     ensures nine { length result.words ≡ 9 }

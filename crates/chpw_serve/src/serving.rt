@@ -1,24 +1,22 @@
 //! Serving a stream.
-ghost use Rattle.chpw_answer.specs.Answers.{IsAnswer};
-ghost use Rattle.chpw_serve.specs.Serving.{Answering, AddsOne, message_too_long, IsServed, GoesOn, IsAnswered, IsRefused};
-ghost use Rattle.chpw_serve.specs.ServedAlone.{AnsweringAlone, AddsOneAlone, IsServedAlone};
-ghost use Rattle.std.specs.Prelude.{◌≡◌, pos, codes, IfSome};
-ghost use Rattle.chpw_table.specs.Replies.{by_error};
+ghost use Rattle.std.specs.Prelude.{◌≡◌, IfSome};
+ghost use Rattle.chpw_answer.specs.Answers.{Answering, AddsOne};
 ghost use Rattle.chpw_answer.specs.Holding.{answer_in};
+ghost use Rattle.chpw_serve.specs.Serving.{stream_state, message_too_long, IsServed, IsRefused};
+ghost use Rattle.chpw_serve.specs.ServedAlone.{AnsweringAlone, AddsOneAlone, IsServedAlone};
 
-use crate::draws::{Clock, Words, draw_both};
-use chpw_answer::{Gate, Messages, NoGate, Refusal, Spot, answer_message};
+use crate::draws::{Clock, Words, draw};
+use chpw_answer::{Gate, Messages, NoGate, Spot, answer_message};
 use chpw_decider::{Alone, Decider};
 use chpw_frame::{Received, read_tcp, write_tcp};
 use chpw_table::JournalSink;
+use krb_der::Refusal;
+use krb_der::codes::{KRB_ERR_FIELD_TOOLONG, KRB5_KPASSWD_MALFORMED};
 use std::alloc::Global;
 use std::io::{Read, Write};
 
 /// Messages of one stream, at the most.
 pub const MAX_MESSAGES: u32 = 65_536;
-
-/// KRB_ERR_FIELD_TOOLONG (RFC 4120 section 7.5.9).
-const FIELD_TOOLONG: i32 = 61;
 
 /// Why a stream is served no longer.
 #[derive(Clone, Copy, Drop)]
@@ -42,7 +40,7 @@ pub enum Ended {
 /// Answers the messages of a stream in their order, and writes each reply before the next message
 /// is read. The moment and the nine words of a message are drawn once it was read. `peer` is an
 /// IPv4 address, high byte first.
-#[tactic(auto, using(crate::proofs::ServingLemmas::so_far_start, crate::proofs::ServingLemmas::so_far_on, crate::proofs::ServingLemmas::so_far_ends, crate::proofs::ServingLemmas::so_far_counted))]
+#[tactic(auto, using(crate::proofs::ServingLemmas::so_far_start, crate::proofs::ServingLemmas::so_far_counted))]
 pub fn serve_stream<R: Read, W: Write, M: Messages, D: Decider, G: Gate, C: Clock, X: Words>(
     alloc: Global,
     service: &M,
@@ -58,27 +56,71 @@ pub fn serve_stream<R: Read, W: Write, M: Messages, D: Decider, G: Gate, C: Cloc
         (M.opens service.now peer) D.gathered D.may_be_full D.follows)
         (AddsOne D.gathered D.follows) (λ now. M.error_frame service.now message_too_long now)
         C.gives X.gives result
-        (record {
-          left = R.remaining reader.old;
-          decider = decider.old;
-          around = record { out = W.contents writer.old; clock = clock.old; words = words.old };
-        })
-        (record {
-          left = R.remaining reader.new;
-          decider = decider.new;
-          around = record { out = W.contents writer.new; clock = clock.new; words = words.new };
-        }) }
+        (stream_state (R.remaining reader.old) decider.old (W.contents writer.old) clock.old words.old)
+        (stream_state (R.remaining reader.new) decider.new (W.contents writer.new) clock.new words.new) }
 {
     let mut served = 0;
     while served < MAX_MESSAGES {
-        match serve_next(
-            alloc, service, peer, reader, writer, decider, gate, clock, words,
-        ) {
-            Some(ended) => return ended,
-            None => served += 1,
+        let message = match read_tcp(alloc, reader) {
+            Err(_) => return Ended::Memory,
+            Ok(Received::Ended) => return Ended::Input,
+            Ok(Received::CutOff) => return Ended::CutOff,
+            Ok(Received::ReadFault) => return Ended::ReadFault,
+            Ok(Received::TooLong) => return refuse(alloc, service, writer, clock, words),
+            Ok(Received::Message(message)) => message,
+        };
+        let drawn = draw(clock, words);
+        let answer = match answer_message(alloc, service, peer, &message, decider, gate, drawn) {
+            Err(_) => return Ended::Memory,
+            Ok(answer) => answer,
+        };
+        match write_tcp(writer, &answer.bytes) {
+            Err(_) => return Ended::WriteFault,
+            Ok(()) => pass_answered(gate, answer.opened),
         }
+        served += 1;
     }
     Ended::Count
+}
+
+/// Passes the gate where the message opened.
+fn pass_answered<G: Gate>(gate: &mut G, opened: bool) {
+    if opened {
+        gate.at(Spot::Answered);
+    }
+}
+
+/// Answers a message whose length is too long.
+fn refuse<W: Write, M: Messages, C: Clock, X: Words>(
+    alloc: Global,
+    service: &M,
+    writer: &mut W,
+    clock: &mut C,
+    words: &mut X,
+) -> Ended
+    ensures end { IsRefused (λ now. M.error_frame service.now message_too_long now) C.gives X.gives result
+        (record { out = W.contents writer.old; clock = clock.old; words = words.old })
+        (record { out = W.contents writer.new; clock = clock.new; words = words.new }) }
+{
+    let drawn = draw(clock, words);
+    match service.make_error(alloc, too_long(), drawn.now) {
+        Err(_) => Ended::Memory,
+        Ok(reply) => match write_tcp(writer, &reply) {
+            Err(_) => Ended::WriteFault,
+            Ok(()) => Ended::TooLong,
+        },
+    }
+}
+
+/// What a message that is too long is answered with.
+fn too_long() -> Refusal
+    ensures value { answer_in result ≡ message_too_long }
+{
+    Refusal {
+        code: KRB5_KPASSWD_MALFORMED,
+        error: KRB_ERR_FIELD_TOOLONG,
+        text: "message too long",
+    }
 }
 
 /// The same over a table that one thread has alone. Where the reader tells its bytes, the bytes
@@ -99,29 +141,13 @@ pub fn serve_alone<R: Read, W: Write, M: Messages, S: JournalSink, C: Clock, X: 
         (M.opens service.now peer))
         AddsOneAlone (λ now. M.error_frame service.now message_too_long now)
         C.gives X.gives result
-        (record {
-          left = R.remaining reader.old;
-          decider = alone.old;
-          around = record { out = W.contents writer.old; clock = clock.old; words = words.old };
-        })
-        (record {
-          left = R.remaining reader.new;
-          decider = alone.new;
-          around = record { out = W.contents writer.new; clock = clock.new; words = words.new };
-        }) }
+        (stream_state (R.remaining reader.old) alone.old (W.contents writer.old) clock.old words.old)
+        (stream_state (R.remaining reader.new) alone.new (W.contents writer.new) clock.new words.new) }
     ensures replies { IfSome (R.remaining reader.old) (λ stream. IsServedAlone
         (M.error_frame service.now) (M.private_frame service.now) (M.opens service.now peer)
         C.gives X.gives result stream
-        (record {
-          left = R.remaining reader.old;
-          decider = alone.old;
-          around = record { out = W.contents writer.old; clock = clock.old; words = words.old };
-        })
-        (record {
-          left = R.remaining reader.new;
-          decider = alone.new;
-          around = record { out = W.contents writer.new; clock = clock.new; words = words.new };
-        })) }
+        (stream_state (R.remaining reader.old) alone.old (W.contents writer.old) clock.old words.old)
+        (stream_state (R.remaining reader.new) alone.new (W.contents writer.new) clock.new words.new)) }
 {
     let ended = serve_stream(
         alloc,
@@ -137,126 +163,4 @@ pub fn serve_alone<R: Read, W: Write, M: Messages, S: JournalSink, C: Clock, X: 
     // What `replies` rests on: the history is legal, and no longer than it may be.
     let _full = alone.table().is_full();
     ended
-}
-
-/// Reads and answers one message, or ends.
-fn serve_next<R: Read, W: Write, M: Messages, D: Decider, G: Gate, C: Clock, X: Words>(
-    alloc: Global,
-    service: &M,
-    peer: [u8; 4],
-    reader: &mut R,
-    writer: &mut W,
-    decider: &mut D,
-    gate: &mut G,
-    clock: &mut C,
-    words: &mut X,
-) -> Option<Ended>
-    ensures turn { GoesOn (Answering (M.error_frame service.now) (M.private_frame service.now)
-        (M.opens service.now peer) D.gathered D.may_be_full D.follows)
-        (AddsOne D.gathered D.follows) (λ now. M.error_frame service.now message_too_long now)
-        C.gives X.gives result
-        (record {
-          left = R.remaining reader.old;
-          decider = decider.old;
-          around = record { out = W.contents writer.old; clock = clock.old; words = words.old };
-        })
-        (record {
-          left = R.remaining reader.new;
-          decider = decider.new;
-          around = record { out = W.contents writer.new; clock = clock.new; words = words.new };
-        }) }
-{
-    match read_tcp(alloc, reader) {
-        Err(_) => Some(Ended::Memory),
-        Ok(Received::Ended) => Some(Ended::Input),
-        Ok(Received::CutOff) => Some(Ended::CutOff),
-        Ok(Received::ReadFault) => Some(Ended::ReadFault),
-        Ok(Received::TooLong) => Some(refuse(alloc, service, writer, clock, words)),
-        Ok(Received::Message(message)) => {
-            answer_one(
-                alloc, service, peer, &message, writer, decider, gate, clock, words,
-            )
-        }
-    }
-}
-
-/// Answers a message whose length is too long.
-fn refuse<W: Write, M: Messages, C: Clock, X: Words>(
-    alloc: Global,
-    service: &M,
-    writer: &mut W,
-    clock: &mut C,
-    words: &mut X,
-) -> Ended
-    ensures end { IsRefused (λ now. M.error_frame service.now message_too_long now) C.gives X.gives result
-        (record { out = W.contents writer.old; clock = clock.old; words = words.old })
-        (record { out = W.contents writer.new; clock = clock.new; words = words.new }) }
-{
-    let drawn = draw_both(clock, words);
-    match service.make_error(alloc, too_long(), drawn.now) {
-        Err(_) => Ended::Memory,
-        Ok(reply) => match write_tcp(writer, &reply) {
-            Err(_) => Ended::WriteFault,
-            Ok(()) => Ended::TooLong,
-        },
-    }
-}
-
-/// What a message that is too long is answered with.
-fn too_long() -> Refusal
-    ensures value { answer_in result ≡ message_too_long }
-{
-    Refusal {
-        code: 1,
-        error: FIELD_TOOLONG,
-        text: "message too long",
-    }
-}
-
-/// Answers a message.
-fn answer_one<W: Write, M: Messages, D: Decider, G: Gate, C: Clock, X: Words>(
-    alloc: Global,
-    service: &M,
-    peer: [u8; 4],
-    message: &[u8],
-    writer: &mut W,
-    decider: &mut D,
-    gate: &mut G,
-    clock: &mut C,
-    words: &mut X,
-) -> Option<Ended>
-    ensures turn { IsAnswered (Answering (M.error_frame service.now) (M.private_frame service.now)
-        (M.opens service.now peer) D.gathered D.may_be_full D.follows)
-        (AddsOne D.gathered D.follows) (λ now. M.error_frame service.now message_too_long now)
-        C.gives X.gives result message.now
-        (record {
-          left = None;
-          decider = decider.old;
-          around = record { out = W.contents writer.old; clock = clock.old; words = words.old };
-        })
-        (record {
-          left = None;
-          decider = decider.new;
-          around = record { out = W.contents writer.new; clock = clock.new; words = words.new };
-        }) }
-{
-    let drawn = draw_both(clock, words);
-    let (now, nine) = (drawn.now, drawn.words);
-    match answer_message(alloc, service, peer, message, decider, gate, nine, now) {
-        Err(_) => Some(Ended::Memory),
-        Ok(answer) => match write_tcp(writer, answer.bytes.as_slice()) {
-            Err(_) => Some(Ended::WriteFault),
-            Ok(()) => {
-                pass_answered(gate, answer.opened);
-                None
-            }
-        },
-    }
-}
-
-/// Passes the gate where the message opened.
-fn pass_answered<G: Gate>(gate: &mut G, opened: bool) {
-    if opened {
-        gate.at(Spot::Answered);
-    }
 }

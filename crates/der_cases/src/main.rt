@@ -11,26 +11,27 @@ mod records;
 mod times;
 mod values;
 
+use case_lines::{Answers, print_answers};
 use hex::{FromHexError, decode};
 use krb_der::ReadError;
 use std::alloc::{AllocError, Global};
-use std::io::{self, BufRead, BufReader, BufWriter, Write};
+use std::io;
+
+#[derive(Drop)]
+struct Cases;
+
+impl Answers for Cases {
+    fn answer(&mut self, alloc: Global, case: &str) -> io::Result<String> {
+        Ok(answer(alloc, case)?)
+    }
+}
 
 fn main(rt: HostRuntime) -> io::Result<()> {
-    let alloc = rt.alloc();
-    let mut out = BufWriter::new(alloc, io::writer(&rt))?;
-    for line in BufReader::new(alloc, rt.reader())?.lines(alloc) {
-        let answer = answer(alloc, line?.as_str())?;
-        writeln!(out, "{answer}")?;
-    }
-    out.flush()
+    print_answers(&rt, &mut Cases)
 }
 
 /// The answer to a line.
 fn answer(alloc: Global, line: &str) -> Result<String, AllocError> {
-    if line.is_empty() || line.starts_with('#') {
-        return String::from_str(alloc, line);
-    }
     let (kind, text) = line.split_once(' ').unwrap_or((line, ""));
     match kind {
         "time" => times::seconds_of(alloc, text),

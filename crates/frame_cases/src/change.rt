@@ -1,7 +1,7 @@
 //! What user-data asks for.
 
 use crate::framing::{bytes, shown};
-use chpw_frame::{Change, ChangeFault, ChangeTarget, read_change_data};
+use chpw_frame::{ChangeData, ChangeFault, ChangeTarget, read_change_data};
 use std::alloc::Global;
 use std::io;
 
@@ -14,7 +14,7 @@ pub fn answer(alloc: Global, text: &str) -> io::Result<String> {
     }
 }
 
-fn shown_change(alloc: Global, change: &Change) -> io::Result<String> {
+fn shown_change(alloc: Global, change: &ChangeData) -> io::Result<String> {
     let password = shown(alloc, change.password.as_slice())?;
     match &change.target {
         None => Ok(format!(in alloc; "password {password}")?),

@@ -1,5 +1,6 @@
 //! The cases, line by line.
 
+use crate::gated::gated;
 use crate::messages::{Message, bytes_of, no_case, read_message};
 use crate::repeating::repeated;
 use crate::serving::{How, ended_text, serve, served, stream_of};
@@ -85,7 +86,9 @@ impl Cases {
             "replied" => self.written(alloc, How::of(how), &stream_of(alloc, &messages)?),
             "broken" => self.broken(alloc, How::of(how), &messages),
             "wanting" => wanting(alloc, self.start(alloc)?, how, &messages),
+            "gated" => gated(alloc, self.start(alloc)?, How::of(how), &messages),
             "answered" => deciding::answered(alloc, self.start(alloc)?, how, &messages),
+            "looks" => deciding::looked_up(alloc, self.start(alloc)?, &messages),
             "alone" => deciding::alone(alloc, self.start(alloc)?, self.start(alloc)?, &messages),
             _ => Err(no_case()),
         }

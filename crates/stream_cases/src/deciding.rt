@@ -1,11 +1,11 @@
 //! Deciders, asked by the answer to a message and directly.
 
 use crate::clock::{Counting, Standing};
-use crate::messages::{Message, no_case, shown_reply};
+use crate::messages::{Message, no_case, shown_reply, text_of};
 use crate::serving::PEER;
 use crate::watched::{Mood, Watched};
 use crate::world::{World, shown};
-use chpw_answer::{Messages, NoGate, Opening, answer};
+use chpw_answer::{Messages, NoGate, OpensTo, answer};
 use chpw_decider::{Alone, Decider};
 use chpw_journal::MemorySink;
 use chpw_messages::Service;
@@ -21,6 +21,7 @@ fn mood_of(who: &str) -> Mood {
     match who {
         "needing once" => Mood::Needs(1),
         "needing three times" => Mood::Needs(3),
+        "needing always" => Mood::Needs(u32::MAX),
         "full" => Mood::Full,
         _ => Mood::Plain,
     }
@@ -33,17 +34,40 @@ pub fn answered(
     who: &str,
     messages: &[&Message],
 ) -> io::Result<String> {
-    let mut decider = Watched::of(world.alone, mood_of(who));
+    let World { service, alone } = world;
+    let mut decider = Watched::of(alloc, alone, mood_of(who));
+    let mut text = replies(alloc, &service, &mut decider, messages)?;
+    text.push_str(shown_calls(alloc, &decider)?.as_str())?;
+    Ok(text)
+}
+
+/// The replies to these messages, the names that were looked up, and how often the decider was asked.
+pub fn looked_up(alloc: Global, world: World, messages: &[&Message]) -> io::Result<String> {
+    let World { service, alone } = world;
+    let mut decider = Watched::of(alloc, alone, Mood::Plain);
+    let replies = replies(alloc, &service, &mut decider, messages)?;
+    let names = text_of(&decider.names);
+    let decides = decider.decides;
+    Ok(format!(in alloc; "{replies}looked up{names}, decide {decides}")?)
+}
+
+/// The replies of a decider that watches to these messages, with what divides them behind each.
+fn replies(
+    alloc: Global,
+    service: &Service,
+    decider: &mut Watched<MemorySink>,
+    messages: &[&Message],
+) -> io::Result<String> {
     let mut words = Counting::new();
     let mut text = String::new(alloc);
     for message in messages {
         let nine = words.nine();
         let reply = answer(
             alloc,
-            &world.service,
+            service,
             PEER,
             &message.bytes,
-            &mut decider,
+            decider,
             &mut NoGate,
             nine,
             Standing::at(SECOND).moment(),
@@ -51,7 +75,6 @@ pub fn answered(
         text.push_str(shown_reply(alloc, message, &reply)?.as_str())?;
         text.push_str("; ")?;
     }
-    text.push_str(shown_calls(alloc, &decider)?.as_str())?;
     Ok(text)
 }
 
@@ -110,8 +133,8 @@ fn with_table(alloc: Global, verdict: &str, table: &Alone<MemorySink>) -> io::Re
 /// A message's request, with no keys derived, and its password.
 fn opened(alloc: Global, service: &Service, message: &Message) -> io::Result<(Opened, Vec<u8>)> {
     match service.open(alloc, PEER, &message.bytes)? {
-        Opening::Refused(_) => Err(no_case()),
-        Opening::Opened(incoming) => Ok((incoming.opened, incoming.password.into_vec())),
+        OpensTo::Refused(_) => Err(no_case()),
+        OpensTo::Opened(incoming) => Ok((incoming.opened, incoming.password.into_vec())),
     }
 }
 

@@ -18,7 +18,10 @@
 //!   WHAT being `to decide` or `to reply`.
 //! - `broken HOW: NAME ..`: the same with a write that fails behind each byte of the replies in
 //!   turn.
+//! - `gated HOW: NAME ..`: the same past a gate, and the answer is where the worker passed it; HOW
+//!   says how the writer does.
 //! - `answered WHO: NAME ..`: these messages are answered one by one by a decider that watches.
+//! - `looks: NAME ..`: the same; the answer has the names that were looked up.
 //! - `alone: NAME`: that message's request is decided, with no keys, derived, and with its keys.
 //! - `words N STREAM PLACE`: the sixteen words of a worker from that place on, as bytes; the seed
 //!   is of zeros but for its last byte, which is N.
@@ -31,6 +34,7 @@
 mod cases;
 mod clock;
 mod deciding;
+mod gated;
 mod messages;
 mod repeating;
 mod serving;

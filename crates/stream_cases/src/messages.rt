@@ -74,6 +74,6 @@ fn shown(alloc: Global, reply: Result<Reply, OpenError<ReplyFault>>) -> io::Resu
 }
 
 /// Bytes as they are printed.
-fn text_of(bytes: &[u8]) -> &str {
+pub fn text_of(bytes: &[u8]) -> &str {
     str::from_utf8(bytes).unwrap_or("no UTF-8")
 }

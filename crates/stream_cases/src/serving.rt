@@ -3,7 +3,7 @@
 use crate::clock::{Counting, Standing};
 use crate::messages::{Message, no_case, shown_reply};
 use crate::world::{self, World};
-use chpw_answer::{Messages, NoGate};
+use chpw_answer::{Gate, Messages};
 use chpw_decider::Decider;
 use chpw_frame::{Received, read_tcp, write_tcp};
 use chpw_serve::{Ended, serve_alone, serve_stream};
@@ -87,11 +87,12 @@ pub fn serve(alloc: Global, world: &mut World, how: How, stream: &[u8]) -> Outco
     }
 }
 
-/// Serves a stream by any decider, over whoever opens and makes messages.
-pub fn serve_by<M: Messages, D: Decider>(
+/// Serves a stream by any decider and past any gate, over whoever opens and makes messages.
+pub fn serve_by<M: Messages, D: Decider, G: Gate>(
     alloc: Global,
     messages: &M,
     decider: &mut D,
+    gate: &mut G,
     how: How,
     stream: &[u8],
 ) -> Outcome {
@@ -106,7 +107,7 @@ pub fn serve_by<M: Messages, D: Decider>(
         &mut reader,
         &mut writer,
         decider,
-        &mut NoGate,
+        gate,
         &mut clock,
         &mut words,
     );

@@ -1,8 +1,9 @@
 //! Whoever opens messages, and has no memory for the replies to those that opened.
 ghost use Rattle.std.specs.Prelude.{◌≡◌};
 
-use chpw_answer::{Messages, Opening, Refusal, Seal};
+use chpw_answer::{Messages, OpensTo, Seal};
 use chpw_table::Moment;
+use krb_der::Refusal;
 use std::alloc::{AllocError, Global};
 
 /// The same messages, but that no reply to an opened request is made.
@@ -22,7 +23,7 @@ impl<M: Messages> Messages for Sparing<'_, M> {
         self.messages.realm()
     }
 
-    fn open(&self, alloc: Global, peer: [u8; 4], message: &[u8]) -> Result<Opening, AllocError> {
+    fn open(&self, alloc: Global, peer: [u8; 4], message: &[u8]) -> Result<OpensTo, AllocError> {
         self.messages.open(alloc, peer, message)
     }
 

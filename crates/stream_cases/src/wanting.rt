@@ -5,6 +5,7 @@ use crate::serving::{How, Outcome, ended_text, serve_by, shown_replies, stream_o
 use crate::sparing::Sparing;
 use crate::watched::{Mood, Watched};
 use crate::world::{World, shown};
+use chpw_answer::NoGate;
 use chpw_decider::Alone;
 use chpw_journal::MemorySink;
 use std::alloc::Global;
@@ -33,8 +34,9 @@ pub fn wanting(
 /// Served by a decider that has no memory.
 fn undecided(alloc: Global, world: World, stream: &[u8]) -> (Outcome, Alone<MemorySink>) {
     let World { service, alone } = world;
-    let mut decider = Watched::of(alone, Mood::NoMemory);
-    let outcome = serve_by(alloc, &service, &mut decider, How::of("at 1000100"), stream);
+    let mut decider = Watched::of(alloc, alone, Mood::NoMemory);
+    let how = How::of("at 1000100");
+    let outcome = serve_by(alloc, &service, &mut decider, &mut NoGate, how, stream);
     (outcome, decider.alone)
 }
 
@@ -43,6 +45,7 @@ fn unanswered(alloc: Global, world: World, stream: &[u8]) -> (Outcome, Alone<Mem
     let World { service, alone } = world;
     let mut alone = alone;
     let messages = Sparing { messages: &service };
-    let outcome = serve_by(alloc, &messages, &mut alone, How::of("at 1000100"), stream);
+    let how = How::of("at 1000100");
+    let outcome = serve_by(alloc, &messages, &mut alone, &mut NoGate, how, stream);
     (outcome, alone)
 }

@@ -6,6 +6,7 @@ use chpw_rules::Name;
 use chpw_table::{
     Body, Counts, DecideFault, JournalSink, Lookup, Moment, Opened, Receipt, Refused, Verdict,
 };
+use std::alloc::Global;
 
 /// What it does when it is asked to decide.
 #[derive(Clone, Copy, PartialEq, Eq, Drop)]
@@ -30,16 +31,29 @@ pub struct Watched<S: JournalSink> {
     pub derivings: u32,
     /// The counts of the digest of the last `decide`.
     pub counts: Counts,
+    /// The names looked up, each behind a space.
+    pub names: Vec<u8>,
 }
 
 impl<S: JournalSink> Watched<S> {
-    pub fn of(alone: Alone<S>, mood: Mood) -> Watched<S> {
+    pub fn of(alloc: Global, alone: Alone<S>, mood: Mood) -> Watched<S> {
         Watched {
             alone,
             mood,
             decides: 0,
             derivings: 0,
             counts: Counts::new(),
+            names: Vec::new(alloc),
+        }
+    }
+
+    /// Notes a name that is looked up; without memory, only a part of it.
+    fn note_name(&mut self, name: &Name)
+        ensures alone { self.new.alone ≡ self.old.alone }
+    {
+        let _ = self.names.extend_from_slice(b" ");
+        for part in name.parts.as_slice() {
+            let _ = self.names.extend_from_slice(part.as_slice());
         }
     }
 
@@ -80,6 +94,7 @@ impl<S: JournalSink> Decider for Watched<S> {
     ghost follows = { λ _ _. Unit {0} };
 
     fn lookup(&mut self, name: &Name) -> Option<Lookup> {
+        self.note_name(name);
         self.alone.lookup(name)
     }
 

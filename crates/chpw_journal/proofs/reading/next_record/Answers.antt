@@ -5,7 +5,7 @@ use Rattle.std.proofs.lemmas.Result.{IfOk-weaker}
 use Rattle.chpw_rules.specs.Limits.{is_in}
 use Rattle.chpw_journal.specs.declared.reading.Next.{Next}
 use Rattle.chpw_journal.specs.Records.{record_lengths, stated_length}
-use Rattle.chpw_journal.specs.Receiving.{IsNext, IsBody}
+use Rattle.chpw_journal.specs.NextRecord.{IsNext, IsBody}
 use Rattle.chpw_journal.proofs.reading.next_record.Goals as goal
 
 pub returns-clause-next : goal.returns-clause-next

@@ -3,7 +3,7 @@ use Rattle.std.specs.Io.KnownBytes.{Consumes}
 use Rattle.std.proofs.lemmas.Result.{err_from_is_err_and}
 use Rattle.chpw_rules.specs.Limits.{is_in}
 use Rattle.chpw_journal.specs.Records.{record_lengths}
-use Rattle.chpw_journal.specs.Receiving.{framed}
+use Rattle.chpw_journal.specs.NextRecord.{framed}
 use Rattle.chpw_journal.proofs.CutLemmas.{length_most}
 use Rattle.chpw_journal.proofs.RestoringLemmas.{so_far_next, ended, bad_length, cannot_read, record_fault}
 use Rattle.chpw_journal.proofs.restoring.restore.Goals as goal

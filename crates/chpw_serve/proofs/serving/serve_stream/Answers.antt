@@ -1,20 +1,88 @@
-use Rattle.chpw_serve.specs.Serving.{Answering, AddsOne, message_too_long}
-use Rattle.chpw_serve.proofs.ServingLemmas.{so_far_on, so_far_ends}
+use Rattle.std.proofs.Common.{refl, sym, subst, inl, List, ℕ}
+use Rattle.std.specs.Io.KnownBytes.{Appends}
+use Rattle.chpw_frame.specs.Stream.{message, sent}
+use Rattle.chpw_frame.specs.Receiving.{TakesPiece, IsReceived, AppendsFront}
+use Rattle.chpw_frame.specs.declared.stream.Received.{Received}
+use Rattle.chpw_serve.specs.declared.serving.Ended.TheVariants as end
+use Rattle.chpw_serve.proofs.ServingLemmas.{adds_none, so_far_on, so_far_ends, too_long_ends}
 use Rattle.chpw_serve.proofs.serving.serve_stream.Goals as goal
 
-pub returns-in-Some : goal.returns-in-Some
-returns-in-Some g c = record {
-  served = so_far_ends (Answering (g.M.Messages.error_frame c.args.service.now) (g.M.Messages.private_frame c.args.service.now) (g.M.Messages.opens c.args.service.now c.args.peer) g.D.Decider.gathered g.D.Decider.may_be_full g.D.Decider.follows) (AddsOne g.D.Decider.gathered g.D.Decider.follows) (λ now. g.M.Messages.error_frame c.args.service.now message_too_long now) g.C.Clock.gives g.X.Words.gives
-      (record { left = g.R.Read.remaining c.args.reader.now; decider = c.args.decider.now; around = record { out = g.W.Write.contents c.args.writer.now; clock = c.args.clock.now; words = c.args.words.now } })
-      (record { left = g.R.Read.remaining c.loop-served.reader; decider = c.loop-served.decider; around = record { out = g.W.Write.contents c.loop-served.writer; clock = c.loop-served.clock; words = c.loop-served.words } })
-      (record { left = g.R.Read.remaining c.serve_next.new.reader; decider = c.serve_next.new.decider; around = record { out = g.W.Write.contents c.serve_next.new.writer; clock = c.serve_next.new.clock; words = c.serve_next.new.words } })
-      c.loop-served.served c.in-Some.ended c.loop-served.invariant c.loop-served-test.true c.in-Some.ensures.turn;
+pub returns-in-Err : goal.returns-in-Err
+returns-in-Err g c = record {
+  served = so_far_ends _ _ _ _ _ _ _ _ _ end.Memory c.loop-served.invariant c.loop-served-test.true
+      (refl, adds_none g.D.Decider.gathered g.D.Decider.follows c.loop-served.decider (g.met.D.Decider.stays c.loop-served.decider));
 }
+
+pub returns-in-Ok-Ended : goal.returns-in-Ok-Ended
+returns-in-Ok-Ended g c =
+    let old = g.R.Read.remaining c.loop-served.reader in
+    let new = g.R.Read.remaining c.read_tcp.new.reader in
+    record {
+      served = so_far_ends _ _ _ _ _ _ _ _ _ end.Input c.loop-served.invariant c.loop-served-test.true
+          (subst (λ (r : Received). IsReceived r old new) c.in-Ok-Ended.field-0-is c.in-Ok-Ended.ensures.piece, (refl, refl));
+    }
+
+pub returns-in-Ok-CutOff : goal.returns-in-Ok-CutOff
+returns-in-Ok-CutOff g c =
+    let old = g.R.Read.remaining c.loop-served.reader in
+    let new = g.R.Read.remaining c.read_tcp.new.reader in
+    record {
+      served = so_far_ends _ _ _ _ _ _ _ _ _ end.CutOff c.loop-served.invariant c.loop-served-test.true
+          (subst (λ (r : Received). IsReceived r old new) c.in-Ok-CutOff.field-0-is c.in-Ok-CutOff.ensures.piece, (refl, refl));
+    }
+
+pub returns-in-Ok-ReadFault : goal.returns-in-Ok-ReadFault
+returns-in-Ok-ReadFault g c =
+    let old = g.R.Read.remaining c.loop-served.reader in
+    let new = g.R.Read.remaining c.read_tcp.new.reader in
+    record {
+      served = so_far_ends _ _ _ _ _ _ _ _ _ end.ReadFault c.loop-served.invariant c.loop-served-test.true
+          (subst (λ (r : Received). IsReceived r old new) c.in-Ok-ReadFault.field-0-is c.in-Ok-ReadFault.ensures.piece, (refl, refl));
+    }
+
+pub returns-in-Ok-TooLong : goal.returns-in-Ok-TooLong
+returns-in-Ok-TooLong g c =
+    let old = g.R.Read.remaining c.loop-served.reader in
+    let new = g.R.Read.remaining c.read_tcp.new.reader in
+    record {
+      served = so_far_ends _ _ _ _ _ _ _ _ _ c.refuse.result c.loop-served.invariant c.loop-served-test.true
+          (too_long_ends _ _ _ _ _ _ _ c.refuse.result (subst (λ (r : Received). IsReceived r old new) c.in-Ok-TooLong.field-0-is c.in-Ok-TooLong.ensures.piece) c.refuse.ensures.end refl
+          (adds_none g.D.Decider.gathered g.D.Decider.follows c.loop-served.decider (g.met.D.Decider.stays c.loop-served.decider)));
+    }
+
+pub returns-in-Err-answer_message : goal.returns-in-Err-answer_message
+returns-in-Err-answer_message g c = record {
+  served = so_far_ends _ _ _ _ _ _ _ _ _ end.Memory c.loop-served.invariant c.loop-served-test.true
+      (refl, c.in-Err-answer_message.ensures.refused);
+}
+
+pub returns-in-Err-write_tcp : goal.returns-in-Err-write_tcp
+returns-in-Err-write_tcp g c =
+    let old = g.R.Read.remaining c.loop-served.reader in
+    let new = g.R.Read.remaining c.read_tcp.new.reader in
+    let out = g.W.Write.contents c.loop-served.writer in
+    let then = g.W.Write.contents c.write_tcp.new.writer in
+    record {
+      served = so_far_ends _ _ _ _ _ _ _ _ _ end.WriteFault c.loop-served.invariant c.loop-served-test.true
+          (inl (
+            record { text = c.deref.result.now; moment = c.draw-drawn.result.now; words = c.draw-drawn.result.words; reply = c.in-Ok.answer.bytes.items },
+            subst (λ (text : List ℕ). TakesPiece (message text) old new) (sym c.deref.ensures.value) (subst (λ (r : Received). IsReceived r old new) c.in-Ok-Message.field-0-is c.in-Ok-Message.ensures.piece).0,
+            record { moment = c.draw-drawn.ensures.moment; words = c.draw-drawn.ensures.words; nine = c.draw-drawn.ensures.nine; answer = c.in-Ok.ensures.answers },
+            subst (λ (bytes : List ℕ). AppendsFront out then (sent bytes)) c.deref-in-loop-served.ensures.value c.in-Err-write_tcp.ensures.front,
+          ));
+    }
 
 pub loop-served-preserved : goal.loop-served-preserved
 loop-served-preserved g c =
-    so_far_on (Answering (g.M.Messages.error_frame c.args.service.now) (g.M.Messages.private_frame c.args.service.now) (g.M.Messages.opens c.args.service.now c.args.peer) g.D.Decider.gathered g.D.Decider.may_be_full g.D.Decider.follows) (AddsOne g.D.Decider.gathered g.D.Decider.follows) (λ now. g.M.Messages.error_frame c.args.service.now message_too_long now) g.C.Clock.gives g.X.Words.gives
-    (record { left = g.R.Read.remaining c.args.reader.now; decider = c.args.decider.now; around = record { out = g.W.Write.contents c.args.writer.now; clock = c.args.clock.now; words = c.args.words.now } })
-    (record { left = g.R.Read.remaining c.loop-served.reader; decider = c.loop-served.decider; around = record { out = g.W.Write.contents c.loop-served.writer; clock = c.loop-served.clock; words = c.loop-served.words } })
-    (record { left = g.R.Read.remaining c.serve_next.new.reader; decider = c.serve_next.new.decider; around = record { out = g.W.Write.contents c.serve_next.new.writer; clock = c.serve_next.new.clock; words = c.serve_next.new.words } })
-    c.loop-served.served c.loop-served.invariant c.loop-served-test.true c.in-None.ensures.turn
+    let old = g.R.Read.remaining c.loop-served.reader in
+    let new = g.R.Read.remaining c.read_tcp.new.reader in
+    let out = g.W.Write.contents c.loop-served.writer in
+    let then = g.W.Write.contents c.write_tcp.new.writer in
+    so_far_on _ _ _ _ _ _ _ _ _ c.loop-served.invariant c.loop-served-test.true (
+      record { text = c.deref.result.now; moment = c.draw-drawn.result.now; words = c.draw-drawn.result.words; reply = c.in-Ok.answer.bytes.items },
+      (
+        subst (λ (text : List ℕ). TakesPiece (message text) old new) (sym c.deref.ensures.value) (subst (λ (r : Received). IsReceived r old new) c.in-Ok-Message.field-0-is c.in-Ok-Message.ensures.piece).0,
+        record { moment = c.draw-drawn.ensures.moment; words = c.draw-drawn.ensures.words; nine = c.draw-drawn.ensures.nine; answer = c.in-Ok.ensures.answers },
+        subst (λ (bytes : List ℕ). Appends out then (sent bytes)) c.deref-in-loop-served.ensures.value c.in-Ok-write_tcp.ensures.whole,
+      ),
+    )

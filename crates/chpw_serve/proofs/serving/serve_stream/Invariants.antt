@@ -1,12 +1,13 @@
 use Rattle.std.proofs.Common.{◌-◌}
-use Rattle.chpw_serve.specs.Serving.{Answering, AddsOne, message_too_long}
+use Rattle.chpw_answer.specs.Answers.{Answering, AddsOne}
+use Rattle.chpw_serve.specs.Serving.{stream_state, message_too_long}
 use Rattle.chpw_serve.proofs.ServingLemmas.{SoFar}
 use Rattle.chpw_serve.proofs.serving.serve_stream.Given as goal
 
 abbrev pub invariant-loop-served : goal.invariant-loop-served
 invariant-loop-served g l = SoFar (Answering (g.M.Messages.error_frame l.service) (g.M.Messages.private_frame l.service) (g.M.Messages.opens l.service l.peer) g.D.Decider.gathered g.D.Decider.may_be_full g.D.Decider.follows) (AddsOne g.D.Decider.gathered g.D.Decider.follows) (λ now. g.M.Messages.error_frame l.service message_too_long now) g.C.Clock.gives g.X.Words.gives
-    (record { left = g.R.Read.remaining l.initial.reader; decider = l.initial.decider; around = record { out = g.W.Write.contents l.initial.writer; clock = l.initial.clock; words = l.initial.words } })
-    (record { left = g.R.Read.remaining l.reader; decider = l.decider; around = record { out = g.W.Write.contents l.writer; clock = l.clock; words = l.words } })
+    (stream_state (g.R.Read.remaining l.initial.reader) l.initial.decider (g.W.Write.contents l.initial.writer) l.initial.clock l.initial.words)
+    (stream_state (g.R.Read.remaining l.reader) l.decider (g.W.Write.contents l.writer) l.clock l.words)
     l.served
 
 abbrev pub decreases-loop-served : goal.decreases-loop-served

@@ -1,19 +1,19 @@
--- What opening a journal's file gives: the table handed in, with changes that go on from it; where the
+-- What opening a journal's file gives: the table handed in, with records that go on from it; where the
 -- file was made, the table as it was. What bytes the system gives of a file no contract tells.
 use Rattle.std.specs.Prelude.{◌≡◌, ℕ, List, false, Option}
 use Rattle.chpw_table.specs.State.{State}
 use Rattle.chpw_table.specs.Agreement.{Held, Agrees}
-use Rattle.chpw_journal.specs.declared.change.Change.{Change}
+use Rattle.chpw_journal.specs.declared.record.Record.{Record}
 use Rattle.chpw_journal.specs.declared.fault.RestoreFault.{RestoreFault}
 use Rattle.chpw_journal.specs.declared.restoring.Restored.{Restored}
 use Rattle.chpw_journal.specs.declared.journal_file.Journal.{Journal}
-use Rattle.chpw_journal.specs.Reading.{restored, AreNext}
+use Rattle.chpw_journal.specs.JournalText.{restored, AreNext}
 use Rattle.chpw_journal.specs.Restoring.{IsRestored, IsRefused}
 
 pub record IsOpened (before : Held) (j : Journal) : Type 0 where
-  pub changes : List Change
-  pub next : (s : State) → Agrees before.state s → AreNext s changes
-  pub table : (s : State) → Agrees before.state s → Agrees j.table.state (restored s changes)
+  pub records : List Record
+  pub next : (s : State) → Agrees before.state s → AreNext s records
+  pub table : (s : State) → Agrees before.state s → Agrees j.table.state (restored s records)
   pub events : j.table.events ≡ before.events
   pub seen : j.table.seen ≡ before.seen
   pub max_entries : j.table.max_entries ≡ before.max_entries

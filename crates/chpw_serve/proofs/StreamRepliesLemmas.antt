@@ -1,40 +1,33 @@
 -- Turn after turn the machine of one thread gives the replies that were written.
-use Rattle.std.proofs.Common.{◌≡◌, ℕ, ◌+◌, ◌≤◌, ◌<◌, List, [], ◌∷◌, ◌++◌, Bool, true, false, Option, Some, None, refl, sym, ◌∙◌, ap, subst, append_assoc, inl, inr, length, arith, length-append}
-use Rattle.std.specs.Prelude.{map, ◌==◌, if◌then◌else◌}
-use Rattle.std.specs.List.{flat_map}
+use Rattle.std.proofs.Common.{◌≡◌, ℕ, ◌+◌, ◌≤◌, ◌<◌, List, [], ◌∷◌, ◌++◌, Bool, true, false, refl, sym, ◌∙◌, ap, subst, inl, inr, length, arith, length-append}
+use Rattle.std.specs.Prelude.{◌==◌}
 use Rattle.std.proofs.lemmas.Bool.Decides.{nat_tests}
 use Rattle.std.proofs.lemmas.List.{append-nil}
-use Rattle.std.specs.Io.KnownBytes.{Appends}
-use Rattle.chpw_frame.specs.Stream.{Piece, message, ended, cut_off, too_long, next_piece, behind_piece, sent}
-use Rattle.chpw_frame.specs.Receiving.{TakesPiece, ConsumesSome, AppendsFront}
-use Rattle.chpw_frame.proofs.StreamLemmas.{appends_none, appends_more, put_behind}
 use Rattle.chpw_table.specs.declared.times.Moment.{Moment}
-use Rattle.chpw_table.specs.declared.history.Entry.{Entry}
+use Rattle.chpw_table.specs.declared.history.Event.{Event}
+use Rattle.chpw_table.specs.declared.history.Event.TheVariants.{Ask}
 use Rattle.chpw_table.specs.declared.history.Receipt.{Receipt}
-use Rattle.chpw_table.specs.declared.request.Opened.{Opened}
 use Rattle.chpw_table.specs.declared.verdict.Verdict.{Verdict}
 use Rattle.chpw_table.specs.State.{State}
 use Rattle.chpw_table.specs.Step.{step}
 use Rattle.chpw_table.specs.Decision.{verdict}
 use Rattle.chpw_table.specs.Agreement.{Held}
-use Rattle.chpw_table.specs.History.{IsDecided, IsLegal, outcome, step_entry, missing}
+use Rattle.chpw_table.specs.History.{IsDecided, IsJudged, IsLegal, outcome, step_event, step_entry}
 use Rattle.chpw_table.specs.Replies.{Answer}
 use Rattle.chpw_decider.specs.Deciding.{AddsReceipt}
-use Rattle.chpw_decider.specs.Keeping.{Kept, IsFullAt, IsOpenedLike, entries}
+use Rattle.chpw_decider.specs.Keeping.{entries}
 use Rattle.chpw_answer.specs.declared.messages.Seal.{Seal}
 use Rattle.chpw_answer.specs.Requests.{Request, Opens, refused, opened, opened_under}
-use Rattle.chpw_answer.specs.Answers.{Replies, IsAnswer, history_full, reply}
+use Rattle.chpw_answer.specs.Answers.{IsAnswer, history_full, reply}
 use Rattle.chpw_answer.specs.Judging.{judged}
 use Rattle.chpw_answer.proofs.JudgingLemmas.{judged_alike}
-use Rattle.chpw_serve.specs.Draws.{Drawn}
-use Rattle.chpw_serve.specs.Serving.{Place, Turn, message_too_long}
-use Rattle.chpw_serve.specs.Replies.{Draw, Run, verdict_of, is_full, run_after, reply_to, written_for, replies}
-use Rattle.chpw_serve.specs.ServedAlone.{run_of, AreOwnOf, IsReceiptOf}
+use Rattle.chpw_serve.specs.StreamReplies.{Draw, Run, is_full, run_after, reply_to}
+use Rattle.chpw_serve.specs.ServedAlone.{AreOwnOf}
 
 -- ---- a history, and a receipt in it
 
 legal_at : (s : State) (old : List Receipt) (r : Receipt) (more : List Receipt) → IsLegal s (entries ((old ++ r ∷ []) ++ more))
-    → IsDecided (outcome s (entries old)) r.entry.now r.entry.opened r.entry.io_failed r.entry.verdict
+    → IsJudged (outcome s (entries old)) r.entry.now r.entry.io_failed r.entry.event
 legal_at s [] r more h = h.0
 legal_at s (x ∷ xs) r more h = legal_at (step_entry s x.entry) xs r more h.1
 
@@ -42,15 +35,12 @@ outcome_with : (s : State) (old : List Receipt) (r : Receipt) → outcome s (ent
 outcome_with s [] r = refl
 outcome_with s (x ∷ xs) r = outcome_with (step_entry s x.entry) xs r
 
--- an entry has the verdict and the step of its request as it is judged
-judged_entry : (s : State) (e : Entry) (q : Request) (counts : List ℕ) → e.opened ≡ opened_under counts q → IsDecided s e.now e.opened e.io_failed e.verdict
-    → (e.verdict ≡ verdict s e.now (judged s q) e.io_failed) × (step_entry s e ≡ step s e.now (judged s q) e.io_failed)
-judged_entry s e q counts is h =
-    let none : missing s e.now (opened_under counts q) ≡ [] = ap (λ (o : Opened). missing s e.now o) (sym is) ∙ h.derived in
-    let alike = judged_alike s e.now q counts e.io_failed none in (
-      h.verdict_is ∙ (ap (λ (o : Opened). verdict s e.now o e.io_failed) is ∙ alike.0),
-      ap (λ (o : Opened). step s e.now o e.io_failed) is ∙ alike.1,
-    )
+-- a request has the verdict and the step of what is judged
+judged_as : (s : State) (now : Moment) (io : Bool) (q : Request) (counts : List ℕ) (v : Verdict) → IsDecided s now (opened_under counts q) io v
+    → (v ≡ verdict s now (judged s q) io) × (step s now (opened_under counts q) io ≡ step s now (judged s q) io)
+judged_as s now io q counts v h =
+    let alike = judged_alike s now q counts io h.derived in
+    (h.verdict_is ∙ alike.0, alike.1)
 
 same_number : (a b : ℕ) → a ≡ b → (a == b) ≡ true
 same_number a b h = grind (arith, nat_tests)
@@ -119,24 +109,26 @@ module _ (error_frame : Answer → Moment → List ℕ) (private_frame : Seal �
         let d : Draw = record { moment = now; words = words; io = r.entry.io_failed; opens = opened q } in
         let s = outcome opening.state (entries old) in
         let whole : all ≡ (old ++ r ∷ []) ++ front.0 = front.1 ∙ ap (λ (rs : List Receipt). rs ++ front.0) h.added in
-        let judge = judged_entry s r.entry q counts h.opened_is (legal_at opening.state old r front.0 (subst (λ (rs : List Receipt). IsLegal opening.state (entries rs)) whole legal)) in
+        let io : Bool = r.entry.io_failed in
+        let legal_here = legal_at opening.state old r front.0 (subst (λ (rs : List Receipt). IsLegal opening.state (entries rs)) whole legal) in
+        let judge = judged_as s now io q counts v (subst (λ (e : Event). IsJudged s now io e) h.event_is (subst (λ (m : Moment). IsJudged s m io r.entry.event) h.now_is legal_here)) in
         let size : length all ≡ length old + 1 + length front.0 = ap length whole ∙ (length-append (old ++ r ∷ []) front.0 ∙ ap (λ (n : ℕ). n + length front.0) (length-append old (r ∷ []))) in
         let less : opening.events + length old < opening.max_entries = omega (arith, size, room) in
         let b : is_full opening.max_entries (run_at old) ≡ false = less_is_other (opening.events + length old) opening.max_entries less in
-        let said : v ≡ verdict s now (judged s q) r.entry.io_failed = sym h.verdict_is ∙ (judge.0 ∙ ap (λ (m : Moment). verdict s m (judged s q) r.entry.io_failed) h.now_is) in
-        let stepped : outcome opening.state (entries new) ≡ step s now (judged s q) r.entry.io_failed =
-        ap (λ (rs : List Receipt). outcome opening.state (entries rs)) h.added ∙ (outcome_with opening.state old r ∙ (judge.1 ∙ ap (λ (m : Moment). step s m (judged s q) r.entry.io_failed) h.now_is)) in
+        let stepped : outcome opening.state (entries new) ≡ step s now (judged s q) io =
+        ap (λ (rs : List Receipt). outcome opening.state (entries rs)) h.added
+        ∙ (outcome_with opening.state old r ∙ (ap (λ (m : Moment). step_event s m io r.entry.event) h.now_is ∙ (ap (λ (e : Event). step_event s now io e) h.event_is ∙ judge.1))) in
         let counted : opening.events + length new ≡ opening.events + length old + 1 = let e = ap length h.added ∙ length-append old (r ∷ []) in omega (arith, e) in
         record {
           draw = d;
           moment_is = refl;
           words_are = refl;
           opens_so = o;
-          reply_is = rw b (is ∙ ap (λ (w : Verdict). reply error_frame private_frame q.seal w words now) said);
-          goes_on = rw b (ap (λ (t : State). record { state = t; events = opening.events + length new }) stepped ∙ ap (λ (n : ℕ). record { state = step s now (judged s q) r.entry.io_failed; events = n }) counted);
+          reply_is = rw b (is ∙ ap (λ (w : Verdict). reply error_frame private_frame q.seal w words now) judge.0);
+          goes_on = rw b (ap (λ (t : State). record { state = t; events = opening.events + length new }) stepped ∙ ap (λ (n : ℕ). record { state = step s now (judged s q) io; events = n }) counted);
           own = r ∷ [];
           added = h.added;
-          own_are = rw b (r, refl, record { counts = counts; opened_is = h.opened_is; now_is = h.now_is; io_is = refl; verdict_is = h.verdict_is ∙ said });
+          own_are = rw b (r, refl, record { counts = counts; event_is = h.event_is ∙ ap (λ (w : Verdict). Ask (opened_under counts q) w) judge.0; now_is = h.now_is; io_is = refl });
         }
 
     -- what answers a message is what the machine answers

@@ -1,12 +1,12 @@
 -- For the proofs: what was read of a journal.
-use Rattle.std.specs.Prelude.{◌≡◌, ℕ, ◌≤◌, ◌<◌, List, [], ◌++◌, length, take, true, Option}
+use Rattle.std.specs.Prelude.{◌≡◌, ℕ, ◌≤◌, ◌<◌, List, [], ◌++◌, length, true, Option}
 use Rattle.std.specs.Int.{to_be_bytes, w16}
-use Rattle.std.specs.Io.KnownBytes.{Consumes, Keeps, IsAtEnd}
+use Rattle.std.specs.Io.KnownBytes.{Consumes, IsAtEnd}
 use Rattle.chpw_rules.specs.Limits.{is_in}
 use Rattle.chpw_journal.specs.declared.reading.Next.{Next}
 use Rattle.chpw_journal.specs.declared.reading.Next.TheVariants as next
 use Rattle.chpw_journal.specs.Records.{record_lengths}
-use Rattle.chpw_journal.specs.Reading.{is_cut_off, HasBadLength}
+use Rattle.chpw_journal.specs.JournalText.{is_cut_off, HasBadLength}
 
 -- a record from behind its length, and the length before it
 abbrev pub framed : List ℕ → List ℕ

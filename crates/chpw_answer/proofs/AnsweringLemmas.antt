@@ -1,0 +1,51 @@
+-- What a message that opened is answered.
+use Rattle.std.proofs.Common.{◌≡◌, ℕ, List, refl, ◌∙◌, ap, subst, inl, inr}
+use Rattle.krb_der.specs.declared.refusal.Refusal.{Refusal}
+use Rattle.chpw_table.specs.declared.times.Moment.{Moment}
+use Rattle.chpw_table.specs.declared.history.Receipt.{Receipt}
+use Rattle.chpw_table.specs.declared.request.Opened.{Opened}
+use Rattle.chpw_table.specs.declared.verdict.Verdict.{Verdict}
+use Rattle.chpw_table.specs.Replies.{Answer}
+use Rattle.chpw_table.specs.Completing.{completed}
+use Rattle.chpw_decider.specs.Deciding.{AddsReceipt, IsCompletedFrom}
+use Rattle.chpw_answer.specs.declared.messages.Seal.{Seal}
+use Rattle.chpw_answer.specs.declared.messages.Incoming.{Incoming}
+use Rattle.chpw_answer.specs.declared.messages.OpensTo.{OpensTo}
+use Rattle.chpw_answer.specs.declared.messages.OpensTo.TheVariants as program
+use Rattle.chpw_answer.specs.declared.deciding.Decision.{Decision}
+use Rattle.chpw_answer.specs.declared.deciding.Decision.TheVariants as decision
+use Rattle.chpw_answer.specs.Requests.{Request, Opens, refused, opened, opened_under, password_in}
+use Rattle.chpw_answer.specs.Holding.{IsIncoming, IsOpensTo, answer_in}
+use Rattle.chpw_answer.specs.Answers.{history_full, reply, AnswersRequest, IsAnswer}
+use Rattle.chpw_answer.specs.Trying.{IsDecision}
+use Rattle.chpw_answer.proofs.CompletingLemmas.{completed_on, under}
+
+module _ (error_frame : Answer → Moment → List ℕ) (private_frame : Seal → Answer → List ℕ → List ℕ) (full : Type 0) (words : List ℕ) (now : Moment) (old new : List Receipt) where
+  -- what answers its request answers the message
+  pub answers_message : (opens : Opens → Type 0) (found : OpensTo) (i : Incoming) (bytes : List ℕ) → found ≡ program.Opened i → ((o : Opens) × opens o × IsOpensTo o found)
+      → ((q : Request) → IsIncoming q i → AnswersRequest error_frame private_frame full q words now old new bytes) → IsAnswer error_frame private_frame full opens words now old new bytes
+  answers_message opens found i bytes e (refused a, is, h) f = absurd (subst (λ (x : OpensTo). IsOpensTo (refused a) x) e h)
+  answers_message opens found i bytes e (opened q, is, h) f = (opened q, is, f q (subst (λ (x : OpensTo). IsOpensTo (opened q) x) e h))
+
+  -- a full history
+  pub answers_full : (password : List ℕ) (ready : Opened) (mid : List Receipt) (d : Decision) (r : Refusal) (q : Request) (bytes : List ℕ) → mid ≡ old → d ≡ decision.Full → IsDecision full d password ready now mid new
+      → answer_in r ≡ history_full → bytes ≡ error_frame (answer_in r) now → AnswersRequest error_frame private_frame full q words now old new bytes
+  answers_full password ready mid d r q bytes same e h said is =
+      let t = subst (λ (d : Decision). IsDecision full d password ready now mid new) e h in
+      inl (t.0 ∙ same, t.1, is ∙ ap (λ (a : Answer). error_frame a now) said)
+
+  -- a verdict
+  pub answers_verdict : (i : Incoming) (password : List ℕ) (ready : Opened) (mid : List Receipt) (d : Decision) (v : Verdict) (q : Request) (bytes : List ℕ) → IsIncoming q i → password ≡ i.password → IsCompletedFrom password i.opened ready
+      → mid ≡ old → d ≡ decision.Verdict v → IsDecision full d password ready now mid new → bytes ≡ reply error_frame private_frame i.seal v words now → AnswersRequest error_frame private_frame full q words now old new bytes
+  answers_verdict i password ready mid d v q bytes holds is_password first same e h is =
+      let t = subst (λ (d : Decision). IsDecision full d password ready now mid new) e h in
+      let whole = completed_on password i.opened ready (completed password t.0 ready) first (t.0, refl) in
+      let counts : List ℕ = whole.0 in
+      let made : completed password t.0 ready ≡ opened_under counts q =
+      whole.1 ∙ (ap (λ (p : List ℕ). completed p counts i.opened) (is_password ∙ holds.1) ∙ (ap (completed (password_in q.content) counts) holds.0 ∙ under counts q)) in
+      inr (
+        v,
+        counts,
+        subst (λ (rs : List Receipt). AddsReceipt rs new now (opened_under counts q) v) same (subst (λ (o : Opened). AddsReceipt mid new now o v) made t.1),
+        is ∙ ap (λ (s : Seal). reply error_frame private_frame s v words now) holds.2,
+      )
