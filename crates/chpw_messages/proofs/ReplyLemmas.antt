@@ -23,7 +23,7 @@ use Rattle.chpw_table.specs.Replies.{Answer, by_error}
 use Rattle.chpw_answer.specs.declared.messages.Seal.{Seal}
 use Rattle.chpw_answer.specs.Holding.{IsReplyTime}
 use Rattle.chpw_messages.specs.Service.{IsRealm}
-use Rattle.chpw_messages.specs.Replies.{ap_rep_part, ap_rep_text, confounder, error_record, priv_part, priv_text, seq_number_of}
+use Rattle.chpw_messages.specs.Replies.{ap_rep_part, error_record, priv_part, seq_number_of}
 
 time_range : (t : ℤ) → negsuc 62167219199 ≤ℤ t → t ≤ℤ pos 253402300799 → is_in_range kerberos_time t ≡ true
 time_range t low high = ap is_some (time_of_some t (low, high))
@@ -93,7 +93,7 @@ ap_rep_short seal words c c16 =
 pub priv_part_fits : (a : Answer) (words : List ℕ) → length a.text ≤ 100
     → IsShort enc_krb_priv_part (enc_krb_priv_part_value (priv_part a words))
 priv_part_fits a words le =
-    priv_parts_fit (to_be_bytes w16 a.code ++ a.text) (seq_number_of words) _ (seq_range words)
+    priv_parts_fit (to_be_bytes w16 a.code ++ a.text) (seq_number_of words) (seq_range words)
     (omega (arith, length-append (to_be_bytes w16 a.code) a.text, le))
 
 pub priv_fits : (seal : Seal) (a : Answer) (words c : List ℕ) → length a.text ≤ 100 → length c ≡ 16

@@ -1,8 +1,7 @@
 //! The service: its realm and its keys.
 ghost use Rattle.std.specs.Prelude.{◌≡◌, true, map, IfOk};
 ghost use Rattle.std.specs.List.{list_all};
-ghost use Rattle.std.specs.Result.{result_ok};
-ghost use Rattle.krb_keys.specs.Keys.{IsProtocolKey, key_of};
+ghost use Rattle.krb_keys.specs.Keys.{IsProtocolKey};
 ghost use Rattle.krb_msgs.specs.OneAnswer.{AreProtocolKeys};
 ghost use Rattle.chpw_rules.specs.Fitting.{config_fits, service_key_fits};
 ghost use Rattle.chpw_messages.specs.Service.{configured, held};
@@ -10,10 +9,11 @@ ghost use Rattle.chpw_messages.specs.Service.{configured, held};
 use crate::opening::open_message;
 use crate::private_reply::private_reply;
 use crate::replies::error_reply;
-use chpw_answer::{Messages, Opening, Refusal, Seal};
+use chpw_answer::{Messages, OpensTo, Seal};
 use chpw_rules::{Config, Items, ServiceRow};
 use chpw_table::Moment;
-use krb_keys::{BadKey, Key, key_of};
+use krb_der::Refusal;
+use krb_keys::key_of;
 use krb_msgs::ServiceKey;
 use std::alloc::{AllocError, Global};
 use std::marker::Model;
@@ -65,20 +65,12 @@ fn service_keys(alloc: Global, rows: &[ServiceRow]) -> Result<Vec<ServiceKey>, A
     Ok(keys)
 }
 
-/// The key of an encryption type with these bytes.
-fn key_in(etype: i32, bytes: &[u8]) -> Result<Key, BadKey>
-    ensures value { result_ok result ≡ key_of etype bytes.now }
-    ensures protocol { IfOk result IsProtocolKey }
-{
-    key_of(etype, bytes)
-}
-
 fn service_key(row: &ServiceRow) -> ServiceKey
     requires fits { service_key_fits row.now ≡ true }
     ensures value { held result ≡ configured row.now }
     ensures protocol { IsProtocolKey result.key }
 {
-    match key_in(row.etype, row.key.as_slice()) {
+    match key_of(row.etype, row.key.as_slice()) {
         Ok(key) => ServiceKey {
             kvno: row.kvno,
             key,
@@ -88,10 +80,10 @@ fn service_key(row: &ServiceRow) -> ServiceKey
 }
 
 impl Messages for Service {
-    ghost use Rattle.chpw_messages.specs.Opening.{OpensTo};
+    ghost use Rattle.chpw_messages.specs.Opening as opening;
     ghost use Rattle.chpw_messages.specs.Replies.{error_frame as krb_error_reply, private_frame as krb_priv_reply};
 
-    ghost opens = { λ s peer bytes o. OpensTo s.realm s.keys peer bytes o };
+    ghost opens = { λ s peer bytes o. opening.OpensTo s.realm s.keys peer bytes o };
 
     ghost error_frame = { λ s a now. krb_error_reply s.realm a now };
 
@@ -103,7 +95,7 @@ impl Messages for Service {
         self.realm.as_slice()
     }
 
-    fn open(&self, alloc: Global, peer: [u8; 4], message: &[u8]) -> Result<Opening, AllocError> {
+    fn open(&self, alloc: Global, peer: [u8; 4], message: &[u8]) -> Result<OpensTo, AllocError> {
         open_message(alloc, self.realm.as_slice(), &self.keys, peer, message)
     }
 
