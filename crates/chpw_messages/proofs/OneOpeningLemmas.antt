@@ -22,7 +22,7 @@ use Rattle.krb_msgs.specs.declared.fault.PrivFault.{PrivFault}
 use Rattle.krb_msgs.proofs.AnswerLemmas.{ok_is}
 use Rattle.krb_msgs.proofs.OneAnswerLemmas.{ap_reqs_open_once, privs_open_once}
 use Rattle.krb_msgs.proofs.OpenedLemmas.{found_passes, held_passes, then_passes}
-use Rattle.chpw_frame.specs.declared.change_data.Change.{Change}
+use Rattle.chpw_frame.specs.declared.change_data.ChangeData.{ChangeData}
 use Rattle.chpw_frame.specs.declared.change_data.ChangeTarget.{ChangeTarget}
 use Rattle.chpw_frame.specs.declared.fault.FrameFault.{FrameFault}
 use Rattle.chpw_frame.specs.Asked.{asks}
@@ -67,7 +67,7 @@ subkey_is_key realm keys bytes peer found h =
 -- ---- what is asked
 
 -- the fields of a change
-abbrev fields_of : Change → ChangePasswdData
+abbrev fields_of : ChangeData → ChangePasswdData
 fields_of change = record {
   newpasswd = change.password;
   targname = option_map (λ (t : ChangeTarget). t.name) change.target;
@@ -91,7 +91,7 @@ one_asks password (Some name) realm one other h k = sym h ∙ k
 one_asks password None None one other h k = sym h ∙ k
 one_asks password None (Some realm) one other h k = absurd h
 
-same_change : (one other : Change) → change_value one ≡ change_value other → one ≡ other
+same_change : (one other : ChangeData) → change_value one ≡ change_value other → one ≡ other
 same_change one other h =
     let fields = fields_of other in
     let value = fields_value other.password other.target in
@@ -102,8 +102,8 @@ one_change : (realm bytes : List ℕ) → IsOne (Asks realm bytes)
 one_change realm bytes (new_password target password) (new_password other_target other_password) h k =
     let value = one_value change_passwd_data refl bytes (change_value h.0) (change_value k.0) h.1 k.1 in
     let same = same_change h.0 k.0 value in
-    let targets : target ≡ other_target = h.2 ∙ ap (λ (c : Change). option_map (target_in realm) c.target) same ∙ sym k.2 in
-    let passwords : password ≡ other_password = h.3 ∙ ap (λ (c : Change). c.password) same ∙ sym k.3 in
+    let targets : target ≡ other_target = h.2 ∙ ap (λ (c : ChangeData). option_map (target_in realm) c.target) same ∙ sym k.2 in
+    let passwords : password ≡ other_password = h.3 ∙ ap (λ (c : ChangeData). c.password) same ∙ sym k.3 in
     cc
 one_change realm bytes (new_password target password) bad_data h k = absurd (k h.0 h.1)
 one_change realm bytes (new_password target password) bad_private h k = absurd k

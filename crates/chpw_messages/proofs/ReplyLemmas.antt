@@ -1,10 +1,9 @@
 -- Replies can be made: their records fit, and they are short.
-use Rattle.std.proofs.Common.{◌≡◌, ℕ, ◌+◌, ◌≤◌, ◌<◌, ◌^◌, ◌%◌, true, List, ◌++◌, length, length-append, Some, None, sym, ◌∙◌, subst, ap, arith, refl, ℤ, pos, negsuc, ◌≤ℤ◌}
-use Rattle.std.specs.Prelude.{is_some, slice_index, drop, take}
+use Rattle.std.proofs.Common.{◌≡◌, ℕ, ◌≤◌, ◌<◌, ◌^◌, true, List, ◌++◌, length, length-append, sym, ◌∙◌, subst, ap, arith, refl, ℤ, pos, negsuc, ◌≤ℤ◌}
+use Rattle.std.specs.Prelude.{is_some}
 use Rattle.std.specs.Int.{to_be_bytes, w16}
 use Rattle.std.proofs.lemmas.Int.{ints}
 use Rattle.krb_keys.specs.KeyUsages.{usage_ap_rep_enc_part, usage_krb_priv}
-use Rattle.krb_keys.specs.Sealing.{sealed}
 use Rattle.krb_elements.specs.Shapes.{int32, kerberos_time, microseconds}
 use Rattle.krb_elements.specs.Texts.{fits, is_in_range, text}
 use Rattle.krb_elements.proofs.TimeLemmas.{time_of_some}

@@ -1,12 +1,12 @@
 -- What is made of a request opens to it.
-use Rattle.std.proofs.Common.{◌≡◌, ◌<◌, ℕ, List, Option, Ok, None, false, length, refl, sym, subst, lit<}
+use Rattle.std.proofs.Common.{ℕ, List, Option, Ok, false, refl, sym, subst, lit<}
 use Rattle.krb_elements.proofs.TextLemmas.{text_spells}
 use Rattle.krb_der.specs.Types.{change_passwd_data}
 use Rattle.krb_msgs.specs.Accepted.{opened_of}
 use Rattle.krb_msgs.specs.PrivateMessages.{private_of}
 use Rattle.krb_msgs.proofs.OpeningLemmas.{ap_reqs_open, privs_open}
 use Rattle.chpw_frame.specs.declared.fault.FrameFault.{FrameFault}
-use Rattle.chpw_frame.specs.Framing.{ap_of, framed, request_version, request_versions, tail_of, version_of}
+use Rattle.chpw_frame.specs.Framing.{ap_of, framed, request_version, request_versions, tail_of}
 use Rattle.chpw_frame.specs.ChangeData.{IsChange, change_value}
 use Rattle.chpw_frame.proofs.FramingLemmas.{framed_is_whole}
 use Rattle.chpw_answer.specs.Requests.{new_password}

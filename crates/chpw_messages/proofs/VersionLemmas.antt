@@ -1,9 +1,8 @@
 -- A request with no fault is of the one version that is taken.
-use Rattle.std.proofs.Common.{◌≡◌, ℕ, List, Bool, true, false, None, Some, ◌&&◌, sym, eqb}
+use Rattle.std.proofs.Common.{◌≡◌, ℕ, List, Bool, true, false, None, Some, ◌&&◌, sym}
 use Rattle.std.specs.Prelude.{not, ◌||◌, ◌==◌, if◌then◌else◌}
 use Rattle.std.specs.List.{list_any}
 use Rattle.std.proofs.lemmas.Bool.{eqb-true}
-use Rattle.krb_elements.proofs.CompleteLemmas.{same_or_not}
 use Rattle.chpw_frame.specs.declared.fault.FrameFault.TheVariants.{BadLength, BadVersion, BadParts}
 use Rattle.chpw_frame.specs.Framing.{ap_length_of, first_fault, is_past_end, is_whole, request_version, request_versions, version_of}
 

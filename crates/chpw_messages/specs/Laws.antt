@@ -14,7 +14,7 @@ use Rattle.krb_msgs.specs.Laws.{IsApReq, IsKrbPriv}
 use Rattle.krb_msgs.specs.Accepted.{opened_of}
 use Rattle.krb_msgs.specs.PrivateMessages.{MayFollow, private_of}
 use Rattle.krb_msgs.specs.declared.service_keys.ServiceKey.{ServiceKey}
-use Rattle.chpw_frame.specs.declared.change_data.Change.{Change}
+use Rattle.chpw_frame.specs.declared.change_data.ChangeData.{ChangeData}
 use Rattle.chpw_frame.specs.Framing.{framed, request_version}
 use Rattle.chpw_frame.specs.Stream.{longest}
 use Rattle.chpw_frame.specs.ChangeData.{change_value}
@@ -24,14 +24,14 @@ use Rattle.chpw_messages.specs.Opening.{OpensParts, OpensTo, request_of, target_
 -- a KRB-PRIV behind this authenticator that asks for a change: user-data is its ChangePasswdData
 -- (RFC 3244 section 2)
 pub record AsksChange (subkey : Key) (a : Authenticator) (m : KrbPriv) (part : EncKrbPrivPart)
-    (change : Change) : Type 0 where
+    (change : ChangeData) : Type 0 where
   pub private : IsKrbPriv subkey m part
   pub follows : MayFollow a.seq_number part.seq_number
   pub change_fit : fits change_passwd_data (change_value change) ≡ true
   pub user_data : part.user_data ≡ text change_passwd_data (change_value change)
 
 -- what they ask for
-abbrev pub asked_of : List ℕ → EncTicketPart → Key → Authenticator → Key → EncKrbPrivPart → Change → Request
+abbrev pub asked_of : List ℕ → EncTicketPart → Key → Authenticator → Key → EncKrbPrivPart → ChangeData → Request
 asked_of realm ticket session a subkey part change =
     request_of (opened_of ticket session a subkey) (private_of part).stamp
     (new_password (option_map (target_in realm) change.target) change.password)
@@ -40,7 +40,7 @@ asked_of realm ticket session a subkey part change =
 abbrev pub PartsOpen : Type 0
 PartsOpen = (realm : List ℕ) (keys : List ServiceKey) (peer : List ℕ) (request : ApReq)
     (ticket : EncTicketPart) (a : Authenticator) (session subkey : Key)
-    (m : KrbPriv) (part : EncKrbPrivPart) (change : Change)
+    (m : KrbPriv) (part : EncKrbPrivPart) (change : ChangeData)
     → IsApReq realm keys peer request ticket a session subkey
     → AsksChange subkey a m part change
     → OpensParts realm keys peer request_version

@@ -14,7 +14,7 @@ use Rattle.krb_msgs.specs.declared.fault.PrivFault.TheVariants as priv
 use Rattle.krb_msgs.specs.ApExchange.{OpensAp}
 use Rattle.krb_msgs.specs.PrivateMessages.{OpensPriv}
 use Rattle.krb_msgs.specs.Codes as ap
-use Rattle.chpw_frame.specs.declared.change_data.Change.{Change}
+use Rattle.chpw_frame.specs.declared.change_data.ChangeData.{ChangeData}
 use Rattle.chpw_frame.specs.declared.change_data.ChangeTarget.{ChangeTarget}
 use Rattle.chpw_frame.specs.declared.fault.FrameFault.{FrameFault}
 use Rattle.chpw_frame.specs.Framing.{request_version, request_versions, first_fault, version_of, ap_of, tail_of}
@@ -39,8 +39,8 @@ target_in realm target = record { realm = unwrap_or target.realm realm; name = n
 -- a ChangePasswdData, or what is none
 abbrev pub Asks : List ℕ → List ℕ → Content → Type 0
 Asks realm bytes (new_password target password) =
-    (change : Change) × IsChange bytes change × (target ≡ option_map (target_in realm) change.target) × (password ≡ change.password)
-Asks realm bytes bad_data = (change : Change) → IsChange bytes change → ⊥
+    (change : ChangeData) × IsChange bytes change × (target ≡ option_map (target_in realm) change.target) × (password ≡ change.password)
+Asks realm bytes bad_data = (change : ChangeData) → IsChange bytes change → ⊥
 Asks realm bytes bad_private = ⊥
 
 -- The user-data of a request of this version: the version says how it is read. There is one so far.

@@ -8,7 +8,7 @@ ghost use Rattle.chpw_messages.specs.Opening.{IsAsked, content_despite, target_i
 ghost use Rattle.chpw_messages.specs.Holds.{HoldsContent, IsHeld};
 
 use crate::names::target_of;
-use chpw_frame::{Change, ChangeFault, read_change_data};
+use chpw_frame::{ChangeData, ChangeFault, read_change_data};
 use chpw_rules::Items;
 use chpw_table::{Body, Counts, Digest};
 use krb_msgs::{ApOpened, OpenError, PrivFault, Private, open_priv};
@@ -81,13 +81,13 @@ fn read_content(alloc: Global, realm: &[u8], private: Private) -> Result<Content
 fn change_content(
     alloc: Global,
     realm: &[u8],
-    change: Change,
+    change: ChangeData,
     stamp: Option<i64>,
 ) -> Result<Content, AllocError>
     ensures held { IfOk result (IsHeld
         (new_password (option_map (target_in realm.now) change.target) change.password) stamp) }
 {
-    let Change { password, target } = change;
+    let ChangeData { password, target } = change;
     let target = match target {
         None => None,
         Some(target) => Some(target_of(alloc, realm, target)?),

@@ -1,10 +1,9 @@
-use Rattle.std.proofs.Common.{◌≡◌, ℕ, List, Option, None, false, refl, sym, ap, ◌∙◌, subst}
+use Rattle.std.proofs.Common.{Option, refl, sym, ap, ◌∙◌, subst}
 use Rattle.krb_der.specs.Refusals.{Refusal}
 use Rattle.chpw_frame.specs.declared.fault.FrameFault.{FrameFault}
 use Rattle.chpw_frame.specs.Faults as frame
-use Rattle.chpw_frame.specs.Framing.{first_fault, request_version, request_versions}
 use Rattle.chpw_table.specs.Replies.{by_error}
-use Rattle.chpw_messages.specs.Opening.{OpensFramed, OpensParts, refused_by}
+use Rattle.chpw_messages.specs.Opening.{OpensFramed, refused_by}
 use Rattle.chpw_messages.proofs.VersionLemmas.{version_taken}
 use Rattle.chpw_messages.proofs.opening.open_message.Goals as goal
 
