@@ -29,10 +29,16 @@ mod journal;
 mod reading;
 mod world;
 
-use case_lines::print_answers;
 use cases::Cases;
-use std::io;
+use std::io::{self, BufRead, BufReader, BufWriter, Write};
 
 fn main(rt: HostRuntime) -> io::Result<()> {
-    print_answers(&rt, &mut Cases::new(rt.alloc()))
+    let alloc = rt.alloc();
+    let mut cases = Cases::new(alloc);
+    let mut out = BufWriter::new(alloc, io::writer(&rt))?;
+    for line in BufReader::new(alloc, rt.reader())?.lines(alloc) {
+        let answer = cases.answer(alloc, line?.as_str())?;
+        writeln!(out, "{answer}")?;
+    }
+    out.flush()
 }
