@@ -15,20 +15,20 @@ use Rattle.krb_der.specs.Types as types
 use Rattle.krb_der.specs.Values.{ap_req_value, authenticator_value, change_passwd_data_value, enc_krb_priv_part_value, enc_ticket_part_value, krb_priv_value, principal_name_value, ticket_value}
 use Rattle.krb_der.specs.declared.ticket.Ticket.{Ticket}
 use Rattle.krb_msgs.specs.Lengths.{longest_each}
-use Rattle.krb_msgs.specs.Making.{SpellsTicket, ap_req_of, priv_of}
+use Rattle.krb_msgs.specs.Making.{SpellsTicket, ap_req_of, priv_of, word_bytes}
 use Rattle.krb_msgs.proofs.LengthLemmas.{between}
 use Rattle.krb_msgs.proofs.FittingLemmas.{ap_reqs_fit, length-sealed, privs_fit, tickets_fit}
 use Rattle.krb_msgs.proofs.PartLemmas.{some_text}
+use Rattle.krb_msgs.proofs.WordLemmas.{length-word_bytes}
 use Rattle.krb_msgs.proofs.ReplyFittingLemmas.{priv_parts_fit}
 use Rattle.chpw_rules.specs.Limits.{component_counts, is_in}
 use Rattle.chpw_rules.specs.Names.{is_component, is_name}
 use Rattle.chpw_rules.specs.declared.name.Name.{Name}
 use Rattle.chpw_client.specs.Questions.{IsAskable, Question}
-use Rattle.chpw_client.specs.Requests.{ap_req_text, authenticator, bit, change, longest_ap_req, longest_krb_priv, loopback, principal, priv_text, private_part, ticket, ticket_part, ticket_text}
-use Rattle.chpw_client.specs.Words.{key_of, word_bytes}
+use Rattle.chpw_client.specs.Requests.{ap_req_text, authenticator, bit, change, longest_ap_req, longest_krb_priv, principal, priv_text, private_part, ticket, ticket_part, ticket_text}
+use Rattle.chpw_client.specs.Words.{key_of}
 use Rattle.chpw_client.specs.declared.drawing.Drawing.{Drawing}
 use Rattle.chpw_client.proofs.LengthLemmas.{close_fits, closest, texts_are_close}
-use Rattle.chpw_client.proofs.WordLemmas.{length-word_bytes}
 
 -- ---- names
 
@@ -233,7 +233,7 @@ pub private_part_fits : (q : Question) → IsAskable q
     → fits types.enc_krb_priv_part (enc_krb_priv_part_value (private_part q)) ≡ true
 private_part_fits q ask =
     let short = change_short q ask in
-    (priv_parts_fit _ 0 loopback (omega arith) (omega (arith, short))).0
+    (priv_parts_fit _ 0 (omega arith) (omega (arith, short))).0
 
 private_part_short : (q : Question) → IsAskable q
     → length (text types.enc_krb_priv_part (enc_krb_priv_part_value (private_part q))) ≤ 61490

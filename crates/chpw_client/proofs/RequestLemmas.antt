@@ -9,10 +9,10 @@ use Rattle.krb_der.specs.declared.enc_ticket_part.EncTicketPart.{EncTicketPart}
 use Rattle.krb_der.specs.declared.krb_priv.EncKrbPrivPart.{EncKrbPrivPart}
 use Rattle.krb_der.specs.declared.ticket.Ticket.{Ticket}
 use Rattle.krb_keys.specs.declared.key.Key.{Key}
-use Rattle.krb_msgs.specs.Making.{SpellsTicket, ap_req_of, priv_of, ticket_of}
+use Rattle.krb_msgs.specs.Making.{SpellsTicket, ap_req_of, priv_of, ticket_of, word_bytes}
 use Rattle.chpw_client.specs.Questions.{Question}
 use Rattle.chpw_client.specs.Requests.{ap_req_text, authenticator, bit, priv_text, private_part, ticket_part, ticket_text}
-use Rattle.chpw_client.specs.Words.{key_of, word_bytes}
+use Rattle.chpw_client.specs.Words.{key_of}
 use Rattle.chpw_client.specs.declared.drawing.Drawing.{Drawing}
 use Rattle.krb_der.specs.Protocol as protocol
 

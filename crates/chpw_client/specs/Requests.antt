@@ -1,6 +1,6 @@
 -- The request that a client sends (RFC 3244 section 2): an AP-REQ with a ticket of its own making,
 -- and a KRB-PRIV with the new password.
-use Rattle.std.specs.Prelude.{◌≡◌, ◌^◌, ◌-◌, ℕ, ◌+ℤ◌, pos, List, [], ◌∷◌, Some, None, option_map, if◌then◌else◌}
+use Rattle.std.specs.Prelude.{◌≡◌, ◌^◌, ◌-◌, ℕ, ◌+ℤ◌, pos, List, [], Some, None, option_map, if◌then◌else◌}
 use Rattle.krb_elements.specs.Texts.{text}
 use Rattle.krb_der.specs.Protocol as protocol
 use Rattle.krb_der.specs.Types as types
@@ -12,12 +12,11 @@ use Rattle.krb_der.specs.declared.encrypted_data.EncryptionKey.{EncryptionKey}
 use Rattle.krb_der.specs.declared.krb_priv.EncKrbPrivPart.{EncKrbPrivPart}
 use Rattle.krb_der.specs.declared.principal_name.PrincipalName.{PrincipalName}
 use Rattle.krb_der.specs.declared.ticket.Ticket.{Ticket}
-use Rattle.krb_msgs.specs.Making.{SpellsTicket, ap_req_of, priv_of, ticket_of}
-use Rattle.krb_msgs.specs.ReplyFitting.{priv_part_of}
+use Rattle.krb_msgs.specs.Making.{SpellsTicket, ap_req_of, priv_of, priv_part_of, ticket_of, word_bytes}
 use Rattle.chpw_frame.specs.Framing.{framed, request_version}
 use Rattle.chpw_rules.specs.declared.name.Name.{Name}
 use Rattle.chpw_client.specs.Questions.{Question}
-use Rattle.chpw_client.specs.Words.{key_of, word_bytes}
+use Rattle.chpw_client.specs.Words.{key_of}
 use Rattle.chpw_client.specs.declared.drawing.Drawing.{Drawing}
 use Rattle.chpw_client.specs.declared.request.Sent.{Sent}
 
@@ -75,13 +74,8 @@ change q = record {
 
 -- ---- the messages
 
--- the client's address, on loopback
-abbrev pub loopback : List ℕ
-loopback = 127 ∷ 0 ∷ 0 ∷ 1 ∷ []
-
 abbrev pub private_part : Question → EncKrbPrivPart
-private_part q = priv_part_of (text types.change_passwd_data
-    (change_passwd_data_value (change q))) 0 loopback
+private_part q = priv_part_of (text types.change_passwd_data (change_passwd_data_value (change q))) 0
 
 abbrev pub ticket : Question → Drawing → Ticket
 ticket q w = ticket_of q.realm (ticket_part q w) q.service (word_bytes w.ticket)

@@ -1,14 +1,9 @@
 -- The random words of a request.
 use Rattle.std.specs.Prelude.{ℕ, List, ◌++◌}
-use Rattle.std.specs.List.{flat_map}
-use Rattle.std.specs.Int.{to_le_bytes, w32}
 use Rattle.krb_keys.specs.declared.key.Key.{Key}
 use Rattle.krb_keys.specs.declared.key.Key.TheVariants.{Aes256}
+use Rattle.krb_msgs.specs.Making.{word_bytes}
 use Rattle.chpw_client.specs.declared.drawing.Drawing.{Drawing}
-
--- each word low byte first
-abbrev pub word_bytes : List ℕ → List ℕ
-word_bytes words = flat_map (to_le_bytes w32) words
 
 -- in the order in which they are drawn
 abbrev pub words_of : Drawing → List ℕ

@@ -1,9 +1,11 @@
 //! The random words of a request.
-ghost use Rattle.std.specs.Prelude.{◌≡◌, ◌∷◌, ◌++◌, []};
+ghost use Rattle.std.specs.Prelude.{◌≡◌, ◌++◌};
+ghost use Rattle.krb_msgs.specs.Making.{word_bytes};
 ghost use Rattle.chpw_serve.specs.Draws.{Drawn};
-ghost use Rattle.chpw_client.specs.Words.{word_bytes, words_of};
+ghost use Rattle.chpw_client.specs.Words.{words_of};
 
 use chpw_serve::Words;
+use krb_msgs::word_bytes;
 
 /// The words of a request: of 8 words a key, of 4 a confounder.
 #[derive(Clone, Copy, Drop)]
@@ -58,33 +60,13 @@ fn next_eight<X: Words>(words: &mut X) -> [u32; 8]
     [w0, w1, w2, w3, w4, w5, w6, w7]
 }
 
-// Four words as bytes, each low byte first.
-fn four_words(first: u32, second: u32, third: u32, fourth: u32) -> [u8; 16]
-    ensures value { result ≡ word_bytes (first ∷ second ∷ third ∷ fourth ∷ []) }
-{
-    let [a0, a1, a2, a3] = first.to_le_bytes();
-    let [b0, b1, b2, b3] = second.to_le_bytes();
-    let [c0, c1, c2, c3] = third.to_le_bytes();
-    let [d0, d1, d2, d3] = fourth.to_le_bytes();
-    [
-        a0, a1, a2, a3, b0, b1, b2, b3, c0, c1, c2, c3, d0, d1, d2, d3,
-    ]
-}
-
-/// Four words as bytes.
-pub(crate) fn confounder(words: [u32; 4]) -> [u8; 16]
-    ensures value { result ≡ word_bytes words }
-{
-    four_words(words[0], words[1], words[2], words[3])
-}
-
 /// Eight words as bytes.
 pub(crate) fn key_bytes(words: [u32; 8]) -> [u8; 32]
     ensures value { result ≡ word_bytes words }
 {
     joined(
-        four_words(words[0], words[1], words[2], words[3]),
-        four_words(words[4], words[5], words[6], words[7]),
+        word_bytes([words[0], words[1], words[2], words[3]]),
+        word_bytes([words[4], words[5], words[6], words[7]]),
     )
 }
 

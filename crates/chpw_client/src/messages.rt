@@ -7,11 +7,11 @@ ghost use Rattle.chpw_client.specs.Words.{key_of as key_in};
 ghost use Rattle.chpw_client.specs.Questions.{IsAskable, question_of};
 
 use crate::asked::Asked;
-use crate::drawing::{Drawing, confounder, key_bytes};
+use crate::drawing::{Drawing, key_bytes};
 use crate::records::{authenticator, private_part, ticket_part};
 use krb_der::MUTUAL_REQUIRED;
 use krb_keys::Key;
-use krb_msgs::{make_ap_req, make_priv, make_ticket};
+use krb_msgs::{make_ap_req, make_priv, make_ticket, word_bytes};
 use std::alloc::{AllocError, Global};
 
 /// The option mutual-required alone, of 32 bits.
@@ -44,7 +44,7 @@ pub(crate) fn ap_req(
         asked.realm,
         &part,
         asked.service,
-        confounder(words.ticket),
+        word_bytes(words.ticket),
     )?;
     make_ap_req(
         alloc,
@@ -52,7 +52,7 @@ pub(crate) fn ap_req(
         OPTIONS,
         &authenticator,
         &key_of(words.session),
-        confounder(words.authenticator),
+        word_bytes(words.authenticator),
     )
 }
 
@@ -72,6 +72,6 @@ pub(crate) fn krb_priv(
         alloc,
         &part,
         &key_of(words.subkey),
-        confounder(words.private),
+        word_bytes(words.private),
     )
 }

@@ -10,16 +10,13 @@ use crate::asked::Asked;
 use crate::drawing::{Drawing, key_bytes};
 use chpw_rules::{Items, Name};
 use krb_der::{
-    ADDR_TYPE_IPV4, Authenticator, Bytes, ChangePasswdData, EncKrbPrivPart, EncTicketPart,
-    EncryptionKey, GeneralString, HostAddress, KerberosFlags, KerberosTime, Microseconds,
-    NT_PRINCIPAL, PVNO, PrincipalName, SeqNumber, SequenceOf, TICKET_INITIAL, TransitedEncoding,
-    write_change_passwd_data,
+    Authenticator, Bytes, ChangePasswdData, EncKrbPrivPart, EncTicketPart, EncryptionKey,
+    GeneralString, KerberosFlags, KerberosTime, Microseconds, NT_PRINCIPAL, PVNO, PrincipalName,
+    SeqNumber, SequenceOf, TICKET_INITIAL, TransitedEncoding, write_change_passwd_data,
 };
 use krb_keys::AES256_CTS_HMAC_SHA1_96;
+use krb_msgs::{copied, priv_part};
 use std::alloc::{AllocError, Global};
-
-/// The client's address (RFC 3244 section 2 leaves it to the client which one it sends).
-const LOOPBACK: [u8; 4] = [127, 0, 0, 1];
 
 /// Seconds for which a ticket is good.
 const LIFETIME: i64 = 3600;
@@ -27,18 +24,12 @@ const LIFETIME: i64 = 3600;
 /// The flag initial, of 32 bits.
 const INITIAL: u32 = 1 << (31 - TICKET_INITIAL);
 
-fn copied<const TAG: u8>(alloc: Global, bytes: &[u8]) -> Result<Bytes<TAG>, AllocError>
-    ensures value { IfOk result (λ copy. copy ≡ bytes.now) }
-{
-    Ok(Bytes::of(Vec::from_slice(alloc, bytes)?))
-}
-
 fn components(alloc: Global, parts: &[Items<u8>]) -> Result<Vec<GeneralString>, AllocError>
     ensures value { IfOk result (λ copies. copies.items ≡ parts.now) }
 {
     let mut copies = Vec::with_capacity(alloc, parts.len())?;
     for part in parts {
-        copies.push(Bytes::of(Vec::from_slice(alloc, part.as_slice())?))?;
+        copies.push(copied(alloc, part.as_slice())?)?;
     }
     Ok(copies)
 }
@@ -142,15 +133,6 @@ pub(crate) fn private_part(alloc: Global, asked: &Asked<'_>) -> Result<EncKrbPri
     requires askable { IsAskable (question_of asked.now) }
     ensures value { IfOk result (λ part. part ≡ private_part_of (question_of asked.entry.now)) }
 {
-    Ok(EncKrbPrivPart {
-        user_data: Bytes::of(user_data(alloc, asked)?),
-        timestamp: None,
-        usec: None,
-        seq_number: Some(SeqNumber(0)),
-        s_address: HostAddress {
-            addr_type: ADDR_TYPE_IPV4,
-            address: copied(alloc, &LOOPBACK)?,
-        },
-        r_address: None,
-    })
+    let user_data = Bytes::of(user_data(alloc, asked)?);
+    priv_part(alloc, user_data, 0)
 }

@@ -1,5 +1,5 @@
 -- The octet strings of a value whose text is made of bytes are made of bytes, and so is a key.
-use Rattle.std.proofs.Common.{◌≡◌, ℕ, ◌<◌, ◌&&◌, Bool, true, false, List, ◌∷◌, ◌++◌, length, Some, None, refl, subst, eqb, ℤ, pos}
+use Rattle.std.proofs.Common.{◌≡◌, ℕ, ◌<◌, ◌&&◌, Bool, true, false, List, ◌∷◌, ◌++◌, length, Some, None, refl, subst, ℤ, pos}
 use Rattle.std.specs.Prelude.{◌==◌, if◌then◌else◌, IfSome, All}
 use Rattle.std.specs.Ordering.{int_eq}
 use Rattle.std.proofs.lemmas.Bool.{eqb-true}

@@ -19,11 +19,10 @@ use Rattle.krb_msgs.specs.declared.ap_exchange.ApOpened.{ApOpened}
 use Rattle.krb_msgs.specs.declared.private_message.Private.{Private}
 use Rattle.krb_msgs.specs.declared.fault.ApFault.{ApFault}
 use Rattle.krb_msgs.specs.declared.fault.PrivFault.{PrivFault}
-use Rattle.krb_msgs.specs.declared.fault.PrivFault.TheVariants as priv
 use Rattle.krb_msgs.proofs.AnswerLemmas.{ok_is}
 use Rattle.krb_msgs.proofs.OneAnswerLemmas.{ap_reqs_open_once, privs_open_once}
 use Rattle.krb_msgs.proofs.OpenedLemmas.{found_passes, held_passes, then_passes}
-use Rattle.chpw_frame.specs.declared.change_data.Change.{Change}
+use Rattle.chpw_frame.specs.declared.change_data.ChangeData.{ChangeData}
 use Rattle.chpw_frame.specs.declared.change_data.ChangeTarget.{ChangeTarget}
 use Rattle.chpw_frame.specs.declared.fault.FrameFault.{FrameFault}
 use Rattle.chpw_frame.specs.Asked.{asks}
@@ -31,7 +30,7 @@ use Rattle.chpw_frame.specs.ChangeData.{change_value, Finds}
 use Rattle.chpw_frame.specs.Framing.{ap_of, first_fault, request_versions, tail_of, version_of}
 use Rattle.chpw_frame.proofs.ChangeLemmas.{asks_complete}
 use Rattle.chpw_answer.specs.Requests.{Content, new_password, bad_private, bad_data, opened}
-use Rattle.chpw_messages.specs.Opening.{IsAsked, IsContent, OpensAs, OpensFramed, OpensParts, request_of, stamp_in, target_in}
+use Rattle.chpw_messages.specs.Opening.{Asks, IsAsked, IsContent, OpensAs, OpensFramed, OpensParts, request_of, stamp_in, target_in}
 use Rattle.chpw_messages.specs.OneOpening.{MessagesOpenOnce}
 use Rattle.chpw_messages.proofs.OctetLemmas.{AreBytes, holds_bytes, HoldsBytes, key_of_bytes}
 
@@ -68,7 +67,7 @@ subkey_is_key realm keys bytes peer found h =
 -- ---- what is asked
 
 -- the fields of a change
-abbrev fields_of : Change → ChangePasswdData
+abbrev fields_of : ChangeData → ChangePasswdData
 fields_of change = record {
   newpasswd = change.password;
   targname = option_map (λ (t : ChangeTarget). t.name) change.target;
@@ -92,33 +91,33 @@ one_asks password (Some name) realm one other h k = sym h ∙ k
 one_asks password None None one other h k = sym h ∙ k
 one_asks password None (Some realm) one other h k = absurd h
 
-same_change : (one other : Change) → change_value one ≡ change_value other → one ≡ other
+same_change : (one other : ChangeData) → change_value one ≡ change_value other → one ≡ other
 same_change one other h =
     let fields = fields_of other in
     let value = fields_value other.password other.target in
     one_asks fields.newpasswd fields.targname fields.targrealm one other
     (asks_complete fields one (h ∙ value)) (asks_complete fields other value)
 
-one_asked : (realm : List ℕ) (version : ℕ) (bytes : List ℕ) → IsOne (IsAsked realm version bytes)
-one_asked realm version bytes (new_password target password) (new_password other_target other_password) h k =
+one_change : (realm bytes : List ℕ) → IsOne (Asks realm bytes)
+one_change realm bytes (new_password target password) (new_password other_target other_password) h k =
     let value = one_value change_passwd_data refl bytes (change_value h.0) (change_value k.0) h.1 k.1 in
     let same = same_change h.0 k.0 value in
-    let targets : target ≡ other_target = h.2 ∙ ap (λ (c : Change). option_map (target_in realm) c.target) same ∙ sym k.2 in
-    let passwords : password ≡ other_password = h.3 ∙ ap (λ (c : Change). c.password) same ∙ sym k.3 in
+    let targets : target ≡ other_target = h.2 ∙ ap (λ (c : ChangeData). option_map (target_in realm) c.target) same ∙ sym k.2 in
+    let passwords : password ≡ other_password = h.3 ∙ ap (λ (c : ChangeData). c.password) same ∙ sym k.3 in
     cc
-one_asked realm version bytes (new_password target password) bad_data h k = absurd (k h.0 h.1)
-one_asked realm version bytes (new_password target password) bad_private h k = absurd k
-one_asked realm version bytes bad_data (new_password target password) h k = absurd (h k.0 k.1)
-one_asked realm version bytes bad_data bad_data h k = refl
-one_asked realm version bytes bad_data bad_private h k = absurd k
-one_asked realm version bytes bad_private other h k = absurd h
+one_change realm bytes (new_password target password) bad_data h k = absurd (k h.0 h.1)
+one_change realm bytes (new_password target password) bad_private h k = absurd k
+one_change realm bytes bad_data (new_password target password) h k = absurd (h k.0 k.1)
+one_change realm bytes bad_data bad_data h k = refl
+one_change realm bytes bad_data bad_private h k = absurd k
+one_change realm bytes bad_private other h k = absurd h
+
+one_asked : (realm : List ℕ) (version : ℕ) (bytes : List ℕ) → IsOne (IsAsked realm version bytes)
+one_asked realm version bytes one other h k = one_change realm bytes one other h.1 k.1
 
 one_content : (realm : List ℕ) (version : ℕ) (private : Result Private PrivFault) → IsOne (IsContent realm version private)
 one_content realm version (Ok p) one other h k = one_asked realm version p.user_bytes one other h k
-one_content realm version (Err priv.Malformed) one other h k = h ∙ sym k
-one_content realm version (Err priv.WrongMessage) one other h k = h ∙ sym k
-one_content realm version (Err priv.NotSealed) one other h k = h ∙ sym k
-one_content realm version (Err priv.WrongSeqNumber) one other h k = h ∙ sym k
+one_content realm version (Err fault) one other h k = h ∙ sym k
 
 -- ---- the message
 

@@ -1,10 +1,10 @@
 -- The times of a request that opened are times that a reply can say.
-use Rattle.std.proofs.Common.{◌≡◌, ◌<◌, ℕ, ℤ, pos, negsuc, ◌≤ℤ◌, true, false, Bool, not, ◌&&◌, List, Ok, None, Some, refl, sym, ◌∙◌, ap, arith, inl, inr}
-use Rattle.std.specs.Prelude.{is_some, int_lt}
+use Rattle.std.proofs.Common.{◌≡◌, ◌<◌, ℕ, ℤ, pos, negsuc, ◌≤ℤ◌, true, not, List, Ok, arith, inl, inr}
+use Rattle.std.specs.Prelude.{int_lt}
 use Rattle.std.proofs.lemmas.Int.{ints}
 use Rattle.krb_elements.specs.Shapes.{kerberos_time, microseconds}
 use Rattle.krb_elements.specs.Texts.{is_in_range}
-use Rattle.krb_elements.specs.Times.{is_writable, time_of, time_octets}
+use Rattle.krb_elements.specs.Times.{is_writable, time_of}
 use Rattle.krb_elements.proofs.CompleteLemmas.{and_true, same_or_not}
 use Rattle.krb_msgs.specs.ApExchange.{OpensAp}
 use Rattle.krb_msgs.specs.declared.service_keys.ServiceKey.{ServiceKey}

@@ -1,10 +1,9 @@
 -- Replies can be made: their records fit, and they are short.
-use Rattle.std.proofs.Common.{◌≡◌, ℕ, ◌+◌, ◌≤◌, ◌<◌, ◌^◌, ◌%◌, true, List, ◌++◌, length, length-append, Some, None, sym, ◌∙◌, subst, ap, arith, refl, ℤ, pos, negsuc, ◌≤ℤ◌}
-use Rattle.std.specs.Prelude.{is_some, slice_index, drop, take}
+use Rattle.std.proofs.Common.{◌≡◌, ℕ, ◌≤◌, ◌<◌, ◌^◌, true, List, ◌++◌, length, length-append, sym, ◌∙◌, subst, ap, arith, refl, ℤ, pos, negsuc, ◌≤ℤ◌}
+use Rattle.std.specs.Prelude.{is_some}
 use Rattle.std.specs.Int.{to_be_bytes, w16}
 use Rattle.std.proofs.lemmas.Int.{ints}
 use Rattle.krb_keys.specs.KeyUsages.{usage_ap_rep_enc_part, usage_krb_priv}
-use Rattle.krb_keys.specs.Sealing.{sealed}
 use Rattle.krb_elements.specs.Shapes.{int32, kerberos_time, microseconds}
 use Rattle.krb_elements.specs.Texts.{fits, is_in_range, text}
 use Rattle.krb_elements.proofs.TimeLemmas.{time_of_some}
@@ -23,7 +22,7 @@ use Rattle.chpw_table.specs.Replies.{Answer, by_error}
 use Rattle.chpw_answer.specs.declared.messages.Seal.{Seal}
 use Rattle.chpw_answer.specs.Holding.{IsReplyTime}
 use Rattle.chpw_messages.specs.Service.{IsRealm}
-use Rattle.chpw_messages.specs.Replies.{ap_rep_part, ap_rep_text, confounder, error_record, priv_part, priv_text, seq_number_of}
+use Rattle.chpw_messages.specs.Replies.{ap_rep_part, error_record, priv_part, seq_number_of}
 
 time_range : (t : ℤ) → negsuc 62167219199 ≤ℤ t → t ≤ℤ pos 253402300799 → is_in_range kerberos_time t ≡ true
 time_range t low high = ap is_some (time_of_some t (low, high))
@@ -93,7 +92,7 @@ ap_rep_short seal words c c16 =
 pub priv_part_fits : (a : Answer) (words : List ℕ) → length a.text ≤ 100
     → IsShort enc_krb_priv_part (enc_krb_priv_part_value (priv_part a words))
 priv_part_fits a words le =
-    priv_parts_fit (to_be_bytes w16 a.code ++ a.text) (seq_number_of words) _ (seq_range words)
+    priv_parts_fit (to_be_bytes w16 a.code ++ a.text) (seq_number_of words) (seq_range words)
     (omega (arith, length-append (to_be_bytes w16 a.code) a.text, le))
 
 pub priv_fits : (seal : Seal) (a : Answer) (words c : List ℕ) → length a.text ≤ 100 → length c ≡ 16

@@ -1,7 +1,7 @@
 pub mod Replies
 pub mod Opening
 pub mod Service
-pub mod Asked
+pub mod Holds
 pub mod Laws
 pub mod WorkedReplies
 pub mod OneOpening

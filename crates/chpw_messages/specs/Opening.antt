@@ -1,8 +1,9 @@
--- What a message to the service opens to (RFC 3244 section 2, RFC 4120 sections 3.2.3 and 3.5.1): the
+-- What a message to the service opens to (RFC 3244 section 2, RFC 4120 sections 3.2.3 and 3.5.2): the
 -- frame, the AP-REQ, the KRB-PRIV and its ChangePasswdData in turn.
 use Rattle.std.specs.Prelude.{◌≡◌, ℕ, ℤ, List, false, Option, Some, None, Result, Ok, Err, option_map, unwrap_or}
 use Rattle.krb_elements.specs.BitStrings.{is_set}
 use Rattle.krb_der.specs.Protocol as protocol
+use Rattle.krb_der.specs.Refusals.{Refusal}
 use Rattle.krb_der.specs.declared.principal_name.PrincipalName.{PrincipalName}
 use Rattle.krb_msgs.specs.declared.service_keys.ServiceKey.{ServiceKey}
 use Rattle.krb_msgs.specs.declared.ap_exchange.ApOpened.{ApOpened}
@@ -13,10 +14,10 @@ use Rattle.krb_msgs.specs.declared.fault.PrivFault.TheVariants as priv
 use Rattle.krb_msgs.specs.ApExchange.{OpensAp}
 use Rattle.krb_msgs.specs.PrivateMessages.{OpensPriv}
 use Rattle.krb_msgs.specs.Codes as ap
-use Rattle.chpw_frame.specs.declared.change_data.Change.{Change}
+use Rattle.chpw_frame.specs.declared.change_data.ChangeData.{ChangeData}
 use Rattle.chpw_frame.specs.declared.change_data.ChangeTarget.{ChangeTarget}
 use Rattle.chpw_frame.specs.declared.fault.FrameFault.{FrameFault}
-use Rattle.chpw_frame.specs.Framing.{request_versions, first_fault, version_of, ap_of, tail_of}
+use Rattle.chpw_frame.specs.Framing.{request_version, request_versions, first_fault, version_of, ap_of, tail_of}
 use Rattle.chpw_frame.specs.ChangeData.{IsChange}
 use Rattle.chpw_frame.specs.Faults as frame
 use Rattle.chpw_rules.specs.declared.name.Name.{Name}
@@ -35,21 +36,29 @@ name_in name = record { parts = name.name_string }
 abbrev pub target_in : List ℕ → ChangeTarget → Target
 target_in realm target = record { realm = unwrap_or target.realm realm; name = name_in target.name }
 
--- the user-data of a request of this version; there is one version so far
+-- a ChangePasswdData, or what is none
+abbrev pub Asks : List ℕ → List ℕ → Content → Type 0
+Asks realm bytes (new_password target password) =
+    (change : ChangeData) × IsChange bytes change × (target ≡ option_map (target_in realm) change.target) × (password ≡ change.password)
+Asks realm bytes bad_data = (change : ChangeData) → IsChange bytes change → ⊥
+Asks realm bytes bad_private = ⊥
+
+-- The user-data of a request of this version: the version says how it is read. There is one so far.
 abbrev pub IsAsked : List ℕ → ℕ → List ℕ → Content → Type 0
-IsAsked realm version bytes (new_password target password) =
-    (change : Change) × IsChange bytes change × (target ≡ option_map (target_in realm) change.target) × (password ≡ change.password)
-IsAsked realm version bytes bad_data = (change : Change) → IsChange bytes change → ⊥
-IsAsked realm version bytes bad_private = ⊥
+IsAsked realm version bytes content = (version ≡ request_version) × Asks realm bytes content
 
 -- ---- the KRB-PRIV
 
+-- of one that doesn't open
+abbrev pub content_despite : PrivFault → Content
+content_despite priv.Malformed = bad_data
+content_despite priv.WrongMessage = bad_private
+content_despite priv.NotSealed = bad_private
+content_despite priv.WrongSeqNumber = bad_private
+
 abbrev pub IsContent : List ℕ → ℕ → Result Private PrivFault → Content → Type 0
 IsContent realm version (Ok p) content = IsAsked realm version p.user_bytes content
-IsContent realm version (Err priv.Malformed) content = content ≡ bad_data
-IsContent realm version (Err priv.WrongMessage) content = content ≡ bad_private
-IsContent realm version (Err priv.NotSealed) content = content ≡ bad_private
-IsContent realm version (Err priv.WrongSeqNumber) content = content ≡ bad_private
+IsContent realm version (Err fault) content = content ≡ content_despite fault
 
 -- the timestamp of one that opened
 abbrev pub stamp_in : Result Private PrivFault → Option ℤ
@@ -77,9 +86,12 @@ request_of a stamp content = record {
   content = content;
 }
 
+-- refused by a KRB-ERROR
+abbrev pub refused_by : Refusal → Opens
+refused_by r = refused (by_error r.code r.error r.text)
+
 abbrev pub OpensAs : List ℕ → ℕ → List ℕ → Result ApOpened ApFault → Opens → Type 0
-OpensAs realm version tail (Err fault) o =
-    o ≡ refused (by_error (ap.refusal_of fault).code (ap.refusal_of fault).error (ap.refusal_of fault).text)
+OpensAs realm version tail (Err fault) o = o ≡ refused_by (ap.refusal_of fault)
 OpensAs realm version tail (Ok a) o =
     (private : Result Private PrivFault) × OpensPriv a.subkey a.seq_number tail private
     × ((content : Content) × IsContent realm version private content × (o ≡ opened (request_of a (stamp_in private) content)))
@@ -92,8 +104,7 @@ OpensParts realm keys peer version ap_req tail o =
 
 -- of one whose frame has this first fault, or none
 abbrev pub OpensFramed : List ℕ → List ServiceKey → List ℕ → List ℕ → Option FrameFault → Opens → Type 0
-OpensFramed realm keys peer bytes (Some fault) o =
-    o ≡ refused (by_error (frame.refusal_of fault).code (frame.refusal_of fault).error (frame.refusal_of fault).text)
+OpensFramed realm keys peer bytes (Some fault) o = o ≡ refused_by (frame.refusal_of fault)
 OpensFramed realm keys peer bytes None o =
     OpensParts realm keys peer (version_of bytes) (ap_of bytes) (tail_of bytes) o
 

@@ -1,34 +1,25 @@
-//! What a KRB-PRIV asks (RFC 4120 section 3.5.1, RFC 3244 section 2).
-ghost use Rattle.std.specs.Prelude.{◌≡◌, ℕ, List, IfOk, Err, option_map};
-ghost use Rattle.chpw_answer.specs.Requests.{new_password};
-ghost use Rattle.chpw_messages.specs.Opening.{IsAsked, IsContent, target_in};
-ghost use Rattle.chpw_messages.specs.Asked.{HoldsContent, content_in};
+//! What a KRB-PRIV asks (RFC 4120 section 3.5.2, RFC 3244 section 2).
+ghost use Rattle.std.specs.Prelude.{◌≡◌, [], IfOk, option_map};
+ghost use Rattle.chpw_table.specs.declared.request.Target.{Target};
+ghost use Rattle.chpw_frame.specs.Framing.{request_version};
+ghost use Rattle.chpw_answer.specs.Requests as requests;
+ghost use Rattle.chpw_answer.specs.Requests.{body_under, new_password};
+ghost use Rattle.chpw_messages.specs.Opening.{IsAsked, content_despite, target_in};
+ghost use Rattle.chpw_messages.specs.Holds.{HoldsContent, IsHeld};
 
 use crate::names::target_of;
-use chpw_frame::{Change, ChangeFault, read_change_data};
+use chpw_frame::{ChangeData, ChangeFault, read_change_data};
 use chpw_rules::Items;
-use chpw_table::Target;
-use krb_msgs::{ApOpened, OpenError, PrivFault, open_priv};
+use chpw_table::{Body, Counts, Digest};
+use krb_msgs::{ApOpened, OpenError, PrivFault, Private, open_priv};
 use std::alloc::{AllocError, Global};
 
-/// What was asked.
+/// What a KRB-PRIV holds, as it is judged; no keys are derived yet.
 #[derive(Drop)]
-pub(crate) enum Asked {
-    /// A new password, and whose it is to be; with no target it is the client's.
-    Password {
-        target: Option<Target>,
-        password: Items<u8>,
-    },
-    /// The KRB-PRIV isn't from this client, or isn't for now.
-    BadPrivate,
-    /// It asks for no change.
-    BadData,
-}
-
-/// What a KRB-PRIV held.
-#[derive(Drop)]
-pub(crate) struct Held {
-    pub asked: Asked,
+pub(crate) struct Content {
+    pub body: Body,
+    /// The new password; no bytes where none came.
+    pub password: Items<u8>,
     /// Its timestamp, if it opened and has one.
     pub stamp: Option<i64>,
 }
@@ -39,61 +30,72 @@ pub(crate) fn open_content(
     realm: &[u8],
     opened: &ApOpened,
     tail: &[u8],
-) -> Result<Held, AllocError>
-    ensures content { IfOk result (λ h. (version : ℕ)
-        → HoldsContent realm.now version opened.now tail.now h) }
+) -> Result<Content, AllocError>
+    ensures content { IfOk result (HoldsContent realm.now request_version opened.now tail.now) }
 {
     match open_priv(alloc, opened, tail) {
-        Ok(private) => Ok(Held {
-            asked: read_asked(alloc, realm, private.user_bytes.as_slice())?,
-            stamp: private.stamp,
-        }),
+        Ok(private) => read_content(alloc, realm, private),
         Err(OpenError::Memory) => Err(AllocError),
-        Err(OpenError::Fault(fault)) => Ok(Held {
-            asked: asked_despite(fault),
-            stamp: None,
-        }),
+        Err(OpenError::Fault(fault)) => Ok(bare(alloc, body_despite(fault), None)),
     }
 }
 
-/// What is held of a KRB-PRIV that didn't open.
-fn asked_despite(fault: PrivFault) -> Asked
-    ensures value { (realm : List ℕ) (version : ℕ)
-        → IsContent realm version (Err fault) (content_in result) }
+/// With no password.
+fn bare(alloc: Global, body: Body, stamp: Option<i64>) -> Content
+    ensures value { result ≡ record { body = body; password = []; stamp = stamp } }
+{
+    Content {
+        body,
+        password: Items::of(Vec::new(alloc)),
+        stamp,
+    }
+}
+
+/// What is judged of a KRB-PRIV that didn't open.
+fn body_despite(fault: PrivFault) -> Body
+    ensures value { (client : Target) → result ≡ body_under [] client (content_despite fault) }
 {
     match fault {
-        PrivFault::Malformed => Asked::BadData,
+        PrivFault::Malformed => Body::BadData,
         PrivFault::WrongMessage | PrivFault::NotSealed | PrivFault::WrongSeqNumber => {
-            Asked::BadPrivate
+            Body::BadPrivate
         }
     }
 }
 
-/// What user-data asks.
-fn read_asked(alloc: Global, realm: &[u8], bytes: &[u8]) -> Result<Asked, AllocError>
-    ensures asked { IfOk result (λ a. (version : ℕ)
-        → IsAsked realm.now version bytes.now (content_in a)) }
+/// What one that opened holds.
+fn read_content(alloc: Global, realm: &[u8], private: Private) -> Result<Content, AllocError>
+    ensures content { IfOk result (λ h. (c : requests.Content)
+        × IsAsked realm.now request_version private.user_bytes c × IsHeld c private.stamp h) }
 {
-    match read_change_data(alloc, bytes) {
-        Ok(change) => asked_by(alloc, realm, change),
-        Err(ChangeFault::NotChangeData) => Ok(Asked::BadData),
-        Err(ChangeFault::RealmWithoutName) => Ok(Asked::BadData),
+    let Private { user_bytes, stamp } = private;
+    match read_change_data(alloc, user_bytes.as_slice()) {
+        Ok(change) => change_content(alloc, realm, change, stamp),
+        Err(ChangeFault::NotChangeData) => Ok(bare(alloc, Body::BadData, stamp)),
+        Err(ChangeFault::RealmWithoutName) => Ok(bare(alloc, Body::BadData, stamp)),
         Err(ChangeFault::Memory) => Err(AllocError),
     }
 }
 
 /// What a change asks.
-fn asked_by(alloc: Global, realm: &[u8], change: Change) -> Result<Asked, AllocError>
-    ensures value { IfOk result (λ a. content_in a
-        ≡ new_password (option_map (target_in realm.now) change.target) change.password) }
+fn change_content(
+    alloc: Global,
+    realm: &[u8],
+    change: ChangeData,
+    stamp: Option<i64>,
+) -> Result<Content, AllocError>
+    ensures held { IfOk result (IsHeld
+        (new_password (option_map (target_in realm.now) change.target) change.password) stamp) }
 {
-    let Change { password, target } = change;
+    let ChangeData { password, target } = change;
     let target = match target {
         None => None,
         Some(target) => Some(target_of(alloc, realm, target)?),
     };
-    Ok(Asked::Password {
-        target,
+    let digest = Digest::derive(alloc, password.as_slice(), &[], &Counts::new())?;
+    Ok(Content {
+        body: Body::Ask { target, digest },
         password: Items::of(password.into_vec()),
+        stamp,
     })
 }

@@ -1,12 +1,13 @@
 //! Laws of the definitions alone, and worked replies.
-ghost use Rattle.chpw_messages.specs.Laws.{RequestsOpen};
+ghost use Rattle.chpw_messages.specs.Laws.{FramesOpen, PartsOpen};
 ghost use Rattle.chpw_messages.specs.OneOpening.{MessagesOpenOnce};
 ghost use Rattle.chpw_messages.specs.WorkedReplies.{MalformedReply, VersionReply, TooLongReply};
 
-/// A request for a change of password, made of its records and framed, opens to that request.
-#[tactic(auto, using(crate::proofs::RequestLemmas::requests_open))]
+/// The two parts of a request for a change of password, made of their records, open to that
+/// request; and parts in a frame open as they do.
 pub fn openings()
-    ensures request { RequestsOpen }
+    ensures parts { PartsOpen }
+    ensures frames { FramesOpen }
 {}
 
 /// A message opens to one answer, so what a call answers is all that its relation allows: one that

@@ -8,7 +8,6 @@ pub mod laws;
 mod names;
 mod opening;
 mod private_reply;
-mod refusals;
 mod replies;
 mod service;
 

@@ -5,26 +5,21 @@ ghost use Rattle.chpw_messages.specs.Opening.{name_in, target_in};
 use chpw_frame::ChangeTarget;
 use chpw_rules::{Items, Name};
 use chpw_table::Target;
-use krb_der::{GeneralString, PrincipalName};
+use krb_der::PrincipalName;
 use std::alloc::{AllocError, Global};
 
 /// The name with these components.
 pub(crate) fn name_of(alloc: Global, name: PrincipalName) -> Result<Name, AllocError>
     ensures value { IfOk result (λ n. n ≡ name_in name) }
 {
-    Ok(Name {
-        parts: Items::of(components(alloc, name.name_string.as_slice())?),
-    })
-}
-
-fn components(alloc: Global, parts: &[GeneralString]) -> Result<Vec<Items<u8>>, AllocError>
-    ensures value { IfOk result (λ copies. copies.items ≡ parts.now) }
-{
-    let mut copies = Vec::with_capacity(alloc, parts.len())?;
-    for part in parts {
-        copies.push(Items::of(Vec::from_slice(alloc, part.as_slice())?))?;
+    let components = name.name_string.into_vec();
+    let mut parts = Vec::with_capacity(alloc, components.len())?;
+    for component in components {
+        parts.push(Items::of(component.into_vec()))?;
     }
-    Ok(copies)
+    Ok(Name {
+        parts: Items::of(parts),
+    })
 }
 
 /// The target that a request names; without a realm it is in this one.

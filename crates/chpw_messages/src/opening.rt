@@ -1,12 +1,12 @@
 //! A message is opened (RFC 3244 section 2): its frame, then its AP-REQ, then its KRB-PRIV.
-ghost use Rattle.std.specs.Prelude.{IfOk};
+ghost use Rattle.std.specs.Prelude.{◌≡◌, IfOk};
+ghost use Rattle.chpw_frame.specs.Framing.{request_version};
 ghost use Rattle.chpw_answer.specs.Holding.{IsInTime};
-ghost use Rattle.chpw_messages.specs.Asked.{HoldsMessage, HoldsParts};
+ghost use Rattle.chpw_messages.specs.Holds.{HoldsMessage, HoldsParts};
 
 use crate::content::open_content;
 use crate::incoming::incoming_of;
-use crate::refusals::{ap_refusal, frame_refusal};
-use chpw_answer::Opening;
+use chpw_answer::OpensTo;
 use chpw_frame::{Parts, split_request};
 use krb_msgs::{OpenError, ServiceKey, open_ap};
 use std::alloc::{AllocError, Global};
@@ -18,34 +18,35 @@ pub(crate) fn open_message(
     keys: &[ServiceKey],
     peer: [u8; 4],
     message: &[u8],
-) -> Result<Opening, AllocError>
+) -> Result<OpensTo, AllocError>
     ensures opening { IfOk result (HoldsMessage realm.now keys.now peer message.now) }
     ensures times { IfOk result IsInTime }
 {
     match split_request(message) {
-        Err(fault) => Ok(Opening::Refused(frame_refusal(fault))),
+        Err(fault) => Ok(OpensTo::Refused(fault.refusal())),
         Ok(parts) => open_parts(alloc, realm, keys, peer, parts),
     }
 }
 
-/// The same of a message's parts.
+/// The same of the parts of a message of a version that is taken.
 fn open_parts(
     alloc: Global,
     realm: &[u8],
     keys: &[ServiceKey],
     peer: [u8; 4],
     parts: Parts<'_>,
-) -> Result<Opening, AllocError>
+) -> Result<OpensTo, AllocError>
+    requires version { parts.version ≡ request_version }
     ensures opening { IfOk result (HoldsParts realm.now keys.now peer
         parts.entry.version parts.entry.ap.now parts.entry.tail.now) }
     ensures times { IfOk result IsInTime }
 {
     match open_ap(alloc, realm, keys, parts.ap, peer) {
         Err(OpenError::Memory) => Err(AllocError),
-        Err(OpenError::Fault(fault)) => Ok(Opening::Refused(ap_refusal(fault))),
+        Err(OpenError::Fault(fault)) => Ok(OpensTo::Refused(fault.refusal())),
         Ok(opened) => {
-            let held = open_content(alloc, realm, &opened, parts.tail)?;
-            Ok(Opening::Opened(incoming_of(alloc, opened, held)?))
+            let content = open_content(alloc, realm, &opened, parts.tail)?;
+            Ok(OpensTo::Opened(incoming_of(alloc, opened, content)?))
         }
     }
 }

@@ -1,53 +1,36 @@
 //! The reply of an AP-REP and a KRB-PRIV (RFC 3244 section 2), made with nine random words.
-ghost use Rattle.std.specs.Prelude.{◌≡◌, ◌≤◌, [], ◌∷◌, length, None, IfOk, take, drop};
+ghost use Rattle.std.specs.Prelude.{◌≡◌, ◌≤◌, length, IfOk, take, drop};
+ghost use Rattle.krb_msgs.specs.Making.{word_bytes};
+ghost use Rattle.chpw_table.specs.Replies.{by_private};
 ghost use Rattle.chpw_answer.specs.Holding.{IsReplyTime};
-ghost use Rattle.chpw_messages.specs.Replies.{ap_rep_part, ap_rep_text, confounder as confounder_of, priv_part, priv_text, private_frame, seq_number_of};
+ghost use Rattle.chpw_messages.specs.Replies.{ap_rep_part, ap_rep_text, priv_part as priv_part_of, priv_text, private_frame, seq_number_of};
 
 use crate::replies::user_data;
 use chpw_answer::Seal;
 use chpw_frame::join_reply;
-use krb_der::{
-    ADDR_TYPE_IPV4, Bytes, EncApRepPart, EncKrbPrivPart, HostAddress, KerberosTime, Microseconds,
-    SeqNumber,
-};
-use krb_msgs::{make_ap_rep, make_priv};
+use krb_der::{EncApRepPart, EncKrbPrivPart, KerberosTime, Microseconds, SeqNumber};
+use krb_msgs::{make_ap_rep, make_priv, priv_part, word_bytes};
 use std::alloc::{AllocError, Global};
-
-/// The service's address: it listens on loopback alone.
-const LOOPBACK: [u8; 4] = [127, 0, 0, 1];
-
-/// Four words as 16 bytes, each low byte first.
-fn confounder(first: u32, second: u32, third: u32, fourth: u32) -> [u8; 16]
-    ensures value { result ≡ confounder_of (first ∷ second ∷ third ∷ fourth ∷ []) }
-{
-    let [a0, a1, a2, a3] = first.to_le_bytes();
-    let [b0, b1, b2, b3] = second.to_le_bytes();
-    let [c0, c1, c2, c3] = third.to_le_bytes();
-    let [d0, d1, d2, d3] = fourth.to_le_bytes();
-    [
-        a0, a1, a2, a3, b0, b1, b2, b3, c0, c1, c2, c3, d0, d1, d2, d3,
-    ]
-}
 
 /// The confounder of the first four words.
 fn front_confounder(words: [u32; 9]) -> [u8; 16]
-    ensures value { result ≡ confounder_of (take 4 words) }
+    ensures value { result ≡ word_bytes (take 4 words) }
 {
-    confounder(words[0], words[1], words[2], words[3])
+    word_bytes([words[0], words[1], words[2], words[3]])
 }
 
 /// The confounder of the last four words.
 fn back_confounder(words: [u32; 9]) -> [u8; 16]
-    ensures value { result ≡ confounder_of (drop 5 words) }
+    ensures value { result ≡ word_bytes (drop 5 words) }
 {
-    confounder(words[5], words[6], words[7], words[8])
+    word_bytes([words[5], words[6], words[7], words[8]])
 }
 
 /// The sequence number of both parts, below 2^31.
-fn seq_number(words: [u32; 9]) -> SeqNumber
-    ensures value { result.0 ≡ seq_number_of words }
+fn seq_number(words: [u32; 9]) -> u32
+    ensures value { result ≡ seq_number_of words }
 {
-    SeqNumber(words[4] % (1 << 31))
+    words[4] % (1 << 31)
 }
 
 /// The sealed part of the AP-REP.
@@ -58,7 +41,7 @@ fn ap_rep_part(seal: &Seal, words: [u32; 9]) -> EncApRepPart
         ctime: KerberosTime(seal.ctime),
         cusec: Microseconds(seal.cusec),
         subkey: None,
-        seq_number: Some(seq_number(words)),
+        seq_number: Some(SeqNumber(seq_number(words))),
     }
 }
 
@@ -79,20 +62,10 @@ fn private_part(
     text: &str,
     words: [u32; 9],
 ) -> Result<EncKrbPrivPart, AllocError>
-    ensures value { IfOk result (λ p. p
-        ≡ priv_part (record { code = code; error = None; text = text.now }) words) }
+    ensures value { IfOk result (λ p. p ≡ priv_part_of (by_private code text.now) words) }
 {
-    Ok(EncKrbPrivPart {
-        user_data: user_data(alloc, code, text)?,
-        timestamp: None,
-        usec: None,
-        seq_number: Some(seq_number(words)),
-        s_address: HostAddress {
-            addr_type: ADDR_TYPE_IPV4,
-            address: Bytes::of(Vec::from_slice(alloc, &LOOPBACK)?),
-        },
-        r_address: None,
-    })
+    let user_data = user_data(alloc, code, text)?;
+    priv_part(alloc, user_data, seq_number(words))
 }
 
 /// The KRB-PRIV, sealed under the subkey.
@@ -105,7 +78,7 @@ fn krb_priv(
 ) -> Result<Vec<u8>, AllocError>
     requires text { length text.now ≤ 100 }
     ensures text { IfOk result (λ v. v.items
-        ≡ priv_text seal.now (record { code = code; error = None; text = text.now }) words) }
+        ≡ priv_text seal.now (by_private code text.now) words) }
     ensures short { IfOk result (λ v. length v.items ≤ 1000) }
 {
     let part = private_part(alloc, code, text, words)?;
@@ -123,7 +96,7 @@ pub(crate) fn private_reply(
     requires times { IsReplyTime seal.now }
     requires text { length text.now ≤ 100 }
     ensures frame { IfOk result (λ bytes. bytes.items
-        ≡ private_frame seal.now (record { code = code; error = None; text = text.now }) words) }
+        ≡ private_frame seal.now (by_private code text.now) words) }
     ensures fits { IfOk result (λ bytes. length bytes.items ≤ 65535) }
 {
     let front = ap_rep(alloc, seal, words)?;

@@ -6,13 +6,10 @@ ghost use Rattle.chpw_answer.specs.Holding.{answer_in};
 ghost use Rattle.chpw_messages.specs.Service.{IsRealm};
 ghost use Rattle.chpw_messages.specs.Replies.{error_frame, error_record};
 
-use chpw_answer::Refusal;
 use chpw_frame::join_reply;
 use chpw_table::Moment;
-use krb_der::{
-    Bytes, GeneralString, KRB_ERROR, KerberosTime, KrbError, Microseconds, OctetString, PVNO,
-};
-use krb_msgs::{make_error, service_name};
+use krb_der::{Bytes, KRB_ERROR, KerberosTime, KrbError, Microseconds, OctetString, PVNO, Refusal};
+use krb_msgs::{copied, make_error, service_name};
 use std::alloc::{AllocError, Global};
 
 /// A result code, high byte first, and a text (RFC 3244 section 2).
@@ -25,7 +22,7 @@ pub(crate) fn user_data(alloc: Global, code: u16, text: &str) -> Result<OctetStr
 }
 
 /// The KRB-ERROR of this refusal.
-fn error_of(
+fn krb_error(
     alloc: Global,
     realm: &[u8],
     refusal: Refusal,
@@ -43,17 +40,11 @@ fn error_of(
         error_code: refusal.error,
         crealm: None,
         cname: None,
-        realm: realm_of(alloc, realm)?,
+        realm: copied(alloc, realm)?,
         sname: service_name(alloc)?,
         e_text: None,
         e_data: Some(user_data(alloc, refusal.code, refusal.text)?),
     })
-}
-
-fn realm_of(alloc: Global, realm: &[u8]) -> Result<GeneralString, AllocError>
-    ensures value { IfOk result (λ r. r ≡ realm.now) }
-{
-    Ok(Bytes::of(Vec::from_slice(alloc, realm)?))
 }
 
 /// The reply of a realm of 1 to 255 bytes.
@@ -69,7 +60,7 @@ pub(crate) fn error_reply(
     ensures frame { IfOk result (λ bytes. bytes.items ≡ error_frame realm.now (answer_in refusal) now) }
     ensures fits { IfOk result (λ bytes. length bytes.items ≤ 65535) }
 {
-    let error = error_of(alloc, realm, refusal, now)?;
+    let error = krb_error(alloc, realm, refusal, now)?;
     let message = make_error(alloc, &error)?;
     join_reply(alloc, &[], &message)
 }

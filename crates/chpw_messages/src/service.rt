@@ -10,9 +10,10 @@ ghost use Rattle.chpw_messages.specs.Service.{configured, held};
 use crate::opening::open_message;
 use crate::private_reply::private_reply;
 use crate::replies::error_reply;
-use chpw_answer::{Messages, Opening, Refusal, Seal};
+use chpw_answer::{Messages, OpensTo, Seal};
 use chpw_rules::{Config, Items, ServiceRow};
 use chpw_table::Moment;
+use krb_der::Refusal;
 use krb_keys::{BadKey, Key, key_of};
 use krb_msgs::ServiceKey;
 use std::alloc::{AllocError, Global};
@@ -88,10 +89,10 @@ fn service_key(row: &ServiceRow) -> ServiceKey
 }
 
 impl Messages for Service {
-    ghost use Rattle.chpw_messages.specs.Opening.{OpensTo};
+    ghost use Rattle.chpw_messages.specs.Opening as opening;
     ghost use Rattle.chpw_messages.specs.Replies.{error_frame as krb_error_reply, private_frame as krb_priv_reply};
 
-    ghost opens = { λ s peer bytes o. OpensTo s.realm s.keys peer bytes o };
+    ghost opens = { λ s peer bytes o. opening.OpensTo s.realm s.keys peer bytes o };
 
     ghost error_frame = { λ s a now. krb_error_reply s.realm a now };
 
@@ -103,7 +104,7 @@ impl Messages for Service {
         self.realm.as_slice()
     }
 
-    fn open(&self, alloc: Global, peer: [u8; 4], message: &[u8]) -> Result<Opening, AllocError> {
+    fn open(&self, alloc: Global, peer: [u8; 4], message: &[u8]) -> Result<OpensTo, AllocError> {
         open_message(alloc, self.realm.as_slice(), &self.keys, peer, message)
     }
 

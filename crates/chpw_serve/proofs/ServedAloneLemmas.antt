@@ -18,7 +18,7 @@ use Rattle.chpw_answer.specs.Answers.{IsAnswer}
 use Rattle.chpw_serve.specs.declared.serving.Ended.{Ended}
 use Rattle.chpw_serve.specs.declared.serving.Ended.TheVariants as end
 use Rattle.chpw_serve.specs.Draws.{Drawn}
-use Rattle.chpw_serve.specs.Serving.{StreamState, Around, Turn, Refuses, IsEnd, IsServed, message_too_long}
+use Rattle.chpw_serve.specs.Serving.{StreamState, Around, Turn, Refuses, IsEnd, IsServed, TakesAtMostOne, message_too_long}
 use Rattle.chpw_serve.specs.StreamReplies.{Draw, Run, written_for, replies}
 use Rattle.chpw_serve.specs.ServedAlone.{AnsweringAlone, AddsOneAlone, run_of, IsDrawnFor, AreDrawnFor, left_behind, IsEndOf, Leaves, Writes, HasDrawn, AreReceipts, AreMore, IsServedAlone}
 use Rattle.chpw_serve.proofs.ChainLemmas.{took, moments_of, words_of, opening_stays, Chain, turn_of, first, drawn_first, chain}
@@ -156,7 +156,7 @@ module _ {C X : Type 0} (error_frame : Answer → Moment → List ℕ) (private_
         tt (subst (λ (o : Option (List ℕ)). ConsumesSome o final.left) w.left h.0) (clock_now final.around h.1.0) (words_now final.around h.1.0) (out_now final.around.out (ap (λ (a : Around C X). a.out) h.1.0))
     ends end.Memory (less, h) =
         close end.Memory [] [] h.1.0.0 (omega (arith, less)) tt refl (h.1.0.1 ∙ ap (λ (rs : List Receipt). rs ++ h.1.0.0) (sym (append-nil last.decider.receipts))) h.1.0.2
-        tt tt (last.around.clock, clock_now last.around refl) (last.around.words, words_now last.around refl) (out_now final.around.out h.0)
+        tt (subst (λ (o : Option (List ℕ)). TakesAtMostOne o final.left) w.left h.2) (last.around.clock, clock_now last.around refl) (last.around.words, words_now last.around refl) (out_now final.around.out h.0)
     ends end.Count h =
         let around : final.around ≡ last.around = ap (λ (p : StreamState C X Kept). p.around) h.1 in
         let count = w.count [] in

@@ -49,7 +49,7 @@ module _ {C X D : Type 0} (answers : List ℕ → List ℕ → Moment → D → 
       → EndsBy answers adds refusal moments random e now final
   too_long_ends now final end.TooLong h r same a = (h, r, same)
   too_long_ends now final end.WriteFault h r same a = inr (h, r, same)
-  too_long_ends now final end.Memory h r same a = (r, a)
+  too_long_ends now final end.Memory h r same a = (r, a, inr (too_long, h))
   too_long_ends now final end.Input h r same a = absurd r
   too_long_ends now final end.CutOff h r same a = absurd r
   too_long_ends now final end.ReadFault h r same a = absurd r

@@ -17,7 +17,7 @@ use Rattle.chpw_answer.specs.Answers.{Answering, AddsOne}
 use Rattle.chpw_serve.specs.declared.serving.Ended.{Ended}
 use Rattle.chpw_serve.specs.declared.serving.Ended.TheVariants as end
 use Rattle.chpw_serve.specs.Draws.{Drawn}
-use Rattle.chpw_serve.specs.Serving.{StreamState, message_too_long}
+use Rattle.chpw_serve.specs.Serving.{StreamState, TakesAtMostOne, message_too_long}
 use Rattle.chpw_serve.specs.StreamReplies.{Draw, Run, verdict_of, is_full, run_after, replies}
 
 -- what a message is answered by a table that one thread has alone
@@ -75,7 +75,7 @@ abbrev pub Leaves : Ended → List ℕ → Option (List ℕ) → Type 0
 Leaves end.Input rest left = left ≡ Some []
 Leaves end.CutOff rest left = left ≡ Some []
 Leaves end.ReadFault rest left = ConsumesSome (Some rest) left
-Leaves end.Memory rest left = Unit {0}
+Leaves end.Memory rest left = TakesAtMostOne (Some rest) left
 Leaves _ rest left = left ≡ Some rest
 
 -- the bytes written grew by these; after a failed write by some of them, from the front

@@ -2,8 +2,8 @@
 use Rattle.std.specs.Prelude.{◌≡◌, ℕ, ◌<◌, List, length, Option, ◌⊎◌, codes}
 use Rattle.std.specs.Io.KnownBytes.{Appends}
 use Rattle.krb_der.specs.declared.codes.TheConstants.{KRB5_KPASSWD_MALFORMED, KRB_ERR_FIELD_TOOLONG}
-use Rattle.chpw_frame.specs.Stream.{message, ended, cut_off, too_long, sent}
-use Rattle.chpw_frame.specs.Receiving.{TakesPiece, ConsumesSome, AppendsFront}
+use Rattle.chpw_frame.specs.Stream.{Piece, message, ended, cut_off, too_long, sent}
+use Rattle.chpw_frame.specs.Receiving.{TakesPiece, TakesLength, ConsumesSome, AppendsFront}
 use Rattle.chpw_table.specs.declared.times.Moment.{Moment}
 use Rattle.chpw_table.specs.Replies.{Answer, by_error}
 use Rattle.chpw_serve.specs.declared.serving.Ended.{Ended}
@@ -51,6 +51,10 @@ IsRefused refusal moments random end.WriteFault before after = (bytes : List ℕ
 IsRefused refusal moments random end.Memory before after = after.out ≡ before.out
 IsRefused refusal moments random _ before after = ⊥
 
+-- where memory ran out known bytes lose the length of a message, or a whole piece
+abbrev pub TakesAtMostOne : Option (List ℕ) → Option (List ℕ) → Type 0
+TakesAtMostOne old new = TakesLength old new ⊎ ((p : Piece) × TakesPiece p old new)
+
 module _ {C X D : Type 0} (answers : List ℕ → List ℕ → Moment → D → D → List ℕ → Type 0) (adds : D → D → Type 0) (refusal : Moment → List ℕ) (moments : C → Moment → C → Type 0) (random : X → ℕ → X → Type 0) where
   -- the turn's reply answers its message
   pub record Answers (before : StreamState C X D) (t : Turn) (after : StreamState C X D) : Type 0 where
@@ -80,6 +84,7 @@ module _ {C X D : Type 0} (answers : List ℕ → List ℕ → Moment → D → 
       ⊎ (TakesPiece too_long before.left after.left
       × IsRefused refusal moments random end.WriteFault before.around after.around × (after.decider ≡ before.decider))
   EndsBy end.Memory before after = (after.around.out ≡ before.around.out) × adds before.decider after.decider
+      × TakesAtMostOne before.left after.left
   EndsBy end.Count before after = ⊥
 
   -- the end after so many turns; behind the last there is none

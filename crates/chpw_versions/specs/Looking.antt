@@ -16,7 +16,8 @@ pub record LooksUp (opening : Held) (mine more : Known) (name : Name) (found : O
   pub after : IsPrefix mine.told more.seen
   -- it shows what the opening and that list show of the name
   pub shown : found ≡ lookup_after opening more.seen name
-  -- never an older version than a lookup after a beginning of that list showed
+  -- Whatever version a beginning of that list shows of the name, it shows that one or a later one. So no
+  -- lookup shows an older version than one before it.
   pub rises : (before : List KeyChange) → IsPrefix before more.seen →
       IfSome (lookup_after opening before name) (λ earlier. IsSomeAnd found (λ now. earlier.kvno ≤ now.kvno))
   -- its iteration counts are at least 1

@@ -1,11 +1,11 @@
 //! The published rows.
-ghost use Rattle.std.specs.Prelude.{◌≡◌, ◌≤◌, ◌+◌, ◌∷◌, ◌++◌, length, All, IfSome, take, find, position, option_map, option_copied};
+ghost use Rattle.std.specs.Prelude.{◌≡◌, ◌≤◌, ◌∷◌, All, IfSome, take, find, position, option_map, option_copied};
 ghost use Rattle.chpw_rules.specs.Names.{is_same_name};
 ghost use Rattle.chpw_versions.specs.Rows.{changed_at, changed_row, rows_after, row_shown, shown_in, lookup_with, IsPositive};
 
 use chpw_fronts::NumberedChange;
 use chpw_rules::Name;
-use chpw_table::{Counts, Lookup};
+use chpw_table::{Counts, Lookup, newest};
 use std::marker::Model;
 
 /// What is published of a principal. Its size is fixed, so that a change takes no memory.
@@ -134,7 +134,7 @@ fn with_front(count: u32, held: &[u32], kept: usize) -> Counts
 {
     let mut counts = Counts::new();
     let _ = counts.push(count);
-    extend(&mut counts, newest(held, kept - 1));
+    counts.extend(newest(held, kept - 1));
     counts
 }
 
@@ -142,28 +142,6 @@ fn copied(counts: &Counts) -> Counts
     ensures value { result ≡ counts.now }
 {
     let mut copy = Counts::new();
-    extend(&mut copy, counts.as_slice());
+    copy.extend(counts.as_slice());
     copy
-}
-
-// Puts counts at the end.
-fn extend(counts: &mut Counts, more: &[u32])
-    requires room { length counts.old + length more.now ≤ 17 }
-    ensures value { counts.new ≡ counts.old ++ more.now }
-{
-    for count in more {
-        let _ = counts.push(*count);
-    }
-}
-
-// The first, as many; all, where they are fewer.
-fn newest(counts: &[u32], kept: usize) -> &[u32]
-    ensures value { result.now ≡ take kept counts.now }
-    ensures few { length result.now ≤ kept }
-{
-    if kept < counts.len() {
-        &counts[..kept]
-    } else {
-        counts
-    }
 }

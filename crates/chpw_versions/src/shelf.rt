@@ -8,7 +8,7 @@ ghost use Rattle.chpw_versions.specs.Rising.{IsNextVersion};
 use crate::place::Place;
 use crate::rows::Rows;
 use crate::version::{Operation, Version};
-use crate::view::{Learns, Publishes, Settles, Tells, VersionWriter};
+use crate::view::{HandsOn, Learns, Publishes, Settles, VersionWriter};
 use chpw_fronts::{Front, Keeper, ListName, Mark, NumberedChange};
 use chpw_rules::Name;
 use left_right::writer::Writer;
@@ -85,7 +85,7 @@ impl<D: ListName> Shelf<D> {
         };
         match writer.factory().reader() {
             Ok(mut reader) => {
-                reader.learn::<Learns>(writer.tell::<Tells>());
+                reader.learn::<Learns>(writer.tell::<HandsOn>());
                 let shown = writer.published().shown();
                 put_back(&mut self.writer, writer);
                 Ok(Place::over(reader, shown, self.keeper.front()))

@@ -35,9 +35,9 @@ pub(crate) type VersionReader = Reader<Version, View, Ruled>;
 pub(crate) type VersionWriter = Writer<Version, Operation, View, Ruled>;
 
 // A reader enters.
-pub(crate) struct Looks;
+pub(crate) struct Enters;
 
-impl Outcome<Version, View> for Looks {
+impl Outcome<Version, View> for Enters {
     ghost use Rattle.chpw_versions.specs.Following.{Looked};
 
     ghost then = { Looked };
@@ -62,9 +62,9 @@ impl Outcome<Version, View> for Settles {
 }
 
 // The writer hands its view on.
-pub(crate) struct Tells;
+pub(crate) struct HandsOn;
 
-impl Split<View> for Tells {
+impl Split<View> for HandsOn {
     ghost left = { λ v. v };
 
     ghost right = { λ v. v };

@@ -16,31 +16,27 @@ mod change;
 mod framing;
 mod streams;
 
+use case_lines::{Answers, print_answers};
 use std::alloc::Global;
-use std::io::{self, BufRead, BufReader, BufWriter, Write};
+use std::io;
 
-fn main(rt: HostRuntime) -> io::Result<()> {
-    let alloc = rt.alloc();
-    let mut out = BufWriter::new(alloc, io::writer(&rt))?;
-    for line in BufReader::new(alloc, rt.reader())?.lines(alloc) {
-        let answer = answer(alloc, line?.as_str())?;
-        writeln!(out, "{answer}")?;
+#[derive(Drop)]
+struct Cases;
+
+impl Answers for Cases {
+    fn answer(&mut self, alloc: Global, case: &str) -> io::Result<String> {
+        let (kind, text) = case.split_once(' ').unwrap_or((case, ""));
+        match kind {
+            "request" => framing::request(alloc, text),
+            "reply" => framing::reply(alloc, text),
+            "join-request" => framing::joined_request(alloc, text),
+            "join-reply" => framing::joined_reply(alloc, text),
+            "change" => change::answer(alloc, text),
+            _ => streams::answer(alloc, kind, text),
+        }
     }
-    out.flush()
 }
 
-/// The answer to a line.
-fn answer(alloc: Global, line: &str) -> io::Result<String> {
-    if line.is_empty() || line.starts_with('#') {
-        return Ok(String::from_str(alloc, line)?);
-    }
-    let (kind, text) = line.split_once(' ').unwrap_or((line, ""));
-    match kind {
-        "request" => framing::request(alloc, text),
-        "reply" => framing::reply(alloc, text),
-        "join-request" => framing::joined_request(alloc, text),
-        "join-reply" => framing::joined_reply(alloc, text),
-        "change" => change::answer(alloc, text),
-        _ => streams::answer(alloc, kind, text),
-    }
+fn main(rt: HostRuntime) -> io::Result<()> {
+    print_answers(&rt, &mut Cases)
 }

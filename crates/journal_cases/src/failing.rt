@@ -1,17 +1,12 @@
 //! Changes decided over a journal in memory that fails, and what is restored from what it holds.
-use crate::realm::{principal_name, table, versions};
+use crate::realm::{table, versions};
 use crate::refusal::Refusal;
 use crate::restoring::restored;
 use chpw_journal::MemorySink;
-use chpw_rules::Items;
-use chpw_table::{Body, Digest, JournalSink, Moment, Opened, Outcome, Table};
+use chpw_table::{Digest, JournalSink, Opened, Outcome, Table};
 use krb_keys::Key;
 use std::alloc::Global;
-
-const NOW: Moment = Moment {
-    seconds: 1000,
-    micros: 0,
-};
+use test_realm::{NOW, name};
 
 /// What is answered to the changes of a case, `SINK: NAME PASSWORD, ..`, and restored after them.
 pub fn decided(alloc: Global, case: &str) -> Result<String, Refusal> {
@@ -47,25 +42,11 @@ fn sink_of(alloc: Global, words: &str) -> Result<MemorySink, Refusal> {
 /// The request of a principal for a password of its own: the password of this number has keys of as
 /// many such bytes, and 161 is that of the keys held at the start.
 fn request(alloc: Global, change: &str, cusec: u32) -> Result<Opened, Refusal> {
-    let (name, password) = change.split_once(' ').ok_or(Refusal::NoSuchCase)?;
+    let (client, password) = change.split_once(' ').ok_or(Refusal::NoSuchCase)?;
     let byte = u8::try_from(number(password)?).map_err(|_| Refusal::NoSuchCase)?;
     let keys = (4096, Key::Aes128([byte; 16]), Key::Aes256([byte; 32]));
     let digest = Digest::of(9, 4, vec![in alloc; keys]?).ok_or(Refusal::NoSuchCase)?;
-    Ok(Opened {
-        crealm: Items::of(Vec::from_slice(alloc, b"EXAMPLE.COM")?),
-        client: principal_name(alloc, name)?,
-        initial: true,
-        invalid: false,
-        starts: 0,
-        ends: 9000,
-        ctime: 1000,
-        cusec,
-        stamp: None,
-        body: Body::Ask {
-            target: None,
-            digest,
-        },
-    })
+    Ok(test_realm::change(alloc, name(alloc, client)?, cusec, digest)?)
 }
 
 fn decide(table: &mut Table, sink: &mut MemorySink, opened: Opened) -> Result<Outcome, Refusal> {

@@ -11,6 +11,7 @@ mod realm;
 mod refusal;
 mod restoring;
 
+use case_lines::{Answers, print_answers};
 use chpw_journal::{OpenFault, open_journal};
 use failing::decided;
 use journal::journal_of;
@@ -18,8 +19,8 @@ use realm::table;
 use refusal::Refusal;
 use restoring::restored;
 use std::alloc::Global;
-use std::fs::{File, Files};
-use std::{fs, io};
+use std::fs::{self, File, Files};
+use std::io::{self, Error, ErrorKind};
 
 /// Where a journal stands that is opened as a file.
 const SCRATCH: &str = "scratch-journal";
@@ -58,23 +59,21 @@ fn answer<R: Files<File = File> + AllocGlobal>(
     }
 }
 
-fn print_answer<R>(rt: &R, line: &str) -> io::Result<()>
-where
-    R: Files<File = File> + Print + AllocGlobal,
-{
-    if line.is_empty() || line.starts_with('#') {
-        return rt.println(line);
-    }
-    match answer(rt, rt.alloc(), line) {
-        Ok(text) => rt.println(&text),
-        Err(Refusal::Memory) => Err(io::Error::from(io::ErrorKind::OutOfMemory)),
-        Err(refusal) => println!(rt; "refused: {refusal}"),
+#[derive(Drop)]
+struct Cases<'a, R: Files<File = File>> {
+    rt: &'a R,
+}
+
+impl<R: Files<File = File> + AllocGlobal> Answers for Cases<'_, R> {
+    fn answer(&mut self, alloc: Global, case: &str) -> io::Result<String> {
+        match answer(self.rt, alloc, case) {
+            Ok(text) => Ok(text),
+            Err(Refusal::Memory) => Err(Error::from(ErrorKind::OutOfMemory)),
+            Err(refusal) => Ok(format!(in alloc; "refused: {refusal}")?),
+        }
     }
 }
 
 fn main(rt: HostRuntime) -> io::Result<()> {
-    for line in rt.lines(rt.alloc()) {
-        print_answer(&rt, line?.as_str())?;
-    }
-    Ok(())
+    print_answers(&rt, &mut Cases { rt: &rt })
 }

@@ -8,3 +8,5 @@ pub mod InverseLemmas
 pub mod UniqueLemmas
 pub mod OneAnswerLemmas
 pub mod ReplyFittingLemmas
+pub mod WordLemmas
+pub mod AlikeLemmas

@@ -106,7 +106,7 @@ key_of_is_key number bytes key are h = elim (same_or_not (int_eq number (pos 17)
   ]
 ]
 
-found_is_key : (test : ServiceKey → Bool) (keys : List ServiceKey) (key : Key) → AreProtocolKeys keys
+pub found_is_key : (test : ServiceKey → Bool) (keys : List ServiceKey) (key : Key) → AreProtocolKeys keys
     → option_map (λ (k : ServiceKey). k.key) (find test keys) ≡ Some key → IsProtocolKey key
 found_is_key test [] key are h = absurd (search (rules, h))
 found_is_key test (k ∷ ks) key are h = elim (same_or_not (test k)) [
@@ -136,13 +136,13 @@ presented_is_key realm keys bytes presented are h =
     subst (λ (p : ApReq × Key). IsProtocolKey p.1) (sym (ok_is presented (request.0, key.0) key.2))
     (found_is_key _ keys key.0 are key.1)
 
-one_ticket : (key : Key) (sealed : EncryptedData) → IsProtocolKey key → IsOne (OpensTicket key sealed)
+pub one_ticket : (key : Key) (sealed : EncryptedData) → IsProtocolKey key → IsOne (OpensTicket key sealed)
 unfolding OpensTicket
 one_ticket key sealed is_key =
     one_then _ _ (one_part enc_ticket_part enc_ticket_part_value key _ sealed _ _ refl ticket_part_apart is_key) (λ part _.
     one_found _ _ _ (one_some (key_of part.key.keytype part.key.keyvalue)) (λ session _. one_passed (part, session)))
 
-session_is_key : (key : Key) (sealed : EncryptedData) (ticket : EncTicketPart × Key)
+pub session_is_key : (key : Key) (sealed : EncryptedData) (ticket : EncTicketPart × Key)
     → OpensTicket key sealed (Ok ticket) → IsProtocolKey ticket.1
 unfolding OpensTicket
 session_is_key key sealed ticket h =
@@ -158,13 +158,13 @@ session_is_key key sealed ticket h =
     subst (λ (p : EncTicketPart × Key). IsProtocolKey p.1) (sym (ok_is ticket (opens.0, session.0) session.2))
     (key_of_is_key opens.0.key.keytype opens.0.key.keyvalue session.0 field_bytes session.1)
 
-one_authenticator : (session : Key) (sealed : EncryptedData) → IsProtocolKey session → IsOne (OpensAuthenticator session sealed)
+pub one_authenticator : (session : Key) (sealed : EncryptedData) → IsProtocolKey session → IsOne (OpensAuthenticator session sealed)
 unfolding OpensAuthenticator
 one_authenticator session sealed is_key =
     one_then _ _ (one_part authenticator authenticator_value session _ sealed _ _ refl authenticator_apart is_key) (λ a _.
     one_held _ _ _ (one_passed a))
 
-one_accepted : (peer : List ℕ) (part : EncTicketPart) (session : Key) (a : Authenticator) → IsOne (Accepts peer part session a)
+pub one_accepted : (peer : List ℕ) (part : EncTicketPart) (session : Key) (a : Authenticator) → IsOne (Accepts peer part session a)
 unfolding Accepts
 one_accepted peer part session a =
     one_held _ _ _ (one_held _ _ _ (one_found _ _ _ (one_subkey a.subkey) (λ subkey _. one_passed (opened_of part session a subkey))))

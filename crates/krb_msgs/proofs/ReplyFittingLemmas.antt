@@ -8,7 +8,8 @@ use Rattle.krb_der.specs.Types.{enc_ap_rep_part, enc_krb_priv_part, krb_error}
 use Rattle.krb_der.specs.Values.{enc_ap_rep_part_value, enc_krb_priv_part_value, krb_error_value}
 use Rattle.krb_msgs.specs.Fitting.{longest_part}
 use Rattle.krb_msgs.specs.Lengths.{longest}
-use Rattle.krb_msgs.specs.ReplyFitting.{ApRepPartsFit, ErrorsFit, IsShort, PrivPartsFit, ap_rep_part_of, error_of, priv_part_of}
+use Rattle.krb_msgs.specs.Making.{ap_rep_part_of, error_of, priv_part_of}
+use Rattle.krb_msgs.specs.ReplyFitting.{ApRepPartsFit, ErrorsFit, IsShort, PrivPartsFit}
 use Rattle.krb_msgs.proofs.LengthLemmas.{short_texts_fit, texts_are_short}
 
 short_part : (s : Shape) (v : Value s) → is_in_range s v ≡ true → longest s v ≤ longest_part → IsShort s v
@@ -25,8 +26,8 @@ ap_rep_parts_fit ctime cusec number moment lt =
     (and_both moment.0 (and_both moment.1 (and_both (number_range number lt) refl))) (omega arith)
 
 pub priv_parts_fit : PrivPartsFit
-priv_parts_fit user_data number address lt le =
-    short_part enc_krb_priv_part (enc_krb_priv_part_value (priv_part_of user_data number address))
+priv_parts_fit user_data number lt le =
+    short_part enc_krb_priv_part (enc_krb_priv_part_value (priv_part_of user_data number))
     (and_both (number_range number lt) refl) (omega (arith, le))
 
 error_short : (v : Value krb_error) → is_in_range krb_error v ≡ true → longest krb_error v ≤ longest_text → fits krb_error v ≡ true

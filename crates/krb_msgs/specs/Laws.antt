@@ -1,20 +1,27 @@
--- What is made of a request opens to it, whatever is left open: confounders, the kvnos of
--- authenticator and KRB-PRIV, name-types.
-use Rattle.std.specs.Prelude.{◌≡◌, ℕ, true, List, length, Option, Ok}
+-- What is made of a request or a reply opens to it, whatever is left open: confounders, the kvnos
+-- of authenticator and KRB-PRIV, name-types.
+use Rattle.std.specs.Prelude.{◌≡◌, ◌<◌, ◌^◌, ℕ, true, List, [], ◌++◌, length, Option, Some, None, Ok}
+use Rattle.std.specs.Int.{to_be_bytes, w16}
 use Rattle.krb_aes.specs.Bytes.{AreBytes}
 use Rattle.krb_keys.specs.declared.key.Key.{Key}
-use Rattle.krb_keys.specs.KeyUsages.{usage_ticket, usage_ap_req_authenticator, usage_krb_priv}
+use Rattle.krb_keys.specs.KeyUsages.{usage_ticket, usage_ap_req_authenticator, usage_ap_rep_enc_part, usage_krb_priv}
 use Rattle.krb_elements.specs.Shapes.{Shape, Value}
+use Rattle.krb_elements.specs.Grammar.{Spells}
 use Rattle.krb_elements.specs.Texts.{text, fits}
 use Rattle.krb_der.specs.Protocol as protocol
-use Rattle.krb_der.specs.Types.{ap_req, enc_ticket_part, authenticator, krb_priv, enc_krb_priv_part}
-use Rattle.krb_der.specs.Values.{ap_req_value, enc_ticket_part_value, authenticator_value, krb_priv_value, enc_krb_priv_part_value}
+use Rattle.krb_der.specs.Types.{ap_req, ap_rep, enc_ticket_part, authenticator, enc_ap_rep_part, krb_priv, enc_krb_priv_part, krb_error}
+use Rattle.krb_der.specs.Values.{ap_req_value, ap_rep_value, enc_ticket_part_value, authenticator_value, enc_ap_rep_part_value, krb_priv_value, enc_krb_priv_part_value, krb_error_value}
 use Rattle.krb_der.specs.declared.ap_req.ApReq.{ApReq}
 use Rattle.krb_der.specs.declared.encrypted_data.EncryptedData.{EncryptedData}
 use Rattle.krb_der.specs.declared.enc_ticket_part.EncTicketPart.{EncTicketPart}
 use Rattle.krb_der.specs.declared.authenticator.Authenticator.{Authenticator}
 use Rattle.krb_der.specs.declared.krb_priv.KrbPriv.{KrbPriv}
 use Rattle.krb_der.specs.declared.krb_priv.EncKrbPrivPart.{EncKrbPrivPart}
+use Rattle.krb_der.specs.declared.ap_rep.ApRep.{ApRep}
+use Rattle.krb_der.specs.declared.ap_rep.EncApRepPart.{EncApRepPart}
+use Rattle.krb_der.specs.declared.krb_error.KrbError.{KrbError}
+use Rattle.krb_elements.specs.declared.kerberos_time.KerberosTime.{KerberosTime}
+use Rattle.krb_elements.specs.declared.numbers.Microseconds.{Microseconds}
 use Rattle.krb_elements.specs.declared.numbers.SeqNumber.{SeqNumber}
 use Rattle.krb_msgs.specs.Parts.{sealed_part}
 use Rattle.krb_msgs.specs.Presented.{HasVersion, IsForUs, IsServiceKey, UsesSessionKey}
@@ -22,6 +29,9 @@ use Rattle.krb_msgs.specs.Tickets.{IsKeyIn}
 use Rattle.krb_msgs.specs.Accepted.{IsSameClient, IsSubkey, MayComeFrom, opened_of}
 use Rattle.krb_msgs.specs.ApExchange.{OpensAp}
 use Rattle.krb_msgs.specs.PrivateMessages.{IsPrivate, MayFollow, OpensPriv, private_of}
+use Rattle.krb_msgs.specs.Replies.{IsApRep, IsKrbError, OpensReply}
+use Rattle.krb_msgs.specs.OneAnswer.{AreProtocolKeys}
+use Rattle.krb_msgs.specs.declared.ap_exchange.ApOpened.{ApOpened}
 use Rattle.krb_msgs.specs.declared.service_keys.ServiceKey.{ServiceKey}
 
 -- a part seals the text of a value that fits, whose bytes are bytes, under a confounder of 16 bytes
@@ -31,30 +41,78 @@ Seals key usage part s v =
     × (length confounder ≡ 16) × AreBytes confounder × (fits s v ≡ true) × AreBytes (text s v)
     × (part ≡ sealed_part key usage kvno confounder (text s v))
 
--- the text of an AP-REQ for this service, whose parts are made of a ticket's and an authenticator's
--- records, opens to what these say
+-- an AP-REQ for this service, made of a ticket's and an authenticator's records (section 3.2.2),
+-- from a peer that may send it
+pub record IsApReq (realm : List ℕ) (keys : List ServiceKey) (peer : List ℕ) (request : ApReq)
+    (part : EncTicketPart) (a : Authenticator) (session subkey : Key) : Type 0 where
+  pub fit : fits ap_req (ap_req_value request) ≡ true
+  pub version : HasVersion request
+  pub message_type : request.msg_type ≡ protocol.krb_ap_req
+  pub own_ticket : UsesSessionKey request → ⊥
+  pub ours : IsForUs realm request.ticket
+  -- the ticket's part, under the service key that is taken
+  pub key : Key
+  pub taken : IsServiceKey keys request.ticket.enc_part key
+  pub ticket : Seals key usage_ticket request.ticket.enc_part enc_ticket_part (enc_ticket_part_value part)
+  -- the authenticator, under the session key
+  pub session_is : IsKeyIn part.key session
+  pub sealed : Seals session usage_ap_req_authenticator request.authenticator
+      authenticator (authenticator_value a)
+  pub sealed_version : a.authenticator_vno ≡ protocol.pvno
+  pub client : IsSameClient part a
+  pub address : MayComeFrom peer part.caddr
+  pub subkey_is : IsSubkey a.subkey subkey
+
+-- its text opens to what the records say
 abbrev pub ApReqsOpen : Type 0
 ApReqsOpen = (realm : List ℕ) (keys : List ServiceKey) (peer : List ℕ) (request : ApReq)
-    (key session subkey : Key) (part : EncTicketPart) (a : Authenticator)
-    → fits ap_req (ap_req_value request) ≡ true
-    → HasVersion request → request.msg_type ≡ protocol.krb_ap_req
-    → (UsesSessionKey request → ⊥)
-    → IsForUs realm request.ticket
-    → IsServiceKey keys request.ticket.enc_part key
-    → Seals key usage_ticket request.ticket.enc_part enc_ticket_part (enc_ticket_part_value part)
-    → IsKeyIn part.key session
-    → Seals session usage_ap_req_authenticator request.authenticator
-    authenticator (authenticator_value a)
-    → a.authenticator_vno ≡ protocol.pvno
-    → IsSameClient part a → MayComeFrom peer part.caddr → IsSubkey a.subkey subkey
+    (part : EncTicketPart) (a : Authenticator) (session subkey : Key)
+    → IsApReq realm keys peer request part a session subkey
     → OpensAp realm keys (text ap_req (ap_req_value request)) peer
     (Ok (opened_of part session a subkey))
 
--- the text of a KRB-PRIV made of a part's record, under the subkey, opens to what that says
+-- a KRB-PRIV under the subkey, made of its part's record (section 3.5.1)
+pub record IsKrbPriv (subkey : Key) (m : KrbPriv) (part : EncKrbPrivPart) : Type 0 where
+  pub fit : fits krb_priv (krb_priv_value m) ≡ true
+  pub private : IsPrivate m
+  pub sealed : Seals subkey usage_krb_priv m.enc_part enc_krb_priv_part (enc_krb_priv_part_value part)
+
+-- its text opens to what the record says, behind an authenticator that it may follow
 abbrev pub PrivsOpen : Type 0
 PrivsOpen = (subkey : Key) (seq_number : Option SeqNumber) (m : KrbPriv) (part : EncKrbPrivPart)
-    → fits krb_priv (krb_priv_value m) ≡ true
-    → IsPrivate m
-    → Seals subkey usage_krb_priv m.enc_part enc_krb_priv_part (enc_krb_priv_part_value part)
-    → MayFollow seq_number part.seq_number
+    → IsKrbPriv subkey m part → MayFollow seq_number part.seq_number
     → OpensPriv subkey seq_number (text krb_priv (krb_priv_value m)) (Ok (private_of part))
+
+-- Of an AP-REQ that opens, only the sealed parts and the service key count: two that share these
+-- open alike, whatever else their bytes say.
+abbrev pub ApReqsOpenAlike : Type 0
+ApReqsOpenAlike = (realm : List ℕ) (keys : List ServiceKey) (peer bytes others : List ℕ) (request other : ApReq)
+    (key : Key) (a b : ApOpened)
+    → AreProtocolKeys keys
+    → Spells ap_req bytes (ap_req_value request) → Spells ap_req others (ap_req_value other)
+    → IsServiceKey keys request.ticket.enc_part key → IsServiceKey keys other.ticket.enc_part key
+    → request.ticket.enc_part.cipher ≡ other.ticket.enc_part.cipher
+    → request.authenticator.cipher ≡ other.authenticator.cipher
+    → OpensAp realm keys bytes peer (Ok a) → OpensAp realm keys others peer (Ok b) → a ≡ b
+
+-- A reply of AP-REP and KRB-PRIV, made of their parts' records, opens to the result code and text of
+-- its user-data, for who sent the authenticator with the time that it repeats.
+abbrev pub RepliesOpen : Type 0
+RepliesOpen = (session subkey : Key) (m : ApRep) (part : EncApRepPart) (private : KrbPriv)
+    (private_part : EncKrbPrivPart) (code : ℕ) (words : List ℕ)
+    → fits ap_rep (ap_rep_value m) ≡ true → IsApRep m
+    → Seals session usage_ap_rep_enc_part m.enc_part enc_ap_rep_part (enc_ap_rep_part_value part)
+    → IsKrbPriv subkey private private_part
+    → code < 2 ^ 16 → private_part.user_data ≡ to_be_bytes w16 code ++ words
+    → OpensReply session subkey part.ctime part.cusec (text ap_rep (ap_rep_value m))
+    (text krb_priv (krb_priv_value private))
+    (Ok (record { code = code; text = words; error = None }))
+
+-- a KRB-ERROR opens to the result code and text of its e-data, and its error code
+abbrev pub ErrorsOpen : Type 0
+ErrorsOpen = (session subkey : Key) (ctime : KerberosTime) (cusec : Microseconds) (m : KrbError)
+    (code : ℕ) (words : List ℕ)
+    → fits krb_error (krb_error_value m) ≡ true → IsKrbError m
+    → code < 2 ^ 16 → m.e_data ≡ Some (to_be_bytes w16 code ++ words)
+    → OpensReply session subkey ctime cusec [] (text krb_error (krb_error_value m))
+    (Ok (record { code = code; text = words; error = Some m.error_code }))

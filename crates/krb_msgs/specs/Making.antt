@@ -1,6 +1,8 @@
--- The messages that are made (RFC 4120 sections 5.3, 5.5, 5.7). A text that is sealed is that of
--- its record.
-use Rattle.std.specs.Prelude.{ℕ, List, Some, None}
+-- The messages that are made (RFC 4120 sections 5.3, 5.5, 5.7, 5.9), and their parts. A text that is
+-- sealed is that of its record.
+use Rattle.std.specs.Prelude.{ℕ, ℤ, List, [], ◌∷◌, Some, None}
+use Rattle.std.specs.List.{flat_map}
+use Rattle.std.specs.Int.{to_le_bytes, w32}
 use Rattle.krb_keys.specs.declared.key.Key.{Key}
 use Rattle.krb_keys.specs.KeyUsages.{usage_ticket, usage_ap_req_authenticator, usage_ap_rep_enc_part, usage_krb_priv}
 use Rattle.krb_elements.specs.Grammar.{Spells}
@@ -17,9 +19,17 @@ use Rattle.krb_der.specs.declared.ap_rep.ApRep.{ApRep}
 use Rattle.krb_der.specs.declared.ap_rep.EncApRepPart.{EncApRepPart}
 use Rattle.krb_der.specs.declared.krb_priv.KrbPriv.{KrbPriv}
 use Rattle.krb_der.specs.declared.krb_priv.EncKrbPrivPart.{EncKrbPrivPart}
+use Rattle.krb_der.specs.declared.host_address.HostAddress.{HostAddress}
+use Rattle.krb_der.specs.declared.krb_error.KrbError.{KrbError}
+use Rattle.krb_elements.specs.declared.kerberos_time.KerberosTime.{KerberosTime}
+use Rattle.krb_elements.specs.declared.numbers.Microseconds.{Microseconds}
 use Rattle.krb_msgs.specs.Parts.{sealed_part}
 use Rattle.krb_msgs.specs.Presented.{change_service}
 use Rattle.krb_msgs.specs.declared.service_keys.ServiceKey.{ServiceKey}
+
+-- random words as bytes, each low byte first: four are a confounder, eight a key
+abbrev pub word_bytes : List ℕ → List ℕ
+word_bytes words = flat_map (to_le_bytes w32) words
 
 -- kadmin/changepw, a service and its instance (section 6.2)
 abbrev pub service_name : PrincipalName
@@ -48,6 +58,15 @@ ap_req_of ticket options a session confounder = record {
       (text authenticator (authenticator_value a));
 }
 
+-- the part of an AP-REP with no subkey
+abbrev pub ap_rep_part_of : KerberosTime → Microseconds → ℕ → EncApRepPart
+ap_rep_part_of ctime cusec number = record {
+  ctime = ctime;
+  cusec = cusec;
+  subkey = None;
+  seq_number = Some (record { 0 = number });
+}
+
 abbrev pub ap_rep_of : EncApRepPart → Key → List ℕ → ApRep
 ap_rep_of part session confounder = record {
   pvno = protocol.pvno;
@@ -56,10 +75,43 @@ ap_rep_of part session confounder = record {
       (text enc_ap_rep_part (enc_ap_rep_part_value part));
 }
 
+-- the address of both ends (section 7.5.3): the service listens on loopback alone
+abbrev pub loopback : HostAddress
+loopback = record { addr_type = protocol.addr_type_ipv4; address = 127 ∷ 0 ∷ 0 ∷ 1 ∷ [] }
+
+-- the part of a KRB-PRIV with no timestamp
+abbrev pub priv_part_of : List ℕ → ℕ → EncKrbPrivPart
+priv_part_of user_data number = record {
+  user_data = user_data;
+  timestamp = None;
+  usec = None;
+  seq_number = Some (record { 0 = number });
+  s_address = loopback;
+  r_address = None;
+}
+
 abbrev pub priv_of : EncKrbPrivPart → Key → List ℕ → KrbPriv
 priv_of part subkey confounder = record {
   pvno = protocol.pvno;
   msg_type = protocol.krb_priv;
   enc_part = sealed_part subkey usage_krb_priv None confounder
       (text enc_krb_priv_part (enc_krb_priv_part_value part));
+}
+
+-- a KRB-ERROR of kadmin/changepw with e-data
+abbrev pub error_of : KerberosTime → Microseconds → ℤ → (realm e_data : List ℕ) → KrbError
+error_of stime susec code realm e_data = record {
+  pvno = protocol.pvno;
+  msg_type = protocol.krb_error;
+  ctime = None;
+  cusec = None;
+  stime = stime;
+  susec = susec;
+  error_code = code;
+  crealm = None;
+  cname = None;
+  realm = realm;
+  sname = service_name;
+  e_text = None;
+  e_data = Some e_data;
 }

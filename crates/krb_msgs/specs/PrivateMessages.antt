@@ -1,4 +1,4 @@
--- What a KRB-PRIV opens to (RFC 4120 section 3.5.1): the checks in their order.
+-- What a KRB-PRIV opens to (RFC 4120 section 3.5.2): the checks in their order.
 use Rattle.std.specs.Prelude.{◌≡◌, ℕ, List, Option, Some, None, Result, option_map}
 use Rattle.krb_keys.specs.declared.key.Key.{Key}
 use Rattle.krb_keys.specs.KeyUsages.{usage_krb_priv}

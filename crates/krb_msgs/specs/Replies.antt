@@ -36,8 +36,8 @@ abbrev pub IsApRep : ApRep → Type 0
 IsApRep m = (m.pvno ≡ protocol.pvno) × (m.msg_type ≡ protocol.krb_ap_rep)
 
 -- time and microseconds are those of the authenticator (RFC 4120 section 3.2.5)
-abbrev pub IsAnswerTo : KerberosTime → Microseconds → EncApRepPart → Type 0
-IsAnswerTo ctime cusec part = (part.ctime ≡ ctime) × (part.cusec ≡ cusec)
+abbrev pub MatchesTime : KerberosTime → Microseconds → EncApRepPart → Type 0
+MatchesTime ctime cusec part = (part.ctime ≡ ctime) × (part.cusec ≡ cusec)
 
 -- the AP-REP is the service's answer to the authenticator with this time
 unfoldable pub OpensApRep : Key → KerberosTime → Microseconds → List ℕ
@@ -47,7 +47,7 @@ OpensApRep session ctime cusec bytes =
     Held (IsApRep m) fault.Mismatch (
     Then (OpensPart enc_ap_rep_part enc_ap_rep_part_value session usage_ap_rep_enc_part m.enc_part
     fault.NotSealed fault.Malformed) (λ (part : EncApRepPart).
-    Held (IsAnswerTo ctime cusec part) fault.Mismatch (
+    Held (MatchesTime ctime cusec part) fault.Mismatch (
     Passed tt))))
 
 -- the KRB-PRIV behind it

@@ -1,10 +1,12 @@
 //! Why a message is refused.
 
 ghost use Rattle.std.specs.Prelude.{◌≡◌};
-ghost use Rattle.krb_msgs.specs.Codes.{refusal_of};
+ghost use Rattle.krb_der.specs.Refusals.{said};
+ghost use Rattle.krb_msgs.specs.Codes.{refusal_of, unauthenticated};
 ghost use Rattle.krb_msgs.specs.declared.fault.OpenError.TheVariants.{Memory};
 
-use crate::codes::{
+use krb_der::Refusal;
+use krb_der::codes::{
     KDC_ERR_ETYPE_NOSUPP, KRB_AP_ERR_BAD_INTEGRITY, KRB_AP_ERR_BADADDR, KRB_AP_ERR_BADKEYVER,
     KRB_AP_ERR_BADMATCH, KRB_AP_ERR_BADVERSION, KRB_AP_ERR_MSG_TYPE, KRB_AP_ERR_NOKEY,
     KRB_AP_ERR_NOT_US, KRB_ERR_GENERIC, KRB5_KPASSWD_AUTHERROR, KRB5_KPASSWD_MALFORMED,
@@ -13,7 +15,7 @@ use std::alloc::AllocError;
 use thiserror::Error;
 
 /// Why an AP-REQ is refused, in the order of the checks. Each has the result code, the error code
-/// and the text of its reply.
+/// and the text of its reply ([`ApFault::refusal`]).
 #[derive(Clone, Copy, Debug, Drop, Error)]
 pub enum ApFault {
     /// The bytes are no AP-REQ, or their ticket's outer part is none: 1, KRB_ERR_GENERIC (60).
@@ -61,44 +63,39 @@ pub enum ApFault {
 }
 
 impl ApFault {
-    /// The result code of the reply (RFC 3244 section 2).
-    pub fn code(self) -> u16
-        ensures value { result ≡ (refusal_of self).code }
+    /// What the message is refused with; the text tells no more than the result code.
+    pub fn refusal(self) -> Refusal
+        ensures value { said result ≡ refusal_of self }
     {
         match self {
-            ApFault::Malformed => KRB5_KPASSWD_MALFORMED,
-            _ => KRB5_KPASSWD_AUTHERROR,
+            ApFault::Malformed => Refusal {
+                code: KRB5_KPASSWD_MALFORMED,
+                error: KRB_ERR_GENERIC,
+                text: "malformed",
+            },
+            ApFault::Version => unauthenticated(KRB_AP_ERR_BADVERSION),
+            ApFault::MessageType => unauthenticated(KRB_AP_ERR_MSG_TYPE),
+            ApFault::UserToUser => unauthenticated(KRB_AP_ERR_NOKEY),
+            ApFault::NotForUs => unauthenticated(KRB_AP_ERR_NOT_US),
+            ApFault::NoServiceKey => unauthenticated(KRB_AP_ERR_BADKEYVER),
+            ApFault::BadTicket => unauthenticated(KRB_AP_ERR_BAD_INTEGRITY),
+            ApFault::BadAuthenticator => unauthenticated(KRB_AP_ERR_BAD_INTEGRITY),
+            ApFault::ClientMismatch => unauthenticated(KRB_AP_ERR_BADMATCH),
+            ApFault::WrongAddress => unauthenticated(KRB_AP_ERR_BADADDR),
+            ApFault::TicketEtype => unauthenticated(KDC_ERR_ETYPE_NOSUPP),
+            ApFault::BadSessionKey => unauthenticated(KDC_ERR_ETYPE_NOSUPP),
+            ApFault::NoSubkey => unauthenticated(KDC_ERR_ETYPE_NOSUPP),
         }
     }
+}
 
-    /// The error code of the reply (RFC 4120 section 7.5.9).
-    pub fn error(self) -> i32
-        ensures value { result ≡ (refusal_of self).error }
-    {
-        match self {
-            ApFault::Malformed => KRB_ERR_GENERIC,
-            ApFault::Version => KRB_AP_ERR_BADVERSION,
-            ApFault::MessageType => KRB_AP_ERR_MSG_TYPE,
-            ApFault::UserToUser => KRB_AP_ERR_NOKEY,
-            ApFault::NotForUs => KRB_AP_ERR_NOT_US,
-            ApFault::NoServiceKey => KRB_AP_ERR_BADKEYVER,
-            ApFault::BadTicket | ApFault::BadAuthenticator => KRB_AP_ERR_BAD_INTEGRITY,
-            ApFault::ClientMismatch => KRB_AP_ERR_BADMATCH,
-            ApFault::WrongAddress => KRB_AP_ERR_BADADDR,
-            ApFault::TicketEtype | ApFault::BadSessionKey | ApFault::NoSubkey => {
-                KDC_ERR_ETYPE_NOSUPP
-            }
-        }
-    }
-
-    /// The text of the reply, which tells no more than the result code.
-    pub fn text(self) -> &'static str
-        ensures value { result.now ≡ (refusal_of self).text }
-    {
-        match self {
-            ApFault::Malformed => "malformed",
-            _ => "authentication failed",
-        }
+fn unauthenticated(error: i32) -> Refusal
+    ensures value { said result ≡ unauthenticated error }
+{
+    Refusal {
+        code: KRB5_KPASSWD_AUTHERROR,
+        error,
+        text: "authentication failed",
     }
 }
 

@@ -1,15 +1,24 @@
 //! Laws of the definitions alone.
 
-ghost use Rattle.krb_msgs.specs.Laws.{ApReqsOpen, PrivsOpen};
+ghost use Rattle.krb_msgs.specs.Laws.{ApReqsOpen, ApReqsOpenAlike, ErrorsOpen, PrivsOpen, RepliesOpen};
 ghost use Rattle.krb_msgs.specs.OneAnswer.{ApReqsOpenOnce, PrivsOpenOnce, RepliesOpenOnce};
 ghost use Rattle.krb_msgs.specs.Lengths.{ShortTextsFit, TextsAreShort};
 ghost use Rattle.krb_msgs.specs.ReplyFitting.{ApRepPartsFit, ErrorsFit, PrivPartsFit};
 ghost use Rattle.krb_msgs.specs.Fitting.{ApRepsFit, ApReqsFit, OpenedTimesFit, PrivsFit, TicketsAreShort, TicketsFit};
 
-/// What is made of a request opens to that request.
+/// What is made of a request opens to that request, and what is made of a reply to its result code,
+/// text and error code.
 pub fn openings()
     ensures ap_req { ApReqsOpen }
     ensures krb_priv { PrivsOpen }
+    ensures reply { RepliesOpen }
+    ensures krb_error { ErrorsOpen }
+{}
+
+/// Two AP-REQs that share their sealed parts and the service key open alike, where both open: so
+/// what stands in the clear can make one a fault, and no other request.
+pub fn sealed_parts()
+    ensures ap_req { ApReqsOpenAlike }
 {}
 
 /// A message opens to one answer, so what a call answers is all that its relation allows.

@@ -5,7 +5,7 @@
 mod accepting;
 mod ap_exchange;
 mod authenticators;
-mod codes;
+mod contents;
 mod fault;
 pub mod laws;
 mod making;
@@ -18,13 +18,9 @@ mod service_keys;
 mod tickets;
 
 pub use ap_exchange::{ApOpened, open_ap};
-pub use codes::{
-    KDC_ERR_ETYPE_NOSUPP, KRB_AP_ERR_BAD_INTEGRITY, KRB_AP_ERR_BADADDR, KRB_AP_ERR_BADKEYVER,
-    KRB_AP_ERR_BADMATCH, KRB_AP_ERR_BADVERSION, KRB_AP_ERR_MSG_TYPE, KRB_AP_ERR_NOKEY,
-    KRB_AP_ERR_NOT_US, KRB_ERR_GENERIC, KRB5_KPASSWD_AUTHERROR, KRB5_KPASSWD_MALFORMED,
-};
+pub use contents::{copied, priv_part, service_name, word_bytes};
 pub use fault::{ApFault, OpenError, PrivFault, ReplyFault};
-pub use making::{make_ap_rep, make_ap_req, make_error, make_priv, make_ticket, service_name};
+pub use making::{make_ap_rep, make_ap_req, make_error, make_priv, make_ticket};
 pub use private_message::{Private, open_priv};
 pub use reply::{Reply, read_reply};
 pub use service_keys::ServiceKey;

@@ -7,40 +7,21 @@ ghost use Rattle.krb_der.specs.Types as types;
 ghost use Rattle.krb_der.specs.Types.{enc_ap_rep_part, enc_krb_priv_part, enc_ticket_part, krb_error};
 ghost use Rattle.krb_der.specs.Values.{ap_rep_value, ap_req_value, authenticator_value, enc_ap_rep_part_value, enc_krb_priv_part_value, enc_ticket_part_value, krb_error_value, krb_priv_value, ticket_value};
 ghost use Rattle.krb_der.specs.declared.ticket.Ticket.{Ticket};
-ghost use Rattle.krb_msgs.specs.Making.{SpellsTicket, ap_rep_of, ap_req_of, priv_of, service_name, ticket_of};
+ghost use Rattle.krb_msgs.specs.Making.{SpellsTicket, ap_rep_of, ap_req_of, priv_of, ticket_of};
 
+use crate::contents::{copied, service_name};
 use crate::sealed_part::seal_part;
 use crate::service_keys::ServiceKey;
 use krb_der::{
-    ApRep, ApReq, Authenticator, Bytes, EncApRepPart, EncKrbPrivPart, EncTicketPart, GeneralString,
-    KRB_AP_REP, KRB_AP_REQ, KRB_PRIV, KerberosFlags, KrbError, KrbPriv, NT_SRV_INST, PVNO,
-    PrincipalName, ReadError, SequenceOf, Ticket, read_ticket, write_ap_rep, write_ap_req,
-    write_krb_error, write_krb_priv, write_ticket,
+    ApRep, ApReq, Authenticator, EncApRepPart, EncKrbPrivPart, EncTicketPart, KRB_AP_REP,
+    KRB_AP_REQ, KRB_PRIV, KerberosFlags, KrbError, KrbPriv, PVNO, ReadError, Ticket, read_ticket,
+    write_ap_rep, write_ap_req, write_krb_error, write_krb_priv, write_ticket,
 };
 use krb_keys::{
     CONFOUNDER_LEN, Key, USAGE_AP_REP_ENC_PART, USAGE_AP_REQ_AUTHENTICATOR, USAGE_KRB_PRIV,
     USAGE_TICKET,
 };
 use std::alloc::{AllocError, Global};
-
-fn component(alloc: Global, text: &[u8]) -> Result<GeneralString, AllocError>
-    ensures { IfOk result (λ c. c ≡ text.now) }
-{
-    Ok(Bytes::of(Vec::from_slice(alloc, text)?))
-}
-
-/// The name kadmin/changepw (RFC 3244 section 2).
-pub fn service_name(alloc: Global) -> Result<PrincipalName, AllocError>
-    ensures { IfOk result (λ n. n ≡ service_name) }
-{
-    let mut components = Vec::with_capacity(alloc, 2)?;
-    components.push(component(alloc, b"kadmin")?)?;
-    components.push(component(alloc, b"changepw")?)?;
-    Ok(PrincipalName {
-        name_type: NT_SRV_INST,
-        name_string: SequenceOf::of(components),
-    })
-}
 
 /// A ticket of a realm's kadmin/changepw with this part, sealed under the service's key (RFC 4120
 /// section 5.3).
@@ -60,7 +41,7 @@ pub fn make_ticket(
     let kvno = Some(service.kvno);
     let ticket = Ticket {
         tkt_vno: PVNO,
-        realm: component(alloc, realm)?,
+        realm: copied(alloc, realm)?,
         sname: service_name(alloc)?,
         enc_part: seal_part(alloc, &service.key, USAGE_TICKET, kvno, confounder, part)?,
     };

@@ -47,7 +47,7 @@ fn private_of(part: EncKrbPrivPart) -> Private
     }
 }
 
-/// Opens a KRB-PRIV that follows an AP-REQ (RFC 4120 section 3.5.1). Addresses aren't compared.
+/// Opens a KRB-PRIV that follows an AP-REQ (RFC 4120 section 3.5.2). Addresses aren't compared.
 ///
 /// Of several faults the first is given, in the order of [`PrivFault`], where a sealed part that
 /// isn't DER comes after [`PrivFault::NotSealed`].

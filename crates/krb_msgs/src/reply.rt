@@ -2,14 +2,15 @@
 
 ghost use Rattle.std.specs.Prelude.{◌≡◌, ◌↔◌, IsTrue, Some};
 ghost use Rattle.krb_msgs.specs.Answers.{Answers};
-ghost use Rattle.krb_msgs.specs.Replies.{IsAnswerTo, IsApRep, IsKrbError, OpensApRep, OpensError, OpensReply, OpensResult, SaysCode};
+ghost use Rattle.krb_msgs.specs.Replies.{IsApRep, IsKrbError, MatchesTime, OpensApRep, OpensError, OpensReply, OpensResult, SaysCode};
 
+use crate::contents::copied;
 use crate::fault::{OpenError, ReplyFault};
 use crate::opening::{open_part, read_record};
 use crate::private_message::is_private;
 use krb_der::{
-    ApRep, Bytes, EncApRepPart, EncKrbPrivPart, KRB_AP_REP, KRB_ERROR, KerberosTime, KrbError,
-    KrbPriv, Microseconds, OctetString, PVNO,
+    ApRep, EncApRepPart, EncKrbPrivPart, KRB_AP_REP, KRB_ERROR, KerberosTime, KrbError, KrbPriv,
+    Microseconds, OctetString, PVNO,
 };
 use krb_keys::{Key, USAGE_AP_REP_ENC_PART, USAGE_KRB_PRIV};
 use std::alloc::Global;
@@ -32,7 +33,7 @@ fn said(alloc: Global, bytes: &[u8], error: Option<i32>) -> Result<Reply, OpenEr
     match bytes {
         [high, low, text @ ..] => Ok(Reply {
             code: u16::from_be_bytes([*high, *low]),
-            text: Bytes::of(Vec::from_slice(alloc, text)?),
+            text: copied(alloc, text)?,
             error,
         }),
         _ => Err(OpenError::Fault(ReplyFault::NoCode)),
@@ -45,8 +46,8 @@ fn is_ap_rep(message: &ApRep) -> bool
     message.pvno == PVNO && message.msg_type == KRB_AP_REP
 }
 
-fn is_answer_to(ctime: KerberosTime, cusec: Microseconds, part: &EncApRepPart) -> bool
-    ensures { IsTrue result ↔ IsAnswerTo ctime cusec part.now }
+fn matches_time(ctime: KerberosTime, cusec: Microseconds, part: &EncApRepPart) -> bool
+    ensures { IsTrue result ↔ MatchesTime ctime cusec part.now }
 {
     part.ctime == ctime && part.cusec == cusec
 }
@@ -73,7 +74,7 @@ fn open_ap_rep(
         ReplyFault::NotSealed,
         ReplyFault::Malformed,
     )?;
-    if !is_answer_to(ctime, cusec, &part) {
+    if !matches_time(ctime, cusec, &part) {
         return Err(OpenError::Fault(ReplyFault::Mismatch));
     }
     Ok(())
@@ -105,7 +106,7 @@ fn is_krb_error(message: &KrbError) -> bool
 }
 
 // The error code of a KRB-ERROR.
-fn error_of(message: &KrbError) -> Option<i32>
+fn error_code_in(message: &KrbError) -> Option<i32>
     ensures { result ≡ Some message.now.error_code }
 {
     Some(message.error_code)
@@ -120,7 +121,7 @@ fn open_error(alloc: Global, bytes: &[u8]) -> Result<Reply, OpenError<ReplyFault
         return Err(OpenError::Fault(ReplyFault::Mismatch));
     }
     match &message.e_data {
-        Some(bytes) => said(alloc, bytes.as_slice(), error_of(&message)),
+        Some(bytes) => said(alloc, bytes.as_slice(), error_code_in(&message)),
         None => Err(OpenError::Fault(ReplyFault::NoCode)),
     }
 }

@@ -50,7 +50,8 @@ pub fn answer(alloc: Global, changes: &str) -> Result<String, Refusal> {
     match open_ap(alloc, REALM, &case.held, &text, case.peer) {
         Ok(opened) => Ok(shown(alloc, &opened)?),
         Err(OpenError::Fault(fault)) => {
-            let (code, error, text) = (fault.code(), fault.error(), fault.text());
+            let said = fault.refusal();
+            let (code, error, text) = (said.code, said.error, said.text);
             Ok(format!(in alloc; "{fault:?} {code}/{error} {text}")?)
         }
         Err(OpenError::Memory) => Err(Refusal::Memory),

@@ -13,9 +13,23 @@ mod refusal;
 mod replies;
 mod world;
 
+use case_lines::{Answers, print_answers};
 use refusal::Refusal;
 use std::alloc::Global;
-use std::io;
+use std::io::{self, Error, ErrorKind};
+
+#[derive(Drop)]
+struct Cases;
+
+impl Answers for Cases {
+    fn answer(&mut self, alloc: Global, case: &str) -> io::Result<String> {
+        match answer(alloc, case) {
+            Ok(text) => Ok(text),
+            Err(Refusal::Memory) => Err(Error::from(ErrorKind::OutOfMemory)),
+            Err(refusal) => Ok(format!(in alloc; "refused: {refusal}")?),
+        }
+    }
+}
 
 /// The answer to a case.
 fn answer(alloc: Global, line: &str) -> Result<String, Refusal> {
@@ -29,20 +43,6 @@ fn answer(alloc: Global, line: &str) -> Result<String, Refusal> {
     }
 }
 
-fn print_answer(rt: &(impl Print + AllocGlobal), line: &str) -> io::Result<()> {
-    if line.is_empty() || line.starts_with('#') {
-        return rt.println(line);
-    }
-    match answer(rt.alloc(), line) {
-        Ok(text) => rt.println(&text),
-        Err(Refusal::Memory) => Err(io::Error::from(io::ErrorKind::OutOfMemory)),
-        Err(refusal) => println!(rt; "refused: {refusal}"),
-    }
-}
-
 fn main(rt: HostRuntime) -> io::Result<()> {
-    for line in rt.lines(rt.alloc()) {
-        print_answer(&rt, line?.as_str())?;
-    }
-    Ok(())
+    print_answers(&rt, &mut Cases)
 }

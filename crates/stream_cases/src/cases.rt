@@ -7,6 +7,7 @@ use crate::serving::{How, ended_text, serve, served, stream_of};
 use crate::wanting::wanting;
 use crate::world::{World, shown, start};
 use crate::{deciding, words};
+use case_lines::Answers;
 use hex::encode;
 use std::alloc::Global;
 use std::io;
@@ -20,6 +21,28 @@ pub struct Cases {
     messages: Vec<Message>,
 }
 
+impl Answers for Cases {
+    fn answer(&mut self, alloc: Global, case: &str) -> io::Result<String> {
+        match case.split_once(' ') {
+            Some(("|", text)) => {
+                self.base.push_str(text)?;
+                self.base.push_str("\n")?;
+                Ok(String::from_str(alloc, case)?)
+            }
+            Some(("world", text)) => {
+                self.set_world(alloc, text)?;
+                Ok(String::from_str(alloc, case)?)
+            }
+            Some(("message", text)) => {
+                self.messages.push(read_message(alloc, text)?)?;
+                Ok(String::from_str(alloc, "a message")?)
+            }
+            Some(("words", text)) => words::answer(alloc, text),
+            _ => self.of_stream(alloc, case),
+        }
+    }
+}
+
 impl Cases {
     pub fn new(alloc: Global) -> Cases {
         Cases {
@@ -27,30 +50,6 @@ impl Cases {
             config: String::new(alloc),
             quiet_until: -1,
             messages: Vec::new(alloc),
-        }
-    }
-
-    /// The answer to a line.
-    pub fn answer(&mut self, alloc: Global, line: &str) -> io::Result<String> {
-        if line.is_empty() || line.starts_with('#') {
-            return Ok(String::from_str(alloc, line)?);
-        }
-        match line.split_once(' ') {
-            Some(("|", text)) => {
-                self.base.push_str(text)?;
-                self.base.push_str("\n")?;
-                Ok(String::from_str(alloc, line)?)
-            }
-            Some(("world", text)) => {
-                self.set_world(alloc, text)?;
-                Ok(String::from_str(alloc, line)?)
-            }
-            Some(("message", text)) => {
-                self.messages.push(read_message(alloc, text)?)?;
-                Ok(String::from_str(alloc, "a message")?)
-            }
-            Some(("words", text)) => words::answer(alloc, text),
-            _ => self.of_stream(alloc, line),
         }
     }
 

@@ -1,8 +1,9 @@
-use super::realm::{Tally, change, name, table};
+use super::realm::{change, table};
 use chpw_decider::{Alone, Decider};
 use chpw_table::{DecideFault, Moment, Opened, Verdict};
 use std::alloc::Global;
 use std::test::Fail;
+use test_realm::{Tally, name};
 
 const NOW: Moment = Moment {
     seconds: 1000,
@@ -34,7 +35,7 @@ fn kvno(alloc: Global, alone: &mut Alone<Tally>) -> Result<u32, Fail> {
 
 #[test]
 fn derived_on_the_way(rt: HostRuntime) -> Result<(), Fail> {
-    let table = table(&rt, rt.alloc(), 10)?;
+    let table = table(rt.alloc(), 10)?;
     let mut alone = Alone::new(rt.alloc(), table, Tally::failing_at(0));
     let opened = wanting(&mut alone, change(rt.alloc(), 1, Vec::new(rt.alloc()))?)?;
     assert!(rt; alone.receipts().is_empty());

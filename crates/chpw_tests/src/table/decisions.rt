@@ -1,9 +1,10 @@
-use super::realm::{Tally, change, name, table};
+use super::realm::{change, table};
 use chpw_table::{DecideFault, Moment, Opened, Table, Verdict};
 use krb_keys::Key;
 use std::alloc::Global;
 use std::process::Abort;
 use std::test::Fail;
+use test_realm::{Tally, name};
 
 const NOW: Moment = Moment {
     seconds: 1000,
@@ -46,7 +47,7 @@ fn whole(alloc: Global, cusec: u32) -> Result<Opened, Fail> {
 
 #[test]
 fn keys_are_wanting(rt: HostRuntime) -> Result<(), Fail> {
-    let mut table = table(&rt, rt.alloc(), 1)?;
+    let mut table = table(rt.alloc(), 1)?;
     let opened = change(rt.alloc(), 1, Vec::new(rt.alloc()))?;
     assert!(rt; table.missing(NOW, &opened).as_slice() == [4].as_slice());
     let fault = fault(&rt, &mut table, &mut Tally::failing_at(0), opened)?;
@@ -56,7 +57,7 @@ fn keys_are_wanting(rt: HostRuntime) -> Result<(), Fail> {
 
 #[test]
 fn one_change_of_one(rt: HostRuntime) -> Result<(), Fail> {
-    let mut table = table(&rt, rt.alloc(), 1)?;
+    let mut table = table(rt.alloc(), 1)?;
     let mut sink = Tally::failing_at(0);
     assert!(rt; !table.is_full());
     let opened = whole(rt.alloc(), 1)?;
@@ -70,7 +71,7 @@ fn one_change_of_one(rt: HostRuntime) -> Result<(), Fail> {
 
 #[test]
 fn shown_of_a_name(rt: HostRuntime) -> Result<(), Fail> {
-    let mut table = table(&rt, rt.alloc(), 1)?;
+    let mut table = table(rt.alloc(), 1)?;
     let opened = whole(rt.alloc(), 1)?;
     assert!(rt; verdict(&rt, &mut table, &mut Tally::failing_at(0), opened)? == Verdict::Done);
     let alice = name(rt.alloc(), "alice")?;
@@ -87,7 +88,7 @@ fn shown_of_a_name(rt: HostRuntime) -> Result<(), Fail> {
 // The first append fails, and none is made after it.
 #[test]
 fn failing_journal(rt: HostRuntime) -> Result<(), Fail> {
-    let mut table = table(&rt, rt.alloc(), 10)?;
+    let mut table = table(rt.alloc(), 10)?;
     let mut sink = Tally::failing_at(1);
     let first = whole(rt.alloc(), 1)?;
     assert!(rt; verdict(&rt, &mut table, &mut sink, first)? == Verdict::Broken);

@@ -1,10 +1,10 @@
-use super::realm::name;
 use chpw_table::{KeyRow, Verdict, record_bytes};
 use krb_der::codes::{KRB_AP_ERR_REPEAT, KRB5_KPASSWD_AUTHERROR};
-use std::alloc::AllocError;
+use std::test::Fail;
+use test_realm::name;
 
 #[test]
-fn record_of_a_change(rt: HostRuntime) -> Result<(), AllocError> {
+fn record_of_a_change(rt: HostRuntime) -> Result<(), Fail> {
     let alice = name(rt.alloc(), "alice")?;
     assert!(rt; alice.fits());
     let key = KeyRow {

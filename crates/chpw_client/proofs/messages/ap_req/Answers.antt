@@ -23,7 +23,7 @@ pub make_ticket-requires-clause-message : goal.make_ticket-requires-clause-messa
 make_ticket-requires-clause-message c =
     let w : Drawing = c.args.words.now in
     let sizes : HasSizes w = search rules in
-    rw (c.in_ok-part.ensures.value, c.confounder.ensures.value)
+    rw (c.in_ok-part.ensures.value, c.word_bytes.ensures.value)
     (ticket_fits (question_of c.args.asked.now) w c.requires.askable sizes)
 
 pub make_ap_req-requires-clause-ticket : goal.make_ap_req-requires-clause-ticket
@@ -31,7 +31,7 @@ make_ap_req-requires-clause-ticket c =
     let q : Question = question_of c.args.asked.now in
     let w : Drawing = c.args.words.now in
     let sizes : HasSizes w = search rules in
-    let is = same_ticket q w c.in_ok-part.part c.confounder.result c.deref.result.now c.in_ok-part.ensures.value c.confounder.ensures.value
+    let is = same_ticket q w c.in_ok-part.part c.word_bytes.result c.deref.result.now c.in_ok-part.ensures.value c.word_bytes.ensures.value
     (c.deref.ensures.value ∙ c.in_ok-ticket.ensures.text) in
     (ticket q w, ticket_taken (ticket q w) c.deref.result.now (ticket_fits q w c.requires.askable sizes) is)
 
@@ -46,9 +46,9 @@ make_ap_req-requires-clause-message c = λ t spelled.
     let q : Question = question_of c.args.asked.now in
     let w : Drawing = c.args.words.now in
     let sizes : HasSizes w = search rules in
-    let is = same_ticket q w c.in_ok-part.part c.confounder.result c.deref.result.now c.in_ok-part.ensures.value c.confounder.ensures.value
+    let is = same_ticket q w c.in_ok-part.part c.word_bytes.result c.deref.result.now c.in_ok-part.ensures.value c.word_bytes.ensures.value
     (c.deref.ensures.value ∙ c.in_ok-ticket.ensures.text) in
-    rw (c.in_ok-authenticator.ensures.value, c.key_of.ensures.value, c.confounder-2.ensures.value)
+    rw (c.in_ok-authenticator.ensures.value, c.key_of.ensures.value, c.word_bytes-2.ensures.value)
     (ap_req_fits q w t c.requires.askable sizes (subst (λ (z : List ℕ). SpellsTicket z t) is spelled))
 
 pub returns : goal.returns
@@ -57,13 +57,13 @@ returns c =
     let w : Drawing = c.args.words.now in
     let sizes : HasSizes w = search rules in
     let is : c.deref.result.now ≡ ticket_text q w =
-    same_ticket q w c.in_ok-part.part c.confounder.result c.deref.result.now c.in_ok-part.ensures.value c.confounder.ensures.value
+    same_ticket q w c.in_ok-part.part c.word_bytes.result c.deref.result.now c.in_ok-part.ensures.value c.word_bytes.ensures.value
     (c.deref.ensures.value ∙ c.in_ok-ticket.ensures.text) in
     let made : Ticket → List ℕ = λ t. text types.ap_req
-    (ap_req_value (ap_req_of t (bit protocol.mutual_required) c.in_ok-authenticator.authenticator c.key_of.result c.confounder-2.result)) in
+    (ap_req_value (ap_req_of t (bit protocol.mutual_required) c.in_ok-authenticator.authenticator c.key_of.result c.word_bytes-2.result)) in
     let same : (t : Ticket) (bytes : List ℕ) → bytes ≡ made t → bytes ≡ ap_req_text t q w = λ t bytes is.
-    same_request q w t c.in_ok-authenticator.authenticator c.key_of.result c.confounder-2.result bytes
-    c.in_ok-authenticator.ensures.value c.key_of.ensures.value c.confounder-2.ensures.value is in
+    same_request q w t c.in_ok-authenticator.authenticator c.key_of.result c.word_bytes-2.result bytes
+    c.in_ok-authenticator.ensures.value c.key_of.ensures.value c.word_bytes-2.ensures.value is in
     record {
       text = IfOk-weaker c.make_ap_req.result _ _
           (λ v h. (h.0, subst (λ (z : List ℕ). SpellsTicket z h.0) is h.1, same h.0 _ h.2)) c.make_ap_req.ensures.text;

@@ -1,28 +1,42 @@
-use Rattle.std.proofs.Common.{ℕ, List, Ok, Err, refl, subst}
+use Rattle.std.proofs.Common.{◌≡◌, [], Ok, Err, refl, ◌∙◌, ap, subst}
+use Rattle.std.proofs.lemmas.Result.{IfOk-weaker}
 use Rattle.krb_msgs.specs.declared.fault.PrivFault.{PrivFault}
-use Rattle.chpw_messages.specs.Opening.{IsAsked, IsContent}
-use Rattle.chpw_messages.specs.Asked.{content_in}
+use Rattle.krb_msgs.specs.declared.fault.PrivFault.TheVariants.{Malformed, NotSealed, WrongMessage, WrongSeqNumber}
+use Rattle.chpw_table.specs.declared.request.Target.{Target}
+use Rattle.chpw_answer.specs.Requests.{body_under, password_in}
+use Rattle.chpw_messages.specs.declared.content.Content.{Content}
+use Rattle.chpw_messages.specs.Opening.{content_despite}
 use Rattle.chpw_messages.proofs.content.open_content.Goals as goal
 
-pub returns-in_ok-read_asked-in-Ok : goal.returns-in_ok-read_asked-in-Ok
-returns-in_ok-read_asked-in-Ok c = record {
-  content = λ version.
-      let asked = c.in_ok-read_asked-in-Ok.ensures.asked version in (
-        Ok c.in-Ok.private,
-        c.in-Ok.ensures.opens,
-        subst (λ (bytes : List ℕ). IsAsked c.args.realm.now version bytes (content_in c.in_ok-read_asked-in-Ok.field-0)) c.as_slice.ensures.value asked,
-        refl,
-      );
+no_password : (fault : PrivFault) → [] ≡ password_in (content_despite fault)
+no_password Malformed = refl
+no_password WrongMessage = refl
+no_password NotSealed = refl
+no_password WrongSeqNumber = refl
+
+pub returns-in-Ok : goal.returns-in-Ok
+returns-in-Ok c = record {
+  content = IfOk-weaker c.read_content.result _ _ (λ h is. (Ok c.in-Ok.private, c.in-Ok.ensures.opens, (is.0, is.1, is.2))) c.read_content.ensures.content;
 }
 
 pub returns-in-Err-Fault : goal.returns-in-Err-Fault
-returns-in-Err-Fault c = record {
-  content = λ version.
-      let opens = rw c.in-Err-Fault.field-0-is at c.in-Err-Fault.ensures.opens in
-      let is = c.asked_despite.ensures.value c.args.realm.now version in (
+returns-in-Err-Fault c =
+    let opens = rw c.in-Err-Fault.field-0-is at c.in-Err-Fault.ensures.opens in
+    let is = c.bare.ensures.value in
+    let body : (client : Target) → c.body_despite.result ≡ body_under [] client (content_despite c.in-Err-Fault.fault) =
+    subst (λ (f : PrivFault). (client : Target) → c.body_despite.result ≡ body_under [] client (content_despite f)) c.in-Err-Fault.fault-is c.body_despite.ensures.value in
+    record {
+      content = (
         Err c.in-Err-Fault.fault,
         opens,
-        subst (λ (f : PrivFault). IsContent c.args.realm.now version (Err f) (content_in c.asked_despite.result)) c.in-Err-Fault.fault-is is,
-        refl,
+        (
+          content_despite c.in-Err-Fault.fault,
+          refl,
+          (
+            λ client. ap (λ (h : Content). h.body) is ∙ body client,
+            ap (λ (h : Content). h.password) is ∙ no_password c.in-Err-Fault.fault,
+            ap (λ (h : Content). h.stamp) is,
+          ),
+        ),
       );
-}
+    }

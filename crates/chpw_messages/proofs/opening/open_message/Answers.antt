@@ -1,16 +1,18 @@
-use Rattle.std.proofs.Common.{Option, refl, sym, subst}
+use Rattle.std.proofs.Common.{Option, refl, sym, ap, ◌∙◌, subst}
+use Rattle.krb_der.specs.Refusals.{Refusal}
 use Rattle.chpw_frame.specs.declared.fault.FrameFault.{FrameFault}
 use Rattle.chpw_frame.specs.Faults as frame
 use Rattle.chpw_table.specs.Replies.{by_error}
-use Rattle.chpw_answer.specs.Requests.{Opens, refused}
-use Rattle.chpw_messages.specs.Opening.{OpensFramed}
+use Rattle.chpw_messages.specs.Opening.{OpensFramed, refused_by}
+use Rattle.chpw_messages.proofs.VersionLemmas.{version_taken}
 use Rattle.chpw_messages.proofs.opening.open_message.Goals as goal
 
+pub open_parts-requires : goal.open_parts-requires
+open_parts-requires c = record { version = c.in-Ok.ensures.version ∙ version_taken c.args.message.now c.in-Ok.ensures.none }
+
 pub returns-in-Err-clause-opening : goal.returns-in-Err-clause-opening
-returns-in-Err-clause-opening c =
-    let why = frame.refusal_of c.in-Err.fault in
-    let o : Opens = refused (by_error why.code why.error why.text) in (
-      o,
-      subst (λ (f : Option FrameFault). OpensFramed c.args.realm.now c.args.keys.now c.args.peer c.args.message.now f o) (sym c.in-Err.ensures.first) refl,
-      sym c.frame_refusal.ensures.value,
-    )
+returns-in-Err-clause-opening c = (
+  refused_by (frame.refusal_of c.in-Err.fault),
+  subst (λ (f : Option FrameFault). OpensFramed c.args.realm.now c.args.keys.now c.args.peer c.args.message.now f (refused_by (frame.refusal_of c.in-Err.fault))) (sym c.in-Err.ensures.first) refl,
+  ap (λ (r : Refusal). by_error r.code r.error r.text) (sym c.refusal.ensures.value),
+)

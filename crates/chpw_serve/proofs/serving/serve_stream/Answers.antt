@@ -1,4 +1,4 @@
-use Rattle.std.proofs.Common.{refl, sym, subst, inl, List, ℕ}
+use Rattle.std.proofs.Common.{refl, sym, subst, inl, inr, List, ℕ}
 use Rattle.std.specs.Io.KnownBytes.{Appends}
 use Rattle.chpw_frame.specs.Stream.{message, sent}
 use Rattle.chpw_frame.specs.Receiving.{TakesPiece, IsReceived, AppendsFront}
@@ -10,7 +10,7 @@ use Rattle.chpw_serve.proofs.serving.serve_stream.Goals as goal
 pub returns-in-Err : goal.returns-in-Err
 returns-in-Err g c = record {
   served = so_far_ends _ _ _ _ _ _ _ _ _ end.Memory c.loop-served.invariant c.loop-served-test.true
-      (refl, adds_none g.D.Decider.gathered g.D.Decider.follows c.loop-served.decider (g.met.D.Decider.stays c.loop-served.decider));
+      (refl, adds_none g.D.Decider.gathered g.D.Decider.follows c.loop-served.decider (g.met.D.Decider.stays c.loop-served.decider), inl c.in-Err.ensures.refused);
 }
 
 pub returns-in-Ok-Ended : goal.returns-in-Ok-Ended
@@ -51,10 +51,13 @@ returns-in-Ok-TooLong g c =
     }
 
 pub returns-in-Err-answer_message : goal.returns-in-Err-answer_message
-returns-in-Err-answer_message g c = record {
-  served = so_far_ends _ _ _ _ _ _ _ _ _ end.Memory c.loop-served.invariant c.loop-served-test.true
-      (refl, c.in-Err-answer_message.ensures.refused);
-}
+returns-in-Err-answer_message g c =
+    let old = g.R.Read.remaining c.loop-served.reader in
+    let new = g.R.Read.remaining c.read_tcp.new.reader in
+    record {
+      served = so_far_ends _ _ _ _ _ _ _ _ _ end.Memory c.loop-served.invariant c.loop-served-test.true
+          (refl, c.in-Err-answer_message.ensures.refused, inr (message c.in-Ok-Message.message.items, (subst (λ (r : Received). IsReceived r old new) c.in-Ok-Message.field-0-is c.in-Ok-Message.ensures.piece).0));
+    }
 
 pub returns-in-Err-write_tcp : goal.returns-in-Err-write_tcp
 returns-in-Err-write_tcp g c =

@@ -1,8 +1,5 @@
-use Rattle.krb_msgs.proofs.OpeningLemmas.{ap_reqs_open, privs_open}
+use Rattle.krb_msgs.proofs.OpeningLemmas.{ap_reqs_open, errors_open, privs_open, replies_open}
 use Rattle.krb_msgs.proofs.laws.openings.Goals as goal
 
-pub returns-clause-krb_priv : goal.returns-clause-krb_priv
-returns-clause-krb_priv c = privs_open
-
-pub returns-clause-ap_req : goal.returns-clause-ap_req
-returns-clause-ap_req c = ap_reqs_open
+pub returns : goal.returns
+returns c = record { ap_req = ap_reqs_open; krb_priv = privs_open; reply = replies_open; krb_error = errors_open }

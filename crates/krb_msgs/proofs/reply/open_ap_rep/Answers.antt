@@ -5,7 +5,7 @@ use Rattle.krb_der.specs.Values.{ap_rep_value, enc_ap_rep_part_value}
 use Rattle.krb_msgs.specs.declared.fault.ReplyFault.TheVariants as fault
 use Rattle.krb_msgs.specs.Checks.{met, unmet, goes_on, stops}
 use Rattle.krb_msgs.specs.Parts.{OpensPart, Reads}
-use Rattle.krb_msgs.specs.Replies.{IsAnswerTo, IsApRep, OpensApRep}
+use Rattle.krb_msgs.specs.Replies.{IsApRep, MatchesTime, OpensApRep}
 use Rattle.krb_msgs.proofs.AnswerLemmas.{passes_on}
 use Rattle.krb_msgs.proofs.reply.open_ap_rep.Goals as goal
 
@@ -31,13 +31,13 @@ returns-in_err-part c =
     (λ f h. goes_on m c.in_ok-message.ensures (met is (stops f h refl)))
     c.in_err-part.field-0.0 _ c.from_residual-in_err-part.ensures.1 c.in_err-part.ensures
 
-pub returns-then-not-is_answer_to : goal.returns-then-not-is_answer_to
+pub returns-then-not-matches_time : goal.returns-then-not-matches_time
 unfolding OpensApRep
-returns-then-not-is_answer_to c =
+returns-then-not-matches_time c =
     let m = c.in_ok-message.message in
     let is : IsApRep m = c.is_ap_rep.ensures.0 (search rules) in
     goes_on m c.in_ok-message.ensures (met is (goes_on c.in_ok-part.part c.in_ok-part.ensures
-    (unmet (λ h. let yes = c.is_answer_to.ensures.1 h in search (rules, yes)) refl)))
+    (unmet (λ h. let yes = c.matches_time.ensures.1 h in search (rules, yes)) refl)))
 
 pub returns : goal.returns
 unfolding OpensApRep
@@ -45,5 +45,5 @@ returns c =
     let m = c.in_ok-message.message in
     let part = c.in_ok-part.part in
     let is : IsApRep m = c.is_ap_rep.ensures.0 (search rules) in
-    let answers : IsAnswerTo c.args.ctime c.args.cusec part = c.is_answer_to.ensures.0 (search rules) in
+    let answers : MatchesTime c.args.ctime c.args.cusec part = c.matches_time.ensures.0 (search rules) in
     goes_on m c.in_ok-message.ensures (met is (goes_on part c.in_ok-part.ensures (met answers refl)))
