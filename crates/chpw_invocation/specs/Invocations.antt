@@ -1,5 +1,5 @@
--- What a user asks for, of what clap matched: the command's name and, by an option's name, what
--- stands behind it. The words are matched by clap's own rules.
+-- What a user asks for, of what clap matched: the command's name, and each option's value by its name.
+-- The words are matched by clap's own rules.
 use Rattle.std.specs.Prelude.{◌≡◌, ◌⊎◌, ◌≤◌, ℕ, Bool, true, false, List, [], Option, Some, None, option_map, codes}
 use Rattle.std.specs.Str.Parse.{digits_value, without_leading_plus}
 use Rattle.clap.specs.Kinds.{HasKind, Kinds}

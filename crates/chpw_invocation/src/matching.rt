@@ -82,7 +82,7 @@ fn client_of<'a>(options: &ArgMatches<'a>) -> Option<ClientOptions<'a>>
     })
 }
 
-// What stands behind an option.
+// The value of an option.
 fn text_of<'a>(options: &ArgMatches<'a>, name: &str) -> Option<&'a str>
     ensures value { option_map (λ s. s.now) result
         ≡ first_of name.now (rows_of (found_of options.now)) }

@@ -15,8 +15,8 @@ const ABOUT: &str = "The Kerberos change-password service kadmin/changepw (RFC 3
 
 const STATUSES: &str = "\
 Exit status: 0 success; 1 a fault, told in a line on standard error, or a request that the service
-refused; 2 a bad command line, or help. A value that begins with a dash stands behind an equals
-sign, as in --password=-word-.";
+refused; 2 a bad command line, or help. A value that begins with a dash needs the equals sign,
+as in --password=-word-.";
 
 const DRILL: &str = "Decides the requests of a script on standard input, without a network.";
 

@@ -35,8 +35,8 @@ fn moment(since: Duration) -> Option<Moment>
     })
 }
 
-/// The machine's clock, seen as the last moment that it gave. Where the machine gives none, that
-/// one counts on, and at first it is 1970-01-01T00:00:00Z.
+/// The machine's clock, seen as the last moment that it gave: at first 1970-01-01T00:00:00Z. Where the
+/// machine gives none, it gives that one again. Where the machine's clock goes back, so does this one.
 #[derive(Drop)]
 pub struct MachineClock<'a, R: time::Clock> {
     rt: &'a R,

@@ -7,7 +7,7 @@ ghost use Rattle.chpw_service.specs.declared.fault.ServeFault.TheVariants.{Canno
 
 use crate::fault::ServeFault;
 use chpw_book::{CloseRefused, Closed, Desk, DeskName, Pass};
-use chpw_table::{Entry, JournalSink, Verdict};
+use chpw_table::{Entry, JournalSink};
 use std::sync::Wait;
 
 /// What a service did: its entries, and how many of them are changes.
@@ -56,6 +56,6 @@ fn changes(history: &[Entry]) -> usize
 {
     history
         .iter()
-        .filter(|entry| matches!(entry.verdict, Verdict::Done))
+        .filter(|entry| entry.event.is_accepted())
         .count()
 }
