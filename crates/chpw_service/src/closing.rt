@@ -1,6 +1,6 @@
 //! The close of a service's desk.
 ghost use Rattle.std.specs.Prelude.{◌≡◌, IfOk, IfErr};
-ghost use Rattle.chpw_fronts.specs.Pens.{opening_of};
+ghost use Rattle.chpw_fronts.specs.Pens.{opening_state};
 ghost use Rattle.chpw_book.specs.Receipts.{changes_of};
 ghost use Rattle.chpw_service.specs.Tallies.{IsTally, IsMismatch};
 ghost use Rattle.chpw_service.specs.declared.fault.ServeFault.TheVariants.{CannotClose};
@@ -23,9 +23,9 @@ pub(crate) fn close_desk<'a, D: DeskName, S: JournalSink + Drop, R: Wait>(
     desk: Desk<D, S>,
     passes: Vec<Pass<D>>,
 ) -> Result<Tally, ServeFault<'a>>
-    ensures tally { IfOk result (IsTally (opening_of D.root) D.workers passes.items) }
+    ensures tally { IfOk result (IsTally (opening_state D.root) D.workers passes.items) }
     ensures refusal { IfErr result (λ fault. (fault ≡ CannotClose)
-        × IsMismatch (opening_of D.root) D.workers passes.items) }
+        × IsMismatch (opening_state D.root) D.workers passes.items) }
 {
     match desk.close(rt, passes) {
         Ok(
