@@ -4,8 +4,8 @@
 mod closing;
 mod fault;
 mod files;
-mod starting;
 mod serving;
+mod starting;
 
 pub use fault::ServeFault;
 pub use files::{read_seed, read_settings};
