@@ -7,17 +7,19 @@ use Rattle.std.proofs.lemmas.Bool.Decides.{nat_tests}
 use Rattle.std.proofs.lemmas.Grind.{get_or-set_at}
 use Rattle.std.proofs.lemmas.List.{get_or-set_other, map-append}
 use Rattle.std.proofs.lemmas.List.Elements.{filter-append, All-append, All-cons, All-nil}
-use Rattle.std.proofs.lemmas.List.Sums.{sum_by-append, count_by-le-length}
+use Rattle.std.proofs.lemmas.List.Sums.{sum_by-append}
+use Rattle.chpw_table.specs.declared.times.Moment.{Moment}
 use Rattle.chpw_table.specs.declared.request.Opened.{Opened}
+use Rattle.chpw_table.specs.declared.outcome.Outcome.{Outcome}
+use Rattle.chpw_table.specs.declared.history.Event.TheVariants.{Ask}
 use Rattle.chpw_table.specs.declared.history.Entry.{Entry}
-use Rattle.chpw_table.specs.declared.history.Receipt.{Receipt}
 use Rattle.chpw_table.specs.State.{State}
+use Rattle.chpw_table.specs.History.{IsJudged, is_accepted, step_entry, outcome}
 use Rattle.chpw_table.specs.Verdicts.{is_done}
-use Rattle.chpw_table.specs.Step.{step}
-use Rattle.chpw_table.specs.History.{IsDecided, outcome}
-use Rattle.chpw_table.specs.Journal.{journal, appended}
+use Rattle.chpw_table.specs.Outcomes.{Steps}
+use Rattle.chpw_table.specs.Journal.{journal, appended, event_appended}
 use Rattle.chpw_table.specs.Agreement.{Held, Agrees}
-use Rattle.chpw_book.specs.Receipts.{IsNumbered, IsCounted, is_of, is_accepted, entries_of}
+use Rattle.chpw_book.specs.Receipts.{IsNumbered, IsCounted, is_of, entries_of, next_entry}
 use Rattle.chpw_book.specs.Stored.{Stored, Replays}
 use Rattle.chpw_decider.proofs.KeepingLemmas.{legal_on, outcome_on, journal_on, journal_goes_on}
 
@@ -104,56 +106,44 @@ count_more p es e =
 
 pub kept_more : (opening : State) (workers : ℕ) (b : Stored) (e : Entry) (t : Held) (n : ℕ) (told : Option (List ℕ))
     → Replays opening workers b
-    → IsDecided (outcome opening b.history) e.now e.opened e.io_failed e.verdict
-    → Agrees t.state (step (outcome opening b.history) e.now e.opened e.io_failed)
-    → told ≡ option_map (λ xs. xs ++ appended (outcome opening b.history) e.opened e.verdict) b.told
-    → e.worker < length b.counts → e.number ≡ slice_index b.counts e.worker + 1
+    → IsJudged (outcome opening b.history) e.now e.io_failed e.event
+    → Agrees t.state (step_entry (outcome opening b.history) e)
+    → told ≡ option_map (λ xs. xs ++ event_appended (outcome opening b.history) e.event) b.told
+    → e.worker < length b.counts → e.number ≡ length (entries_of e.worker b.history) + 1
     → t.events ≡ b.table.events + 1 → n ≡ b.total + 1
-    → Replays opening workers (record { table = t; history = b.history ++ e ∷ []; counts = slice_set b.counts e.worker (slice_index b.counts e.worker + 1); changes = if is_done e.verdict then b.changes + 1 else b.changes; total = n; told = told })
+    → Replays opening workers (record { table = t; history = b.history ++ e ∷ []; counts = slice_set b.counts e.worker (slice_index b.counts e.worker + 1); changes = if is_accepted e.event then b.changes + 1 else b.changes; total = n; told = told })
 kept_more opening workers b e t n told k decided agrees tells below number events total = record {
   legal = legal_on opening b.history e k.legal decided;
   agrees = subst (λ (z : State). Agrees t.state z) (sym (outcome_on opening b.history e)) agrees;
-  numbered = numbered_more b.history e k.numbered (number ∙ ap (λ c. c + 1) (k.counted.counts_are e.worker below));
+  numbered = numbered_more b.history e k.numbered number;
   counted = counted_more b.counts b.history e k.counted below;
   all = length-set b.counts e.worker (slice_index b.counts e.worker + 1) ∙ k.all;
-  changes = ap (λ c. if is_done e.verdict then c + 1 else c) k.changes ∙ sym (count_more is_accepted b.history e);
+  changes = ap (λ c. if is_accepted e.event then c + 1 else c) k.changes ∙ sym (count_more (λ (x : Entry). is_accepted x.event) b.history e);
   total = total ∙ (ap (λ c. c + 1) k.total ∙ sym (one_longer b.history e));
   journal =
       subst (λ (js : List ℕ). IfSome told (λ bytes. bytes ≡ js)) (sym (journal_on opening b.history e))
-      (journal_goes_on b.told told (journal opening b.history) (appended (outcome opening b.history) e.opened e.verdict) k.journal tells);
+      (journal_goes_on b.told told (journal opening b.history) (event_appended (outcome opening b.history) e.event) k.journal tells);
   room = let a = one_longer b.history e in let r = k.room in omega (arith, a, r, events);
 }
 
 pub kept_next : (opening : State) (workers : ℕ) (b : Stored) (e : Entry) (t : Held) (es : List Entry) (counts : List ℕ) (changes n : ℕ) (told : Option (List ℕ))
     → Replays opening workers b
-    → IsDecided (outcome opening b.history) e.now e.opened e.io_failed e.verdict
-    → Agrees t.state (step (outcome opening b.history) e.now e.opened e.io_failed)
-    → told ≡ option_map (λ xs. xs ++ appended (outcome opening b.history) e.opened e.verdict) b.told
-    → e.worker < length b.counts → e.number ≡ slice_index b.counts e.worker + 1
+    → IsJudged (outcome opening b.history) e.now e.io_failed e.event
+    → Agrees t.state (step_entry (outcome opening b.history) e)
+    → told ≡ option_map (λ xs. xs ++ event_appended (outcome opening b.history) e.event) b.told
+    → e.worker < length b.counts → e.number ≡ length (entries_of e.worker b.history) + 1
     → t.events ≡ b.table.events + 1
-    → es ≡ b.history ++ e ∷ [] → counts ≡ slice_set b.counts e.worker (slice_index b.counts e.worker + 1) → changes ≡ (if is_done e.verdict then b.changes + 1 else b.changes) → n ≡ b.total + 1
+    → es ≡ b.history ++ e ∷ [] → counts ≡ slice_set b.counts e.worker (slice_index b.counts e.worker + 1) → changes ≡ (if is_accepted e.event then b.changes + 1 else b.changes) → n ≡ b.total + 1
     → Replays opening workers (record { table = t; history = es; counts = counts; changes = changes; total = n; told = told })
 kept_next opening workers b e t es counts changes n told k decided agrees tells below number events h c d total =
     rw (h, c, d) (kept_more opening workers b e t n told k decided agrees tells below number events total)
 
--- a book's numbers stay below 2 ^ 32 while its table's do
-pub short : (opening : State) (workers : ℕ) (b : Stored) (later : ℕ) → Replays opening workers b → later ≡ b.table.events + 1 → later < 2 ^ 32 → length b.history < 2 ^ 32 - 1
-short opening workers b later k next few = let r = k.room in omega (arith, r, next, few)
-
-pub short_count : (opening : State) (workers : ℕ) (b : Stored) (w : ℕ) → Replays opening workers b → w < length b.counts → length b.history < 2 ^ 32 - 1 → slice_index b.counts w < 2 ^ 32 - 1
-short_count opening workers b w k below h = let c = k.counted.counts_are w below in let f = few_entries w b.history in omega (arith, c, f, h)
-
-pub short_changes : (opening : State) (workers : ℕ) (b : Stored) → Replays opening workers b → length b.history < 2 ^ 32 - 1 → b.changes < 2 ^ 32 - 1
-short_changes opening workers b k h = let c = k.changes in let f = count_by-le-length is_accepted b.history in omega (arith, c, f, h)
-
--- ---- what is put behind, with its parts named otherwise
-
-pub put_entry_as : (made : Opened → Entry) (later now before : List Entry) (o u : Opened) → later ≡ now ++ made o ∷ [] → now ≡ before → o ≡ u → later ≡ before ++ made u ∷ []
-put_entry_as made later now before o u h same is = h ∙ (ap (λ (xs : List Entry). xs ++ made o ∷ []) same ∙ ap (λ (x : Opened). before ++ made x ∷ []) is)
-
-pub put_receipt_as : (made : ℕ → ℕ → Opened → Receipt) (later now before : List Receipt) (p q n m : ℕ) (o u : Opened) → later ≡ now ++ made p n o ∷ [] → now ≡ before → p ≡ q → n ≡ m → o ≡ u → later ≡ before ++ made q m u ∷ []
-put_receipt_as made later now before p q n m o u h same position basis is =
-    h ∙ (ap (λ (xs : List Receipt). xs ++ made p n o ∷ []) same
-    ∙ (ap (λ (k : ℕ). before ++ made k n o ∷ []) position
-    ∙ (ap (λ (k : ℕ). before ++ made q k o ∷ []) basis
-    ∙ ap (λ (x : Opened). before ++ made q m x ∷ []) is)))
+-- a step of the table, and its entry
+pub kept_step : (opening : State) (workers : ℕ) (b : Stored) (w : ℕ) (now : Moment) (o : Opened) (r : Outcome) (t : Held) (es : List Entry) (counts : List ℕ) (changes n : ℕ) (told : Option (List ℕ))
+    → Replays opening workers b → Steps b.table t now o r → ((s : State) → Agrees b.table.state s → told ≡ option_map (λ xs. xs ++ appended s o r.verdict) b.told)
+    → w < length b.counts → es ≡ b.history ++ next_entry b.history w now r.io_failed (Ask o r.verdict) ∷ []
+    → counts ≡ slice_set b.counts w (slice_index b.counts w + 1) → changes ≡ (if is_done r.verdict then b.changes + 1 else b.changes) → n ≡ b.total + 1
+    → Replays opening workers (record { table = t; history = es; counts = counts; changes = changes; total = n; told = told })
+kept_step opening workers b w now o r t es counts changes n told k steps tells below h c d total =
+    let s : State = outcome opening b.history in
+    kept_next opening workers b (next_entry b.history w now r.io_failed (Ask o r.verdict)) t es counts changes n told k (steps.legal s k.agrees) (steps.agrees s k.agrees) (tells s k.agrees) below refl steps.events h c d total

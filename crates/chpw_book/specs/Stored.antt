@@ -1,14 +1,13 @@
--- What lies under the lock: what is always true of it, and what a decision adds.
-use Rattle.std.specs.Prelude.{◌≡◌, ℕ, ◌+◌, ◌≤◌, List, [], ◌∷◌, ◌++◌, length, Option, IfSome, slice_set}
+-- What lies under the lock: what is always true of it, and what an event adds.
+use Rattle.std.specs.Prelude.{◌≡◌, ℕ, ◌+◌, ◌≤◌, ◌<◌, List, [], ◌∷◌, ◌++◌, length, Option, IfSome, replicate, slice_set}
 use Rattle.chpw_table.specs.declared.times.Moment.{Moment}
-use Rattle.chpw_table.specs.declared.request.Opened.{Opened}
-use Rattle.chpw_table.specs.declared.verdict.Verdict.{Verdict}
+use Rattle.chpw_table.specs.declared.history.Event.{Event}
 use Rattle.chpw_table.specs.declared.history.Entry.{Entry}
 use Rattle.chpw_table.specs.State.{State}
 use Rattle.chpw_table.specs.History.{IsLegal, outcome}
 use Rattle.chpw_table.specs.Journal.{journal}
 use Rattle.chpw_table.specs.Agreement.{Held, Agrees}
-use Rattle.chpw_book.specs.Receipts.{IsNumbered, IsCounted, entries_of, changes_of, receipt_of}
+use Rattle.chpw_book.specs.Receipts.{IsNumbered, IsCounted, changes_of, next_entry, receipt_of}
 use Rattle.chpw_book.specs.Passes.{Carried}
 
 -- the table, the history, each worker's count, the accepted changes, the ledger's total, and what the sink tells
@@ -19,6 +18,10 @@ pub record Stored : Type 0 where
   pub changes : ℕ
   pub total : ℕ
   pub told : Option (List ℕ)
+
+-- no entry yet, of so many workers
+abbrev pub new_store : Held → ℕ → Option (List ℕ) → Stored
+new_store t workers told = record { table = t; history = []; counts = replicate workers 0; changes = 0; total = 0; told = told }
 
 -- the one-thread machine, replaying the history from the opening, gives each verdict stored and leads to
 -- the table; each worker's calls stand in it once each, numbered; what the sink tells is its journal
@@ -33,18 +36,19 @@ pub record Replays (opening : State) (workers : ℕ) (b : Stored) : Type 0 where
   pub journal : IfSome b.told (λ bytes. bytes ≡ journal opening b.history)
   pub room : length b.history ≤ b.table.events
 
--- one entry more, of this pass's worker with its next number, this moment, request and verdict; and its receipt
-pub record Adds (before later : Stored) (mine more : Carried) (now : Moment) (o : Opened) (v : Verdict) : Type 0 where
-  pub entry : Entry
-  pub worker : entry.worker ≡ mine.worker
-  pub number : entry.number ≡ length (entries_of mine.worker before.history) + 1
-  pub now_is : entry.now ≡ now
-  pub opened_is : entry.opened ≡ o
-  pub verdict_is : entry.verdict ≡ v
-  pub history : later.history ≡ before.history ++ entry ∷ []
-  pub counts : later.counts ≡ slice_set before.counts mine.worker entry.number
-  pub events : later.table.events ≡ before.table.events + 1
-  pub limit : later.table.max_entries ≡ before.table.max_entries
-  pub receipts : more.receipts ≡ mine.receipts ++ receipt_of before.history entry ∷ []
+-- the pass has the receipt of this entry more, which stands behind these
+pub record Gains (before : List Entry) (entry : Entry) (mine more : Carried) : Type 0 where
+  pub receipts : more.receipts ≡ mine.receipts ++ receipt_of before entry ∷ []
   pub share : more.share ≡ mine.share + 1
   pub same : (more.worker ≡ mine.worker) × (more.was_full ≡ mine.was_full)
+
+-- one entry more, the next of this pass's worker, with this moment and event; and its receipt
+pub record Adds (before later : Stored) (mine more : Carried) (now : Moment) (event : Event) : Type 0 where
+  pub entry : Entry
+  pub entry_is : entry ≡ next_entry before.history mine.worker now entry.io_failed event
+  pub history : later.history ≡ before.history ++ entry ∷ []
+  pub counts : later.counts ≡ slice_set before.counts mine.worker entry.number
+  pub room : before.table.events < before.table.max_entries
+  pub events : later.table.events ≡ before.table.events + 1
+  pub limit : later.table.max_entries ≡ before.table.max_entries
+  pub gains : Gains before.history entry mine more

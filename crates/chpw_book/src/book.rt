@@ -1,29 +1,37 @@
 //! What lies under the lock: the table with its history, and the versions that lookups show.
-ghost use Rattle.std.specs.Prelude.{◌≡◌, ◌+◌, ◌^◌, ◌<◌, [], IfOk, IfErr, IfSome, IfNone, OnOk, IsSome, length, true, if◌then◌else◌};
+ghost use Rattle.std.specs.Prelude.{◌≡◌, ◌+◌, ◌-◌, ◌^◌, ◌<◌, [], IfOk, IfErr, IfSome, IfNone, OnErr, IsSome, length, map, true, false};
+ghost use Rattle.std.specs.List.{range_with_len};
 ghost use mathlib.Core.List.{IsPrefix};
-ghost use Rattle.chpw_fronts.specs.Pens.{opening_of};
+ghost use Rattle.chpw_fronts.specs.Pens.{opening_state};
 ghost use Rattle.chpw_table.specs.declared.outcome.DecideFault.TheVariants.{Full};
-ghost use Rattle.chpw_table.specs.History.{missing};
+ghost use Rattle.chpw_table.specs.declared.history.Event.TheVariants.{Ask};
 ghost use Rattle.chpw_table.specs.Times.{IsMoment};
 ghost use Rattle.chpw_table.specs.Requests.{target_of};
 ghost use Rattle.chpw_table.specs.Completing.{salt_of, completed};
-ghost use Rattle.chpw_table.specs.Refusals.{IsFirst, AsksPositive};
+ghost use Rattle.chpw_table.specs.Refusals.{IsRefused};
 ghost use Rattle.chpw_table.specs.Verdicts.{is_done};
 ghost use Rattle.chpw_table.specs.Versions.{accepted};
 ghost use Rattle.chpw_decider.specs.Deciding.{IsCompletedFrom, IsFinal};
 ghost use Rattle.chpw_book.specs.Closing.{IsRefusal, IsWhole, is_full};
 ghost use Rattle.chpw_book.specs.Stored.{Replays, Adds};
 ghost use Rattle.chpw_book.specs.Calls.{Notes, AsksAfter};
-ghost use Rattle.chpw_book.specs.Publishing.{published, told_list};
+ghost use Rattle.chpw_book.specs.Passes.{new_pass};
+ghost use Rattle.chpw_book.specs.Starting.{IsNamed, table_of, workers_of};
+ghost use Rattle.chpw_book.specs.Publishing.{new_book, published, told_list};
 
 use crate::closing::{CloseFault, Closed};
 use crate::naming::DeskName;
 use crate::pass::Pass;
+use crate::rows::rows_of;
 use crate::store::Store;
+use crate::unnamed::{StartFault, UnnamedDesk};
+use chpw_decider::JournaledTable;
 use chpw_table::{Entry, JournalSink, Moment, Opened, Refused, Verdict};
 use chpw_versions::Shelf;
+use std::alloc::Global;
 use std::marker::Model;
 use std::sync::Wait;
+use std::sync::ledger::Share;
 
 /// The table with its history, and the shelf whose versions lookups show beside the lock.
 ///
@@ -35,7 +43,7 @@ pub struct Book<D: DeskName, S: JournalSink> {
 }
 
 impl<D: DeskName, S: JournalSink> Model for Book<D, S> {
-    ghost use Rattle.chpw_fronts.specs.Pens.{opening_of};
+    ghost use Rattle.chpw_fronts.specs.Pens.{opening_state};
     ghost use Rattle.chpw_book.specs.Publishing.{Booked, Publishes};
 
     ghost Value = { Booked };
@@ -43,15 +51,66 @@ impl<D: DeskName, S: JournalSink> Model for Book<D, S> {
     ghost view = { λ b. record { kept = b.store; list = b.shelf.list } };
 
     ghost invariant = { λ b.
-        Publishes (opening_of D.root) b.store.history b.store.table.state.broken b.shelf };
+        Publishes (opening_state D.root) b.store.history b.store.table.state.broken b.shelf };
 }
 
 impl<D: DeskName, S: JournalSink> Book<D, S> {
+    /// A book with an empty history, and a pass for each of the workers, in their order. None has seen
+    /// or was told a change.
+    ///
+    /// Two faults: `NoPlaces` where `Shelf::place` gives no place to a worker, and `Memory` where a
+    /// growth is refused: of the rows, the shelf, the passes or the counts, in this order. After a fault
+    /// all that was handed in is gone.
+    pub(crate) fn start<R: Wait>(
+        rt: &R,
+        alloc: Global,
+        unnamed: UnnamedDesk,
+        sink: S,
+    ) -> Result<(Book<D, S>, Vec<Pass<D>>), StartFault>
+    where
+        S: Drop,
+        requires name { IsNamed unnamed D.name D.parts D.book D.root D.workers }
+        requires told { IfSome (S.told sink) (λ bytes. bytes ≡ []) }
+        requires room { (table_of unnamed).state.broken ≡ false → S.failed sink < 2 ^ 64 - 1 }
+        ensures value { IfOk result (λ r.
+            r.0 ≡ new_book (table_of unnamed) (workers_of unnamed) (S.told sink)) }
+        ensures passes { IfOk result (λ r.
+            r.1.items ≡ map new_pass (range_with_len 0 (workers_of unnamed))) }
+    {
+        let UnnamedDesk {
+            table,
+            workers,
+            blank,
+            list,
+        } = unnamed;
+        let rows = rows_of(alloc, &table)?;
+        let again = rows_of(alloc, &table)?;
+        let root = list.root();
+        let keeper = list.named::<D>();
+        let places = usize::from(workers);
+        let mut shelf = Shelf::start(rt, alloc, keeper, &root, rows, again, places)?;
+        let (totals, all): (_, Share<D>) = blank.open::<D>();
+        let passes = match Pass::of_all(alloc, all, &mut shelf, workers) {
+            Ok(passes) => passes,
+            Err(fault) => {
+                shelf.end(rt);
+                return Err(fault);
+            }
+        };
+        match Store::start(alloc, totals, JournaledTable::of(table, sink), workers) {
+            Ok(store) => Ok((Book { store, shelf }, passes)),
+            Err(_) => {
+                shelf.end(rt);
+                Err(StartFault::Memory)
+            }
+        }
+    }
+
     /// The entries so far.
     pub fn history(&self) -> &[Entry]
         ensures value { result.now ≡ self.now.kept.history }
-        ensures replays { Replays (opening_of D.root) D.workers self.now.kept }
-        ensures published { self.now.list ≡ accepted (opening_of D.root) self.now.kept.history }
+        ensures replays { Replays (opening_state D.root) D.workers self.now.kept }
+        ensures published { self.now.list ≡ accepted (opening_state D.root) self.now.kept.history }
     {
         self.store.history()
     }
@@ -71,18 +130,14 @@ impl<D: DeskName, S: JournalSink> Book<D, S> {
     ) -> Result<Verdict, Refused>
         requires moment { IsMoment now }
         ensures adds { IfOk result (λ v.
-            Adds self.old.kept self.new.kept pass.old pass.new now opened v) }
-        ensures room { OnOk result (self.old.kept.table.events < self.old.kept.table.max_entries) }
-        ensures first { IfErr result (λ r. IsFirst self.old.kept.table
-            (missing self.old.kept.table.state now opened) r.fault) }
-        ensures positive { IfErr result (λ r. AsksPositive r.fault) }
-        ensures unchanged { IfErr result (λ r.
-            (self.new ≡ self.old) × (pass.new ≡ pass.old) × (r.opened ≡ opened)) }
+            Adds self.old.kept self.new.kept pass.old pass.new now (Ask opened v)) }
+        ensures refused { IfErr result (λ r. IsRefused self.old.kept.table now opened r) }
+        ensures unchanged { OnErr result ((self.new ≡ self.old) × (pass.new ≡ pass.old)) }
         ensures notes { IfOk result (λ v.
-            Notes (opening_of D.root) pass.old pass.new now opened v) }
-        ensures asks { IfErr result (λ r. AsksAfter (opening_of D.root) now opened r.fault) }
+            Notes (opening_state D.root) pass.old pass.new now (Ask opened v)) }
+        ensures asks { IfErr result (λ r. AsksAfter (opening_state D.root) now opened r.fault) }
         ensures told { IsPrefix pass.old.place.told
-            (accepted (opening_of D.root) self.old.kept.history) }
+            (accepted (opening_state D.root) self.old.kept.history) }
     {
         self.shelf.has(pass.told());
         let verdict = self.store.decide(&mut self.shelf, pass, now, opened)?;
@@ -105,16 +160,16 @@ impl<D: DeskName, S: JournalSink> Book<D, S> {
         requires moment { IsMoment now }
         requires salt { salt.now ≡ salt_of (target_of opened) }
         ensures adds { IfOk result (λ v. (counts : _) × Adds self.old.kept self.new.kept
-            pass.old pass.new now (completed password.now counts opened) v) }
+            pass.old pass.new now (Ask (completed password.now counts opened) v)) }
         ensures never { IfErr result (λ r. IsFinal r.fault) }
         ensures full { IfErr result (λ r.
             r.fault ≡ Full → self.old.kept.table.events ≡ self.old.kept.table.max_entries) }
         ensures unchanged { IfErr result (λ r. (self.new ≡ self.old) × (pass.new ≡ pass.old)
             × IsCompletedFrom password.now opened r.opened) }
-        ensures notes { IfOk result (λ v. (counts : _) × Notes (opening_of D.root)
-            pass.old pass.new now (completed password.now counts opened) v) }
+        ensures notes { IfOk result (λ v. (counts : _) × Notes (opening_state D.root)
+            pass.old pass.new now (Ask (completed password.now counts opened) v)) }
         ensures told { IsPrefix pass.old.place.told
-            (accepted (opening_of D.root) self.old.kept.history) }
+            (accepted (opening_state D.root) self.old.kept.history) }
     {
         self.shelf.has(pass.told());
         let verdict = self
@@ -130,7 +185,7 @@ impl<D: DeskName, S: JournalSink> Book<D, S> {
             (is_full self.now.kept.table) D.workers passes.now) }
         ensures refusal { IfSome result (λ fault. IsRefusal self.now.kept.history
             (is_full self.now.kept.table) D.workers passes.now fault) }
-        ensures replays { Replays (opening_of D.root) D.workers self.now.kept }
+        ensures replays { Replays (opening_state D.root) D.workers self.now.kept }
     {
         self.store.close_fault(passes)
     }
@@ -140,7 +195,7 @@ impl<D: DeskName, S: JournalSink> Book<D, S> {
         ensures history { result.history.items ≡ self.kept.history }
         ensures table { result.table ≡ self.kept.table }
         ensures told { S.told result.sink ≡ self.kept.told }
-        ensures replays { Replays (opening_of D.root) D.workers self.kept }
+        ensures replays { Replays (opening_state D.root) D.workers self.kept }
     {
         let Book { store, shelf } = self;
         shelf.end(rt);
@@ -161,7 +216,7 @@ impl<D: DeskName, S: JournalSink> Book<D, S> {
 // After this verdict: the change that waits is published, and the pass is told of it.
 fn tell<D: DeskName, R: Wait>(rt: &R, shelf: &mut Shelf<D>, pass: &mut Pass<D>, verdict: Verdict)
     requires waits { is_done verdict ≡ true → IsSome shelf.old.waiting }
-    requires room { length shelf.old.list + 1 < 2 ^ 32 }
+    requires room { length shelf.old.list + 1 < 2 ^ 31 }
     requires told { IsPrefix pass.old.place.told shelf.old.list }
     ensures shelf { shelf.new ≡ published (is_done verdict) shelf.old }
     ensures pass { pass.new ≡ record pass.old {

@@ -2,7 +2,8 @@
 ghost use Rattle.std.specs.Prelude.{◌≡◌, ◌-◌, ◌^◌, ◌<◌, ◌≤◌, [], All, IfOk, IfErr, IfSome, OnErr, map, false};
 ghost use mathlib.Core.List.{IsPrefix};
 ghost use Rattle.std.specs.List.{range_with_len};
-ghost use Rattle.chpw_fronts.specs.Pens.{opening_of};
+ghost use Rattle.chpw_fronts.specs.Pens.{opening_state, opening_table};
+ghost use Rattle.chpw_table.specs.declared.history.Event.TheVariants.{Ask};
 ghost use Rattle.chpw_table.specs.Times.{IsMoment};
 ghost use Rattle.chpw_table.specs.Completing.{completed};
 ghost use Rattle.chpw_table.specs.Refusals.{AsksPositive};
@@ -10,20 +11,16 @@ ghost use Rattle.chpw_decider.specs.Deciding.{IsCompletedFrom, IsFinal};
 ghost use Rattle.chpw_book.specs.Passes.{refused_with, new_pass};
 ghost use Rattle.chpw_book.specs.Calls.{Notes, AsksAfter};
 ghost use Rattle.chpw_book.specs.Starting.{IsNamed, table_of, workers_of};
-ghost use Rattle.chpw_versions.specs.Rows.{lookup_after};
+ghost use Rattle.chpw_versions.specs.Looking.{LooksUp};
 
 use crate::book::Book;
 use crate::naming::DeskName;
 use crate::pass::Pass;
-use crate::rows::rows_of;
-use crate::started::{StartFault, StartedDesk};
-use crate::store::Store;
-use chpw_decider::JournaledTable;
+use crate::unnamed::{StartFault, UnnamedDesk};
 use chpw_rules::Name;
 use chpw_table::{DecideFault, JournalSink, Lookup, Moment, Opened, Refused, Verdict};
-use chpw_versions::{NotEntered, Shelf};
+use chpw_versions::NotEntered;
 use std::alloc::Global;
-use std::sync::ledger::Share;
 use std::sync::{Mutex, MutexGuard, Wait};
 
 /// A book that several workers decide at, each with a pass of its own. A desk is closed
@@ -37,53 +34,26 @@ impl<D: DeskName, S: JournalSink> Desk<D, S> {
     /// or was told a change.
     ///
     /// A sink that tells has told nothing; fewer than 2^64 - 1 of its appends have failed, or the
-    /// table is broken. After a fault all that was handed in is gone.
+    /// table is broken. `NoPlaces` where no place is given to a worker; `Memory` where a growth is
+    /// refused: of the rows, the shelf, the passes or the history. After a fault all that was handed in
+    /// is gone.
     pub fn start<R: Wait>(
         rt: &R,
         alloc: Global,
-        started: StartedDesk,
+        unnamed: UnnamedDesk,
         sink: S,
     ) -> Result<(Desk<D, S>, Vec<Pass<D>>), StartFault>
     where
         S: Drop,
-        requires name { IsNamed started D.name D.parts D.book D.root D.workers }
+        requires name { IsNamed unnamed D.name D.parts D.book D.root D.workers }
         requires told { IfSome (S.told sink) (λ bytes. bytes ≡ []) }
-        requires room { (table_of started).state.broken ≡ false → S.failed sink < 2 ^ 64 - 1 }
+        requires room { (table_of unnamed).state.broken ≡ false → S.failed sink < 2 ^ 64 - 1 }
         ensures passes { IfOk result (λ r.
-            r.1.items ≡ map new_pass (range_with_len 0 (workers_of started))) }
+            r.1.items ≡ map new_pass (range_with_len 0 (workers_of unnamed))) }
     {
-        let StartedDesk {
-            table,
-            workers,
-            blank,
-            list,
-        } = started;
-        let rows = rows_of(alloc, &table)?;
-        let again = rows_of(alloc, &table)?;
-        let root = list.root();
-        let keeper = list.named::<D>();
-        let places = usize::from(workers);
-        let mut shelf = Shelf::start(rt, alloc, keeper, &root, rows, again, places)?;
-        let (totals, all): (_, Share<D>) = blank.open::<D>();
-        let passes = match Pass::of_all(alloc, all, &mut shelf, workers) {
-            Ok(passes) => passes,
-            Err(fault) => {
-                shelf.end(rt);
-                return Err(fault);
-            }
-        };
-        match Store::start(alloc, totals, JournaledTable::of(table, sink), workers) {
-            Ok(store) => Ok((
-                Desk {
-                    book: Mutex::new(Book { store, shelf }),
-                },
-                passes,
-            )),
-            Err(_) => {
-                shelf.end(rt);
-                Err(StartFault::Memory)
-            }
-        }
+        let (book, passes) = Book::start(rt, alloc, unnamed, sink)?;
+        let book = Mutex::new(book);
+        Ok((Desk { book }, passes))
     }
 
     /// One event under the lock; its receipt joins the pass. Where the request was accepted, its change
@@ -99,10 +69,10 @@ impl<D: DeskName, S: JournalSink> Desk<D, S> {
         opened: Opened,
     ) -> Result<Verdict, Refused>
         requires moment { IsMoment now }
-        ensures receipt { IfOk result (λ v. Notes (opening_of D.root) pass.old pass.new now opened v) }
+        ensures receipt { IfOk result (λ v. Notes (opening_state D.root) pass.old pass.new now (Ask opened v)) }
         ensures refused { IfErr result (λ r.
             (pass.new ≡ refused_with r.fault pass.old) × (r.opened ≡ opened)) }
-        ensures asks { IfErr result (λ r. AsksAfter (opening_of D.root) now opened r.fault) }
+        ensures asks { IfErr result (λ r. AsksAfter (opening_state D.root) now opened r.fault) }
         ensures positive { IfErr result (λ r. AsksPositive r.fault) }
     {
         let mut book = self.book.lock(rt);
@@ -124,7 +94,7 @@ impl<D: DeskName, S: JournalSink> Desk<D, S> {
     ) -> Result<Verdict, Refused>
         requires moment { IsMoment now }
         ensures receipt { IfOk result (λ v. (counts : _)
-            × Notes (opening_of D.root) pass.old pass.new now (completed password.now counts opened) v) }
+            × Notes (opening_state D.root) pass.old pass.new now (Ask (completed password.now counts opened) v)) }
         ensures refused { IfErr result (λ r. (pass.new ≡ refused_with r.fault pass.old)
             × IsCompletedFrom password.now opened r.opened) }
         ensures never { IfErr result (λ r. IsFinal r.fault) }
@@ -145,14 +115,8 @@ impl<D: DeskName, S: JournalSink> Desk<D, S> {
     /// pass has seen and was told; none for an unknown name. It takes no lock and waits for nobody. The
     /// counts are at least 1. After `NotEntered` the pass is as before.
     pub fn lookup(&self, pass: &mut Pass<D>, name: &Name) -> Result<Option<Lookup>, NotEntered>
-        ensures later { IsPrefix pass.old.place.seen pass.new.place.seen }
-        ensures after { IfOk result (λ found. IsPrefix pass.old.place.told pass.new.place.seen) }
-        ensures shown { IfOk result (λ found.
-            found ≡ lookup_after (opening_of D.root) pass.new.place.seen name.now) }
-        ensures positive { IfOk result (λ found.
-            IfSome found (λ l. (1 ≤ l.policy) × All (λ n. 1 ≤ n) l.held)) }
-        ensures told { (pass.new.place.told ≡ pass.old.place.told)
-            × (pass.new.place.own ≡ pass.old.place.own) }
+        ensures found { IfOk result (λ found. LooksUp (opening_table D.root) pass.old.place
+            pass.new.place name.now found) }
         ensures rest { pass.new ≡ record pass.old { place = pass.new.place } }
         ensures unchanged { OnErr result (pass.new ≡ pass.old) }
     {

@@ -1,5 +1,5 @@
 //! The rows that lookups show at first.
-ghost use Rattle.std.specs.Prelude.{◌≡◌, ◌≤◌, All, IfOk, map, max};
+ghost use Rattle.std.specs.Prelude.{◌≡◌, ◌≤◌, ◌<◌, ◌^◌, All, IfOk, OnOk, map, max};
 ghost use Rattle.chpw_versions.specs.Rows.{HasPositive, IsPositive};
 ghost use Rattle.chpw_book.specs.Publishing.{row_under, table_rows};
 
@@ -10,12 +10,14 @@ use std::alloc::{AllocError, Global};
 
 /// What the table shows of each of its names.
 pub(crate) fn rows_of(alloc: Global, table: &Table) -> Result<Rows, AllocError>
-    ensures value { IfOk result (λ rows. rows ≡ table_rows table.now.state) }
+    ensures value { IfOk result (λ rows. rows ≡ table_rows table.now) }
+    ensures few { OnOk result (table.now.seen < 2 ^ 31) }
     ensures positive { IfOk result IsPositive }
 {
     let policy = table.policy();
     let rows = all_rows(alloc, table)?;
-    Ok(Rows::of(rows, policy.depth.max(1), policy.iterations))
+    let kept = policy.depth.max(1);
+    Ok(Rows::of(rows, kept, policy.iterations, table.seen()))
 }
 
 fn all_rows(alloc: Global, table: &Table) -> Result<Vec<Row>, AllocError>

@@ -8,7 +8,7 @@ use crate::closing::{Tally, close_desk};
 use crate::fault::ServeFault;
 use crate::files::{read_seed, read_settings};
 use crate::starting::open_table;
-use chpw_book::{Desk, DeskName, Pass, StartFault, StartedDesk};
+use chpw_book::{Desk, DeskName, Pass, StartFault, UnnamedDesk};
 use chpw_invocation::ServeOptions;
 use chpw_journal::{FileSink, Journal};
 use chpw_messages::Service;
@@ -62,8 +62,8 @@ pub fn serve<
         listener,
         seed,
     };
-    let started = StartedDesk::of(table, options.workers);
-    serve_desk::<Brand, R>(rt, started, sink, ready, options)
+    let unnamed = UnnamedDesk::of(table, options.workers);
+    serve_desk::<Brand, R>(rt, unnamed, sink, ready, options)
 }
 
 fn listen<'a, R: Net<Listener = TcpListener, Stream = TcpStream>>(
@@ -85,17 +85,17 @@ fn serve_desk<
     R: Threads + Wait + Clock + Print + AllocGlobal + Sync,
 >(
     rt: &R,
-    started: StartedDesk,
+    unnamed: UnnamedDesk,
     sink: FileSink<File>,
     ready: Ready,
     options: ServeOptions<'a>,
 ) -> Result<(), ServeFault<'a>>
-    requires workers { 1 ≤ workers_of started }
-    requires name { IsNamed started D.name D.parts D.book D.root D.workers }
+    requires workers { 1 ≤ workers_of unnamed }
+    requires name { IsNamed unnamed D.name D.parts D.book D.root D.workers }
     requires fresh { ⟦<FileSink<File> as JournalSink>⟧.failed sink ≡ 0 }
     ensures fault { IfErr result IsLate }
 {
-    let Ok((desk, mut passes)) = start_desk::<D, R>(rt, started, sink) else {
+    let Ok((desk, mut passes)) = start_desk::<D, R>(rt, unnamed, sink) else {
         return Err(ServeFault::Memory);
     };
     if println!(rt; "listening on 127.0.0.1:{}", options.port).is_err() {
@@ -118,14 +118,14 @@ fn serve_desk<
 
 fn start_desk<D: DeskName, R: Wait + AllocGlobal>(
     rt: &R,
-    started: StartedDesk,
+    unnamed: UnnamedDesk,
     sink: FileSink<File>,
 ) -> Result<(Desk<D, FileSink<File>>, Vec<Pass<D>>), StartFault>
-    requires name { IsNamed started D.name D.parts D.book D.root D.workers }
+    requires name { IsNamed unnamed D.name D.parts D.book D.root D.workers }
     requires fresh { ⟦<FileSink<File> as JournalSink>⟧.failed sink ≡ 0 }
-    ensures passes { IfOk result (λ r. length r.1.items ≡ workers_of started) }
+    ensures passes { IfOk result (λ r. length r.1.items ≡ workers_of unnamed) }
 {
-    Desk::start(rt, rt.alloc(), started, sink)
+    Desk::start(rt, rt.alloc(), unnamed, sink)
 }
 
 // Prints what was done, and tells why it ended early.

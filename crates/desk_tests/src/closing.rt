@@ -3,7 +3,7 @@ ghost use Rattle.std.specs.Prelude.{◌≡◌, ◌^◌, ◌<◌, length};
 ghost use Rattle.chpw_book.specs.Starting.{IsNamed, workers_of};
 
 use crate::realm::{NOW, PASSWORD, Quiet, change, closed, table, verdict};
-use chpw_book::{CloseFault, CloseRefused, Desk, DeskName, Pass, StartedDesk, agree};
+use chpw_book::{CloseFault, CloseRefused, Desk, DeskName, Pass, UnnamedDesk, agree};
 use chpw_table::{Entry, Opened, Receipt, Verdict};
 use std::alloc::{AllocError, Global};
 use std::marker::Brand;
@@ -17,21 +17,21 @@ fn one_request_of_two_workers(rt: HostRuntime) -> Result<(), Fail> {
     let table = table(&rt, rt.alloc(), 9)?;
     let one = change(rt.alloc(), 0, 1)?;
     let two = change(rt.alloc(), 0, 1)?;
-    two_at::<Brand, _>(&rt, rt.alloc(), StartedDesk::of(table, 2), one, two)
+    two_at::<Brand, _>(&rt, rt.alloc(), UnnamedDesk::of(table, 2), one, two)
 }
 
 // One of two workers changes the password, and the other's request is a replay.
 fn two_at<D: DeskName + Send + Sync, R: Threads + Wait + Abort + Sync>(
     rt: &R,
     alloc: Global,
-    started: StartedDesk,
+    unnamed: UnnamedDesk,
     one: Opened,
     two: Opened,
 ) -> Result<(), Fail>
-    requires name { IsNamed started D.name D.parts D.book D.root D.workers }
-    requires workers { workers_of started ≡ 2 }
+    requires name { IsNamed unnamed D.name D.parts D.book D.root D.workers }
+    requires workers { workers_of unnamed ≡ 2 }
 {
-    let (desk, mut passes) = Desk::<D, Quiet>::start(rt, alloc, started, Quiet)?;
+    let (desk, mut passes) = Desk::<D, Quiet>::start(rt, alloc, unnamed, Quiet)?;
     let mut second = passes.pop().expect(rt, "a pass");
     let mut first = passes.pop().expect(rt, "a pass");
     let shared = &desk;

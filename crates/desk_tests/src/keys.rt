@@ -3,7 +3,7 @@ ghost use Rattle.std.specs.Prelude.{◌≡◌};
 ghost use Rattle.chpw_book.specs.Starting.{IsNamed, workers_of};
 
 use crate::realm::{NOW, PASSWORD, Quiet, change, closed, is_full, shown, table, verdict};
-use chpw_book::{AtDesk, Desk, DeskName, StartedDesk};
+use chpw_book::{AtDesk, Desk, DeskName, UnnamedDesk};
 use chpw_decider::Decider;
 use chpw_table::{DecideFault, Opened, Refused, Verdict};
 use std::alloc::Global;
@@ -16,20 +16,20 @@ use std::test::Fail;
 fn keys_that_are_asked_for(rt: HostRuntime) -> Result<(), Fail> {
     let table = table(&rt, rt.alloc(), 2)?;
     let opened = change(rt.alloc(), 0, 1)?;
-    ask_and_complete::<Brand, _>(&rt, rt.alloc(), StartedDesk::of(table, 1), opened)
+    ask_and_complete::<Brand, _>(&rt, rt.alloc(), UnnamedDesk::of(table, 1), opened)
 }
 
 // The missing keys are named, and with them the same request is decided; the desk is given up.
 fn ask_and_complete<D: DeskName, R: Wait + Abort>(
     rt: &R,
     alloc: Global,
-    started: StartedDesk,
+    unnamed: UnnamedDesk,
     opened: Opened,
 ) -> Result<(), Fail>
-    requires name { IsNamed started D.name D.parts D.book D.root D.workers }
-    requires workers { workers_of started ≡ 1 }
+    requires name { IsNamed unnamed D.name D.parts D.book D.root D.workers }
+    requires workers { workers_of unnamed ≡ 1 }
 {
-    let (desk, mut passes) = Desk::<D, Quiet>::start(rt, alloc, started, Quiet)?;
+    let (desk, mut passes) = Desk::<D, Quiet>::start(rt, alloc, unnamed, Quiet)?;
     let mut pass = passes.pop().expect(rt, "a pass");
     let refused = desk
         .decide(rt, &mut pass, NOW, opened)
@@ -63,21 +63,21 @@ fn keys_derived_under_the_lock(rt: HostRuntime) -> Result<(), Fail> {
     let table = table(&rt, rt.alloc(), 1)?;
     let first = change(rt.alloc(), 0, 1)?;
     let second = change(rt.alloc(), 0, 2)?;
-    derive_and_fill::<Brand, _>(&rt, rt.alloc(), StartedDesk::of(table, 1), first, second)
+    derive_and_fill::<Brand, _>(&rt, rt.alloc(), UnnamedDesk::of(table, 1), first, second)
 }
 
 // Of a history of one entry the second request is refused, which the pass notes; the desk is closed.
 fn derive_and_fill<D: DeskName, R: Wait + Abort>(
     rt: &R,
     alloc: Global,
-    started: StartedDesk,
+    unnamed: UnnamedDesk,
     first: Opened,
     second: Opened,
 ) -> Result<(), Fail>
-    requires name { IsNamed started D.name D.parts D.book D.root D.workers }
-    requires workers { workers_of started ≡ 1 }
+    requires name { IsNamed unnamed D.name D.parts D.book D.root D.workers }
+    requires workers { workers_of unnamed ≡ 1 }
 {
-    let (desk, mut passes) = Desk::<D, Quiet>::start(rt, alloc, started, Quiet)?;
+    let (desk, mut passes) = Desk::<D, Quiet>::start(rt, alloc, unnamed, Quiet)?;
     let mut pass = passes.pop().expect(rt, "a pass");
     let mut place = AtDesk {
         rt,

@@ -3,7 +3,7 @@ ghost use Rattle.std.specs.Prelude.{◌≡◌, ◌<◌, All};
 ghost use Rattle.chpw_book.specs.Starting.{IsNamed, workers_of};
 
 use crate::realm::{NOW, PASSWORD, Quiet, change, closed, shown, table, verdict};
-use chpw_book::{Desk, DeskName, Pass, StartedDesk};
+use chpw_book::{Desk, DeskName, Pass, UnnamedDesk};
 use chpw_table::{Opened, Verdict};
 use std::alloc::Global;
 use std::marker::Brand;
@@ -16,19 +16,19 @@ use std::thread::Threads;
 #[test]
 fn sixteen_workers(rt: HostRuntime) -> Result<(), Fail> {
     let table = table(&rt, rt.alloc(), 100)?;
-    all_at::<Brand, _>(&rt, rt.alloc(), StartedDesk::of(table, 16))
+    all_at::<Brand, _>(&rt, rt.alloc(), UnnamedDesk::of(table, 16))
 }
 
 // Each worker changes the password of a principal of its own, twice; then all is closed.
 fn all_at<D: DeskName + Send + Sync, R: Threads + Wait + Abort + Sync>(
     rt: &R,
     alloc: Global,
-    started: StartedDesk,
+    unnamed: UnnamedDesk,
 ) -> Result<(), Fail>
-    requires name { IsNamed started D.name D.parts D.book D.root D.workers }
-    requires workers { workers_of started ≡ 16 }
+    requires name { IsNamed unnamed D.name D.parts D.book D.root D.workers }
+    requires workers { workers_of unnamed ≡ 16 }
 {
-    let (desk, mut passes) = Desk::<D, Quiet>::start(rt, alloc, started, Quiet)?;
+    let (desk, mut passes) = Desk::<D, Quiet>::start(rt, alloc, unnamed, Quiet)?;
     let shared = &desk;
     thread::for_each_mut(
         rt,
@@ -77,7 +77,7 @@ fn two_desks(rt: HostRuntime) -> Result<(), Fail> {
     both_at::<Brand, Brand, _>(
         &rt,
         rt.alloc(),
-        (StartedDesk::of(first, 1), StartedDesk::of(second, 1)),
+        (UnnamedDesk::of(first, 1), UnnamedDesk::of(second, 1)),
         opened,
     )
 }
@@ -87,19 +87,19 @@ fn two_desks(rt: HostRuntime) -> Result<(), Fail> {
 fn both_at<D: DeskName, E: DeskName, R: Wait + Abort>(
     rt: &R,
     alloc: Global,
-    started: (StartedDesk, StartedDesk),
+    unnamed: (UnnamedDesk, UnnamedDesk),
     opened: Opened,
 ) -> Result<(), Fail>
-    requires one { IsNamed started.0 D.name D.parts D.book D.root D.workers }
-    requires two { IsNamed started.1 E.name E.parts E.book E.root E.workers }
+    requires one { IsNamed unnamed.0 D.name D.parts D.book D.root D.workers }
+    requires two { IsNamed unnamed.1 E.name E.parts E.book E.root E.workers }
 {
-    let (one, mut ones) = Desk::<D, Quiet>::start(rt, alloc, started.0, Quiet)?;
+    let (one, mut ones) = Desk::<D, Quiet>::start(rt, alloc, unnamed.0, Quiet)?;
     let mut first = ones.pop().expect(rt, "a pass");
     let done = one.decide_deriving(rt, &mut first, NOW, opened, PASSWORD);
     assert!(rt; verdict(done) == Some(Verdict::Done));
     assert!(rt; shown(rt, alloc, &one, &mut first) == (2, 1));
     one.abandon(rt);
-    let (two, mut twos) = Desk::<E, Quiet>::start(rt, alloc, started.1, Quiet)?;
+    let (two, mut twos) = Desk::<E, Quiet>::start(rt, alloc, unnamed.1, Quiet)?;
     let mut second = twos.pop().expect(rt, "a pass");
     assert!(rt; shown(rt, alloc, &two, &mut second) == (1, 0));
     two.abandon(rt);

@@ -2,9 +2,10 @@
 ghost use Rattle.std.specs.Prelude.{◌≡◌};
 ghost use Rattle.chpw_book.specs.Starting.{IsNamed};
 
-use crate::realm::{NOW, PASSWORD, Quiet, change, closed, shown, table, verdict};
+use crate::realm::{NOW, PASSWORD, Quiet, change, closed, name, shown, table, verdict};
 use crate::sides::asked;
-use chpw_book::{Desk, DeskName, Pass, StartedDesk};
+use chpw_book::{AtDesk, Desk, DeskName, Pass, UnnamedDesk};
+use chpw_decider::Decider;
 use chpw_table::{Opened, Verdict};
 use std::alloc::Global;
 use std::marker::Brand;
@@ -23,19 +24,19 @@ const LOOKS: u32 = 500;
 fn fronts_that_are_learnt(rt: HostRuntime) -> Result<(), Fail> {
     let table = table(&rt, rt.alloc(), 9)?;
     let opened = change(rt.alloc(), 0, 1)?;
-    three_at::<Brand, _>(&rt, rt.alloc(), StartedDesk::of(table, 3), opened)
+    three_at::<Brand, _>(&rt, rt.alloc(), UnnamedDesk::of(table, 3), opened)
 }
 
 // The first changes alice's password; the second and the third learn of it.
 fn three_at<D: DeskName, R: Wait + Abort>(
     rt: &R,
     alloc: Global,
-    started: StartedDesk,
+    unnamed: UnnamedDesk,
     opened: Opened,
 ) -> Result<(), Fail>
-    requires name { IsNamed started D.name D.parts D.book D.root D.workers }
+    requires name { IsNamed unnamed D.name D.parts D.book D.root D.workers }
 {
-    let (desk, mut passes) = Desk::<D, Quiet>::start(rt, alloc, started, Quiet)?;
+    let (desk, mut passes) = Desk::<D, Quiet>::start(rt, alloc, unnamed, Quiet)?;
     let mut third = passes.pop().expect(rt, "a pass");
     let mut second = passes.pop().expect(rt, "a pass");
     let mut first = passes.pop().expect(rt, "a pass");
@@ -56,20 +57,56 @@ fn three_at<D: DeskName, R: Wait + Abort>(
 }
 
 #[test]
+fn what_a_worker_is_shown(rt: HostRuntime) -> Result<(), Fail> {
+    let table = table(&rt, rt.alloc(), 9)?;
+    let opened = change(rt.alloc(), 0, 1)?;
+    worker_at::<Brand, _>(&rt, rt.alloc(), UnnamedDesk::of(table, 1), opened)
+}
+
+// After one change of alice's password a worker is shown hers and blice's keys, and none of an unknown
+// name.
+fn worker_at<D: DeskName, R: Wait + Abort>(
+    rt: &R,
+    alloc: Global,
+    unnamed: UnnamedDesk,
+    opened: Opened,
+) -> Result<(), Fail>
+    requires name { IsNamed unnamed D.name D.parts D.book D.root D.workers }
+{
+    let (desk, mut passes) = Desk::<D, Quiet>::start(rt, alloc, unnamed, Quiet)?;
+    let mut pass = passes.pop().expect(rt, "a pass");
+    let mut worker = AtDesk {
+        rt,
+        desk: &desk,
+        pass: &mut pass,
+    };
+    let done = verdict(worker.decide_deriving(NOW, opened, PASSWORD));
+    assert!(rt; done == Some(Verdict::Done));
+    let alice = worker.lookup(&name(alloc, 0)?).expect(rt, "a principal");
+    assert!(rt; alice.kvno == 2 && alice.held.as_slice() == [4, 4].as_slice());
+    assert!(rt; alice.policy == 4 && alice.seen == 1);
+    let blice = worker.lookup(&name(alloc, 1)?).expect(rt, "a principal");
+    assert!(rt; blice.kvno == 1 && blice.held.as_slice() == [4].as_slice());
+    assert!(rt; worker.lookup(&name(alloc, 16)?).is_none());
+    desk.abandon(rt);
+    Ok(())
+}
+
+#[test]
 fn lookups_beside_changes(rt: HostRuntime) -> Result<(), Fail> {
     let table = table(&rt, rt.alloc(), 100)?;
-    all_at::<Brand, _>(&rt, rt.alloc(), StartedDesk::of(table, 16))
+    all_at::<Brand, _>(&rt, rt.alloc(), UnnamedDesk::of(table, 16))
 }
 
 // One worker changes alice's password, and the others look.
 fn all_at<D: DeskName + Send + Sync, R: Threads + Wait + Abort + Sync>(
     rt: &R,
     alloc: Global,
-    started: StartedDesk,
+    unnamed: UnnamedDesk,
 ) -> Result<(), Fail>
-    requires name { IsNamed started D.name D.parts D.book D.root D.workers }
+    requires name { IsNamed unnamed D.name D.parts D.book D.root D.workers }
 {
-    let (desk, mut passes) = Desk::<D, Quiet>::start(rt, alloc, started, Quiet)?;
+    let (desk, mut passes) = Desk::<D, Quiet>::start(rt, alloc, unnamed, Quiet)?;
     let shared = &desk;
     thread::for_each_mut(
         rt,

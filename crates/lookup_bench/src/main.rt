@@ -13,7 +13,7 @@ mod hold;
 mod looking;
 mod realm;
 
-use chpw_book::{Desk, DeskName, Pass, StartedDesk};
+use chpw_book::{Desk, DeskName, Pass, UnnamedDesk};
 use chpw_table::JournalSink;
 use hold::{Hold, SlowSink};
 use looking::{Looked, Sought, look_alone, look_beside, look_together};
@@ -67,8 +67,8 @@ impl Wanted {
 fn main(rt: HostRuntime) -> io::Result<()> {
     let wanted = arguments(&rt)?;
     let table = table(rt.alloc(), wanted.principals)?;
-    let started = StartedDesk::of(table, 4);
-    measure::<Brand, HostRuntime>(&rt, &Hold::new(), started, wanted)
+    let unnamed = UnnamedDesk::of(table, 4);
+    measure::<Brand, HostRuntime>(&rt, &Hold::new(), unnamed, wanted)
 }
 
 fn arguments<R: Env + AllocGlobal>(rt: &R) -> io::Result<Wanted> {
@@ -85,20 +85,20 @@ fn arguments<R: Env + AllocGlobal>(rt: &R) -> io::Result<Wanted> {
 fn measure<'a, D, R>(
     rt: &'a R,
     hold: &'a Hold,
-    started: StartedDesk,
+    unnamed: UnnamedDesk,
     wanted: Wanted,
 ) -> io::Result<()>
 where
     D: DeskName + Send + Sync,
     R: Threads + Wait + Clock + Print + AllocGlobal + Sync,
-    requires name { IsNamed started D.name D.parts D.book D.root D.workers }
+    requires name { IsNamed unnamed D.name D.parts D.book D.root D.workers }
 {
     let sink = SlowSink {
         rt,
         hold,
         sleep: wanted.sleep(),
     };
-    let Ok((desk, passes)) = Desk::<D, _>::start(rt, rt.alloc(), started, sink) else {
+    let Ok((desk, passes)) = Desk::<D, _>::start(rt, rt.alloc(), unnamed, sink) else {
         return Err(io::Error::from(io::ErrorKind::OutOfMemory));
     };
     let figures = figures(rt, rt.alloc(), &desk, passes, hold, wanted);

@@ -5,7 +5,7 @@ ghost use Rattle.chpw_book.specs.Starting.{IsNamed, workers_of};
 use crate::gates::Together;
 use crate::realm::opening;
 use chpw_answer::{Gate, NoGate, answer};
-use chpw_book::{AtDesk, CloseRefused, Closed, Desk, DeskName, Pass, StartedDesk};
+use chpw_book::{AtDesk, CloseRefused, Closed, Desk, DeskName, Pass, UnnamedDesk};
 use chpw_journal::MemorySink;
 use chpw_messages::Service;
 use chpw_rules::Name;
@@ -95,7 +95,7 @@ fn one_message_of_two_workers(rt: HostRuntime) -> Result<(), Fail> {
     two_at::<Brand, _>(
         &rt,
         rt.alloc(),
-        StartedDesk::of(table, 2),
+        UnnamedDesk::of(table, 2),
         &service,
         &message,
     )
@@ -105,15 +105,15 @@ fn one_message_of_two_workers(rt: HostRuntime) -> Result<(), Fail> {
 fn two_at<D: DeskName + Send + Sync, R: Threads + Wait + Abort + Sync>(
     rt: &R,
     alloc: Global,
-    started: StartedDesk,
+    unnamed: UnnamedDesk,
     service: &Service,
     message: &[u8],
 ) -> Result<(), Fail>
-    requires name { IsNamed started D.name D.parts D.book D.root D.workers }
-    requires workers { workers_of started ≡ 2 }
+    requires name { IsNamed unnamed D.name D.parts D.book D.root D.workers }
+    requires workers { workers_of unnamed ≡ 2 }
 {
     let sink = MemorySink::new(alloc, ROOM)?;
-    let (desk, mut passes) = Desk::<D, MemorySink>::start(rt, alloc, started, sink)?;
+    let (desk, mut passes) = Desk::<D, MemorySink>::start(rt, alloc, unnamed, sink)?;
     let mut second = passes.pop().expect(rt, "a pass");
     let mut first = passes.pop().expect(rt, "a pass");
     let barrier = Barrier::new(2);
@@ -204,7 +204,7 @@ fn failed_append(rt: HostRuntime) -> Result<(), Fail> {
     break_second::<Brand, _>(
         &rt,
         rt.alloc(),
-        StartedDesk::of(table, 1),
+        UnnamedDesk::of(table, 1),
         &service,
         [&first, &second],
     )
@@ -214,15 +214,15 @@ fn failed_append(rt: HostRuntime) -> Result<(), Fail> {
 fn break_second<D: DeskName, R: Wait + Abort>(
     rt: &R,
     alloc: Global,
-    started: StartedDesk,
+    unnamed: UnnamedDesk,
     service: &Service,
     messages: [&[u8]; 2],
 ) -> Result<(), Fail>
-    requires name { IsNamed started D.name D.parts D.book D.root D.workers }
+    requires name { IsNamed unnamed D.name D.parts D.book D.root D.workers }
 {
     let mut sink = MemorySink::new(alloc, ROOM)?;
     sink.fail_at(2, 0);
-    let (desk, mut passes) = Desk::<D, MemorySink>::start(rt, alloc, started, sink)?;
+    let (desk, mut passes) = Desk::<D, MemorySink>::start(rt, alloc, unnamed, sink)?;
     let mut pass = passes.pop().expect(rt, "a pass");
     let [first, second] = messages;
     let one = answered(rt, alloc, service, &desk, &mut pass, &mut NoGate, first);
@@ -243,7 +243,7 @@ fn full_history(rt: HostRuntime) -> Result<(), Fail> {
     fill::<Brand, _>(
         &rt,
         rt.alloc(),
-        StartedDesk::of(table, 1),
+        UnnamedDesk::of(table, 1),
         &service,
         [&first, &second],
     )
@@ -253,15 +253,15 @@ fn full_history(rt: HostRuntime) -> Result<(), Fail> {
 fn fill<D: DeskName, R: Wait + Abort>(
     rt: &R,
     alloc: Global,
-    started: StartedDesk,
+    unnamed: UnnamedDesk,
     service: &Service,
     messages: [&[u8]; 2],
 ) -> Result<(), Fail>
-    requires name { IsNamed started D.name D.parts D.book D.root D.workers }
-    requires workers { workers_of started ≡ 1 }
+    requires name { IsNamed unnamed D.name D.parts D.book D.root D.workers }
+    requires workers { workers_of unnamed ≡ 1 }
 {
     let sink = MemorySink::new(alloc, ROOM)?;
-    let (desk, mut passes) = Desk::<D, MemorySink>::start(rt, alloc, started, sink)?;
+    let (desk, mut passes) = Desk::<D, MemorySink>::start(rt, alloc, unnamed, sink)?;
     let mut pass = passes.pop().expect(rt, "a pass");
     let [first, second] = messages;
     let one = answered(rt, alloc, service, &desk, &mut pass, &mut NoGate, first);

@@ -4,7 +4,7 @@ ghost use Rattle.chpw_book.specs.Starting.{IsNamed, workers_of};
 
 use crate::gates::SecondFirst;
 use crate::realm::opening;
-use chpw_book::{Desk, DeskName, StartedDesk};
+use chpw_book::{Desk, DeskName, UnnamedDesk};
 use chpw_frame::{Received, read_tcp, write_tcp};
 use chpw_journal::MemorySink;
 use chpw_messages::Service;
@@ -98,7 +98,7 @@ fn two_connections(rt: HostRuntime) -> Result<(), Fail> {
     let pool = pool_of_two::<Brand, _>(
         &rt,
         rt.alloc(),
-        StartedDesk::of(table, 2),
+        UnnamedDesk::of(table, 2),
         &service,
         &listener,
     )?;
@@ -110,18 +110,18 @@ fn two_connections(rt: HostRuntime) -> Result<(), Fail> {
 fn pool_of_two<D: DeskName + Send + Sync, R: Machine>(
     rt: &R,
     alloc: Global,
-    started: StartedDesk,
+    unnamed: UnnamedDesk,
     service: &Service,
     listener: &TcpListener,
 ) -> Result<Pool, Fail>
-    requires name { IsNamed started D.name D.parts D.book D.root D.workers }
-    requires workers { workers_of started ≡ 2 }
+    requires name { IsNamed unnamed D.name D.parts D.book D.root D.workers }
+    requires workers { workers_of unnamed ≡ 2 }
 {
     let port = listener.local_addr()?.port();
     let seconds = second(rt);
     let (alice, bob) = requests(alloc, seconds)?;
     let sink = MemorySink::new(alloc, ROOM)?;
-    let (desk, mut passes) = Desk::<D, MemorySink>::start(rt, alloc, started, sink)?;
+    let (desk, mut passes) = Desk::<D, MemorySink>::start(rt, alloc, unnamed, sink)?;
     let shared = &desk;
     let (pool, ()) = join(
         rt,
@@ -151,7 +151,7 @@ fn the_second_answered_first(rt: HostRuntime) -> Result<(), Fail> {
     let pool = gated_pool::<Brand, _>(
         &rt,
         rt.alloc(),
-        StartedDesk::of(table, 2),
+        UnnamedDesk::of(table, 2),
         &service,
         &listener,
     )?;
@@ -163,12 +163,12 @@ fn the_second_answered_first(rt: HostRuntime) -> Result<(), Fail> {
 fn gated_pool<D: DeskName + Send + Sync, R: Machine>(
     rt: &R,
     alloc: Global,
-    started: StartedDesk,
+    unnamed: UnnamedDesk,
     service: &Service,
     listener: &TcpListener,
 ) -> Result<Pool, Fail>
-    requires name { IsNamed started D.name D.parts D.book D.root D.workers }
-    requires workers { workers_of started ≡ 2 }
+    requires name { IsNamed unnamed D.name D.parts D.book D.root D.workers }
+    requires workers { workers_of unnamed ≡ 2 }
 {
     let port = listener.local_addr()?.port();
     let seconds = second(rt);
@@ -176,7 +176,7 @@ fn gated_pool<D: DeskName + Send + Sync, R: Machine>(
     let answered = Mutex::new(false);
     let gates = vec![in alloc; gate(rt, true, &answered), gate(rt, false, &answered)]?;
     let sink = MemorySink::new(alloc, ROOM)?;
-    let (desk, mut passes) = Desk::<D, MemorySink>::start(rt, alloc, started, sink)?;
+    let (desk, mut passes) = Desk::<D, MemorySink>::start(rt, alloc, unnamed, sink)?;
     let shared = &desk;
     let (pool, ()) = join(
         rt,
@@ -218,7 +218,7 @@ fn a_connection_cut_off(rt: HostRuntime) -> Result<(), Fail> {
     let pool = pool_of_three::<Brand, _>(
         &rt,
         rt.alloc(),
-        StartedDesk::of(table, 2),
+        UnnamedDesk::of(table, 2),
         &service,
         &listener,
     )?;
@@ -230,18 +230,18 @@ fn a_connection_cut_off(rt: HostRuntime) -> Result<(), Fail> {
 fn pool_of_three<D: DeskName + Send + Sync, R: Machine>(
     rt: &R,
     alloc: Global,
-    started: StartedDesk,
+    unnamed: UnnamedDesk,
     service: &Service,
     listener: &TcpListener,
 ) -> Result<Pool, Fail>
-    requires name { IsNamed started D.name D.parts D.book D.root D.workers }
-    requires workers { workers_of started ≡ 2 }
+    requires name { IsNamed unnamed D.name D.parts D.book D.root D.workers }
+    requires workers { workers_of unnamed ≡ 2 }
 {
     let port = listener.local_addr()?.port();
     let seconds = second(rt);
     let (alice, bob) = requests(alloc, seconds)?;
     let sink = MemorySink::new(alloc, ROOM)?;
-    let (desk, mut passes) = Desk::<D, MemorySink>::start(rt, alloc, started, sink)?;
+    let (desk, mut passes) = Desk::<D, MemorySink>::start(rt, alloc, unnamed, sink)?;
     let shared = &desk;
     let (pool, ()) = join(
         rt,
@@ -270,7 +270,7 @@ fn nothing_to_accept(rt: HostRuntime) -> Result<(), Fail> {
     let pool = refused_pool::<Brand, _>(
         &rt,
         rt.alloc(),
-        StartedDesk::of(table, 1),
+        UnnamedDesk::of(table, 1),
         &service,
         &listener,
     )?;
@@ -282,16 +282,16 @@ fn nothing_to_accept(rt: HostRuntime) -> Result<(), Fail> {
 fn refused_pool<D: DeskName + Send + Sync, R: Machine>(
     rt: &R,
     alloc: Global,
-    started: StartedDesk,
+    unnamed: UnnamedDesk,
     service: &Service,
     listener: &TcpListener,
 ) -> Result<Pool, Fail>
-    requires name { IsNamed started D.name D.parts D.book D.root D.workers }
-    requires workers { workers_of started ≡ 1 }
+    requires name { IsNamed unnamed D.name D.parts D.book D.root D.workers }
+    requires workers { workers_of unnamed ≡ 1 }
 {
     listener.set_nonblocking(true)?;
     let sink = MemorySink::new(alloc, ROOM)?;
-    let (desk, mut passes) = Desk::<D, MemorySink>::start(rt, alloc, started, sink)?;
+    let (desk, mut passes) = Desk::<D, MemorySink>::start(rt, alloc, unnamed, sink)?;
     assert!(rt; !passes.is_empty());
     let pool = run_pool(rt, alloc, listener, service, &desk, &mut passes, SEED, 2);
     Ok(give_up(rt, desk, pool))

@@ -1,11 +1,11 @@
-use Rattle.chpw_book.specs.Starting.{ledger_name, ledger_parts, book_of, root_of, workers_of}
+use Rattle.chpw_book.specs.Starting.{ledger_name, ledger_parts, list_book, list_root, workers_of}
 use Rattle.chpw_service.proofs.serving.serve.Given as goal
 
 abbrev pub ghosts-serve_desk-D-DeskName : goal.ghosts-serve_desk-D-DeskName
-ghosts-serve_desk-D-DeskName g a = record { workers = workers_of a.started }
+ghosts-serve_desk-D-DeskName g a = record { workers = workers_of a.unnamed }
 
 abbrev pub ghosts-serve_desk-D-Ledger : goal.ghosts-serve_desk-D-Ledger
-ghosts-serve_desk-D-Ledger g a = record { name = ledger_name a.started; parts = ledger_parts a.started }
+ghosts-serve_desk-D-Ledger g a = record { name = ledger_name a.unnamed; parts = ledger_parts a.unnamed }
 
 abbrev pub ghosts-serve_desk-D-ListName : goal.ghosts-serve_desk-D-ListName
-ghosts-serve_desk-D-ListName g a = record { book = book_of a.started; root = root_of a.started }
+ghosts-serve_desk-D-ListName g a = record { book = list_book a.unnamed; root = list_root a.unnamed }

@@ -7,5 +7,5 @@ use Rattle.chpw_service.proofs.serving.start_desk.Goals as goal
 
 pub returns : goal.returns
 returns _ c = record {
-  passes = IfOk-weaker c.start.result _ _ (λ r is. ap length is ∙ length-map-range_with_len new_pass 0 (workers_of c.args.started)) c.start.ensures.passes;
+  passes = IfOk-weaker c.start.result _ _ (λ r is. ap length is ∙ length-map-range_with_len new_pass 0 (workers_of c.args.unnamed)) c.start.ensures.passes;
 }
