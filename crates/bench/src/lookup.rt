@@ -9,7 +9,7 @@ ghost use Rattle.chpw_book.specs.Starting.{IsNamed};
 mod hold;
 mod looking;
 
-use chpw_book::{Desk, DeskName, Pass, StartedDesk};
+use chpw_book::{Desk, DeskName, Pass, UnnamedDesk};
 use chpw_rules::Name;
 use chpw_table::{Counts, Digest, JournalSink, Opened, Table};
 use hold::{Hold, SlowSink};
@@ -70,7 +70,7 @@ where
         principals,
     };
     let table = opening(rt.alloc(), principals)?;
-    at_desk::<Brand, R>(rt, &Hold::new(), StartedDesk::of(table, 4), wanted)
+    at_desk::<Brand, R>(rt, &Hold::new(), UnnamedDesk::of(table, 4), wanted)
 }
 
 // A table of the principals client00000, client00001 and so on, with room for one entry.
@@ -97,7 +97,7 @@ fn first_change(alloc: Global) -> io::Result<Opened> {
 fn at_desk<'a, D, R>(
     rt: &'a R,
     hold: &'a Hold,
-    started: StartedDesk,
+    started: UnnamedDesk,
     wanted: Wanted,
 ) -> io::Result<()>
 where

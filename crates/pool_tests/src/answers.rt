@@ -5,7 +5,7 @@ ghost use Rattle.chpw_book.specs.Starting.{IsNamed, workers_of};
 use crate::gates::Together;
 use crate::realm::{CHANGED, opening, request, told};
 use chpw_answer::{Gate, NoGate, answer};
-use chpw_book::{AtDesk, CloseRefused, Closed, Desk, DeskName, Pass, StartedDesk};
+use chpw_book::{AtDesk, CloseRefused, Closed, Desk, DeskName, Pass, UnnamedDesk};
 use chpw_client::Sent;
 use chpw_journal::MemorySink;
 use chpw_messages::Service;
@@ -83,14 +83,14 @@ fn closed<D: DeskName, R: Wait>(
 fn one_message_of_two_workers(rt: HostRuntime) -> Result<(), Fail> {
     let (service, table) = opening(rt.alloc(), 100)?;
     let sent = request(&rt, rt.alloc(), "alice", NOW, "New-pass2")?;
-    two_at::<Brand, _>(&rt, rt.alloc(), StartedDesk::of(table, 2), &service, &sent)
+    two_at::<Brand, _>(&rt, rt.alloc(), UnnamedDesk::of(table, 2), &service, &sent)
 }
 
 // Both are held until both have opened it: one changes the password, and the other tells a replay.
 fn two_at<D: DeskName + Send + Sync, R: Threads + Wait + Abort + Sync>(
     rt: &R,
     alloc: Global,
-    started: StartedDesk,
+    started: UnnamedDesk,
     service: &Service,
     sent: &Sent,
 ) -> Result<(), Fail>
@@ -173,7 +173,7 @@ fn failed_append(rt: HostRuntime) -> Result<(), Fail> {
     break_second::<Brand, _>(
         &rt,
         rt.alloc(),
-        StartedDesk::of(table, 1),
+        UnnamedDesk::of(table, 1),
         &service,
         [&first, &second],
     )
@@ -183,7 +183,7 @@ fn failed_append(rt: HostRuntime) -> Result<(), Fail> {
 fn break_second<D: DeskName, R: Wait + Abort>(
     rt: &R,
     alloc: Global,
-    started: StartedDesk,
+    started: UnnamedDesk,
     service: &Service,
     requests: [&Sent; 2],
 ) -> Result<(), Fail>
@@ -212,7 +212,7 @@ fn full_history(rt: HostRuntime) -> Result<(), Fail> {
     fill::<Brand, _>(
         &rt,
         rt.alloc(),
-        StartedDesk::of(table, 1),
+        UnnamedDesk::of(table, 1),
         &service,
         [&first, &second],
     )
@@ -222,7 +222,7 @@ fn full_history(rt: HostRuntime) -> Result<(), Fail> {
 fn fill<D: DeskName, R: Wait + Abort>(
     rt: &R,
     alloc: Global,
-    started: StartedDesk,
+    started: UnnamedDesk,
     service: &Service,
     requests: [&Sent; 2],
 ) -> Result<(), Fail>

@@ -4,7 +4,7 @@ ghost use Rattle.chpw_book.specs.Starting.{IsNamed, workers_of};
 
 use crate::gates::SecondFirst;
 use crate::realm::{CHANGED, opening, request, told};
-use chpw_book::{Desk, DeskName, StartedDesk};
+use chpw_book::{Desk, DeskName, UnnamedDesk};
 use chpw_client::Sent;
 use chpw_frame::{LONGEST_MESSAGE, Received, read_tcp, write_tcp};
 use chpw_journal::MemorySink;
@@ -79,7 +79,7 @@ fn two_connections(rt: HostRuntime) -> Result<(), Fail> {
     let pool = pool_of_two::<Brand, _>(
         &rt,
         rt.alloc(),
-        StartedDesk::of(table, 2),
+        UnnamedDesk::of(table, 2),
         &service,
         &listener,
     )?;
@@ -91,7 +91,7 @@ fn two_connections(rt: HostRuntime) -> Result<(), Fail> {
 fn pool_of_two<D: DeskName + Send + Sync, R: Machine>(
     rt: &R,
     alloc: Global,
-    started: StartedDesk,
+    started: UnnamedDesk,
     service: &Service,
     listener: &TcpListener,
 ) -> Result<Pool, Fail>
@@ -131,7 +131,7 @@ fn the_second_answered_first(rt: HostRuntime) -> Result<(), Fail> {
     let pool = gated_pool::<Brand, _>(
         &rt,
         rt.alloc(),
-        StartedDesk::of(table, 2),
+        UnnamedDesk::of(table, 2),
         &service,
         &listener,
     )?;
@@ -143,7 +143,7 @@ fn the_second_answered_first(rt: HostRuntime) -> Result<(), Fail> {
 fn gated_pool<D: DeskName + Send + Sync, R: Machine>(
     rt: &R,
     alloc: Global,
-    started: StartedDesk,
+    started: UnnamedDesk,
     service: &Service,
     listener: &TcpListener,
 ) -> Result<Pool, Fail>
@@ -197,7 +197,7 @@ fn a_connection_cut_off(rt: HostRuntime) -> Result<(), Fail> {
     let pool = pool_of_three::<Brand, _>(
         &rt,
         rt.alloc(),
-        StartedDesk::of(table, 2),
+        UnnamedDesk::of(table, 2),
         &service,
         &listener,
     )?;
@@ -209,7 +209,7 @@ fn a_connection_cut_off(rt: HostRuntime) -> Result<(), Fail> {
 fn pool_of_three<D: DeskName + Send + Sync, R: Machine>(
     rt: &R,
     alloc: Global,
-    started: StartedDesk,
+    started: UnnamedDesk,
     service: &Service,
     listener: &TcpListener,
 ) -> Result<Pool, Fail>
@@ -248,7 +248,7 @@ fn nothing_to_accept(rt: HostRuntime) -> Result<(), Fail> {
     let pool = refused_pool::<Brand, _>(
         &rt,
         rt.alloc(),
-        StartedDesk::of(table, 1),
+        UnnamedDesk::of(table, 1),
         &service,
         &listener,
     )?;
@@ -260,7 +260,7 @@ fn nothing_to_accept(rt: HostRuntime) -> Result<(), Fail> {
 fn refused_pool<D: DeskName + Send + Sync, R: Machine>(
     rt: &R,
     alloc: Global,
-    started: StartedDesk,
+    started: UnnamedDesk,
     service: &Service,
     listener: &TcpListener,
 ) -> Result<Pool, Fail>

@@ -1,4 +1,4 @@
-use Rattle.chpw_book.specs.Starting.{ledger_name, ledger_parts, book_of, root_of, workers_of}
+use Rattle.chpw_book.specs.Starting.{ledger_name, ledger_parts, list_book, list_root, workers_of}
 use Rattle.pool_tests.proofs.answers.failed_append.Given as goal
 
 abbrev pub ghosts-break_second-D-DeskName : goal.ghosts-break_second-D-DeskName
@@ -8,4 +8,4 @@ abbrev pub ghosts-break_second-D-Ledger : goal.ghosts-break_second-D-Ledger
 ghosts-break_second-D-Ledger g a = record { name = ledger_name a.started; parts = ledger_parts a.started }
 
 abbrev pub ghosts-break_second-D-ListName : goal.ghosts-break_second-D-ListName
-ghosts-break_second-D-ListName g a = record { book = book_of a.started; root = root_of a.started }
+ghosts-break_second-D-ListName g a = record { book = list_book a.started; root = list_root a.started }

@@ -1,4 +1,4 @@
-use Rattle.chpw_book.specs.Starting.{ledger_name, ledger_parts, book_of, root_of, workers_of}
+use Rattle.chpw_book.specs.Starting.{ledger_name, ledger_parts, list_book, list_root, workers_of}
 use Rattle.pool_tests.proofs.answers.full_history.Given as goal
 
 abbrev pub ghosts-fill-D-DeskName : goal.ghosts-fill-D-DeskName
@@ -8,4 +8,4 @@ abbrev pub ghosts-fill-D-Ledger : goal.ghosts-fill-D-Ledger
 ghosts-fill-D-Ledger g a = record { name = ledger_name a.started; parts = ledger_parts a.started }
 
 abbrev pub ghosts-fill-D-ListName : goal.ghosts-fill-D-ListName
-ghosts-fill-D-ListName g a = record { book = book_of a.started; root = root_of a.started }
+ghosts-fill-D-ListName g a = record { book = list_book a.started; root = list_root a.started }

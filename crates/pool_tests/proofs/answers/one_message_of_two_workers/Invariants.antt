@@ -1,4 +1,4 @@
-use Rattle.chpw_book.specs.Starting.{ledger_name, ledger_parts, book_of, root_of, workers_of}
+use Rattle.chpw_book.specs.Starting.{ledger_name, ledger_parts, list_book, list_root, workers_of}
 use Rattle.pool_tests.proofs.answers.one_message_of_two_workers.Given as goal
 
 abbrev pub ghosts-two_at-D-DeskName : goal.ghosts-two_at-D-DeskName
@@ -8,4 +8,4 @@ abbrev pub ghosts-two_at-D-Ledger : goal.ghosts-two_at-D-Ledger
 ghosts-two_at-D-Ledger g a = record { name = ledger_name a.started; parts = ledger_parts a.started }
 
 abbrev pub ghosts-two_at-D-ListName : goal.ghosts-two_at-D-ListName
-ghosts-two_at-D-ListName g a = record { book = book_of a.started; root = root_of a.started }
+ghosts-two_at-D-ListName g a = record { book = list_book a.started; root = list_root a.started }

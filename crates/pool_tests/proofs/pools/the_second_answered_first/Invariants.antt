@@ -1,4 +1,4 @@
-use Rattle.chpw_book.specs.Starting.{ledger_name, ledger_parts, book_of, root_of, workers_of}
+use Rattle.chpw_book.specs.Starting.{ledger_name, ledger_parts, list_book, list_root, workers_of}
 use Rattle.pool_tests.proofs.pools.the_second_answered_first.Given as goal
 
 abbrev pub ghosts-gated_pool-D-DeskName : goal.ghosts-gated_pool-D-DeskName
@@ -8,4 +8,4 @@ abbrev pub ghosts-gated_pool-D-Ledger : goal.ghosts-gated_pool-D-Ledger
 ghosts-gated_pool-D-Ledger g a = record { name = ledger_name a.started; parts = ledger_parts a.started }
 
 abbrev pub ghosts-gated_pool-D-ListName : goal.ghosts-gated_pool-D-ListName
-ghosts-gated_pool-D-ListName g a = record { book = book_of a.started; root = root_of a.started }
+ghosts-gated_pool-D-ListName g a = record { book = list_book a.started; root = list_root a.started }

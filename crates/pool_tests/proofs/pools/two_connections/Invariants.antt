@@ -1,4 +1,4 @@
-use Rattle.chpw_book.specs.Starting.{ledger_name, ledger_parts, book_of, root_of, workers_of}
+use Rattle.chpw_book.specs.Starting.{ledger_name, ledger_parts, list_book, list_root, workers_of}
 use Rattle.pool_tests.proofs.pools.two_connections.Given as goal
 
 abbrev pub ghosts-pool_of_two-D-DeskName : goal.ghosts-pool_of_two-D-DeskName
@@ -8,4 +8,4 @@ abbrev pub ghosts-pool_of_two-D-Ledger : goal.ghosts-pool_of_two-D-Ledger
 ghosts-pool_of_two-D-Ledger g a = record { name = ledger_name a.started; parts = ledger_parts a.started }
 
 abbrev pub ghosts-pool_of_two-D-ListName : goal.ghosts-pool_of_two-D-ListName
-ghosts-pool_of_two-D-ListName g a = record { book = book_of a.started; root = root_of a.started }
+ghosts-pool_of_two-D-ListName g a = record { book = list_book a.started; root = list_root a.started }
