@@ -4,10 +4,10 @@
 # counts, of a high and of a low count of texts; a figure is what the high count takes longer, so that
 # the start of the program is taken off. The last line is `read R written W`.
 set -euo pipefail
-cd "$(dirname "$0")/../crates/der_bench"
+cd "$(dirname "$0")/../crates/bench"
 export PYTHONPATH=../../bench PYTHONDONTWRITEBYTECODE=1
-rt run >/dev/null
-exec python3 - out/der_bench "${1:-7}" <<'END'
+rt run <stdin >/dev/null
+exec python3 - out/bench "${1:-7}" <<'END'
 import subprocess
 import sys
 
@@ -17,13 +17,14 @@ program, rounds = sys.argv[1], int(sys.argv[2])
 LOW, HIGH = 10_000, 210_000
 
 
-size = int(subprocess.run([program], capture_output=True, text=True, check=True).stdout.split()[0])
+once = subprocess.run([program, "der", "read", "1"], capture_output=True, text=True, check=True)
+size = int(once.stdout.split()[0])
 
 
 def megabytes(what):
     """Megabytes a second, by the least times of either count."""
-    low = min(spent(program, what, LOW) for _ in range(rounds))
-    high = min(spent(program, what, HIGH) for _ in range(rounds))
+    low = min(spent([program, "der", what, LOW]) for _ in range(rounds))
+    high = min(spent([program, "der", what, HIGH]) for _ in range(rounds))
     return size * (HIGH - LOW) / (high - low) / 1e6
 
 

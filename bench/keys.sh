@@ -8,10 +8,10 @@
 # its AES (CBC, whose blocks it deciphers several at a time) through the package `cryptography`,
 # which brings an OpenSSL of its own. Where that isn't installed its figures are left out.
 set -euo pipefail
-cd "$(dirname "$0")/../crates/keys_bench"
+cd "$(dirname "$0")/../crates/bench"
 export PYTHONPATH=../../bench PYTHONDONTWRITEBYTECODE=1
-log=$(rt run 2>&1) || { echo "$log" >&2; exit 1; }
-exec python3 - out/keys_bench "${1:-25}" <<'END'
+log=$(rt run <stdin 2>&1) || { echo "$log" >&2; exit 1; }
+exec python3 - out/bench "${1:-25}" <<'END'
 import hashlib
 import ssl
 import sys
@@ -30,7 +30,7 @@ password, salt = b"Old-pass1", b"EXAMPLE.COMalice"
 
 def ours(what):
     """Processor seconds of a run of the program, by its count."""
-    return lambda count: spent(program, what, count)
+    return lambda count: spent([program, "keys", what, count])
 
 
 def theirs(work):

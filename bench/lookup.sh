@@ -6,9 +6,9 @@
 # the machine needs four processors that are free. The last line is
 # `lookup N ns, four N ns, beside a held lock N ns`.
 set -euo pipefail
-cd "$(dirname "$0")/../crates/lookup_bench"
-rt run -- count >/dev/null
-exec python3 - out/lookup_bench "${1:-5}" <<'END'
+cd "$(dirname "$0")/../crates/bench"
+rt run <stdin >/dev/null
+exec python3 - out/bench "${1:-5}" <<'END'
 import re
 import subprocess
 import sys
@@ -18,7 +18,7 @@ program, rounds = sys.argv[1], int(sys.argv[2])
 
 def nanos(principals):
     """The three figures of one run."""
-    words = [program, "time", str(principals)]
+    words = [program, "lookup", "time", str(principals)]
     line = subprocess.run(words, capture_output=True, text=True, check=True).stdout
     return [int(figure) for figure in re.findall(r"(\d+) ns", line)]
 

@@ -4,11 +4,11 @@
 # processor time (the argument, 15); the start of the program is taken off by running two counts. The
 # last line is `open N us`.
 set -euo pipefail
-cd "$(dirname "$0")/../crates/open_bench"
+cd "$(dirname "$0")/../crates/bench"
 export PYTHONPATH=../../bench PYTHONDONTWRITEBYTECODE=1
 rt run <stdin >/dev/null
-out/open_bench <stdin
-exec python3 - out/open_bench stdin "${1:-15}" <<'END'
+out/bench open it 1 <stdin
+exec python3 - out/bench stdin "${1:-15}" <<'END'
 import sys
 
 from timing import spent
@@ -19,7 +19,7 @@ LOW, HIGH = 200, 4_200
 
 def least(count):
     """Processor seconds of the best round."""
-    return min(spent(program, "open", count, messages) for _ in range(rounds))
+    return min(spent([program, "open", "it", count], messages) for _ in range(rounds))
 
 
 micros = (least(HIGH) - least(LOW)) / (HIGH - LOW) * 1e6

@@ -1,6 +1,6 @@
 #!/usr/bin/env bash
 # Changes a second of `serve` on this machine at 4096 iterations: one client and one worker, then four
-# of each. Each client (crates/serve_bench) changes the password of a principal of its own over one
+# of each. Each client (crates/bench) changes the password of a principal of its own over one
 # connection, and has made its requests before the clock starts. Of several rounds (the first argument,
 # 3) of so many changes for each client (the second, 500) the best counts. The last line is
 # `changes c1 N c4 N`.
@@ -8,7 +8,7 @@ set -euo pipefail
 cd "$(dirname "$0")/.."
 rounds=${1:-3} changes=${2:-500}
 (cd crates/chpw_server && rt run -- drill </dev/null >/dev/null)
-(cd crates/serve_bench && rt run >/dev/null)
+(cd crates/bench && rt run <stdin >/dev/null)
 work=$(mktemp -d)
 trap 'rm -rf "$work"' EXIT
 export PYTHONDONTWRITEBYTECODE=1
@@ -22,7 +22,7 @@ round() {
     --seed "$work/seed" --port 48464 --workers "$1" --connections "$1" >"$work/served" &
   local service=$!
   until grep -q listening "$work/served"; do sleep 0.05; done
-  crates/serve_bench/out/serve_bench 48464 "$1" "$changes" >"$work/asked"
+  crates/bench/out/bench serve 48464 "$1" "$changes" >"$work/asked"
   wait "$service"
   awk -v changes="$changes" '
     / changed / { if ($3 != changes) exit 1; all += $3 }

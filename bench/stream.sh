@@ -5,14 +5,14 @@
 # of 100. A figure is the least of several rounds of processor time (the argument, 5); what it takes to
 # read the configuration and the messages is taken off. The last line is `answered N us a message`.
 set -euo pipefail
-cd "$(dirname "$0")/../crates/stream_bench"
+cd "$(dirname "$0")/../crates/bench"
 export PYTHONPATH=../../bench:../../interop PYTHONDONTWRITEBYTECODE=1
 room=$(mktemp -d)
 trap 'rm -rf "$room"' EXIT
+rt run <stdin >/dev/null
 python3 ../../bench/stream_input.py 100 1 >"$room/first"
-rt run <"$room/first" >/dev/null
-out/stream_bench serve 1 <"$room/first"
-python3 - out/stream_bench "$room" "${1:-5}" <<'END'
+out/bench stream serve 1 <"$room/first"
+python3 - out/bench "$room" "${1:-5}" <<'END'
 import sys
 
 import stream_input
@@ -24,7 +24,7 @@ MESSAGES = 2_000
 
 def least(what, messages):
     """Processor seconds of the best round."""
-    return min(spent(program, what, MESSAGES, messages) for _ in range(rounds))
+    return min(spent([program, "stream", what, MESSAGES], messages) for _ in range(rounds))
 
 
 for principals in (1_000, 10_000, 100):

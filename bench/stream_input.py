@@ -1,4 +1,4 @@
-"""The input of crates/stream_bench: a realm of so many principals, and changes of their passwords.
+"""The input of `bench stream`: a realm of so many principals, and changes of their passwords.
 
     python3 stream_input.py PRINCIPALS MESSAGES
 """

@@ -4,11 +4,11 @@ import os
 import time
 
 
-def spent(program, what, count, stdin="/dev/null"):
-    """Processor seconds of one run of the program with these two arguments, on what a file holds."""
+def spent(words, stdin="/dev/null"):
+    """Processor seconds of one run of a program with its words, on what a file holds."""
     child = os.posix_spawn(
-        program,
-        [program, what, str(count)],
+        words[0],
+        [str(word) for word in words],
         os.environ,
         file_actions=[
             (os.POSIX_SPAWN_OPEN, 0, stdin, os.O_RDONLY, 0),

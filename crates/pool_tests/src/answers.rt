@@ -3,40 +3,34 @@ ghost use Rattle.std.specs.Prelude.{◌≡◌};
 ghost use Rattle.chpw_book.specs.Starting.{IsNamed, workers_of};
 
 use crate::gates::Together;
-use crate::realm::opening;
+use crate::realm::{CHANGED, opening, request, told};
 use chpw_answer::{Gate, NoGate, answer};
 use chpw_book::{AtDesk, CloseRefused, Closed, Desk, DeskName, Pass, UnnamedDesk};
+<<<<<<< HEAD
+=======
+use chpw_client::Sent;
+>>>>>>> origin/bench
 use chpw_journal::MemorySink;
 use chpw_messages::Service;
-use chpw_rules::Name;
 use chpw_table::{Entry, Moment};
-use sample_client::{Asked, CHANGED, ReplyCode, request, told};
 use std::alloc::Global;
 use std::marker::Brand;
 use std::process::Abort;
 use std::sync::{Barrier, Wait};
 use std::test::Fail;
 use std::thread::{Threads, join};
+use test_realm::name;
 
 const NOW: Moment = Moment {
     seconds: 1_000_100,
-    micros: 0,
+    micros: 1,
 };
 
 const WORDS: [u32; 9] = [1, 2, 3, 4, 5, 6, 7, 8, 9];
 
 const ROOM: usize = 1000;
 
-fn asked(password: &str) -> Asked<'_> {
-    Asked {
-        client: "alice",
-        seconds: NOW.seconds,
-        micros: 1,
-        password,
-    }
-}
-
-// What a worker answers to a message from this machine.
+// What a client of this machine prints of a worker's answer to its request.
 fn answered<D: DeskName, G: Gate, R: Wait + Abort>(
     rt: &R,
     alloc: Global,
@@ -44,21 +38,21 @@ fn answered<D: DeskName, G: Gate, R: Wait + Abort>(
     desk: &Desk<D, MemorySink>,
     pass: &mut Pass<D>,
     gate: &mut G,
-    message: &[u8],
-) -> ReplyCode {
+    sent: &Sent,
+) -> Vec<u8> {
     let mut place = AtDesk { rt, desk, pass };
     let reply = answer(
         alloc,
         service,
         [127, 0, 0, 1],
-        message,
+        sent.message.as_slice(),
         &mut place,
         gate,
         WORDS,
         NOW,
     );
     let reply = reply.ok().expect(rt, "a reply");
-    told(alloc, NOW.seconds, 1, &reply).expect(rt, "a reply of its own")
+    told(rt, alloc, sent, &reply)
 }
 
 // The history of a desk that can be closed, and its journal.
@@ -91,6 +85,7 @@ fn closed<D: DeskName, R: Wait>(
 #[test]
 fn one_message_of_two_workers(rt: HostRuntime) -> Result<(), Fail> {
     let (service, table) = opening(rt.alloc(), 100)?;
+<<<<<<< HEAD
     let message = request(rt.alloc(), asked("New-pass2"))?;
     two_at::<Brand, _>(
         &rt,
@@ -99,15 +94,23 @@ fn one_message_of_two_workers(rt: HostRuntime) -> Result<(), Fail> {
         &service,
         &message,
     )
+=======
+    let sent = request(&rt, rt.alloc(), "alice", NOW, "New-pass2")?;
+    two_at::<Brand, _>(&rt, rt.alloc(), UnnamedDesk::of(table, 2), &service, &sent)
+>>>>>>> origin/bench
 }
 
 // Both are held until both have opened it: one changes the password, and the other tells a replay.
 fn two_at<D: DeskName + Send + Sync, R: Threads + Wait + Abort + Sync>(
     rt: &R,
     alloc: Global,
+<<<<<<< HEAD
     unnamed: UnnamedDesk,
+=======
+    started: UnnamedDesk,
+>>>>>>> origin/bench
     service: &Service,
-    message: &[u8],
+    sent: &Sent,
 ) -> Result<(), Fail>
     requires name { IsNamed unnamed D.name D.parts D.book D.root D.workers }
     requires workers { workers_of unnamed ≡ 2 }
@@ -125,26 +128,21 @@ fn two_at<D: DeskName + Send + Sync, R: Threads + Wait + Abort + Sync>(
                 rt,
                 barrier: barrier_ref,
             };
-            answered(rt, alloc, service, desk_ref, &mut first, &mut gate, message)
+            answered(rt, alloc, service, desk_ref, &mut first, &mut gate, sent)
         },
         || {
             let mut gate = Together {
                 rt,
                 barrier: barrier_ref,
             };
-            answered(
-                rt,
-                alloc,
-                service,
-                desk_ref,
-                &mut second,
-                &mut gate,
-                message,
-            )
+            answered(rt, alloc, service, desk_ref, &mut second, &mut gate, sent)
         },
     );
-    assert!(rt; (a == CHANGED && b == REPLAYED) || (a == REPLAYED && b == CHANGED));
-    if a == CHANGED {
+    assert!(rt;
+        (a.as_slice() == CHANGED && b.as_slice() == REPLAYED)
+            || (a.as_slice() == REPLAYED && b.as_slice() == CHANGED)
+    );
+    if a.as_slice() == CHANGED {
         show_both(rt, alloc, &desk, &mut first, &mut second);
     } else {
         show_both(rt, alloc, &desk, &mut second, &mut first);
@@ -156,11 +154,7 @@ fn two_at<D: DeskName + Send + Sync, R: Threads + Wait + Abort + Sync>(
     Ok(())
 }
 
-/// KRB_AP_ERR_REPEAT.
-const REPLAYED: ReplyCode = ReplyCode {
-    code: 3,
-    error: Some(34),
-};
+const REPLAYED: &[u8] = b"code 3 error 34 request replayed";
 
 // The change is shown to the worker that made it, and to the other once that has learnt of it.
 fn show_both<D: DeskName, R: Abort>(
@@ -183,8 +177,7 @@ fn shown_of_alice<D: DeskName, R: Abort>(
     desk: &Desk<D, MemorySink>,
     pass: &mut Pass<D>,
 ) -> (u32, u32) {
-    let alice = Name::parse(alloc, "alice").ok().expect(rt, "memory");
-    let alice = alice.expect(rt, "a name");
+    let alice = name(alloc, "alice").ok().expect(rt, "a name");
     let found = desk.lookup(pass, &alice).ok().expect(rt, "entered");
     let found = found.expect(rt, "a principal");
     (found.kvno, found.seen)
@@ -193,14 +186,8 @@ fn shown_of_alice<D: DeskName, R: Abort>(
 #[test]
 fn failed_append(rt: HostRuntime) -> Result<(), Fail> {
     let (service, table) = opening(rt.alloc(), 100)?;
-    let first = request(rt.alloc(), asked("New-pass2"))?;
-    let second = request(
-        rt.alloc(),
-        Asked {
-            client: "bob",
-            ..asked("New-pass3")
-        },
-    )?;
+    let first = request(&rt, rt.alloc(), "alice", NOW, "New-pass2")?;
+    let second = request(&rt, rt.alloc(), "bob", NOW, "New-pass3")?;
     break_second::<Brand, _>(
         &rt,
         rt.alloc(),
@@ -214,9 +201,13 @@ fn failed_append(rt: HostRuntime) -> Result<(), Fail> {
 fn break_second<D: DeskName, R: Wait + Abort>(
     rt: &R,
     alloc: Global,
+<<<<<<< HEAD
     unnamed: UnnamedDesk,
+=======
+    started: UnnamedDesk,
+>>>>>>> origin/bench
     service: &Service,
-    messages: [&[u8]; 2],
+    requests: [&Sent; 2],
 ) -> Result<(), Fail>
     requires name { IsNamed unnamed D.name D.parts D.book D.root D.workers }
 {
@@ -224,11 +215,11 @@ fn break_second<D: DeskName, R: Wait + Abort>(
     sink.fail_at(2, 0);
     let (desk, mut passes) = Desk::<D, MemorySink>::start(rt, alloc, unnamed, sink)?;
     let mut pass = passes.pop().expect(rt, "a pass");
-    let [first, second] = messages;
+    let [first, second] = requests;
     let one = answered(rt, alloc, service, &desk, &mut pass, &mut NoGate, first);
-    assert!(rt; one == CHANGED && shown_of_alice(rt, alloc, &desk, &mut pass) == (2, 1));
+    assert!(rt; one.as_slice() == CHANGED && shown_of_alice(rt, alloc, &desk, &mut pass) == (2, 1));
     let two = answered(rt, alloc, service, &desk, &mut pass, &mut NoGate, second);
-    assert!(rt; two.code == 2 && shown_of_alice(rt, alloc, &desk, &mut pass) == (2, 1));
+    assert!(rt; two.as_slice() == BROKEN && shown_of_alice(rt, alloc, &desk, &mut pass) == (2, 1));
     passes.push(pass).ok().expect(rt, "a place");
     let (history, journal) = closed(rt, desk, passes).expect(rt, "all agree");
     assert!(rt; history.len() == 2 && journal.bytes().len() == 66);
@@ -238,8 +229,8 @@ fn break_second<D: DeskName, R: Wait + Abort>(
 #[test]
 fn full_history(rt: HostRuntime) -> Result<(), Fail> {
     let (service, table) = opening(rt.alloc(), 1)?;
-    let first = request(rt.alloc(), asked("New-pass2"))?;
-    let second = request(rt.alloc(), asked("New-pass3"))?;
+    let first = request(&rt, rt.alloc(), "alice", NOW, "New-pass2")?;
+    let second = request(&rt, rt.alloc(), "alice", NOW, "New-pass3")?;
     fill::<Brand, _>(
         &rt,
         rt.alloc(),
@@ -253,9 +244,13 @@ fn full_history(rt: HostRuntime) -> Result<(), Fail> {
 fn fill<D: DeskName, R: Wait + Abort>(
     rt: &R,
     alloc: Global,
+<<<<<<< HEAD
     unnamed: UnnamedDesk,
+=======
+    started: UnnamedDesk,
+>>>>>>> origin/bench
     service: &Service,
-    messages: [&[u8]; 2],
+    requests: [&Sent; 2],
 ) -> Result<(), Fail>
     requires name { IsNamed unnamed D.name D.parts D.book D.root D.workers }
     requires workers { workers_of unnamed ≡ 1 }
@@ -263,19 +258,17 @@ fn fill<D: DeskName, R: Wait + Abort>(
     let sink = MemorySink::new(alloc, ROOM)?;
     let (desk, mut passes) = Desk::<D, MemorySink>::start(rt, alloc, unnamed, sink)?;
     let mut pass = passes.pop().expect(rt, "a pass");
-    let [first, second] = messages;
+    let [first, second] = requests;
     let one = answered(rt, alloc, service, &desk, &mut pass, &mut NoGate, first);
-    assert!(rt; one == CHANGED && !pass.was_full());
+    assert!(rt; one.as_slice() == CHANGED && !pass.was_full());
     let two = answered(rt, alloc, service, &desk, &mut pass, &mut NoGate, second);
-    assert!(rt; two == FULL && pass.was_full());
+    assert!(rt; two.as_slice() == FULL && pass.was_full());
     passes.push(pass).ok().expect(rt, "a place");
     let (history, _journal) = closed(rt, desk, passes).expect(rt, "all agree");
     assert!(rt; history.len() == 1);
     Ok(())
 }
 
-/// KRB_ERR_GENERIC.
-const FULL: ReplyCode = ReplyCode {
-    code: 2,
-    error: Some(60),
-};
+const FULL: &[u8] = b"code 2 error 60 history full";
+
+const BROKEN: &[u8] = b"code 2 journal failed";

@@ -3,13 +3,13 @@ ghost use Rattle.std.specs.Prelude.{◌≡◌};
 ghost use Rattle.chpw_book.specs.Starting.{IsNamed, workers_of};
 
 use crate::gates::SecondFirst;
-use crate::realm::opening;
+use crate::realm::{CHANGED, opening, request, told};
 use chpw_book::{Desk, DeskName, UnnamedDesk};
-use chpw_frame::{Received, read_tcp, write_tcp};
+use chpw_client::Sent;
+use chpw_frame::{LONGEST_MESSAGE, Received, read_tcp, write_tcp};
 use chpw_journal::MemorySink;
 use chpw_messages::Service;
 use chpw_pool::{Pool, PoolFault, machine_moment, run_pool, run_pool_with};
-use sample_client::{Asked, CHANGED, request, told};
 use std::alloc::Global;
 use std::io::Write;
 use std::marker::Brand;
@@ -36,52 +36,33 @@ impl<
     R: Threads + Wait + Clock + Abort + Sync + Net<Listener = TcpListener, Stream = TcpStream>,
 > Machine for R {}
 
-// The machine's second.
-fn second<R: Machine>(rt: &R) -> i64 {
-    machine_moment(rt).expect(rt, "a moment").seconds
-}
-
 fn connect<R: Machine>(rt: &R, port: u16) -> TcpStream {
     TcpStream::connect(rt, ("127.0.0.1", port))
         .ok()
         .expect(rt, "a connection")
 }
 
-fn send<R: Abort>(rt: &R, stream: &TcpStream, message: &[u8]) {
-    assert!(rt; message.len() <= 65_535);
+fn send<R: Abort>(rt: &R, stream: &TcpStream, sent: &Sent) {
+    let message = sent.message.as_slice();
+    assert!(rt; message.len() <= LONGEST_MESSAGE);
     assert!(rt; write_tcp(&mut &*stream, message).is_ok());
 }
 
 // The next reply says that the password is changed.
-fn expect_changed<R: Abort>(rt: &R, alloc: Global, seconds: i64, stream: &TcpStream) {
+fn expect_changed<R: Abort>(rt: &R, alloc: Global, sent: &Sent, stream: &TcpStream) {
     match read_tcp(alloc, &mut &*stream) {
         Ok(Received::Message(reply)) => {
-            assert!(rt; told(alloc, seconds, 1, &reply) == Some(CHANGED));
+            assert!(rt; told(rt, alloc, sent, &reply).as_slice() == CHANGED);
         }
         _ => panic!(rt; "no reply"),
     }
 }
 
-// Requests of alice and of bob at this second.
-fn requests(alloc: Global, seconds: i64) -> Result<(Vec<u8>, Vec<u8>), Fail> {
-    let alice = request(
-        alloc,
-        Asked {
-            client: "alice",
-            seconds,
-            micros: 1,
-            password: "New-pass2",
-        },
-    )?;
-    let bob = request(
-        alloc,
-        Asked {
-            client: "bob",
-            seconds,
-            micros: 1,
-            password: "New-pass2",
-        },
-    )?;
+// Requests of alice and of bob at the machine's moment.
+fn requests<R: Machine>(rt: &R, alloc: Global) -> Result<(Sent, Sent), Fail> {
+    let now = machine_moment(rt).expect(rt, "a moment");
+    let alice = request(rt, alloc, "alice", now, "New-pass2")?;
+    let bob = request(rt, alloc, "bob", now, "New-pass2")?;
     Ok((alice, bob))
 }
 
@@ -110,18 +91,17 @@ fn two_connections(rt: HostRuntime) -> Result<(), Fail> {
 fn pool_of_two<D: DeskName + Send + Sync, R: Machine>(
     rt: &R,
     alloc: Global,
-    unnamed: UnnamedDesk,
+    started: UnnamedDesk,
     service: &Service,
     listener: &TcpListener,
 ) -> Result<Pool, Fail>
-    requires name { IsNamed unnamed D.name D.parts D.book D.root D.workers }
-    requires workers { workers_of unnamed ≡ 2 }
+    requires name { IsNamed started D.name D.parts D.book D.root D.workers }
+    requires workers { workers_of started ≡ 2 }
 {
     let port = listener.local_addr()?.port();
-    let seconds = second(rt);
-    let (alice, bob) = requests(alloc, seconds)?;
+    let (alice, bob) = requests(rt, alloc)?;
     let sink = MemorySink::new(alloc, ROOM)?;
-    let (desk, mut passes) = Desk::<D, MemorySink>::start(rt, alloc, unnamed, sink)?;
+    let (desk, mut passes) = Desk::<D, MemorySink>::start(rt, alloc, started, sink)?;
     let shared = &desk;
     let (pool, ()) = join(
         rt,
@@ -129,19 +109,19 @@ fn pool_of_two<D: DeskName + Send + Sync, R: Machine>(
             assert!(rt; !passes.is_empty());
             run_pool(rt, alloc, listener, service, shared, &mut passes, SEED, 2)
         },
-        || ask_both(rt, alloc, port, seconds, &alice, &bob),
+        || ask_both(rt, alloc, port, &alice, &bob),
     );
     Ok(give_up(rt, desk, pool))
 }
 
 // Both connections are there before either asks; the second is answered first.
-fn ask_both<R: Machine>(rt: &R, alloc: Global, port: u16, seconds: i64, one: &[u8], two: &[u8]) {
+fn ask_both<R: Machine>(rt: &R, alloc: Global, port: u16, one: &Sent, two: &Sent) {
     let first = connect(rt, port);
     let second = connect(rt, port);
     send(rt, &first, one);
     send(rt, &second, two);
-    expect_changed(rt, alloc, seconds, &second);
-    expect_changed(rt, alloc, seconds, &first);
+    expect_changed(rt, alloc, two, &second);
+    expect_changed(rt, alloc, one, &first);
 }
 
 #[test]
@@ -163,20 +143,19 @@ fn the_second_answered_first(rt: HostRuntime) -> Result<(), Fail> {
 fn gated_pool<D: DeskName + Send + Sync, R: Machine>(
     rt: &R,
     alloc: Global,
-    unnamed: UnnamedDesk,
+    started: UnnamedDesk,
     service: &Service,
     listener: &TcpListener,
 ) -> Result<Pool, Fail>
-    requires name { IsNamed unnamed D.name D.parts D.book D.root D.workers }
-    requires workers { workers_of unnamed ≡ 2 }
+    requires name { IsNamed started D.name D.parts D.book D.root D.workers }
+    requires workers { workers_of started ≡ 2 }
 {
     let port = listener.local_addr()?.port();
-    let seconds = second(rt);
-    let (alice, bob) = requests(alloc, seconds)?;
+    let (alice, bob) = requests(rt, alloc)?;
     let answered = Mutex::new(false);
     let gates = vec![in alloc; gate(rt, true, &answered), gate(rt, false, &answered)]?;
     let sink = MemorySink::new(alloc, ROOM)?;
-    let (desk, mut passes) = Desk::<D, MemorySink>::start(rt, alloc, unnamed, sink)?;
+    let (desk, mut passes) = Desk::<D, MemorySink>::start(rt, alloc, started, sink)?;
     let shared = &desk;
     let (pool, ()) = join(
         rt,
@@ -194,7 +173,7 @@ fn gated_pool<D: DeskName + Send + Sync, R: Machine>(
                 gates,
             )
         },
-        || ask_both(rt, alloc, port, seconds, &alice, &bob),
+        || ask_both(rt, alloc, port, &alice, &bob),
     );
     Ok(give_up(rt, desk, pool))
 }
@@ -230,18 +209,17 @@ fn a_connection_cut_off(rt: HostRuntime) -> Result<(), Fail> {
 fn pool_of_three<D: DeskName + Send + Sync, R: Machine>(
     rt: &R,
     alloc: Global,
-    unnamed: UnnamedDesk,
+    started: UnnamedDesk,
     service: &Service,
     listener: &TcpListener,
 ) -> Result<Pool, Fail>
-    requires name { IsNamed unnamed D.name D.parts D.book D.root D.workers }
-    requires workers { workers_of unnamed ≡ 2 }
+    requires name { IsNamed started D.name D.parts D.book D.root D.workers }
+    requires workers { workers_of started ≡ 2 }
 {
     let port = listener.local_addr()?.port();
-    let seconds = second(rt);
-    let (alice, bob) = requests(alloc, seconds)?;
+    let (alice, bob) = requests(rt, alloc)?;
     let sink = MemorySink::new(alloc, ROOM)?;
-    let (desk, mut passes) = Desk::<D, MemorySink>::start(rt, alloc, unnamed, sink)?;
+    let (desk, mut passes) = Desk::<D, MemorySink>::start(rt, alloc, started, sink)?;
     let shared = &desk;
     let (pool, ()) = join(
         rt,
@@ -251,7 +229,7 @@ fn pool_of_three<D: DeskName + Send + Sync, R: Machine>(
         },
         || {
             cut_off(rt, port);
-            ask_both(rt, alloc, port, seconds, &alice, &bob);
+            ask_both(rt, alloc, port, &alice, &bob);
         },
     );
     Ok(give_up(rt, desk, pool))
@@ -282,16 +260,16 @@ fn nothing_to_accept(rt: HostRuntime) -> Result<(), Fail> {
 fn refused_pool<D: DeskName + Send + Sync, R: Machine>(
     rt: &R,
     alloc: Global,
-    unnamed: UnnamedDesk,
+    started: UnnamedDesk,
     service: &Service,
     listener: &TcpListener,
 ) -> Result<Pool, Fail>
-    requires name { IsNamed unnamed D.name D.parts D.book D.root D.workers }
-    requires workers { workers_of unnamed ≡ 1 }
+    requires name { IsNamed started D.name D.parts D.book D.root D.workers }
+    requires workers { workers_of started ≡ 1 }
 {
     listener.set_nonblocking(true)?;
     let sink = MemorySink::new(alloc, ROOM)?;
-    let (desk, mut passes) = Desk::<D, MemorySink>::start(rt, alloc, unnamed, sink)?;
+    let (desk, mut passes) = Desk::<D, MemorySink>::start(rt, alloc, started, sink)?;
     assert!(rt; !passes.is_empty());
     let pool = run_pool(rt, alloc, listener, service, &desk, &mut passes, SEED, 2);
     Ok(give_up(rt, desk, pool))

@@ -1,56 +1,47 @@
-//! A small realm: its service key is 32 bytes 5a with kvno 3, and alice and bob have a key each, kvno
-//! 1 under 4 iterations, as new keys have.
-ghost use Rattle.std.specs.Prelude.{◌≡◌, IfOk, IsTrue};
-ghost use Rattle.chpw_rules.specs.Fitting.{config_fits};
+//! The realm of alice and bob: the service, its clients' requests, and what they print of the replies.
+ghost use Rattle.std.specs.Prelude.{◌≤◌};
 
+use chpw_client::{LAST_START, LONGEST_PASSWORD, Sent, client_line, client_request};
 use chpw_messages::Service;
-use chpw_rules::{Config, read_config};
-use chpw_table::Table;
+use chpw_serve::WorkerWords;
+use chpw_table::{Moment, Table};
 use std::alloc::Global;
+use std::process::Abort;
 use std::test::Fail;
+use test_realm::{config, name};
 
-const POLICY: &str = "[policy]
-min_length = 6
-min_classes = 2
-depth = 3
-iterations = 4
-set_needs_initial = false
-";
+pub const CHANGED: &[u8] = b"code 0 password changed";
 
-const KEYS: &str = "[[principal.key]]
-kvno = 1
-iterations = 4
-aes128 = \"a1a1a1a1a1a1a1a1a1a1a1a1a1a1a1a1\"
-aes256 = \"a1a1a1a1a1a1a1a1a1a1a1a1a1a1a1a1a1a1a1a1a1a1a1a1a1a1a1a1a1a1a1a1\"
-";
-
-const SERVICE_KEY: &str = "[[service.key]]
-kvno = 3
-etype = 18
-key = \"5a5a5a5a5a5a5a5a5a5a5a5a5a5a5a5a5a5a5a5a5a5a5a5a5a5a5a5a5a5a5a5a\"
-";
-
-/// The settings, with this many entries at the most.
-pub fn config(alloc: Global, max_entries: u32) -> Result<Config, Fail>
-    ensures fits { IfOk result (λ config. IsTrue (config_fits config)) }
-{
-    let mut text = format!(in alloc;
-        "[service]\nrealm = \"EXAMPLE.COM\"\nmax_entries = {max_entries}\n"
-    )?;
-    text.push_str(SERVICE_KEY)?;
-    text.push_str(POLICY)?;
-    for name in ["alice", "bob"] {
-        text.push_str("[[principal]]\nname = \"")?;
-        text.push_str(name)?;
-        text.push_str("\"\n")?;
-        text.push_str(KEYS)?;
-    }
-    Ok(read_config(alloc, text.as_str())?)
-}
-
-/// The service of the realm, and the table that it opens with.
+/// The service, and the table that it opens with, with this many entries at the most.
 pub fn opening(alloc: Global, max_entries: u32) -> Result<(Service, Table), Fail> {
-    let config = config(alloc, max_entries)?;
+    let names = vec![in alloc; name(alloc, "alice")?, name(alloc, "bob")?]?;
+    let config = config(alloc, names, 4, max_entries)?;
     let service = Service::of(alloc, &config)?;
     Ok((service, Table::start(alloc, config, -1)?))
+}
+
+/// The request of a client at a moment for a new password of its own.
+pub fn request<R: Abort>(
+    rt: &R,
+    alloc: Global,
+    client: &str,
+    now: Moment,
+    password: &str,
+) -> Result<Sent, Fail> {
+    let client = name(alloc, client)?;
+    let config = config(alloc, Vec::new(alloc), 4, 1)?;
+    let mut words = WorkerWords::new([1; 32], 0);
+    let password = password.as_bytes();
+    assert!(rt; !config.service.as_slice().is_empty() && password.len() <= LONGEST_PASSWORD);
+    assert!(rt; 0 <= now.seconds && now.seconds <= LAST_START && now.micros < 1_000_000);
+    Ok(client_request(
+        alloc, &config, now, &client, password, None, true, &mut words,
+    )?)
+}
+
+/// What the client prints of the reply to its request.
+pub fn told<R: Abort>(rt: &R, alloc: Global, sent: &Sent, reply: &[u8]) -> Vec<u8> {
+    let line = client_line(alloc, sent, reply).ok().expect(rt, "memory");
+    let (line, _) = line.expect(rt, "a reply to the request");
+    line
 }

@@ -8,4 +8,8 @@ abbrev pub ghosts-break_second-D-Ledger : goal.ghosts-break_second-D-Ledger
 ghosts-break_second-D-Ledger g a = record { name = ledger_name a.unnamed; parts = ledger_parts a.unnamed }
 
 abbrev pub ghosts-break_second-D-ListName : goal.ghosts-break_second-D-ListName
+<<<<<<< HEAD
 ghosts-break_second-D-ListName g a = record { book = list_book a.unnamed; root = list_root a.unnamed }
+=======
+ghosts-break_second-D-ListName g a = record { book = list_book a.started; root = list_root a.started }
+>>>>>>> origin/bench

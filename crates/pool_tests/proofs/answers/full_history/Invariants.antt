@@ -8,4 +8,8 @@ abbrev pub ghosts-fill-D-Ledger : goal.ghosts-fill-D-Ledger
 ghosts-fill-D-Ledger g a = record { name = ledger_name a.unnamed; parts = ledger_parts a.unnamed }
 
 abbrev pub ghosts-fill-D-ListName : goal.ghosts-fill-D-ListName
+<<<<<<< HEAD
 ghosts-fill-D-ListName g a = record { book = list_book a.unnamed; root = list_root a.unnamed }
+=======
+ghosts-fill-D-ListName g a = record { book = list_book a.started; root = list_root a.started }
+>>>>>>> origin/bench

@@ -8,4 +8,8 @@ abbrev pub ghosts-two_at-D-Ledger : goal.ghosts-two_at-D-Ledger
 ghosts-two_at-D-Ledger g a = record { name = ledger_name a.unnamed; parts = ledger_parts a.unnamed }
 
 abbrev pub ghosts-two_at-D-ListName : goal.ghosts-two_at-D-ListName
+<<<<<<< HEAD
 ghosts-two_at-D-ListName g a = record { book = list_book a.unnamed; root = list_root a.unnamed }
+=======
+ghosts-two_at-D-ListName g a = record { book = list_book a.started; root = list_root a.started }
+>>>>>>> origin/bench

@@ -8,4 +8,8 @@ abbrev pub ghosts-pool_of_three-D-Ledger : goal.ghosts-pool_of_three-D-Ledger
 ghosts-pool_of_three-D-Ledger g a = record { name = ledger_name a.unnamed; parts = ledger_parts a.unnamed }
 
 abbrev pub ghosts-pool_of_three-D-ListName : goal.ghosts-pool_of_three-D-ListName
+<<<<<<< HEAD
 ghosts-pool_of_three-D-ListName g a = record { book = list_book a.unnamed; root = list_root a.unnamed }
+=======
+ghosts-pool_of_three-D-ListName g a = record { book = list_book a.started; root = list_root a.started }
+>>>>>>> origin/bench

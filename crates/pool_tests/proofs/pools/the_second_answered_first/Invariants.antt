@@ -8,4 +8,8 @@ abbrev pub ghosts-gated_pool-D-Ledger : goal.ghosts-gated_pool-D-Ledger
 ghosts-gated_pool-D-Ledger g a = record { name = ledger_name a.unnamed; parts = ledger_parts a.unnamed }
 
 abbrev pub ghosts-gated_pool-D-ListName : goal.ghosts-gated_pool-D-ListName
+<<<<<<< HEAD
 ghosts-gated_pool-D-ListName g a = record { book = list_book a.unnamed; root = list_root a.unnamed }
+=======
+ghosts-gated_pool-D-ListName g a = record { book = list_book a.started; root = list_root a.started }
+>>>>>>> origin/bench

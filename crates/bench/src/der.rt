@@ -1,0 +1,69 @@
+//! `der read N` reads the text of an AP-REQ with its ticket N times, `der write N` writes the record N
+//! times. The length of the text is printed.
+
+use krb_der::{
+    ApReq, Bytes, EncryptedData, KRB_AP_REQ, KerberosFlags, NT_SRV_INST, PVNO, PrincipalName,
+    ReadError, SequenceOf, Ticket, fits, read_ap_req, write_ap_req,
+};
+use std::alloc::{AllocError, Global};
+use std::io;
+
+const AES256: i32 = 18;
+
+fn bytes<const TAG: u8>(alloc: Global, text: &[u8]) -> Result<Bytes<TAG>, AllocError> {
+    Ok(Bytes::of(Vec::from_slice(alloc, text)?))
+}
+
+fn sealed(alloc: Global, kvno: Option<u32>, cipher: &[u8]) -> Result<EncryptedData, AllocError> {
+    Ok(EncryptedData {
+        etype: AES256,
+        kvno,
+        cipher: bytes(alloc, cipher)?,
+    })
+}
+
+fn request(alloc: Global) -> Result<ApReq, AllocError> {
+    let mut components = Vec::new(alloc);
+    components.push(bytes(alloc, b"kadmin")?)?;
+    components.push(bytes(alloc, b"changepw")?)?;
+    Ok(ApReq {
+        pvno: PVNO,
+        msg_type: KRB_AP_REQ,
+        ap_options: KerberosFlags(0x2000_0000),
+        ticket: Ticket {
+            tkt_vno: PVNO,
+            realm: bytes(alloc, b"EXAMPLE.COM")?,
+            sname: PrincipalName {
+                name_type: NT_SRV_INST,
+                name_string: SequenceOf::of(components),
+            },
+            enc_part: sealed(alloc, Some(3), &[0x5a; 330])?,
+        },
+        authenticator: sealed(alloc, None, &[0xa5; 240])?,
+    })
+}
+
+// The bytes of the text that was read or written `count` times.
+fn text_len(alloc: Global, writes: bool, count: u32) -> Result<usize, ReadError> {
+    let request = request(alloc)?;
+    if !fits(&request) {
+        return Ok(0);
+    }
+    let mut text = write_ap_req(alloc, &request)?;
+    for _ in 0..count {
+        if writes {
+            text = write_ap_req(alloc, &request)?;
+        } else {
+            read_ap_req(alloc, &text)?;
+        }
+    }
+    Ok(text.len())
+}
+
+/// Does it `count` times.
+pub fn measure(rt: &(impl Print + AllocGlobal), what: &str, count: u32) -> io::Result<()> {
+    match text_len(rt.alloc(), what == "write", count) {
+        Ok(size) => println!(rt; "{size} bytes"),
+        Err(_) => Err(io::Error::from(io::ErrorKind::OutOfMemory)),
+    }
+}
