@@ -130,7 +130,7 @@ module _ {C X : Type 0} (error_frame : Answer → Moment → List ℕ) (private_
 
     front_then : (d : Draw) (bytes : List ℕ) → replies limit error_frame private_frame w.rest run_at_last (d ∷ []) ≡ bytes → AppendsFront last.around.out final.around.out bytes
         → AppendsFront start.around.out final.around.out (w.bytes ++ replies limit error_frame private_frame w.rest run_at_last (d ∷ []))
-    front_then d bytes e h = subst (λ (bs : List ℕ). AppendsFront start.around.out final.around.out (w.bytes ++ bs)) (sym e) (h.0, put_behind start.around.out last.around.out final.around.out w.bytes bytes h.0 w.written h.1)
+    front_then d bytes e h = subst (λ (bs : List ℕ). AppendsFront start.around.out final.around.out (w.bytes ++ bs)) (sym e) (h.0, put_behind start.around.out last.around.out final.around.out w.bytes bytes h.0 w.written h.1, h.2)
 
     left_now : (p : Piece) → next_piece w.rest ≡ p → final.left ≡ Some (behind_piece p w.rest) → final.left ≡ Some (behind_piece (next_piece w.rest) w.rest)
     left_now p e h = h ∙ ap (λ (q : Piece). Some (behind_piece q w.rest)) (sym e)
