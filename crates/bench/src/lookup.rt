@@ -10,12 +10,8 @@ mod hold;
 mod looking;
 
 use chpw_book::{Desk, DeskName, Pass, UnnamedDesk};
-<<<<<<< HEAD:crates/lookup_bench/src/main.rt
-use chpw_table::JournalSink;
-=======
 use chpw_rules::Name;
 use chpw_table::{Counts, Digest, JournalSink, Opened, Table};
->>>>>>> origin/bench:crates/bench/src/lookup.rt
 use hold::{Hold, SlowSink};
 use looking::{Looked, Sought, look_alone, look_beside, look_together};
 use std::alloc::Global;
@@ -64,13 +60,6 @@ impl Wanted {
     }
 }
 
-<<<<<<< HEAD:crates/lookup_bench/src/main.rt
-fn main(rt: HostRuntime) -> io::Result<()> {
-    let wanted = arguments(&rt)?;
-    let table = table(rt.alloc(), wanted.principals)?;
-    let unnamed = UnnamedDesk::of(table, 4);
-    measure::<Brand, HostRuntime>(&rt, &Hold::new(), unnamed, wanted)
-=======
 /// Measures, or counts.
 pub fn measure<R>(rt: &R, what: &str, principals: u16) -> io::Result<()>
 where
@@ -82,7 +71,6 @@ where
     };
     let table = opening(rt.alloc(), principals)?;
     at_desk::<Brand, R>(rt, &Hold::new(), UnnamedDesk::of(table, 4), wanted)
->>>>>>> origin/bench:crates/bench/src/lookup.rt
 }
 
 // A table of the principals client00000, client00001 and so on, with room for one entry.
@@ -109,24 +97,20 @@ fn first_change(alloc: Global) -> io::Result<Opened> {
 fn at_desk<'a, D, R>(
     rt: &'a R,
     hold: &'a Hold,
-<<<<<<< HEAD:crates/lookup_bench/src/main.rt
-    unnamed: UnnamedDesk,
-=======
     started: UnnamedDesk,
->>>>>>> origin/bench:crates/bench/src/lookup.rt
     wanted: Wanted,
 ) -> io::Result<()>
 where
     D: DeskName + Send + Sync,
     R: Threads + Wait + Clock + Print + AllocGlobal + Sync,
-    requires name { IsNamed unnamed D.name D.parts D.book D.root D.workers }
+    requires name { IsNamed started D.name D.parts D.book D.root D.workers }
 {
     let sink = SlowSink {
         rt,
         hold,
         sleep: wanted.sleep(),
     };
-    let Ok((desk, passes)) = Desk::<D, _>::start(rt, rt.alloc(), unnamed, sink) else {
+    let Ok((desk, passes)) = Desk::<D, _>::start(rt, rt.alloc(), started, sink) else {
         return Err(io::Error::from(io::ErrorKind::OutOfMemory));
     };
     let figures = figures(rt, rt.alloc(), &desk, passes, hold, wanted);

@@ -6,10 +6,7 @@ use crate::gates::Together;
 use crate::realm::{CHANGED, opening, request, told};
 use chpw_answer::{Gate, NoGate, answer};
 use chpw_book::{AtDesk, CloseRefused, Closed, Desk, DeskName, Pass, UnnamedDesk};
-<<<<<<< HEAD
-=======
 use chpw_client::Sent;
->>>>>>> origin/bench
 use chpw_journal::MemorySink;
 use chpw_messages::Service;
 use chpw_table::{Entry, Moment};
@@ -85,38 +82,23 @@ fn closed<D: DeskName, R: Wait>(
 #[test]
 fn one_message_of_two_workers(rt: HostRuntime) -> Result<(), Fail> {
     let (service, table) = opening(rt.alloc(), 100)?;
-<<<<<<< HEAD
-    let message = request(rt.alloc(), asked("New-pass2"))?;
-    two_at::<Brand, _>(
-        &rt,
-        rt.alloc(),
-        UnnamedDesk::of(table, 2),
-        &service,
-        &message,
-    )
-=======
     let sent = request(&rt, rt.alloc(), "alice", NOW, "New-pass2")?;
     two_at::<Brand, _>(&rt, rt.alloc(), UnnamedDesk::of(table, 2), &service, &sent)
->>>>>>> origin/bench
 }
 
 // Both are held until both have opened it: one changes the password, and the other tells a replay.
 fn two_at<D: DeskName + Send + Sync, R: Threads + Wait + Abort + Sync>(
     rt: &R,
     alloc: Global,
-<<<<<<< HEAD
-    unnamed: UnnamedDesk,
-=======
     started: UnnamedDesk,
->>>>>>> origin/bench
     service: &Service,
     sent: &Sent,
 ) -> Result<(), Fail>
-    requires name { IsNamed unnamed D.name D.parts D.book D.root D.workers }
-    requires workers { workers_of unnamed ≡ 2 }
+    requires name { IsNamed started D.name D.parts D.book D.root D.workers }
+    requires workers { workers_of started ≡ 2 }
 {
     let sink = MemorySink::new(alloc, ROOM)?;
-    let (desk, mut passes) = Desk::<D, MemorySink>::start(rt, alloc, unnamed, sink)?;
+    let (desk, mut passes) = Desk::<D, MemorySink>::start(rt, alloc, started, sink)?;
     let mut second = passes.pop().expect(rt, "a pass");
     let mut first = passes.pop().expect(rt, "a pass");
     let barrier = Barrier::new(2);
@@ -201,19 +183,15 @@ fn failed_append(rt: HostRuntime) -> Result<(), Fail> {
 fn break_second<D: DeskName, R: Wait + Abort>(
     rt: &R,
     alloc: Global,
-<<<<<<< HEAD
-    unnamed: UnnamedDesk,
-=======
     started: UnnamedDesk,
->>>>>>> origin/bench
     service: &Service,
     requests: [&Sent; 2],
 ) -> Result<(), Fail>
-    requires name { IsNamed unnamed D.name D.parts D.book D.root D.workers }
+    requires name { IsNamed started D.name D.parts D.book D.root D.workers }
 {
     let mut sink = MemorySink::new(alloc, ROOM)?;
     sink.fail_at(2, 0);
-    let (desk, mut passes) = Desk::<D, MemorySink>::start(rt, alloc, unnamed, sink)?;
+    let (desk, mut passes) = Desk::<D, MemorySink>::start(rt, alloc, started, sink)?;
     let mut pass = passes.pop().expect(rt, "a pass");
     let [first, second] = requests;
     let one = answered(rt, alloc, service, &desk, &mut pass, &mut NoGate, first);
@@ -244,19 +222,15 @@ fn full_history(rt: HostRuntime) -> Result<(), Fail> {
 fn fill<D: DeskName, R: Wait + Abort>(
     rt: &R,
     alloc: Global,
-<<<<<<< HEAD
-    unnamed: UnnamedDesk,
-=======
     started: UnnamedDesk,
->>>>>>> origin/bench
     service: &Service,
     requests: [&Sent; 2],
 ) -> Result<(), Fail>
-    requires name { IsNamed unnamed D.name D.parts D.book D.root D.workers }
-    requires workers { workers_of unnamed ≡ 1 }
+    requires name { IsNamed started D.name D.parts D.book D.root D.workers }
+    requires workers { workers_of started ≡ 1 }
 {
     let sink = MemorySink::new(alloc, ROOM)?;
-    let (desk, mut passes) = Desk::<D, MemorySink>::start(rt, alloc, unnamed, sink)?;
+    let (desk, mut passes) = Desk::<D, MemorySink>::start(rt, alloc, started, sink)?;
     let mut pass = passes.pop().expect(rt, "a pass");
     let [first, second] = requests;
     let one = answered(rt, alloc, service, &desk, &mut pass, &mut NoGate, first);
