@@ -97,20 +97,20 @@ fn first_change(alloc: Global) -> io::Result<Opened> {
 fn at_desk<'a, D, R>(
     rt: &'a R,
     hold: &'a Hold,
-    started: UnnamedDesk,
+    unnamed: UnnamedDesk,
     wanted: Wanted,
 ) -> io::Result<()>
 where
     D: DeskName + Send + Sync,
     R: Threads + Wait + Clock + Print + AllocGlobal + Sync,
-    requires name { IsNamed started D.name D.parts D.book D.root D.workers }
+    requires name { IsNamed unnamed D.name D.parts D.book D.root D.workers }
 {
     let sink = SlowSink {
         rt,
         hold,
         sleep: wanted.sleep(),
     };
-    let Ok((desk, passes)) = Desk::<D, _>::start(rt, rt.alloc(), started, sink) else {
+    let Ok((desk, passes)) = Desk::<D, _>::start(rt, rt.alloc(), unnamed, sink) else {
         return Err(io::Error::from(io::ErrorKind::OutOfMemory));
     };
     let figures = figures(rt, rt.alloc(), &desk, passes, hold, wanted);

@@ -8,6 +8,7 @@ use chpw_client::{LONGEST_PASSWORD, Sent, client_request};
 use chpw_rules::{Config, Name};
 use std::alloc::Global;
 use std::io;
+use test_realm::name;
 
 /// What a client asks.
 #[derive(Drop)]
@@ -46,7 +47,7 @@ impl<'a> Question<'a> {
         micros: u32,
         words: &mut Counting,
     ) -> io::Result<Sent> {
-        let client = name_of(alloc, self.client)?;
+        let client = name(alloc, self.client)?;
         let target = target_of(alloc, self.target)?;
         let password = self.password.as_bytes();
         if password.len() > LONGEST_PASSWORD
@@ -78,21 +79,12 @@ fn expanded(alloc: Global, text: &str) -> io::Result<String> {
     Ok(text.repeat(alloc, count)?)
 }
 
-fn name_of(alloc: Global, text: &str) -> io::Result<Name>
-    ensures fits { IfOk result (λ name. is_name name ≡ true) }
-{
-    match Name::parse(alloc, text)? {
-        Some(name) if name.fits() => Ok(name),
-        _ => Err(no_case()),
-    }
-}
-
 fn target_of(alloc: Global, text: Option<&str>) -> io::Result<Option<Name>>
     ensures fits { IfOk result (λ found. IfSome found (λ name. is_name name ≡ true)) }
 {
     match text {
         None => Ok(None),
-        Some(text) => Ok(Some(name_of(alloc, text)?)),
+        Some(text) => Ok(Some(name(alloc, text)?)),
     }
 }
 

@@ -4,6 +4,7 @@ use crate::asking::Question;
 use crate::clock::Counting;
 use crate::reading::{changed, cut, told};
 use crate::world::{World, configured, no_case};
+use case_lines::Answers;
 use chpw_client::Sent;
 use hex::{decode, encode};
 use std::alloc::Global;
@@ -26,6 +27,24 @@ pub struct Cases {
     reply: Vec<u8>,
 }
 
+impl Answers for Cases {
+    fn answer(&mut self, alloc: Global, case: &str) -> io::Result<String> {
+        let whole = with_long_names(alloc, case)?;
+        let whole = whole.as_str();
+        let (kind, text) = whole.split_once(' ').unwrap_or((whole, ""));
+        match kind {
+            "|" | "world" | "client" | "clocks" => {
+                self.set(alloc, kind, text)?;
+                Ok(String::from_str(alloc, case)?)
+            }
+            "ask" => self.ask(alloc, text),
+            "again" => self.again(alloc),
+            "kvno" => self.kvno(alloc, text),
+            _ => self.of_reply(alloc, kind, text),
+        }
+    }
+}
+
 impl Cases {
     pub fn new(alloc: Global) -> Cases {
         Cases {
@@ -37,26 +56,6 @@ impl Cases {
             words: Counting::new(),
             sent: Vec::new(alloc),
             reply: Vec::new(alloc),
-        }
-    }
-
-    /// The answer to a line.
-    pub fn answer(&mut self, alloc: Global, line: &str) -> io::Result<String> {
-        if line.is_empty() || line.starts_with('#') {
-            return Ok(String::from_str(alloc, line)?);
-        }
-        let whole = with_long_names(alloc, line)?;
-        let whole = whole.as_str();
-        let (kind, text) = whole.split_once(' ').unwrap_or((whole, ""));
-        match kind {
-            "|" | "world" | "client" | "clocks" => {
-                self.set(alloc, kind, text)?;
-                Ok(String::from_str(alloc, line)?)
-            }
-            "ask" => self.ask(alloc, text),
-            "again" => self.again(alloc),
-            "kvno" => self.kvno(alloc, text),
-            _ => self.of_reply(alloc, kind, text),
         }
     }
 

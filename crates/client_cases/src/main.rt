@@ -25,20 +25,13 @@
 mod asking;
 mod cases;
 mod clock;
-mod journal;
 mod reading;
 mod world;
 
+use case_lines::print_answers;
 use cases::Cases;
-use std::io::{self, BufRead, BufReader, BufWriter, Write};
+use std::io;
 
 fn main(rt: HostRuntime) -> io::Result<()> {
-    let alloc = rt.alloc();
-    let mut cases = Cases::new(alloc);
-    let mut out = BufWriter::new(alloc, io::writer(&rt))?;
-    for line in BufReader::new(alloc, rt.reader())?.lines(alloc) {
-        let answer = cases.answer(alloc, line?.as_str())?;
-        writeln!(out, "{answer}")?;
-    }
-    out.flush()
+    print_answers(&rt, &mut Cases::new(rt.alloc()))
 }

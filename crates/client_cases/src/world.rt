@@ -3,7 +3,6 @@ ghost use Rattle.std.specs.Prelude.{◌≡◌, true, IfOk};
 ghost use Rattle.chpw_rules.specs.Fitting.{config_fits};
 
 use crate::clock::{Counting, Standing};
-use crate::journal::Nowhere;
 use chpw_decider::Alone;
 use chpw_frame::{LONGEST_MESSAGE, Received, read_tcp, write_tcp};
 use chpw_messages::Service;
@@ -12,6 +11,7 @@ use chpw_serve::serve_alone;
 use chpw_table::Table;
 use std::alloc::Global;
 use std::io::{self, Error, ErrorKind};
+use test_realm::Tally;
 
 /// The client's address.
 const PEER: [u8; 4] = [127, 0, 0, 1];
@@ -35,7 +35,7 @@ pub fn configured(alloc: Global, text: &str) -> io::Result<Config>
 #[derive(Drop)]
 pub struct World {
     service: Service,
-    alone: Alone<Nowhere>,
+    alone: Alone<Tally>,
 }
 
 impl World {
@@ -46,7 +46,7 @@ impl World {
         let table = Table::start(alloc, config, -1)?;
         Ok(World {
             service,
-            alone: Alone::new(alloc, table, Nowhere),
+            alone: Alone::new(alloc, table, Tally::new()),
         })
     }
 

@@ -90,15 +90,15 @@ fn one_message_of_two_workers(rt: HostRuntime) -> Result<(), Fail> {
 fn two_at<D: DeskName + Send + Sync, R: Threads + Wait + Abort + Sync>(
     rt: &R,
     alloc: Global,
-    started: UnnamedDesk,
+    unnamed: UnnamedDesk,
     service: &Service,
     sent: &Sent,
 ) -> Result<(), Fail>
-    requires name { IsNamed started D.name D.parts D.book D.root D.workers }
-    requires workers { workers_of started ≡ 2 }
+    requires name { IsNamed unnamed D.name D.parts D.book D.root D.workers }
+    requires workers { workers_of unnamed ≡ 2 }
 {
     let sink = MemorySink::new(alloc, ROOM)?;
-    let (desk, mut passes) = Desk::<D, MemorySink>::start(rt, alloc, started, sink)?;
+    let (desk, mut passes) = Desk::<D, MemorySink>::start(rt, alloc, unnamed, sink)?;
     let mut second = passes.pop().expect(rt, "a pass");
     let mut first = passes.pop().expect(rt, "a pass");
     let barrier = Barrier::new(2);
@@ -183,15 +183,15 @@ fn failed_append(rt: HostRuntime) -> Result<(), Fail> {
 fn break_second<D: DeskName, R: Wait + Abort>(
     rt: &R,
     alloc: Global,
-    started: UnnamedDesk,
+    unnamed: UnnamedDesk,
     service: &Service,
     requests: [&Sent; 2],
 ) -> Result<(), Fail>
-    requires name { IsNamed started D.name D.parts D.book D.root D.workers }
+    requires name { IsNamed unnamed D.name D.parts D.book D.root D.workers }
 {
     let mut sink = MemorySink::new(alloc, ROOM)?;
     sink.fail_at(2, 0);
-    let (desk, mut passes) = Desk::<D, MemorySink>::start(rt, alloc, started, sink)?;
+    let (desk, mut passes) = Desk::<D, MemorySink>::start(rt, alloc, unnamed, sink)?;
     let mut pass = passes.pop().expect(rt, "a pass");
     let [first, second] = requests;
     let one = answered(rt, alloc, service, &desk, &mut pass, &mut NoGate, first);
@@ -222,15 +222,15 @@ fn full_history(rt: HostRuntime) -> Result<(), Fail> {
 fn fill<D: DeskName, R: Wait + Abort>(
     rt: &R,
     alloc: Global,
-    started: UnnamedDesk,
+    unnamed: UnnamedDesk,
     service: &Service,
     requests: [&Sent; 2],
 ) -> Result<(), Fail>
-    requires name { IsNamed started D.name D.parts D.book D.root D.workers }
-    requires workers { workers_of started ≡ 1 }
+    requires name { IsNamed unnamed D.name D.parts D.book D.root D.workers }
+    requires workers { workers_of unnamed ≡ 1 }
 {
     let sink = MemorySink::new(alloc, ROOM)?;
-    let (desk, mut passes) = Desk::<D, MemorySink>::start(rt, alloc, started, sink)?;
+    let (desk, mut passes) = Desk::<D, MemorySink>::start(rt, alloc, unnamed, sink)?;
     let mut pass = passes.pop().expect(rt, "a pass");
     let [first, second] = requests;
     let one = answered(rt, alloc, service, &desk, &mut pass, &mut NoGate, first);

@@ -91,17 +91,17 @@ fn two_connections(rt: HostRuntime) -> Result<(), Fail> {
 fn pool_of_two<D: DeskName + Send + Sync, R: Machine>(
     rt: &R,
     alloc: Global,
-    started: UnnamedDesk,
+    unnamed: UnnamedDesk,
     service: &Service,
     listener: &TcpListener,
 ) -> Result<Pool, Fail>
-    requires name { IsNamed started D.name D.parts D.book D.root D.workers }
-    requires workers { workers_of started ≡ 2 }
+    requires name { IsNamed unnamed D.name D.parts D.book D.root D.workers }
+    requires workers { workers_of unnamed ≡ 2 }
 {
     let port = listener.local_addr()?.port();
     let (alice, bob) = requests(rt, alloc)?;
     let sink = MemorySink::new(alloc, ROOM)?;
-    let (desk, mut passes) = Desk::<D, MemorySink>::start(rt, alloc, started, sink)?;
+    let (desk, mut passes) = Desk::<D, MemorySink>::start(rt, alloc, unnamed, sink)?;
     let shared = &desk;
     let (pool, ()) = join(
         rt,
@@ -143,19 +143,19 @@ fn the_second_answered_first(rt: HostRuntime) -> Result<(), Fail> {
 fn gated_pool<D: DeskName + Send + Sync, R: Machine>(
     rt: &R,
     alloc: Global,
-    started: UnnamedDesk,
+    unnamed: UnnamedDesk,
     service: &Service,
     listener: &TcpListener,
 ) -> Result<Pool, Fail>
-    requires name { IsNamed started D.name D.parts D.book D.root D.workers }
-    requires workers { workers_of started ≡ 2 }
+    requires name { IsNamed unnamed D.name D.parts D.book D.root D.workers }
+    requires workers { workers_of unnamed ≡ 2 }
 {
     let port = listener.local_addr()?.port();
     let (alice, bob) = requests(rt, alloc)?;
     let answered = Mutex::new(false);
     let gates = vec![in alloc; gate(rt, true, &answered), gate(rt, false, &answered)]?;
     let sink = MemorySink::new(alloc, ROOM)?;
-    let (desk, mut passes) = Desk::<D, MemorySink>::start(rt, alloc, started, sink)?;
+    let (desk, mut passes) = Desk::<D, MemorySink>::start(rt, alloc, unnamed, sink)?;
     let shared = &desk;
     let (pool, ()) = join(
         rt,
@@ -209,17 +209,17 @@ fn a_connection_cut_off(rt: HostRuntime) -> Result<(), Fail> {
 fn pool_of_three<D: DeskName + Send + Sync, R: Machine>(
     rt: &R,
     alloc: Global,
-    started: UnnamedDesk,
+    unnamed: UnnamedDesk,
     service: &Service,
     listener: &TcpListener,
 ) -> Result<Pool, Fail>
-    requires name { IsNamed started D.name D.parts D.book D.root D.workers }
-    requires workers { workers_of started ≡ 2 }
+    requires name { IsNamed unnamed D.name D.parts D.book D.root D.workers }
+    requires workers { workers_of unnamed ≡ 2 }
 {
     let port = listener.local_addr()?.port();
     let (alice, bob) = requests(rt, alloc)?;
     let sink = MemorySink::new(alloc, ROOM)?;
-    let (desk, mut passes) = Desk::<D, MemorySink>::start(rt, alloc, started, sink)?;
+    let (desk, mut passes) = Desk::<D, MemorySink>::start(rt, alloc, unnamed, sink)?;
     let shared = &desk;
     let (pool, ()) = join(
         rt,
@@ -260,16 +260,16 @@ fn nothing_to_accept(rt: HostRuntime) -> Result<(), Fail> {
 fn refused_pool<D: DeskName + Send + Sync, R: Machine>(
     rt: &R,
     alloc: Global,
-    started: UnnamedDesk,
+    unnamed: UnnamedDesk,
     service: &Service,
     listener: &TcpListener,
 ) -> Result<Pool, Fail>
-    requires name { IsNamed started D.name D.parts D.book D.root D.workers }
-    requires workers { workers_of started ≡ 1 }
+    requires name { IsNamed unnamed D.name D.parts D.book D.root D.workers }
+    requires workers { workers_of unnamed ≡ 1 }
 {
     listener.set_nonblocking(true)?;
     let sink = MemorySink::new(alloc, ROOM)?;
-    let (desk, mut passes) = Desk::<D, MemorySink>::start(rt, alloc, started, sink)?;
+    let (desk, mut passes) = Desk::<D, MemorySink>::start(rt, alloc, unnamed, sink)?;
     assert!(rt; !passes.is_empty());
     let pool = run_pool(rt, alloc, listener, service, &desk, &mut passes, SEED, 2);
     Ok(give_up(rt, desk, pool))

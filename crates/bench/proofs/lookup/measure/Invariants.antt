@@ -2,10 +2,10 @@ use Rattle.chpw_book.specs.Starting.{ledger_name, ledger_parts, list_book, list_
 use Rattle.bench.proofs.lookup.measure.Given as goal
 
 abbrev pub ghosts-at_desk-D-DeskName : goal.ghosts-at_desk-D-DeskName
-ghosts-at_desk-D-DeskName g a = record { workers = workers_of a.started }
+ghosts-at_desk-D-DeskName g a = record { workers = workers_of a.unnamed }
 
 abbrev pub ghosts-at_desk-D-Ledger : goal.ghosts-at_desk-D-Ledger
-ghosts-at_desk-D-Ledger g a = record { name = ledger_name a.started; parts = ledger_parts a.started }
+ghosts-at_desk-D-Ledger g a = record { name = ledger_name a.unnamed; parts = ledger_parts a.unnamed }
 
 abbrev pub ghosts-at_desk-D-ListName : goal.ghosts-at_desk-D-ListName
-ghosts-at_desk-D-ListName g a = record { book = list_book a.started; root = list_root a.started }
+ghosts-at_desk-D-ListName g a = record { book = list_book a.unnamed; root = list_root a.unnamed }

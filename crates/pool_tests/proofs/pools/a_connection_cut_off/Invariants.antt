@@ -2,10 +2,10 @@ use Rattle.chpw_book.specs.Starting.{ledger_name, ledger_parts, list_book, list_
 use Rattle.pool_tests.proofs.pools.a_connection_cut_off.Given as goal
 
 abbrev pub ghosts-pool_of_three-D-DeskName : goal.ghosts-pool_of_three-D-DeskName
-ghosts-pool_of_three-D-DeskName g a = record { workers = workers_of a.started }
+ghosts-pool_of_three-D-DeskName g a = record { workers = workers_of a.unnamed }
 
 abbrev pub ghosts-pool_of_three-D-Ledger : goal.ghosts-pool_of_three-D-Ledger
-ghosts-pool_of_three-D-Ledger g a = record { name = ledger_name a.started; parts = ledger_parts a.started }
+ghosts-pool_of_three-D-Ledger g a = record { name = ledger_name a.unnamed; parts = ledger_parts a.unnamed }
 
 abbrev pub ghosts-pool_of_three-D-ListName : goal.ghosts-pool_of_three-D-ListName
-ghosts-pool_of_three-D-ListName g a = record { book = list_book a.started; root = list_root a.started }
+ghosts-pool_of_three-D-ListName g a = record { book = list_book a.unnamed; root = list_root a.unnamed }

@@ -2,10 +2,10 @@ use Rattle.chpw_book.specs.Starting.{ledger_name, ledger_parts, list_book, list_
 use Rattle.pool_tests.proofs.pools.nothing_to_accept.Given as goal
 
 abbrev pub ghosts-refused_pool-D-DeskName : goal.ghosts-refused_pool-D-DeskName
-ghosts-refused_pool-D-DeskName g a = record { workers = workers_of a.started }
+ghosts-refused_pool-D-DeskName g a = record { workers = workers_of a.unnamed }
 
 abbrev pub ghosts-refused_pool-D-Ledger : goal.ghosts-refused_pool-D-Ledger
-ghosts-refused_pool-D-Ledger g a = record { name = ledger_name a.started; parts = ledger_parts a.started }
+ghosts-refused_pool-D-Ledger g a = record { name = ledger_name a.unnamed; parts = ledger_parts a.unnamed }
 
 abbrev pub ghosts-refused_pool-D-ListName : goal.ghosts-refused_pool-D-ListName
-ghosts-refused_pool-D-ListName g a = record { book = list_book a.started; root = list_root a.started }
+ghosts-refused_pool-D-ListName g a = record { book = list_book a.unnamed; root = list_root a.unnamed }

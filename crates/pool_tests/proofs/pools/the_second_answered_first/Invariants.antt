@@ -2,10 +2,10 @@ use Rattle.chpw_book.specs.Starting.{ledger_name, ledger_parts, list_book, list_
 use Rattle.pool_tests.proofs.pools.the_second_answered_first.Given as goal
 
 abbrev pub ghosts-gated_pool-D-DeskName : goal.ghosts-gated_pool-D-DeskName
-ghosts-gated_pool-D-DeskName g a = record { workers = workers_of a.started }
+ghosts-gated_pool-D-DeskName g a = record { workers = workers_of a.unnamed }
 
 abbrev pub ghosts-gated_pool-D-Ledger : goal.ghosts-gated_pool-D-Ledger
-ghosts-gated_pool-D-Ledger g a = record { name = ledger_name a.started; parts = ledger_parts a.started }
+ghosts-gated_pool-D-Ledger g a = record { name = ledger_name a.unnamed; parts = ledger_parts a.unnamed }
 
 abbrev pub ghosts-gated_pool-D-ListName : goal.ghosts-gated_pool-D-ListName
-ghosts-gated_pool-D-ListName g a = record { book = list_book a.started; root = list_root a.started }
+ghosts-gated_pool-D-ListName g a = record { book = list_book a.unnamed; root = list_root a.unnamed }
