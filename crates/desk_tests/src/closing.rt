@@ -4,7 +4,7 @@ ghost use Rattle.chpw_book.specs.Starting.{IsNamed, workers_of};
 
 use crate::realm::{NOW, PASSWORD, Quiet, change, closed, table, verdict};
 use chpw_book::{CloseFault, CloseRefused, Desk, DeskName, Pass, UnnamedDesk, agree};
-use chpw_table::{Entry, Opened, Receipt, Verdict};
+use chpw_table::{Entry, Event, Opened, Receipt, Verdict};
 use std::alloc::{AllocError, Global};
 use std::marker::Brand;
 use std::process::Abort;
@@ -83,7 +83,8 @@ fn changed_receipt(rt: HostRuntime) -> Result<(), Fail> {
     let mut receipts = [receipt(&history[0], 0)?, receipt(&history[2], 2)?];
     assert!(rt; agree(&history, 0, &receipts).is_none());
     assert!(rt; agree(&history, 1, &receipts) == Some(1));
-    receipts[1].entry.verdict = Verdict::Replay;
+    let Event::Ask { verdict, .. } = &mut receipts[1].entry.event;
+    *verdict = Verdict::Replay;
     assert!(rt; agree(&history, 0, &receipts) == Some(2));
     assert!(rt; agree(&history, 0, &receipts[..1]) == Some(2));
     Ok(())
@@ -95,9 +96,11 @@ fn entry(opened: Opened, worker: u8, number: u32) -> Entry {
         worker,
         number,
         now: NOW,
-        opened,
         io_failed: false,
-        verdict: Verdict::Done,
+        event: Event::Ask {
+            opened,
+            verdict: Verdict::Done,
+        },
     }
 }
 

@@ -73,6 +73,7 @@ fn worker_at<D: DeskName, R: Wait + Abort>(
 ) -> Result<(), Fail>
     requires name { IsNamed unnamed D.name D.parts D.book D.root D.workers }
 {
+    let names = [name(alloc, 0)?, name(alloc, 1)?, name(alloc, 16)?];
     let (desk, mut passes) = Desk::<D, Quiet>::start(rt, alloc, unnamed, Quiet)?;
     let mut pass = passes.pop().expect(rt, "a pass");
     let mut worker = AtDesk {
@@ -82,12 +83,12 @@ fn worker_at<D: DeskName, R: Wait + Abort>(
     };
     let done = verdict(worker.decide_deriving(NOW, opened, PASSWORD));
     assert!(rt; done == Some(Verdict::Done));
-    let alice = worker.lookup(&name(alloc, 0)?).expect(rt, "a principal");
+    let alice = worker.lookup(&names[0]).expect(rt, "a principal");
     assert!(rt; alice.kvno == 2 && alice.held.as_slice() == [4, 4].as_slice());
     assert!(rt; alice.policy == 4 && alice.seen == 1);
-    let blice = worker.lookup(&name(alloc, 1)?).expect(rt, "a principal");
+    let blice = worker.lookup(&names[1]).expect(rt, "a principal");
     assert!(rt; blice.kvno == 1 && blice.held.as_slice() == [4].as_slice());
-    assert!(rt; worker.lookup(&name(alloc, 16)?).is_none());
+    assert!(rt; worker.lookup(&names[2]).is_none());
     desk.abandon(rt);
     Ok(())
 }
