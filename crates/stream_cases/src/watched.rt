@@ -47,22 +47,20 @@ impl<S: JournalSink> Watched<S> {
         }
     }
 
-    /// Notes a name that is looked up; without memory, only a part of it.
-    fn note_name(&mut self, name: &Name)
-        ensures alone { self.new.alone ≡ self.old.alone }
-    {
-        let _ = self.names.extend_from_slice(b" ");
-        for part in name.parts.as_slice() {
-            let _ = self.names.extend_from_slice(part.as_slice());
-        }
-    }
-
     /// Notes a call of `decide`.
     fn note(&mut self, opened: &Opened)
         ensures alone { self.new.alone ≡ self.old.alone }
     {
         self.decides = self.decides.saturating_add(1);
         self.counts = counts_of(opened);
+    }
+}
+
+/// Adds a name that is looked up; without memory, only a part of it.
+fn add_name(names: &mut Vec<u8>, name: &Name) {
+    let _ = names.extend_from_slice(b" ");
+    for part in name.parts.as_slice() {
+        let _ = names.extend_from_slice(part.as_slice());
     }
 }
 
@@ -94,7 +92,7 @@ impl<S: JournalSink> Decider for Watched<S> {
     ghost follows = { λ _ _. Unit {0} };
 
     fn lookup(&mut self, name: &Name) -> Option<Lookup> {
-        self.note_name(name);
+        add_name(&mut self.names, name);
         self.alone.lookup(name)
     }
 
