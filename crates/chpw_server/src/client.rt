@@ -88,7 +88,7 @@ fn name_of<'a>(alloc: Global, text: &str) -> Result<Name, Ending<'a>>
     ensures fits { IfOk result (λ name. is_name name ≡ true) }
 {
     match Name::parse(alloc, text) {
-        Ok(Some(name)) if name.fits() => Ok(name),
+        Ok(Some(name)) => Ok(name),
         Ok(_) => Err(Ending::BadArgument),
         Err(_) => Err(Ending::Early(DrillFault::Memory)),
     }
