@@ -5,3 +5,4 @@ pub mod Holds
 pub mod Laws
 pub mod WorkedReplies
 pub mod OneOpening
+pub mod RepliesOpen

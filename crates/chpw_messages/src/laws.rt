@@ -1,6 +1,7 @@
 //! Laws of the definitions alone, and worked replies.
 ghost use Rattle.chpw_messages.specs.Laws.{FramesOpen, PartsOpen};
 ghost use Rattle.chpw_messages.specs.OneOpening.{MessagesOpenOnce};
+ghost use Rattle.chpw_messages.specs.RepliesOpen.{ErrorFramesOpen, PrivateFramesOpen};
 ghost use Rattle.chpw_messages.specs.WorkedReplies.{MalformedReply, VersionReply, TooLongReply};
 
 /// The two parts of a request for a change of password, made of their records, open to that
@@ -14,6 +15,13 @@ pub fn openings()
 /// is refused opens to no request, and one that opens asks one thing.
 pub fn one_opening()
     ensures message { MessagesOpenOnce }
+{}
+
+/// A reply opens, for the client that asked, to the result code, the text and the error code that it
+/// was made of.
+pub fn replies_open()
+    ensures krb_error { ErrorFramesOpen }
+    ensures private { PrivateFramesOpen }
 {}
 
 /// The replies to a message with an empty AP-REQ, to one of another version, and to one that is too
