@@ -6,3 +6,4 @@ pub mod Laws
 pub mod WorkedReplies
 pub mod OneOpening
 pub mod RepliesOpen
+pub mod Prefixes

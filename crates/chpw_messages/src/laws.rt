@@ -1,6 +1,7 @@
 //! Laws of the definitions alone, and worked replies.
 ghost use Rattle.chpw_messages.specs.Laws.{FramesOpen, PartsOpen};
 ghost use Rattle.chpw_messages.specs.OneOpening.{MessagesOpenOnce};
+ghost use Rattle.chpw_messages.specs.Prefixes.{KrbPrivsFollow, PrefixesOpen};
 ghost use Rattle.chpw_messages.specs.RepliesOpen.{ErrorFramesOpen, PrivateFramesOpen};
 ghost use Rattle.chpw_messages.specs.WorkedReplies.{MalformedReply, VersionReply, TooLongReply};
 
@@ -22,6 +23,14 @@ pub fn one_opening()
 pub fn replies_open()
     ensures krb_error { ErrorFramesOpen }
     ensures private { PrivateFramesOpen }
+{}
+
+/// A request whose tail is a KRB-PRIV, cut short and its length field set to its size, is no other
+/// request: it has a bad length or bad parts, or is the same with bad data and no stamp. The tail
+/// is one unless the request is bad data.
+pub fn prefixes()
+    ensures message { PrefixesOpen }
+    ensures tail { KrbPrivsFollow }
 {}
 
 /// The replies to a message with an empty AP-REQ, to one of another version, and to one that is too
