@@ -54,8 +54,11 @@ pub(crate) fn close_desk<'a, D: DeskName, S: JournalSink + Drop, R: Wait>(
 fn changes(history: &[Entry]) -> usize
     ensures value { result ≡ changes_of history.now }
 {
-    history
-        .iter()
-        .filter(|entry| entry.event.is_accepted())
-        .count()
+    let mut count = 0;
+    for entry in history {
+        if entry.event.is_accepted() {
+            count += 1;
+        }
+    }
+    count
 }
