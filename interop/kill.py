@@ -3,13 +3,13 @@
 
     kill.py [--server PROGRAM] [--runs N] [--clients N] [COMMAND WORD ..]
 
-One journal grows over all N runs (100). In each, N clients (4) run the command again and again, each
-for a principal of its own and with another password each time, until `kill -9` ends the server at a
-moment drawn at random, up to half a second after the first answer. Then the server is started again
-on that journal. A change counts as answered where the command printed a line that begins with `0 ` or
-`code 0 `. Each of those has to be in the journal: in order, version after version from 2 on, with the
-keys of its password. A client may have one more there from each run, the one whose answer was lost.
-What was in the journal before a run stays as it was.
+One journal grows over all N runs (100). In each, N clients (4) run the command again and again,
+each for a principal of its own and with another password each time, until `kill -9` ends the
+server at a moment drawn at random, up to half a second after the first answer. Then the server is
+started again on that journal. A change counts as answered where the command printed a line that
+begins with `0 ` or `code 0 `. Each of those has to be in the journal: in order, version after
+version from 2 on, with the keys of its password. A client may have one more there from each run,
+the one whose answer was lost. What was in the journal before a run stays as it was.
 
 In the command's words {config}, {seed}, {port}, {client} and {password} are replaced; the default
 is the service's own client, which needs no KDC. A command makes one change, with that password.
