@@ -3,10 +3,13 @@
 # of each. Each client (crates/bench) changes the password of a principal of its own over one
 # connection, and has made its requests before the clock starts. Of several rounds (the first argument,
 # 3) of so many changes for each client (the second, 500) the best counts. The last line is
-# `changes c1 N c4 N`.
+# `changes c1 N c4 N`. A round that fails, or takes more than a minute and a tenth of a second for each
+# change of a client, ends the script with a line and status 1.
 set -euo pipefail
+shopt -s inherit_errexit
 cd "$(dirname "$0")/.."
 rounds=${1:-3} changes=${2:-500}
+limit=$((60 + changes / 10))
 (cd crates/chpw_server && rt run -- drill </dev/null >/dev/null)
 (cd crates/bench && rt run <stdin >/dev/null)
 work=$(mktemp -d)
@@ -15,18 +18,34 @@ export PYTHONDONTWRITEBYTECODE=1
 python3 interop/sample_realm.py "$work/config.toml" c{0..15}
 head -c 32 /dev/urandom >"$work/seed"
 
-# One round: so many clients, and as many workers; the changes a second.
+# Ends a round: the service, if it still runs, and what went wrong.
+failed() {
+  kill "$service" 2>/dev/null || true
+  wait "$service" || true
+  echo "serve.sh: $1" >&2
+  exit 1
+}
+
+# One round: so many clients, and as many workers; the changes a second. Its files are its own: those
+# of a former one would say that this service listens.
 round() {
-  rm -f "$work/journal"
-  crates/chpw_server/out/chpw_server serve --config "$work/config.toml" --journal "$work/journal" \
-    --seed "$work/seed" --port 48464 --workers "$1" --connections "$1" >"$work/served" &
-  local service=$!
-  until grep -q listening "$work/served"; do sleep 0.05; done
-  crates/bench/out/bench serve 48464 "$1" "$changes" >"$work/asked"
-  wait "$service"
+  local place service
+  place=$(mktemp -d "$work/round.XXXXXX")
+  timeout "$limit" crates/chpw_server/out/chpw_server serve --config "$work/config.toml" \
+    --journal "$place/journal" --seed "$work/seed" --port 48464 --workers "$1" --connections "$1" \
+    >"$place/served" &
+  service=$!
+  until grep -qs listening "$place/served"; do
+    kill -0 "$service" 2>/dev/null || failed "serve doesn't listen"
+    sleep 0.05
+  done
+  timeout "$limit" crates/bench/out/bench serve 48464 "$1" "$changes" >"$place/asked" ||
+    failed "bench failed, or took more than $limit seconds"
+  wait "$service" || failed "serve failed, or took more than $limit seconds"
   awk -v changes="$changes" '
     / changed / { if ($3 != changes) exit 1; all += $3 }
-    /^micros / { printf "%.0f\n", all * 1e6 / $2 }' "$work/asked"
+    /^micros / { printf "%.0f\n", all * 1e6 / $2 }' "$place/asked" ||
+    failed "a change wasn't answered with code 0"
 }
 
 best() {

@@ -37,17 +37,18 @@ def components(rest):
 def read_journal(data):
     """The whole records, and the bytes of a torn tail."""
     records = []
-    while len(data) >= 2:
-        size = int.from_bytes(data[:2], "big")
-        body = data[2 : 2 + size]
-        if len(body) < size:
+    place = 0
+    while len(data) - place >= 2:
+        end = place + 2 + int.from_bytes(data[place : place + 2], "big")
+        if end > len(data):
             break
+        body = data[place + 2 : end]
         kvno = int.from_bytes(body[1:5], "big")
         iterations = int.from_bytes(body[5:9], "big")
         name = "/".join(components(body[58:]))
         records.append(Record(name, kvno, iterations, body[9:25], body[25:57]))
-        data = data[2 + size :]
-    return records, data
+        place = end
+    return records, data[place:]
 
 
 def main():

@@ -3,16 +3,20 @@
 
     kill.py [--server PROGRAM] [--runs N] [--clients N] [COMMAND WORD ..]
 
-Each of N runs (100) begins with an empty journal. N clients (4) run the command again and again,
-each for a principal of its own, until `kill -9` ends the server at a moment drawn at random, up to
-half a second after the first answer. Then the server is started again on that journal. A change
-counts as answered where the command printed a line that begins with `0 ` or `code 0 `. Each of
-those has to be in the journal, version after version from 2 on; a client may have one more there,
-whose answer was lost.
+One journal grows over all N runs (100). In each, N clients (4) run the command again and again,
+each for a principal of its own and with another password each time, until `kill -9` ends the
+server at a moment drawn at random, up to half a second after the first answer. Then the server is
+started again on that journal. A change counts as answered where the command printed a line that
+begins with `0 ` or `code 0 `. Each of those has to be in the journal: in order, version after
+version from 2 on, with the keys of its password. A client may have one more there from each run,
+the one whose answer was lost. What was in the journal before a run stays as it was.
 
 In the command's words {config}, {seed}, {port}, {client} and {password} are replaced; the default
-is the service's own client, which needs no KDC. A command may make several changes and print a
-line for each, as soon as it has the answer. Its status is 0 where all were accepted.
+is the service's own client, which needs no KDC. A command makes one change, with that password.
+
+A service that found a journal refuses what was asked within 300 seconds of its start. So the
+command's clock is that much ahead (ahead.c, which gcc makes a library of): as much as the service
+allows. The command has to take its time from the C library, and that from LD_PRELOAD.
 """
 
 import argparse
@@ -27,6 +31,7 @@ import tempfile
 import threading
 import time
 
+from changepw_client import REALM, string_to_key
 from journal import read_journal
 from sample_realm import write_configuration
 from server import PROGRAM, Server
@@ -36,16 +41,36 @@ DEFAULT = [*CLIENT.split(), "--password", "{password}"]
 # seconds from the first answer of a run to the kill, at most
 LONGEST = 0.5
 WORKERS = 4
+ITERATIONS = 4096
+# seconds: the service's quiet time, and the clock skew that it allows
+AHEAD = 300
+
+
+def clock_ahead(folder):
+    """A library for LD_PRELOAD, compiled."""
+    library = folder / "ahead.so"
+    source = pathlib.Path(__file__).resolve().with_name("ahead.c")
+    subprocess.run(
+        ["gcc", "-std=c11", "-O1", f"-DAHEAD={AHEAD}", "-shared", "-fPIC", "-o", library, source],
+        check=True,
+    )
+    return library
 
 
 class Changes(threading.Thread):
-    """One command after the other for one principal, until one fails; counts what was answered."""
+    """One command after the other for one principal, until one fails.
 
-    def __init__(self, server, command, name):
+    `asked` are the passwords in order; the first `answered` of them were accepted.
+    """
+
+    def __init__(self, server, command, name, run, environment):
         super().__init__()
         self.server = server
         self.command = command
         self.name = name
+        self.run_number = run
+        self.environment = environment
+        self.asked = []
         self.answered = 0
         self.last = ""
         self.seed = server.journal.with_name(f"seed-{name}")
@@ -53,33 +78,36 @@ class Changes(threading.Thread):
 
     def run(self):
         for number in itertools.count():
-            with subprocess.Popen(
-                [word.format_map(self.words(number)) for word in self.command],
+            self.asked.append(f"{self.name}-Run{self.run_number}-Pass{number}")
+            done = subprocess.run(
+                [word.format_map(self.words()) for word in self.command],
                 stdin=subprocess.DEVNULL,
                 stdout=subprocess.PIPE,
                 stderr=subprocess.STDOUT,
                 text=True,
-            ) as process:
-                for line in process.stdout:
-                    self.last = line.strip()
-                    self.answered += line.startswith(("0 ", "code 0 "))
-            if process.returncode != 0:
+                env=self.environment,
+            )
+            lines = done.stdout.splitlines()
+            self.last = lines[-1] if lines else ""
+            if not any(line.startswith(("0 ", "code 0 ")) for line in lines):
                 return
+            self.answered += 1
 
-    def words(self, number):
+    def words(self):
         return {
             "config": self.server.configuration,
             "seed": self.seed,
             "port": self.server.port,
             "client": self.name,
-            "password": f"{self.name}-Pass{number}",
+            "password": self.asked[-1],
         }
 
 
-def killed(server, command, names):
-    """The clients, once the server was killed under them, and what went wrong before."""
+def killed(server, clients):
+    """Kills the server under the clients; what went wrong before."""
     server.start(connections=1_000_000)
-    clients = [Changes(server, command, name) for name in names]
+    # into the next second: what is asked in the start's own is refused, 300 seconds ahead or not
+    time.sleep(1.01 - time.time() % 1)
     for client in clients:
         client.start()
     while any(client.is_alive() for client in clients) and not any(c.answered for c in clients):
@@ -89,54 +117,94 @@ def killed(server, command, names):
     server.end()
     for client in clients:
         client.join()
-    faults = [f"{client.name}'s command failed before the kill: {client.last}" for client in early]
-    return clients, faults
+    return [f"{client.name}'s command failed before the kill: {client.last}" for client in early]
 
 
 def restarted(server):
-    """The records after the restart, whether there was a torn tail, and what is wrong."""
-    _, torn = read_journal(server.journal.read_bytes())
+    """Starts the server once more, and ends it; what is wrong."""
     server.start(connections=1)
     server.connect()
     words = server.last_words()
-    records, tail = read_journal(server.journal.read_bytes())
-    faults = []
     if words != "entries 0 changes 0":
-        faults.append(f"after the restart: {words}")
-    if tail:
-        faults.append(f"after the restart: {len(tail)} bytes of a torn tail")
-    return records, bool(torn), faults
+        yield f"after the restart: {words}"
+    _, torn = read_journal(server.journal.read_bytes())
+    if torn:
+        yield f"after the restart: {len(torn)} bytes of a torn tail"
 
 
-def lost(clients, records):
-    """What is wrong with the journal, a line each."""
-    kvnos = collections.defaultdict(list)
+def keys_of(name, password):
+    """The keys of etype 17 and 18 that a record of this change has."""
+    salt = REALM + name.encode()
+    return tuple(string_to_key(size, password.encode(), salt, ITERATIONS) for size in (16, 32))
+
+
+def lost(client, records, first):
+    """What is wrong with the records of a client's changes; `first` is the version of the first."""
+    found = [record.kvno for record in records]
+    if found != list(range(first, first + len(found))):
+        yield f"{client.name}: versions {found} and not from {first} on"
+    if len(found) < client.answered:
+        yield f"{client.name}: {client.answered} answered, {len(found)} in the journal"
+    if len(found) > len(client.asked):
+        yield f"{client.name}: {len(client.asked)} asked, even {len(found)} in the journal"
+    for record, password in zip(records, client.asked):
+        if record.iterations != ITERATIONS:
+            yield f"{client.name}: version {record.kvno} under {record.iterations} iterations"
+        if (record.aes128, record.aes256) != keys_of(client.name, password):
+            yield f"{client.name}: version {record.kvno} hasn't the keys of {password}"
+
+
+def by_name(records):
+    names = collections.defaultdict(list)
     for record in records:
-        kvnos[record.name].append(record.kvno)
+        names[record.name].append(record)
+    return names
+
+
+def wrong_in_journal(clients, before, after):
+    """What is wrong with a journal after a run, a line each; both are its bytes."""
+    if not after.startswith(before):
+        yield "what was in the journal before this run has changed"
+        return
+    old = by_name(read_journal(before)[0])
+    new = by_name(read_journal(after[len(before) :])[0])
     for client in clients:
-        found = kvnos.pop(client.name, [])
-        if found != list(range(2, 2 + len(found))):
-            yield f"{client.name}: versions {found}"
-        if len(found) < client.answered:
-            yield f"{client.name}: {client.answered} answered, {len(found)} in the journal"
-        if len(found) > client.answered + 1:
-            yield f"{client.name}: {client.answered} answered, even {len(found)} in the journal"
-    for name in kvnos:
+        yield from lost(client, new.pop(client.name, []), 2 + len(old[client.name]))
+    for name in new:
         yield f"{name}: nobody changed it"
 
 
-def one_run(program, command, names):
-    """How many changes were answered and are in the journal, torn tails, and what is wrong."""
-    with tempfile.TemporaryDirectory(prefix="chpw-kill-") as folder:
-        server = Server(program, pathlib.Path(folder), WORKERS)
-        write_configuration(server.configuration, names)
-        try:
-            clients, early = killed(server, command, names)
-            records, torn, late = restarted(server)
-        finally:
-            server.end()
-    answered = sum(client.answered for client in clients)
-    return answered, len(records), torn, [*early, *lost(clients, records), *late]
+class Total:
+    """What all runs found."""
+
+    def __init__(self):
+        self.answered = self.tails = self.failed = 0
+
+    def one_run(self, server, clients):
+        """What is wrong, a line each."""
+        before = server.journal.read_bytes() if server.journal.exists() else b""
+        faults = killed(server, clients)
+        _, torn = read_journal(server.journal.read_bytes())
+        faults += restarted(server)
+        faults += wrong_in_journal(clients, before, server.journal.read_bytes())
+        self.answered += sum(client.answered for client in clients)
+        self.tails += bool(torn)
+        self.failed += bool(faults)
+        return faults
+
+
+def all_runs(server, command, names, runs):
+    """Prints what is wrong, and the last lines."""
+    environment = {**os.environ, "LD_PRELOAD": str(clock_ahead(server.journal.parent))}
+    total = Total()
+    for run in range(1, runs + 1):
+        clients = [Changes(server, command, name, run, environment) for name in names]
+        for fault in total.one_run(server, clients):
+            print(f"FAILED: run {run}: {fault}", flush=True)
+    kept = len(read_journal(server.journal.read_bytes())[0])
+    print(f"answered {total.answered}, in the journal {kept}, torn tails {total.tails}")
+    print(f"runs {runs} failed {total.failed}")
+    return total.failed
 
 
 def main():
@@ -148,15 +216,13 @@ def main():
     arguments = parser.parse_args()
     command = arguments.command or [str(arguments.server), *DEFAULT]
     names = [f"user{number}" for number in range(arguments.clients)]
-    answered = kept = tails = failed = 0
-    for run in range(1, arguments.runs + 1):
-        some, records, torn, faults = one_run(arguments.server, command, names)
-        answered, kept, tails = answered + some, kept + records, tails + torn
-        failed += bool(faults)
-        for fault in faults:
-            print(f"FAILED: run {run}: {fault}", flush=True)
-    print(f"answered {answered}, in the journal {kept}, torn tails {tails}")
-    print(f"runs {arguments.runs} failed {failed}")
+    with tempfile.TemporaryDirectory(prefix="chpw-kill-") as folder:
+        server = Server(arguments.server, pathlib.Path(folder), WORKERS)
+        write_configuration(server.configuration, names, iterations=ITERATIONS)
+        try:
+            failed = all_runs(server, command, names, arguments.runs)
+        finally:
+            server.end()
     sys.exit(1 if failed else 0)
 
 
