@@ -1,6 +1,6 @@
 -- What a message that opened is answered.
 use Rattle.std.proofs.Common.{◌≡◌, ℕ, List, refl, ◌∙◌, ap, subst, inl, inr}
-use Rattle.krb_der.specs.declared.refusal.Refusal.{Refusal}
+use Rattle.krb_protocol.specs.declared.refusal.Refusal.{Refusal}
 use Rattle.chpw_table.specs.declared.times.Moment.{Moment}
 use Rattle.chpw_table.specs.declared.history.Receipt.{Receipt}
 use Rattle.chpw_table.specs.declared.request.Opened.{Opened}

@@ -1,6 +1,6 @@
 -- The answer to a message (RFC 3244 section 2).
 use Rattle.std.specs.Prelude.{◌≡◌, ◌≤◌, ℕ, ℤ, List, ◌++◌, length, Bool, true, false, Option, Some, None, codes, ◌⊎◌}
-use Rattle.krb_der.specs.declared.codes.TheConstants.{KRB5_KPASSWD_HARDERROR, KRB_ERR_GENERIC}
+use Rattle.krb_protocol.specs.declared.codes.TheConstants.{KRB5_KPASSWD_HARDERROR, KRB_ERR_GENERIC}
 use Rattle.chpw_table.specs.declared.times.Moment.{Moment}
 use Rattle.chpw_table.specs.declared.history.Receipt.{Receipt}
 use Rattle.chpw_table.specs.declared.verdict.Verdict.{Verdict}

@@ -1,6 +1,6 @@
 -- What the program holds of a message that was opened.
 use Rattle.std.specs.Prelude.{◌≡◌, ◌<◌, ◌≤ℤ◌, pos, negsuc, []}
-use Rattle.krb_der.specs.declared.refusal.Refusal.{Refusal}
+use Rattle.krb_protocol.specs.declared.refusal.Refusal.{Refusal}
 use Rattle.chpw_table.specs.Replies.{Answer, by_error}
 use Rattle.chpw_answer.specs.declared.messages.Seal.{Seal}
 use Rattle.chpw_answer.specs.declared.messages.Incoming.{Incoming}

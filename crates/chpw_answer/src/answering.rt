@@ -12,8 +12,8 @@ use crate::gate::{Gate, Spot};
 use crate::messages::{Incoming, Messages, OpensTo, Seal};
 use chpw_decider::Decider;
 use chpw_table::{Moment, Verdict};
-use krb_der::Refusal;
-use krb_der::codes::{KRB_ERR_GENERIC, KRB5_KPASSWD_HARDERROR};
+use krb_protocol::Refusal;
+use krb_protocol::codes::{KRB_ERR_GENERIC, KRB5_KPASSWD_HARDERROR};
 use std::alloc::{AllocError, Global};
 
 /// A reply, and whether its message opened.

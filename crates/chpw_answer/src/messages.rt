@@ -9,7 +9,7 @@ ghost use Rattle.chpw_answer.specs.Holding.{IsInTime, IsOpensTo, IsReplyTime, an
 
 use chpw_rules::Items;
 use chpw_table::{Moment, Opened};
-use krb_der::Refusal;
+use krb_protocol::Refusal;
 use krb_keys::Key;
 use std::alloc::{AllocError, Global};
 

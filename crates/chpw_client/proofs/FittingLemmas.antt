@@ -10,7 +10,7 @@ use Rattle.krb_elements.specs.Texts.{each_is, fits, is_in_range, text}
 use Rattle.krb_elements.proofs.CompleteLemmas.{and_both, and_true, one_value}
 use Rattle.krb_elements.proofs.TextLemmas.{text_spells}
 use Rattle.krb_elements.proofs.TimeLemmas.{time_of_some}
-use Rattle.krb_der.specs.Protocol as protocol
+use Rattle.krb_protocol.specs.Numbers as protocol
 use Rattle.krb_der.specs.Types as types
 use Rattle.krb_der.specs.Values.{ap_req_value, authenticator_value, change_passwd_data_value, enc_krb_priv_part_value, enc_ticket_part_value, krb_priv_value, principal_name_value, ticket_value}
 use Rattle.krb_der.specs.declared.ticket.Ticket.{Ticket}

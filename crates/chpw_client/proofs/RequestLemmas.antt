@@ -14,7 +14,7 @@ use Rattle.chpw_client.specs.Questions.{Question}
 use Rattle.chpw_client.specs.Requests.{ap_req_text, authenticator, bit, priv_text, private_part, ticket_part, ticket_text}
 use Rattle.chpw_client.specs.Words.{key_of}
 use Rattle.chpw_client.specs.declared.drawing.Drawing.{Drawing}
-use Rattle.krb_der.specs.Protocol as protocol
+use Rattle.krb_protocol.specs.Numbers as protocol
 
 -- the text of a ticket that fits spells it
 pub ticket_taken : (made : Ticket) (bytes : List ℕ) → fits types.ticket (ticket_value made) ≡ true

@@ -3,9 +3,9 @@ use Rattle.std.specs.Prelude.{ℕ, List, ◌++◌, length, Result, Ok, Err, code
 use Rattle.std.specs.Fmt.{decimal}
 use Rattle.std.specs.Str.{is_utf8}
 use Rattle.chpw_rules.specs.declared.config.Config.{Config}
-use Rattle.chpw_rules.specs.declared.fault.ConfigFault.{ConfigFault}
-use Rattle.chpw_rules.specs.Faults.{no_toml, fault_text}
-use Rattle.chpw_rules.specs.Settings.{settings_of}
+use Rattle.chpw_config.specs.declared.fault.ConfigFault.{ConfigFault}
+use Rattle.chpw_config.specs.Faults.{no_toml, fault_text}
+use Rattle.chpw_config.specs.Settings.{settings_of}
 use Rattle.chpw_commands.specs.declared.drill.DrillFault.{DrillFault}
 use Rattle.chpw_commands.specs.declared.drill.DrillFault.TheVariants as drill
 

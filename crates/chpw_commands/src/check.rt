@@ -1,12 +1,13 @@
 //! The check of a configuration.
 ghost use Rattle.std.specs.Prelude.{◌≡◌, Err, IfOk, IfErr, is_some, string_bytes, if◌then◌else◌};
 ghost use Rattle.std.specs.Io.KnownBytes.{Appends};
-ghost use Rattle.chpw_rules.specs.Faults.{UnlessMemory};
+ghost use Rattle.chpw_config.specs.Faults.{UnlessMemory};
 ghost use Rattle.chpw_commands.specs.Checked.{checked, line_of_check, status_of, good_line, fault_line, IsCheckFault};
 ghost use Rattle.chpw_commands.specs.declared.drill.DrillFault.TheVariants.{Memory};
 
 use crate::drill::DrillFault;
-use chpw_rules::{Config, ConfigError, ConfigFault, explain, read_config};
+use chpw_rules::Config;
+use chpw_config::{ConfigError, ConfigFault, explain, read_config};
 use std::alloc::{AllocError, Global};
 use std::io::Write;
 use std::str;

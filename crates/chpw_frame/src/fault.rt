@@ -1,10 +1,10 @@
 //! Why a message can't be cut.
 ghost use Rattle.std.specs.Prelude.{◌≡◌};
-ghost use Rattle.krb_der.specs.Refusals.{said};
+ghost use Rattle.krb_protocol.specs.Refusals.{said};
 ghost use Rattle.chpw_frame.specs.Faults.{refusal_of};
 
-use krb_der::Refusal;
-use krb_der::codes::{KRB_ERR_GENERIC, KRB5_KPASSWD_BAD_VERSION, KRB5_KPASSWD_MALFORMED};
+use krb_protocol::Refusal;
+use krb_protocol::codes::{KRB_ERR_GENERIC, KRB5_KPASSWD_BAD_VERSION, KRB5_KPASSWD_MALFORMED};
 use thiserror::Error;
 
 /// What is wrong with a message's frame, in the order of the checks (RFC 3244 section 2). Each has

@@ -2,8 +2,8 @@
 -- frame, the AP-REQ, the KRB-PRIV and its ChangePasswdData in turn.
 use Rattle.std.specs.Prelude.{◌≡◌, ℕ, ℤ, List, false, Option, Some, None, Result, Ok, Err, option_map, unwrap_or}
 use Rattle.krb_elements.specs.BitStrings.{is_set}
-use Rattle.krb_der.specs.Protocol as protocol
-use Rattle.krb_der.specs.Refusals.{Refusal}
+use Rattle.krb_protocol.specs.Numbers as protocol
+use Rattle.krb_protocol.specs.Refusals.{Refusal}
 use Rattle.krb_der.specs.declared.principal_name.PrincipalName.{PrincipalName}
 use Rattle.krb_msgs.specs.declared.service_keys.ServiceKey.{ServiceKey}
 use Rattle.krb_msgs.specs.declared.ap_exchange.ApOpened.{ApOpened}

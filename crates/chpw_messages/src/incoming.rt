@@ -10,7 +10,7 @@ use crate::names::name_of;
 use chpw_answer::{Incoming, Seal};
 use chpw_rules::Items;
 use chpw_table::Opened;
-use krb_der::{TICKET_INITIAL, TICKET_INVALID};
+use krb_protocol::{TICKET_INITIAL, TICKET_INVALID};
 use krb_msgs::ApOpened;
 use std::alloc::{AllocError, Global};
 

@@ -8,7 +8,8 @@ ghost use Rattle.chpw_messages.specs.Replies.{error_frame, error_record};
 
 use chpw_frame::join_reply;
 use chpw_table::Moment;
-use krb_der::{Bytes, KRB_ERROR, KerberosTime, KrbError, Microseconds, OctetString, PVNO, Refusal};
+use krb_der::{Bytes, KerberosTime, KrbError, Microseconds, OctetString};
+use krb_protocol::{KRB_ERROR, PVNO, Refusal};
 use krb_msgs::{copied, make_error, service_name};
 use std::alloc::{AllocError, Global};
 

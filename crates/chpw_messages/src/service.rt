@@ -13,7 +13,7 @@ use crate::replies::error_reply;
 use chpw_answer::{Messages, OpensTo, Seal};
 use chpw_rules::{Config, Items, ServiceRow};
 use chpw_table::Moment;
-use krb_der::Refusal;
+use krb_protocol::Refusal;
 use krb_keys::{BadKey, Key, key_of};
 use krb_msgs::ServiceKey;
 use std::alloc::{AllocError, Global};

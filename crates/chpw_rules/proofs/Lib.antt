@@ -1,6 +1,2 @@
 pub mod DistinctLemmas
-pub mod FitLemmas
-pub mod GivesLemmas
-pub mod KindLemmas
-pub mod KvnoLemmas
 pub mod NameLemmas

@@ -1,10 +1,5 @@
-pub mod Faults
 pub mod Fitting
-pub mod Kinds
 pub mod Limits
 pub mod Names
 pub mod Passwords
-pub mod Rows
 pub mod Rules
-pub mod Seen
-pub mod Settings

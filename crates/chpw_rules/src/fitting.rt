@@ -130,7 +130,7 @@ fn descend_from(mut newer: u32, keys: &[KeyBytes]) -> bool
 }
 
 /// What stands at most once in its list.
-pub(crate) trait Identified {
+pub trait Identified {
     ghost same: { Self → Self → Bool };
 
     /// Whether the two may not stand in one list.
@@ -154,7 +154,8 @@ impl Identified for PrincipalRow {
     }
 }
 
-pub(crate) fn stands_in<T: Identified>(item: &T, list: &[T]) -> bool
+/// Whether an element of the list is the same as the item.
+pub fn stands_in<T: Identified>(item: &T, list: &[T]) -> bool
     ensures value { result ≡ list_any (T.same item.now) list.now }
 {
     list.iter().any(|other| item.is_same(other))

@@ -1,7 +1,7 @@
 -- Serving a stream: message after message is taken, answered and written.
 use Rattle.std.specs.Prelude.{◌≡◌, ℕ, ◌<◌, List, length, Option, ◌⊎◌, codes}
 use Rattle.std.specs.Io.KnownBytes.{Appends}
-use Rattle.krb_der.specs.declared.codes.TheConstants.{KRB5_KPASSWD_MALFORMED, KRB_ERR_FIELD_TOOLONG}
+use Rattle.krb_protocol.specs.declared.codes.TheConstants.{KRB5_KPASSWD_MALFORMED, KRB_ERR_FIELD_TOOLONG}
 use Rattle.chpw_frame.specs.Stream.{Piece, message, ended, cut_off, too_long, sent}
 use Rattle.chpw_frame.specs.Receiving.{TakesPiece, TakesLength, ConsumesSome, AppendsFront}
 use Rattle.chpw_table.specs.declared.times.Moment.{Moment}

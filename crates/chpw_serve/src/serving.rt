@@ -10,8 +10,8 @@ use chpw_answer::{Gate, Messages, NoGate, Spot, answer_message};
 use chpw_decider::{Alone, Decider};
 use chpw_frame::{Received, read_tcp, write_tcp};
 use chpw_table::JournalSink;
-use krb_der::Refusal;
-use krb_der::codes::{KRB_ERR_FIELD_TOOLONG, KRB5_KPASSWD_MALFORMED};
+use krb_protocol::Refusal;
+use krb_protocol::codes::{KRB_ERR_FIELD_TOOLONG, KRB5_KPASSWD_MALFORMED};
 use std::alloc::Global;
 use std::io::{Read, Write};
 

@@ -1,10 +1,10 @@
 -- Why the service ends early: which faults its parts have, and the lines that tell them.
 use Rattle.std.specs.Prelude.{◌≡◌, ◌≢◌, ◌⊎◌, ℕ, List, ◌++◌, Result, Err, codes}
 use Rattle.std.specs.Str.{IsUtf8}
-use Rattle.chpw_rules.specs.Faults.{fault_text as config_text, no_toml}
-use Rattle.chpw_rules.specs.Settings.{settings_of}
+use Rattle.chpw_config.specs.Faults.{fault_text as config_text, no_toml}
+use Rattle.chpw_config.specs.Settings.{settings_of}
 use Rattle.chpw_rules.specs.declared.config.Config.{Config as Settings}
-use Rattle.chpw_rules.specs.declared.fault.ConfigFault.{ConfigFault}
+use Rattle.chpw_config.specs.declared.fault.ConfigFault.{ConfigFault}
 use Rattle.chpw_journal.specs.Restoring.{fault_text as journal_text}
 use Rattle.chpw_journal.specs.declared.fault.RestoreFault.TheVariants.{Memory as NoMemory}
 use Rattle.chpw_pool.specs.declared.pool.PoolFault.{PoolFault}

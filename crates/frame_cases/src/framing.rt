@@ -2,7 +2,7 @@
 
 use chpw_frame::{FrameFault, Parts, join_reply, join_request, split_reply, split_request};
 use hex::{decode, encode};
-use krb_der::Refusal;
+use krb_protocol::Refusal;
 use std::alloc::Global;
 use std::io;
 

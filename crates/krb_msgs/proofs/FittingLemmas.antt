@@ -14,7 +14,7 @@ use Rattle.krb_elements.specs.Shapes.{Shape, Value, ◌&◌, uint32, tagged, fie
 use Rattle.krb_elements.specs.Texts.{fits, is_in_range, longest_text, text}
 use Rattle.krb_elements.proofs.CompleteLemmas.{and_both, and_true, one_value}
 use Rattle.krb_elements.proofs.TextLemmas.{text_spells}
-use Rattle.krb_der.specs.Protocol as protocol
+use Rattle.krb_protocol.specs.Numbers as protocol
 use Rattle.krb_der.specs.Types as types
 use Rattle.krb_der.specs.Types.{ap_rep, ap_req, authenticator, enc_ap_rep_part, enc_krb_priv_part, enc_ticket_part, encrypted_data, krb_priv}
 use Rattle.krb_der.specs.Values.{ap_rep_value, ap_req_value, authenticator_value, enc_ap_rep_part_value, enc_krb_priv_part_value, enc_ticket_part_value, krb_priv_value, principal_name_value, ticket_value}

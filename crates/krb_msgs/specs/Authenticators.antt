@@ -2,7 +2,7 @@
 use Rattle.std.specs.Prelude.{◌≡◌, Result}
 use Rattle.krb_keys.specs.declared.key.Key.{Key}
 use Rattle.krb_keys.specs.KeyUsages.{usage_ap_req_authenticator}
-use Rattle.krb_der.specs.Protocol as protocol
+use Rattle.krb_protocol.specs.Numbers as protocol
 use Rattle.krb_der.specs.Types.{authenticator}
 use Rattle.krb_der.specs.Values.{authenticator_value}
 use Rattle.krb_der.specs.declared.encrypted_data.EncryptedData.{EncryptedData}

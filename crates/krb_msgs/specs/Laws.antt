@@ -8,7 +8,7 @@ use Rattle.krb_keys.specs.KeyUsages.{usage_ticket, usage_ap_req_authenticator, u
 use Rattle.krb_elements.specs.Shapes.{Shape, Value}
 use Rattle.krb_elements.specs.Grammar.{Spells}
 use Rattle.krb_elements.specs.Texts.{text, fits}
-use Rattle.krb_der.specs.Protocol as protocol
+use Rattle.krb_protocol.specs.Numbers as protocol
 use Rattle.krb_der.specs.Types.{ap_req, ap_rep, enc_ticket_part, authenticator, enc_ap_rep_part, krb_priv, enc_krb_priv_part, krb_error}
 use Rattle.krb_der.specs.Values.{ap_req_value, ap_rep_value, enc_ticket_part_value, authenticator_value, enc_ap_rep_part_value, krb_priv_value, enc_krb_priv_part_value, krb_error_value}
 use Rattle.krb_der.specs.declared.ap_req.ApReq.{ApReq}

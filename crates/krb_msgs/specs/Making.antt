@@ -6,7 +6,7 @@ use Rattle.std.specs.Int.{to_le_bytes, w32}
 use Rattle.krb_keys.specs.declared.key.Key.{Key}
 use Rattle.krb_keys.specs.KeyUsages.{usage_ticket, usage_ap_req_authenticator, usage_ap_rep_enc_part, usage_krb_priv}
 use Rattle.krb_elements.specs.Grammar.{Spells}
-use Rattle.krb_der.specs.Protocol as protocol
+use Rattle.krb_protocol.specs.Numbers as protocol
 use Rattle.krb_der.specs.Types.{ticket, enc_ticket_part, authenticator, enc_ap_rep_part, enc_krb_priv_part}
 use Rattle.krb_der.specs.Values.{ticket_value, enc_ticket_part_value, authenticator_value, enc_ap_rep_part_value, enc_krb_priv_part_value}
 use Rattle.krb_elements.specs.Texts.{text}

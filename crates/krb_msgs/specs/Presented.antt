@@ -2,7 +2,7 @@
 -- its ticket.
 use Rattle.std.specs.Prelude.{◌≡◌, ◌⊎◌, true, ℕ, ℤ, pos, List, [], ◌∷◌, codes, Some, Result}
 use Rattle.krb_keys.specs.declared.key.Key.{Key}
-use Rattle.krb_der.specs.Protocol as protocol
+use Rattle.krb_protocol.specs.Numbers as protocol
 use Rattle.krb_der.specs.Types.{ap_req}
 use Rattle.krb_der.specs.Values.{ap_req_value}
 use Rattle.krb_der.specs.declared.ap_req.ApReq.{ApReq}

@@ -2,7 +2,7 @@
 use Rattle.std.specs.Prelude.{◌≡◌, ℕ, List, Option, Some, None, Result, option_map}
 use Rattle.krb_keys.specs.declared.key.Key.{Key}
 use Rattle.krb_keys.specs.KeyUsages.{usage_krb_priv}
-use Rattle.krb_der.specs.Protocol as protocol
+use Rattle.krb_protocol.specs.Numbers as protocol
 use Rattle.krb_der.specs.Types.{krb_priv, enc_krb_priv_part}
 use Rattle.krb_der.specs.Values.{krb_priv_value, enc_krb_priv_part_value}
 use Rattle.krb_der.specs.declared.krb_priv.KrbPriv.{KrbPriv}

@@ -3,7 +3,7 @@ use Rattle.std.specs.Prelude.{◌≡◌, ◌≤◌, ℕ, ℤ, List, [], ◌∷�
 use Rattle.std.specs.Int.{w16, from_be_bytes}
 use Rattle.krb_keys.specs.declared.key.Key.{Key}
 use Rattle.krb_keys.specs.KeyUsages.{usage_ap_rep_enc_part, usage_krb_priv}
-use Rattle.krb_der.specs.Protocol as protocol
+use Rattle.krb_protocol.specs.Numbers as protocol
 use Rattle.krb_der.specs.Types.{ap_rep, enc_ap_rep_part, krb_priv, enc_krb_priv_part, krb_error}
 use Rattle.krb_der.specs.Values.{ap_rep_value, enc_ap_rep_part_value, krb_priv_value, enc_krb_priv_part_value, krb_error_value}
 use Rattle.krb_der.specs.declared.ap_rep.ApRep.{ApRep}

@@ -9,10 +9,8 @@ ghost use Rattle.krb_msgs.specs.Accepted.{Accepts, IsSameClient, IsSubkey, is_ip
 use crate::ap_exchange::ApOpened;
 use crate::fault::{ApFault, OpenError};
 use crate::tickets::key_in;
-use krb_der::{
-    ADDR_TYPE_IPV4, Authenticator, EncTicketPart, EncryptionKey, HostAddress, KerberosTime,
-    SequenceOf,
-};
+use krb_der::{Authenticator, EncTicketPart, EncryptionKey, HostAddress, KerberosTime, SequenceOf};
+use krb_protocol::ADDR_TYPE_IPV4;
 use krb_keys::Key;
 
 fn is_same_client(part: &EncTicketPart, authenticator: &Authenticator) -> bool

@@ -3,10 +3,8 @@
 ghost use Rattle.std.specs.Prelude.{◌≡◌, IfOk};
 ghost use Rattle.krb_msgs.specs.Making.{loopback, priv_part_of, service_name, word_bytes};
 
-use krb_der::{
-    ADDR_TYPE_IPV4, Bytes, EncKrbPrivPart, HostAddress, NT_SRV_INST, OctetString, PrincipalName,
-    SeqNumber, SequenceOf,
-};
+use krb_der::{Bytes, EncKrbPrivPart, HostAddress, OctetString, PrincipalName, SeqNumber, SequenceOf};
+use krb_protocol::{ADDR_TYPE_IPV4, NT_SRV_INST};
 use krb_keys::CONFOUNDER_LEN;
 use std::alloc::{AllocError, Global};
 

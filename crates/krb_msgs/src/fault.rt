@@ -1,12 +1,12 @@
 //! Why a message is refused.
 
 ghost use Rattle.std.specs.Prelude.{◌≡◌};
-ghost use Rattle.krb_der.specs.Refusals.{said};
+ghost use Rattle.krb_protocol.specs.Refusals.{said};
 ghost use Rattle.krb_msgs.specs.Codes.{refusal_of, unauthenticated};
 ghost use Rattle.krb_msgs.specs.declared.fault.OpenError.TheVariants.{Memory};
 
-use krb_der::Refusal;
-use krb_der::codes::{
+use krb_protocol::Refusal;
+use krb_protocol::codes::{
     KDC_ERR_ETYPE_NOSUPP, KRB_AP_ERR_BAD_INTEGRITY, KRB_AP_ERR_BADADDR, KRB_AP_ERR_BADKEYVER,
     KRB_AP_ERR_BADMATCH, KRB_AP_ERR_BADVERSION, KRB_AP_ERR_MSG_TYPE, KRB_AP_ERR_NOKEY,
     KRB_AP_ERR_NOT_US, KRB_ERR_GENERIC, KRB5_KPASSWD_AUTHERROR, KRB5_KPASSWD_MALFORMED,

@@ -8,7 +8,8 @@ ghost use Rattle.krb_msgs.specs.Presented.{HasVersion, IsForUs, IsKnownEtype, Pr
 use crate::fault::{ApFault, OpenError};
 use crate::opening::read_record;
 use crate::service_keys::{ServiceKey, service_key};
-use krb_der::{ApReq, EncryptedData, GeneralString, KRB_AP_REQ, PVNO, Ticket, USE_SESSION_KEY};
+use krb_der::{ApReq, EncryptedData, GeneralString, Ticket};
+use krb_protocol::{KRB_AP_REQ, PVNO, USE_SESSION_KEY};
 use krb_keys::{AES128_CTS_HMAC_SHA1_96, AES256_CTS_HMAC_SHA1_96, Key};
 use std::alloc::Global;
 

@@ -7,7 +7,8 @@ ghost use Rattle.krb_msgs.specs.PrivateMessages.{IsPrivate, MayFollow, OpensPriv
 use crate::ap_exchange::ApOpened;
 use crate::fault::{OpenError, PrivFault};
 use crate::opening::{open_part, read_record};
-use krb_der::{EncKrbPrivPart, KRB_PRIV, KrbPriv, OctetString, PVNO, SeqNumber};
+use krb_der::{EncKrbPrivPart, KrbPriv, OctetString, SeqNumber};
+use krb_protocol::{KRB_PRIV, PVNO};
 use krb_keys::USAGE_KRB_PRIV;
 use std::alloc::Global;
 

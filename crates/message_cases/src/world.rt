@@ -1,10 +1,7 @@
 //! A small world: realm EXAMPLE.COM, service kadmin/changepw, client alice at 127.0.0.1.
 
-use krb_der::{
-    ADDR_TYPE_IPV4, Authenticator, Bytes, EncApRepPart, EncKrbPrivPart, EncTicketPart,
-    EncryptionKey, HostAddress, KRB_ERROR, KerberosFlags, KerberosTime, KrbError, Microseconds,
-    NT_PRINCIPAL, NT_SRV_INST, PVNO, PrincipalName, SeqNumber, SequenceOf, TransitedEncoding,
-};
+use krb_der::{Authenticator, Bytes, EncApRepPart, EncKrbPrivPart, EncTicketPart, EncryptionKey, HostAddress, KerberosFlags, KerberosTime, KrbError, Microseconds, PrincipalName, SeqNumber, SequenceOf, TransitedEncoding};
+use krb_protocol::{ADDR_TYPE_IPV4, KRB_ERROR, NT_PRINCIPAL, NT_SRV_INST, PVNO};
 use krb_keys::{AES256_CTS_HMAC_SHA1_96, CONFOUNDER_LEN, Key};
 use krb_msgs::ServiceKey;
 use std::alloc::{AllocError, Global};

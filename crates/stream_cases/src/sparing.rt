@@ -3,7 +3,7 @@ ghost use Rattle.std.specs.Prelude.{◌≡◌};
 
 use chpw_answer::{Messages, OpensTo, Seal};
 use chpw_table::Moment;
-use krb_der::Refusal;
+use krb_protocol::Refusal;
 use std::alloc::{AllocError, Global};
 
 /// The same messages, but that no reply to an opened request is made.

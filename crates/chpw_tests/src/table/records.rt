@@ -1,5 +1,5 @@
 use chpw_table::{KeyRow, Verdict, record_bytes};
-use krb_der::codes::{KRB_AP_ERR_REPEAT, KRB5_KPASSWD_AUTHERROR};
+use krb_protocol::codes::{KRB_AP_ERR_REPEAT, KRB5_KPASSWD_AUTHERROR};
 use std::test::Fail;
 use test_realm::name;
 

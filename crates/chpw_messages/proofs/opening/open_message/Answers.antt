@@ -1,5 +1,5 @@
 use Rattle.std.proofs.Common.{Option, refl, sym, ap, ◌∙◌, subst}
-use Rattle.krb_der.specs.Refusals.{Refusal}
+use Rattle.krb_protocol.specs.Refusals.{Refusal}
 use Rattle.chpw_frame.specs.declared.fault.FrameFault.{FrameFault}
 use Rattle.chpw_frame.specs.Faults as frame
 use Rattle.chpw_table.specs.Replies.{by_error}

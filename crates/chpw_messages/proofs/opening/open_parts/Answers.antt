@@ -1,5 +1,5 @@
 use Rattle.std.proofs.Common.{◌≡◌, ℕ, Ok, Err, refl, sym, ap, subst}
-use Rattle.krb_der.specs.Refusals.{Refusal}
+use Rattle.krb_protocol.specs.Refusals.{Refusal}
 use Rattle.krb_msgs.specs.declared.fault.ApFault.{ApFault}
 use Rattle.krb_msgs.specs.Codes as fault
 use Rattle.chpw_table.specs.Replies.{by_error}

@@ -1,8 +1,8 @@
 use Rattle.std.proofs.Common.{Err, ap, inl, inr, subst}
-use Rattle.chpw_rules.specs.Faults.{UnlessMemory}
-use Rattle.chpw_rules.specs.Settings.{settings_of}
-use Rattle.chpw_rules.specs.declared.fault.ConfigError.{ConfigError}
-use Rattle.chpw_rules.specs.declared.fault.ConfigError.TheVariants.{Fault}
+use Rattle.chpw_config.specs.Faults.{UnlessMemory}
+use Rattle.chpw_config.specs.Settings.{settings_of}
+use Rattle.chpw_config.specs.declared.fault.ConfigError.{ConfigError}
+use Rattle.chpw_config.specs.declared.fault.ConfigError.TheVariants.{Fault}
 use Rattle.chpw_service.proofs.files.settings.Goals as goal
 
 pub returns-in_default-clause-fault : goal.returns-in_default-clause-fault

@@ -4,7 +4,7 @@ use Rattle.krb_elements.specs.Reading.{Gives}
 use Rattle.krb_elements.specs.Texts.{text, fits}
 use Rattle.krb_elements.specs.declared.fault.DerFault.{DerFault}
 use Rattle.krb_elements.specs.declared.fault.ReadError.TheVariants as errors
-use Rattle.krb_der.specs.Protocol as protocol
+use Rattle.krb_protocol.specs.Numbers as protocol
 use Rattle.krb_der.specs.Types.{ap_req}
 use Rattle.krb_der.specs.Values.{ticket_value, ap_req_value}
 use Rattle.krb_der.specs.declared.ap_req.ApReq.{ApReq}

@@ -1,5 +1,5 @@
 use Rattle.std.proofs.Common.{rules, ◌≡◌, refl, sym, ◌∙◌}
-use Rattle.krb_der.specs.Protocol as protocol
+use Rattle.krb_protocol.specs.Numbers as protocol
 use Rattle.krb_der.specs.Types.{ap_req}
 use Rattle.krb_der.specs.Values.{ap_req_value}
 use Rattle.krb_msgs.specs.declared.fault.ApFault.TheVariants as fault

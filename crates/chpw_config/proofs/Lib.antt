@@ -1,0 +1,5 @@
+pub mod FitLemmas
+pub mod GivesLemmas
+pub mod KindLemmas
+pub mod KvnoLemmas
+pub mod SeenLemmas

@@ -1,0 +1,209 @@
+//! The keys of a table of the configuration, each read at its place.
+ghost use Rattle.std.specs.Prelude.{◌≡◌, ◌≤◌, IfOk, MatchResult, Some, option_map, vec_len};
+ghost use Rattle.std.specs.Result.{result_map_both};
+ghost use Rattle.toml.specs.Data.{get_member, no_items};
+ghost use Rattle.toml.specs.View.{items_view, table_view, view};
+ghost use Rattle.chpw_config.specs.Faults.{UnlessMemory, placed};
+ghost use Rattle.chpw_rules.specs.Names.{name_of};
+ghost use Rattle.chpw_config.specs.Kinds.{a_flag, a_hex_key, a_list, a_name, a_number, a_table, a_target, a_text, any_text, optional, present, required};
+
+use crate::fault::{ConfigError, ConfigFault, ConfigFaultKind, Location};
+use crate::kinds::{a_flag, a_list, a_number, a_table, a_text};
+use chpw_rules::{Limits, Name};
+use hex::FromHexError;
+use std::alloc::Global;
+use toml::{Table, Value};
+
+/// A name, and the text that spells it.
+#[derive(Drop)]
+pub struct Named<'a> {
+    pub name: Name,
+    pub text: &'a str,
+}
+
+// The value of a key, where there is one.
+fn get<'a>(table: &'a Table, key: &str) -> Option<&'a Value>
+    ensures value { option_map (λ v. view v.now) result
+        ≡ get_member key.now (table_view table.now) }
+{
+    table.get(key)
+}
+
+impl Location {
+    // The value of a key that has to be there.
+    fn present<'a>(self, table: &'a Table, key: &str) -> Result<&'a Value, ConfigFault>
+        ensures value { MatchResult result
+            (λ value. present self key.now (table_view table.now) ≡ Ok (view value.now))
+            (λ fault. present self key.now (table_view table.now) ≡ Err fault) }
+    {
+        match get(table, key) {
+            None => Err(self.fault(ConfigFaultKind::MissingKey)),
+            Some(value) => Ok(value),
+        }
+    }
+
+    // A text of any length.
+    fn any_text<'a>(self, table: &'a Table, key: &str) -> Result<&'a str, ConfigFault>
+        ensures value { MatchResult result
+            (λ text. required self key.now any_text (table_view table.now) ≡ Ok text.now)
+            (λ fault. required self key.now any_text (table_view table.now) ≡ Err fault) }
+    {
+        let value = self.present(table, key)?;
+        value.as_str().ok_or(self.fault(ConfigFaultKind::WrongKind))
+    }
+
+    /// A whole number within the limits.
+    pub fn number(self, table: &Table, key: &str, limits: Limits) -> Result<usize, ConfigFault>
+        ensures value { result ≡ required self key.now (a_number limits) (table_view table.now) }
+        ensures high { IfOk result (λ number. number ≤ limits.high) }
+    {
+        let value = self.present(table, key)?;
+        a_number(value, limits).map_err(|kind| self.fault(kind))
+    }
+
+    /// True or false.
+    pub fn flag(self, table: &Table, key: &str) -> Result<bool, ConfigFault>
+        ensures value { result ≡ required self key.now a_flag (table_view table.now) }
+    {
+        let value = self.present(table, key)?;
+        a_flag(value).map_err(|kind| self.fault(kind))
+    }
+
+    /// A table.
+    pub fn table<'a>(self, table: &'a Table, key: &str) -> Result<&'a Table, ConfigFault>
+        ensures value { MatchResult result
+            (λ inner. required self key.now a_table (table_view table.now)
+            ≡ Ok (table_view inner.now))
+            (λ fault. required self key.now a_table (table_view table.now) ≡ Err fault) }
+    {
+        let value = self.present(table, key)?;
+        a_table(value).map_err(|kind| self.fault(kind))
+    }
+
+    /// A name, and the text that spells it.
+    pub fn name<'a>(
+        self,
+        alloc: Global,
+        table: &'a Table,
+        key: &str,
+    ) -> Result<Named<'a>, ConfigError>
+        ensures value { UnlessMemory (result_map_both (λ named. named.name) (λ error. error) result)
+            (required self key.now a_name (table_view table.now)) }
+        ensures text { IfOk result (λ named. name_of named.text.now ≡ Some named.name) }
+    {
+        let text = self.any_text(table, key)?;
+        match Name::parse(alloc, text)? {
+            Some(name) => Ok(Named { name, text }),
+            None => Err(ConfigError::Fault(self.fault(ConfigFaultKind::OutOfRange))),
+        }
+    }
+
+    /// A name, or `*` for every name.
+    pub fn target(
+        self,
+        alloc: Global,
+        table: &Table,
+        key: &str,
+    ) -> Result<Option<Name>, ConfigError>
+        ensures value { UnlessMemory result
+            (required self key.now a_target (table_view table.now)) }
+    {
+        let text = self.any_text(table, key)?;
+        if text == "*" {
+            return Ok(None);
+        }
+        match Name::parse(alloc, text)? {
+            Some(name) => Ok(Some(name)),
+            None => Err(ConfigError::Fault(self.fault(ConfigFaultKind::OutOfRange))),
+        }
+    }
+
+    /// A text of so many bytes.
+    pub fn text<'a>(
+        self,
+        table: &'a Table,
+        key: &str,
+        lengths: Limits,
+    ) -> Result<&'a str, ConfigFault>
+        ensures value { MatchResult result
+            (λ text. required self key.now (a_text lengths) (table_view table.now) ≡ Ok text.now)
+            (λ fault. required self key.now (a_text lengths) (table_view table.now) ≡ Err fault) }
+    {
+        let value = self.present(table, key)?;
+        a_text(value, lengths).map_err(|kind| self.fault(kind))
+    }
+
+    /// The bytes of a key of this length.
+    pub fn hex_key(
+        self,
+        alloc: Global,
+        table: &Table,
+        key: &str,
+        size: usize,
+    ) -> Result<Vec<u8>, ConfigError>
+        ensures value { UnlessMemory (result_map_both (λ key. key.items) (λ error. error) result)
+            (required self key.now (a_hex_key size) (table_view table.now)) }
+        ensures size { IfOk result (λ key. vec_len key ≡ size) }
+    {
+        let text = self.any_text(table, key)?;
+        match hex::decode(alloc, text) {
+            Ok(key) if key.len() == size => Ok(key),
+            Ok(_) => Err(ConfigError::Fault(self.fault(ConfigFaultKind::OutOfRange))),
+            Err(FromHexError::OutOfMemory) => Err(ConfigError::Memory),
+            Err(_) => Err(ConfigError::Fault(self.fault(ConfigFaultKind::BadHex))),
+        }
+    }
+
+    /// A list of so many elements.
+    pub fn list<'a>(
+        self,
+        table: &'a Table,
+        key: &str,
+        counts: Limits,
+    ) -> Result<&'a [Value], ConfigFault>
+        ensures value { MatchResult result
+            (λ list. required self key.now (a_list counts) (table_view table.now)
+            ≡ Ok (items_view list.now))
+            (λ fault. required self key.now (a_list counts) (table_view table.now) ≡ Err fault) }
+    {
+        let value = self.present(table, key)?;
+        a_list(value, counts).map_err(|kind| self.fault(kind))
+    }
+
+    /// A whole number within the limits, or the default where the key is missing.
+    pub fn number_or(
+        self,
+        table: &Table,
+        key: &str,
+        limits: Limits,
+        default: usize,
+    ) -> Result<usize, ConfigFault>
+        ensures value { result
+            ≡ optional self key.now (a_number limits) default (table_view table.now) }
+        ensures high { default ≤ limits.high → IfOk result (λ number. number ≤ limits.high) }
+    {
+        match get(table, key) {
+            None => Ok(default),
+            Some(value) => a_number(value, limits).map_err(|kind| self.fault(kind)),
+        }
+    }
+
+    /// A list of so many elements, or none where the key is missing.
+    pub fn list_or_none<'a>(
+        self,
+        table: &'a Table,
+        key: &str,
+        counts: Limits,
+    ) -> Result<&'a [Value], ConfigFault>
+        ensures value { MatchResult result
+            (λ list. optional self key.now (a_list counts) no_items (table_view table.now)
+            ≡ Ok (items_view list.now))
+            (λ fault. optional self key.now (a_list counts) no_items (table_view table.now)
+            ≡ Err fault) }
+    {
+        match get(table, key) {
+            None => Ok(&[]),
+            Some(value) => a_list(value, counts).map_err(|kind| self.fault(kind)),
+        }
+    }
+}

@@ -1,0 +1,13 @@
+//! The service's configuration, read from its file in TOML.
+#![tactic(auto)]
+
+mod explanation;
+mod fault;
+mod keys;
+mod kinds;
+mod reading;
+mod seen;
+
+pub use explanation::explain;
+pub use fault::{ConfigError, ConfigFault, ConfigFaultKind, Part};
+pub use reading::read_config;
