@@ -11,7 +11,12 @@ ghost use Rattle.chpw_config.specs.Settings.{settings, settings_of};
 use crate::fault::{ConfigError, ConfigFault, ConfigFaultKind, Location, Part};
 use crate::kinds::a_table;
 use crate::seen::{add_name, no_names};
-use chpw_rules::{Config, KeyBytes, PrincipalRow, ServiceRow, stands_in, Items, AES128_LENGTH, AES256_LENGTH, DEFAULT_ENTRIES, DEPTHS, ENTRY_COUNTS, ETYPES, ITERATION_COUNTS, KEY_COUNTS, KVNOS, MIN_CLASS_COUNTS, MIN_LENGTHS, PRINCIPAL_COUNTS, REALM_LENGTHS, RULE_COUNTS, SERVICE_KEY_COUNTS, key_length, Policy, Rule, Rules};
+use chpw_rules::{
+    AES128_LENGTH, AES256_LENGTH, Config, DEFAULT_ENTRIES, DEPTHS, ENTRY_COUNTS, ETYPES,
+    ITERATION_COUNTS, Items, KEY_COUNTS, KVNOS, KeyBytes, MIN_CLASS_COUNTS, MIN_LENGTHS,
+    PRINCIPAL_COUNTS, Policy, PrincipalRow, REALM_LENGTHS, RULE_COUNTS, Rule, Rules,
+    SERVICE_KEY_COUNTS, ServiceRow, key_length, stands_in,
+};
 use std::alloc::Global;
 use std::collections::BTreeSet;
 use toml::{Table, Value};
