@@ -1,7 +1,10 @@
 //! `der read N` reads the text of an AP-REQ with its ticket N times, `der write N` writes the record N
 //! times. The length of the text is printed.
 
-use krb_der::{ApReq, Bytes, EncryptedData, KerberosFlags, PrincipalName, ReadError, SequenceOf, Ticket, fits, read_ap_req, write_ap_req};
+use krb_der::{
+    ApReq, Bytes, EncryptedData, KerberosFlags, PrincipalName, ReadError, SequenceOf, Ticket, fits,
+    read_ap_req, write_ap_req,
+};
 use krb_protocol::{KRB_AP_REQ, NT_SRV_INST, PVNO};
 use std::alloc::{AllocError, Global};
 use std::io;

@@ -5,11 +5,11 @@
 mod still;
 
 use crate::no_such;
+use chpw_config::read_config;
 use chpw_decider::{Alone, Decider};
 use chpw_frame::{LONGEST_MESSAGE, write_tcp};
 use chpw_journal::MemorySink;
 use chpw_messages::Service;
-use chpw_config::read_config;
 use chpw_serve::serve_alone;
 use chpw_table::Table;
 use std::alloc::Global;

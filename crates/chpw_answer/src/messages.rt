@@ -9,8 +9,8 @@ ghost use Rattle.chpw_answer.specs.Holding.{IsInTime, IsOpensTo, IsReplyTime, an
 
 use chpw_rules::Items;
 use chpw_table::{Moment, Opened};
-use krb_protocol::Refusal;
 use krb_keys::Key;
+use krb_protocol::Refusal;
 use std::alloc::{AllocError, Global};
 
 /// What the reply to an opened request is made with.

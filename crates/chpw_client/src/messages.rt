@@ -9,9 +9,9 @@ ghost use Rattle.chpw_client.specs.Questions.{IsAskable, question_of};
 use crate::asked::Asked;
 use crate::drawing::{Drawing, key_bytes};
 use crate::records::{authenticator, private_part, ticket_part};
-use krb_protocol::MUTUAL_REQUIRED;
 use krb_keys::Key;
 use krb_msgs::{make_ap_req, make_priv, make_ticket, word_bytes};
+use krb_protocol::MUTUAL_REQUIRED;
 use std::alloc::{AllocError, Global};
 
 /// The option mutual-required alone, of 32 bits.

@@ -9,10 +9,14 @@ ghost use Rattle.chpw_client.specs.Questions.{IsAskable, question_of};
 use crate::asked::Asked;
 use crate::drawing::{Drawing, key_bytes};
 use chpw_rules::{Items, Name};
-use krb_der::{Authenticator, Bytes, ChangePasswdData, EncKrbPrivPart, EncTicketPart, EncryptionKey, GeneralString, KerberosFlags, KerberosTime, Microseconds, PrincipalName, SeqNumber, SequenceOf, TransitedEncoding, write_change_passwd_data};
-use krb_protocol::{NT_PRINCIPAL, PVNO, TICKET_INITIAL};
+use krb_der::{
+    Authenticator, Bytes, ChangePasswdData, EncKrbPrivPart, EncTicketPart, EncryptionKey,
+    GeneralString, KerberosFlags, KerberosTime, Microseconds, PrincipalName, SeqNumber, SequenceOf,
+    TransitedEncoding, write_change_passwd_data,
+};
 use krb_keys::AES256_CTS_HMAC_SHA1_96;
 use krb_msgs::{copied, priv_part};
+use krb_protocol::{NT_PRINCIPAL, PVNO, TICKET_INITIAL};
 use std::alloc::{AllocError, Global};
 
 /// Seconds for which a ticket is good.

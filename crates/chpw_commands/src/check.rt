@@ -6,8 +6,8 @@ ghost use Rattle.chpw_commands.specs.Checked.{checked, line_of_check, status_of,
 ghost use Rattle.chpw_commands.specs.declared.drill.DrillFault.TheVariants.{Memory};
 
 use crate::drill::DrillFault;
-use chpw_rules::Config;
 use chpw_config::{ConfigError, ConfigFault, explain, read_config};
+use chpw_rules::Config;
 use std::alloc::{AllocError, Global};
 use std::io::Write;
 use std::str;

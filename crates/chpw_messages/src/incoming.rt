@@ -10,8 +10,8 @@ use crate::names::name_of;
 use chpw_answer::{Incoming, Seal};
 use chpw_rules::Items;
 use chpw_table::Opened;
-use krb_protocol::{TICKET_INITIAL, TICKET_INVALID};
 use krb_msgs::ApOpened;
+use krb_protocol::{TICKET_INITIAL, TICKET_INVALID};
 use std::alloc::{AllocError, Global};
 
 /// The request of an AP-REQ and the KRB-PRIV behind it.

@@ -9,8 +9,8 @@ ghost use Rattle.chpw_messages.specs.Replies.{error_frame, error_record};
 use chpw_frame::join_reply;
 use chpw_table::Moment;
 use krb_der::{Bytes, KerberosTime, KrbError, Microseconds, OctetString};
-use krb_protocol::{KRB_ERROR, PVNO, Refusal};
 use krb_msgs::{copied, make_error, service_name};
+use krb_protocol::{KRB_ERROR, PVNO, Refusal};
 use std::alloc::{AllocError, Global};
 
 /// A result code, high byte first, and a text (RFC 3244 section 2).

@@ -13,9 +13,9 @@ use crate::replies::error_reply;
 use chpw_answer::{Messages, OpensTo, Seal};
 use chpw_rules::{Config, Items, ServiceRow};
 use chpw_table::Moment;
-use krb_protocol::Refusal;
 use krb_keys::{BadKey, Key, key_of};
 use krb_msgs::ServiceKey;
+use krb_protocol::Refusal;
 use std::alloc::{AllocError, Global};
 use std::marker::Model;
 

@@ -1,6 +1,6 @@
 //! Why the service ends early.
-use chpw_journal::RestoreFault;
 use chpw_config::ConfigFault;
+use chpw_journal::RestoreFault;
 use std::fmt;
 
 /// Why the service ends early, in the order in which its files and its port are tried; displayed as

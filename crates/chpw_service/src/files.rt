@@ -5,8 +5,8 @@ ghost use Rattle.chpw_rules.specs.Fitting.{config_fits};
 ghost use Rattle.chpw_service.specs.Faults.{IsOfBytes, IsOfSettings, IsUnread, Sets};
 
 use crate::fault::ServeFault;
-use chpw_rules::Config;
 use chpw_config::{ConfigError, ConfigFault, read_config};
+use chpw_rules::Config;
 use std::alloc::Global;
 use std::fs::{File, Files};
 use std::io::{ErrorKind, Read};

@@ -1,6 +1,6 @@
 //! Names, passwords and configurations, value by value: what the line of the check can't show.
-use chpw_rules::{Items, Name, password_facts};
 use chpw_config::read_config;
+use chpw_rules::{Items, Name, password_facts};
 use std::alloc::Global;
 use std::test::Fail;
 

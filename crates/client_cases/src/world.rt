@@ -3,11 +3,11 @@ ghost use Rattle.std.specs.Prelude.{◌≡◌, true, IfOk};
 ghost use Rattle.chpw_rules.specs.Fitting.{config_fits};
 
 use crate::clock::{Counting, Standing};
+use chpw_config::read_config;
 use chpw_decider::Alone;
 use chpw_frame::{LONGEST_MESSAGE, Received, read_tcp, write_tcp};
 use chpw_messages::Service;
 use chpw_rules::{Config, Name};
-use chpw_config::read_config;
 use chpw_serve::serve_alone;
 use chpw_table::Table;
 use std::alloc::Global;

@@ -10,8 +10,8 @@ use crate::ap_exchange::ApOpened;
 use crate::fault::{ApFault, OpenError};
 use crate::tickets::key_in;
 use krb_der::{Authenticator, EncTicketPart, EncryptionKey, HostAddress, KerberosTime, SequenceOf};
-use krb_protocol::ADDR_TYPE_IPV4;
 use krb_keys::Key;
+use krb_protocol::ADDR_TYPE_IPV4;
 
 fn is_same_client(part: &EncTicketPart, authenticator: &Authenticator) -> bool
     ensures { IsTrue result ↔ IsSameClient part.now authenticator.now }

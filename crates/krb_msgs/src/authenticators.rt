@@ -6,8 +6,8 @@ ghost use Rattle.krb_msgs.specs.Authenticators.{OpensAuthenticator};
 use crate::fault::{ApFault, OpenError};
 use crate::opening::open_part;
 use krb_der::{Authenticator, EncryptedData};
-use krb_protocol::PVNO;
 use krb_keys::{Key, USAGE_AP_REQ_AUTHENTICATOR};
+use krb_protocol::PVNO;
 use std::alloc::Global;
 
 /// The authenticator under the session key.

@@ -3,9 +3,11 @@
 ghost use Rattle.std.specs.Prelude.{◌≡◌, IfOk};
 ghost use Rattle.krb_msgs.specs.Making.{loopback, priv_part_of, service_name, word_bytes};
 
-use krb_der::{Bytes, EncKrbPrivPart, HostAddress, OctetString, PrincipalName, SeqNumber, SequenceOf};
-use krb_protocol::{ADDR_TYPE_IPV4, NT_SRV_INST};
+use krb_der::{
+    Bytes, EncKrbPrivPart, HostAddress, OctetString, PrincipalName, SeqNumber, SequenceOf,
+};
 use krb_keys::CONFOUNDER_LEN;
+use krb_protocol::{ADDR_TYPE_IPV4, NT_SRV_INST};
 use std::alloc::{AllocError, Global};
 
 /// A copy of these bytes, under any tag.

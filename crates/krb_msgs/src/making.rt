@@ -12,12 +12,16 @@ ghost use Rattle.krb_msgs.specs.Making.{SpellsTicket, ap_rep_of, ap_req_of, priv
 use crate::contents::{copied, service_name};
 use crate::sealed_part::seal_part;
 use crate::service_keys::ServiceKey;
-use krb_der::{ApRep, ApReq, Authenticator, EncApRepPart, EncKrbPrivPart, EncTicketPart, KerberosFlags, KrbError, KrbPriv, ReadError, Ticket, read_ticket, write_ap_rep, write_ap_req, write_krb_error, write_krb_priv, write_ticket};
-use krb_protocol::{KRB_AP_REP, KRB_AP_REQ, KRB_PRIV, PVNO};
+use krb_der::{
+    ApRep, ApReq, Authenticator, EncApRepPart, EncKrbPrivPart, EncTicketPart, KerberosFlags,
+    KrbError, KrbPriv, ReadError, Ticket, read_ticket, write_ap_rep, write_ap_req, write_krb_error,
+    write_krb_priv, write_ticket,
+};
 use krb_keys::{
     CONFOUNDER_LEN, Key, USAGE_AP_REP_ENC_PART, USAGE_AP_REQ_AUTHENTICATOR, USAGE_KRB_PRIV,
     USAGE_TICKET,
 };
+use krb_protocol::{KRB_AP_REP, KRB_AP_REQ, KRB_PRIV, PVNO};
 use std::alloc::{AllocError, Global};
 
 /// A ticket of a realm's kadmin/changepw with this part, sealed under the service's key (RFC 4120

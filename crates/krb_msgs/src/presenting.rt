@@ -9,8 +9,8 @@ use crate::fault::{ApFault, OpenError};
 use crate::opening::read_record;
 use crate::service_keys::{ServiceKey, service_key};
 use krb_der::{ApReq, EncryptedData, GeneralString, Ticket};
-use krb_protocol::{KRB_AP_REQ, PVNO, USE_SESSION_KEY};
 use krb_keys::{AES128_CTS_HMAC_SHA1_96, AES256_CTS_HMAC_SHA1_96, Key};
+use krb_protocol::{KRB_AP_REQ, PVNO, USE_SESSION_KEY};
 use std::alloc::Global;
 
 fn has_version(request: &ApReq) -> bool

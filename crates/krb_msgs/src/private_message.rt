@@ -8,8 +8,8 @@ use crate::ap_exchange::ApOpened;
 use crate::fault::{OpenError, PrivFault};
 use crate::opening::{open_part, read_record};
 use krb_der::{EncKrbPrivPart, KrbPriv, OctetString, SeqNumber};
-use krb_protocol::{KRB_PRIV, PVNO};
 use krb_keys::USAGE_KRB_PRIV;
+use krb_protocol::{KRB_PRIV, PVNO};
 use std::alloc::Global;
 
 /// What a KRB-PRIV says, once it is opened.

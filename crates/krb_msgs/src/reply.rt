@@ -8,9 +8,11 @@ use crate::contents::copied;
 use crate::fault::{OpenError, ReplyFault};
 use crate::opening::{open_part, read_record};
 use crate::private_message::is_private;
-use krb_der::{ApRep, EncApRepPart, EncKrbPrivPart, KerberosTime, KrbError, KrbPriv, Microseconds, OctetString};
-use krb_protocol::{KRB_AP_REP, KRB_ERROR, PVNO};
+use krb_der::{
+    ApRep, EncApRepPart, EncKrbPrivPart, KerberosTime, KrbError, KrbPriv, Microseconds, OctetString,
+};
 use krb_keys::{Key, USAGE_AP_REP_ENC_PART, USAGE_KRB_PRIV};
+use krb_protocol::{KRB_AP_REP, KRB_ERROR, PVNO};
 use std::alloc::Global;
 
 /// A reply, once it is opened.

@@ -1,7 +1,11 @@
 //! Long texts, where memory suffices; what fits; and the words of a fault.
 
 use super::world::{self, bytes};
-use krb_der::{Bytes, ChangePasswdData, FaultKind, KerberosFlags, KerberosTime, Microseconds, PrincipalName, ReadError, SequenceOf, fits, read_change_passwd_data, read_principal_name, text_len, write_change_passwd_data, write_principal_name};
+use krb_der::{
+    Bytes, ChangePasswdData, FaultKind, KerberosFlags, KerberosTime, Microseconds, PrincipalName,
+    ReadError, SequenceOf, fits, read_change_passwd_data, read_principal_name, text_len,
+    write_change_passwd_data, write_principal_name,
+};
 use krb_protocol::{MUTUAL_REQUIRED, USE_SESSION_KEY};
 use std::alloc::{AllocError, Global};
 use std::test::Fail;

@@ -1,7 +1,14 @@
 //! Messages of a small world: realm EXAMPLE.COM, service kadmin/changepw, client alice.
 
-use krb_der::{ApRep, ApReq, Authenticator, AuthorizationData, AuthorizationEntry, Bytes, ChangePasswdData, Checksum, EncApRepPart, EncKrbPrivPart, EncTicketPart, EncryptedData, EncryptionKey, HostAddress, KerberosFlags, KerberosTime, KrbError, KrbPriv, Microseconds, PrincipalName, SeqNumber, SequenceOf, Ticket, TransitedEncoding};
-use krb_protocol::{ADDR_TYPE_IPV4, KRB_AP_REP, KRB_AP_REQ, KRB_ERROR, KRB_PRIV, NT_PRINCIPAL, NT_SRV_INST, PVNO};
+use krb_der::{
+    ApRep, ApReq, Authenticator, AuthorizationData, AuthorizationEntry, Bytes, ChangePasswdData,
+    Checksum, EncApRepPart, EncKrbPrivPart, EncTicketPart, EncryptedData, EncryptionKey,
+    HostAddress, KerberosFlags, KerberosTime, KrbError, KrbPriv, Microseconds, PrincipalName,
+    SeqNumber, SequenceOf, Ticket, TransitedEncoding,
+};
+use krb_protocol::{
+    ADDR_TYPE_IPV4, KRB_AP_REP, KRB_AP_REQ, KRB_ERROR, KRB_PRIV, NT_PRINCIPAL, NT_SRV_INST, PVNO,
+};
 use std::alloc::{AllocError, Global};
 
 pub const AES256: i32 = 18;

@@ -1,9 +1,13 @@
 //! A small world: realm EXAMPLE.COM, service kadmin/changepw, client alice at 127.0.0.1.
 
-use krb_der::{Authenticator, Bytes, EncApRepPart, EncKrbPrivPart, EncTicketPart, EncryptionKey, HostAddress, KerberosFlags, KerberosTime, KrbError, Microseconds, PrincipalName, SeqNumber, SequenceOf, TransitedEncoding};
-use krb_protocol::{ADDR_TYPE_IPV4, KRB_ERROR, NT_PRINCIPAL, NT_SRV_INST, PVNO};
+use krb_der::{
+    Authenticator, Bytes, EncApRepPart, EncKrbPrivPart, EncTicketPart, EncryptionKey, HostAddress,
+    KerberosFlags, KerberosTime, KrbError, Microseconds, PrincipalName, SeqNumber, SequenceOf,
+    TransitedEncoding,
+};
 use krb_keys::{AES256_CTS_HMAC_SHA1_96, CONFOUNDER_LEN, Key};
 use krb_msgs::ServiceKey;
+use krb_protocol::{ADDR_TYPE_IPV4, KRB_ERROR, NT_PRINCIPAL, NT_SRV_INST, PVNO};
 use std::alloc::{AllocError, Global};
 
 pub const REALM: &[u8] = b"EXAMPLE.COM";

@@ -1,11 +1,11 @@
 //! The service and its table, as a configuration starts them.
 ghost use Rattle.std.specs.Prelude.{◌≡◌, IsTrue, true};
 
+use chpw_config::read_config;
 use chpw_decider::Alone;
 use chpw_journal::MemorySink;
 use chpw_messages::Service;
 use chpw_rules::{Config, Name};
-use chpw_config::read_config;
 use chpw_table::Table;
 use std::alloc::Global;
 use std::io::{self, Error, ErrorKind};
