@@ -125,10 +125,7 @@ kept : {A : Type 0} (spells : List ℕ → A → Type 0) (input : Input) (x : A 
 kept spells input x p = let len : length input.left ≡ length p.text + length x.1.left = ap length p.parts ∙ length-append p.text x.1.left in omega (arith, len, p.start)
 
 element_kept : (tag : ℕ) (input : Input) (e : Piece) → element_at tag input ≡ Ok e → end_of e.after ≡ end_of input
-element_kept tag input e h =
-    let p = element_takes tag input e h in
-    let len : length input.left ≡ length p.text + length e.after.left = ap length p.parts ∙ length-append p.text e.after.left in
-    omega (arith, len, p.start)
+element_kept tag input e h = kept (λ text content. IsElement tag content text) input (e.content.left, e.after) (element_takes tag input e h)
 
 -- an element's contents end where what follows it starts
 content_end : (tag : ℕ) (input : Input) (e : Piece) → element_at tag input ≡ Ok e → end_of e.content ≡ e.after.place
