@@ -1,6 +1,7 @@
 -- Records that are cut off.
-use Rattle.std.proofs.Common.{◌≡◌, ℕ, ◌+◌, ◌^◌, ◌≤◌, ◌<◌, List, ◌++◌, length, Bool, true, false, ◌||◌, refl, ◌∙◌, ap, arith, length-append}
+use Rattle.std.proofs.Common.{◌≡◌, ℕ, ◌+◌, ◌^◌, ◌≤◌, ◌<◌, List, ◌++◌, length, true, refl, ◌∙◌, ap, arith, length-append}
 use Rattle.std.specs.Prelude.{nat_lt}
+use Rattle.std.proofs.Math.Bool.{or-true}
 use Rattle.std.proofs.lemmas.Bool.Decides.{nat_tests}
 use Rattle.std.proofs.lemmas.Nat.{from_be_bytes-to_be_bytes_2}
 use Rattle.chpw_rules.specs.Limits.{is_in}
@@ -9,16 +10,8 @@ use Rattle.chpw_journal.specs.Records.{stated_length, record_lengths}
 use Rattle.chpw_journal.specs.JournalText.{is_cut_off}
 use Rattle.chpw_journal.specs.NextRecord.{IsHeader}
 
-pub below : (m n : ℕ) → m < n → nat_lt m n ≡ true
+below : (m n : ℕ) → m < n → nat_lt m n ≡ true
 below m n h = grind (arith, nat_tests)
-
-pub or_right : (a b : Bool) → b ≡ true → (a || b) ≡ true
-or_right true b h = refl
-or_right false b h = h
-
-pub or_left : (a b : Bool) → a ≡ true → (a || b) ≡ true
-or_left true b h = refl
-or_left false b h = cc
 
 pub length_short : (n : ℕ) → is_in record_lengths n ≡ true → n < 2 ^ 16
 length_short n h = grind (arith, nat_tests)
@@ -40,8 +33,7 @@ cut_off_body header n rest h l =
     let st : stated_length (header ++ rest) ≡ n = header_states header n rest h in
     let sz : length (header ++ rest) ≡ 2 + length rest = length-append header rest ∙ ap (λ (k : ℕ). k + length rest) (header_length header n h) in
     let inside : is_in record_lengths (stated_length (header ++ rest)) ≡ true = ap (is_in record_lengths) st ∙ h.1 in
-    or_right (nat_lt (length (header ++ rest)) 2) _
-    (both inside (below (length (header ++ rest)) (2 + stated_length (header ++ rest)) (omega (arith, st, sz, l))))
+    rw (both inside (below (length (header ++ rest)) (2 + stated_length (header ++ rest)) (omega (arith, st, sz, l)))) (or-true (nat_lt (length (header ++ rest)) 2))
 
 pub cut_off_header : (header : List ℕ) → length header < 2 → is_cut_off header ≡ true
-cut_off_header header h = or_left (nat_lt (length header) 2) _ (below (length header) 2 h)
+cut_off_header header h = rw (below (length header) 2 h) refl

@@ -1,5 +1,5 @@
 -- A table restored record by record.
-use Rattle.std.proofs.Common.{◌≡◌, ◌≢◌, ℕ, ◌+◌, ◌^◌, ◌≤◌, ◌<◌, List, [], ◌∷◌, ◌++◌, length, true, false, inl, inr, Option, refl, sym, ◌∙◌, ap, subst, arith, length-append, append_assoc}
+use Rattle.std.proofs.Common.{◌≡◌, ◌≢◌, ℕ, ◌+◌, ◌^◌, ◌<◌, List, [], ◌∷◌, ◌++◌, length, true, false, inl, inr, Option, refl, sym, ◌∙◌, ap, subst, arith, length-append, append_assoc}
 use Rattle.std.specs.Int.{from_be_bytes, to_be_bytes, w16}
 use Rattle.std.specs.Io.KnownBytes.{Consumes, IsAtEnd}
 use Rattle.std.proofs.lemmas.List.{take-append-le}
@@ -76,18 +76,6 @@ pub ended : (before : Held) (old now new : Option (List ℕ)) (r : Restored) →
 ended before old now new r h d e =
     let same : record r { torn = false } ≡ r = λ i. record r { torn = sym h.torn i } in
     subst (IsRestored before old new) same (ended_with before old now new r [] h d e refl)
-
-there : (rest : List ℕ) → 1 ≤ length rest → is_there rest ≡ true
-there [] h = absurd (none h)
-  where
-    none : 1 ≤ 0 → ⊥
-    none k = omega arith
-there (x ∷ xs) h = refl
-
-pub ended_torn : (before : Held) (old now new : Option (List ℕ)) (r : Restored) (rest : List ℕ) → IsSoFar before old now r → Consumes now new rest → IsAtEnd new → is_cut_off rest ≡ true → 1 ≤ length rest → IsRestored before old new (record r { torn = true })
-ended_torn before old now new r rest h d e cut some =
-    let same : record r { torn = is_there rest } ≡ record r { torn = true } = λ i. record r { torn = there rest some i } in
-    subst (IsRestored before old new) same (ended_with before old now new r rest h d e cut)
 
 pub cannot_read : (before : Held) (old now new : Option (List ℕ)) (r : Restored) (rest : List ℕ) → IsSoFar before old now r → Consumes now new rest → is_cut_off rest ≡ true → IsRefused before old new CannotRead
 cannot_read before old now new r rest h d cut =

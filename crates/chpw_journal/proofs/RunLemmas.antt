@@ -6,7 +6,7 @@ use Rattle.chpw_rules.specs.declared.name.Name.{Name}
 use Rattle.chpw_rules.specs.Names.{is_same_name}
 use Rattle.chpw_rules.specs.Limits.{is_in, kvnos}
 use Rattle.chpw_table.specs.declared.verdict.Verdict.{Verdict}
-use Rattle.chpw_table.specs.declared.verdict.Verdict.TheVariants.{Skew, Replay, NotYet, Expired, BadPrivate, BadBody, Denied, NeedInitial, Unknown, Short, Classes, Reused, LastVersion, Broken, Done}
+use Rattle.chpw_table.specs.declared.verdict.Verdict.TheVariants.{Broken, Done}
 use Rattle.chpw_table.specs.declared.times.Moment.{Moment}
 use Rattle.chpw_table.specs.declared.request.Opened.{Opened}
 use Rattle.chpw_table.specs.declared.history.Event.{Event}
@@ -37,20 +37,7 @@ use Rattle.chpw_journal.proofs.StopLemmas.{reads_one}
 
 done_is : (v : Verdict) → is_done v ≡ true → v ≡ Done
 done_is Done h = refl
-done_is Skew h = cc
-done_is Replay h = cc
-done_is NotYet h = cc
-done_is Expired h = cc
-done_is BadPrivate h = cc
-done_is BadBody h = cc
-done_is Denied h = cc
-done_is NeedInitial h = cc
-done_is Unknown h = cc
-done_is Short h = cc
-done_is Classes h = cc
-done_is Reused h = cc
-done_is LastVersion h = cc
-done_is Broken h = cc
+done_is v h = absurd (cc)
 
 append_done : (io : Bool) (v : Verdict) → with_append io v ≡ Done → v ≡ Done
 append_done io v h = at (is_done v && io) h
@@ -66,17 +53,11 @@ accepted_row s now o io v d h =
     done_key_row s now o (append_done io (verdict s now o false) (sym (verdict_written s now o io) ∙ is))
 
 some_keys : (o : Option (List KeyRow)) → is_none o ≡ false → (keys : List KeyRow) × (o ≡ Some keys)
-some_keys None h = absurd (no h)
-  where
-    no : true ≡ false → ⊥
-    no k = cc
+some_keys None h = absurd (cc)
 some_keys (Some keys) h = (keys, refl)
 
 is_some : (o : Option (List KeyRow)) (keys : List KeyRow) → o ≡ Some keys → IsSome o
-is_some None keys h = absurd (no h)
-  where
-    no : None ≡ Some keys → ⊥
-    no k = cc
+is_some None keys h = absurd (cc)
 is_some (Some others) keys h = search rules
 
 low_kvno : (n : ℕ) → is_in kvnos (n + 1) ≡ true → n + 1 ≤ 4294967295
@@ -86,10 +67,7 @@ next_kvno : (n : ℕ) → n ≤ 4294967295 → n ≢ 4294967295 → is_in kvnos 
 next_kvno n h g = grind (arith, nat_tests)
 
 newest_low : (o : Option (List KeyRow)) (keys : List KeyRow) → o ≡ Some keys → IfSome o (λ ks. newest_kvno ks ≤ 4294967295) → newest_kvno (unwrap_or o []) ≤ 4294967295
-newest_low None keys h low = absurd (no h)
-  where
-    no : None ≡ Some keys → ⊥
-    no k = cc
+newest_low None keys h low = absurd (cc)
 newest_low (Some others) keys h low = low
 
 module _ (s : State) (now : Moment) (o : Opened) (io : Bool) (v : Verdict) (sound : IsSound s) (d : IsDecided s now o io v) (h : is_done v ≡ true) where
@@ -218,12 +196,9 @@ runs_next t s (r ∷ rs) same h =
 same_itself : (s : State) → SameKeys s s
 same_itself s = record { kept = refl; keys = λ name. refl }
 
-record_is : (s : State) (event : Event) → record_text (record_by s event) ≡ event_record s event
-record_is s (Ask o v) = refl
-
 event_text : (s : State) (event : Event) (rs : List Record) (more : List ℕ) → records_text rs ≡ more → (b : Bool)
     → records_text ((if b then record_by s event ∷ [] else []) ++ rs) ≡ (if b then event_record s event else []) ++ more
-event_text s event rs more h true = ap (λ (xs : List ℕ). record_text (record_by s event) ++ xs) h ∙ ap (λ (xs : List ℕ). xs ++ more) (record_is s event)
+event_text s (Ask o v) rs more h true = ap (λ (xs : List ℕ). record_text (record_by s (Ask o v)) ++ xs) h
 event_text s event rs more h false = h
 
 history_records : (s : State) (es : List Entry) → records_text (records_of s es) ≡ journal s es

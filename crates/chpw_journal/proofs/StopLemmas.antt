@@ -1,9 +1,11 @@
 -- Where the records of a journal stop: a text comes to one thing.
-use Rattle.std.proofs.Common.{◌≡◌, ◌≢◌, ℕ, zero, suc, ◌+◌, ◌^◌, ◌≤◌, ◌<◌, List, [], ◌∷◌, ◌++◌, length, take, Bool, true, false, ◌&&◌, ◌||◌, ⊎_elim, Option, Some, None, refl, sym, ◌∙◌, ap, subst, arith, lit<, length-append, length-take, append_assoc}
+use Rattle.std.proofs.Common.{◌≡◌, ◌≢◌, ℕ, zero, suc, ◌+◌, ◌^◌, ◌≤◌, ◌<◌, List, [], ◌∷◌, ◌++◌, length, take, Bool, true, false, ◌&&◌, ⊎_elim, Some, None, refl, sym, ◌∙◌, ap, subst, arith, lit<, length-append, length-take, append_assoc}
 use Rattle.std.specs.Prelude.{◌⊎◌, nat_lt}
 use Rattle.std.specs.Int.{to_be_bytes, w16}
 use Rattle.std.specs.List.{flat_map, list_all}
+use Rattle.std.proofs.Math.Bool.{and-false}
 use Rattle.std.proofs.lemmas.Bool.Decides.{nat_tests}
+use Rattle.std.proofs.lemmas.Option.{none-some}
 use Rattle.chpw_rules.specs.Names.{is_component}
 use Rattle.chpw_rules.specs.Limits.{is_in, component_counts, component_lengths}
 use Rattle.chpw_table.specs.declared.key.KeyRow.{KeyRow}
@@ -75,17 +77,8 @@ states c left f = header_states (to_be_bytes w16 (length (body_text c))) (length
 not_below : (m n : ℕ) → n ≤ m → nat_lt m n ≡ false
 not_below m n h = grind (arith, nat_tests)
 
-neither : (a b c : Bool) → a ≡ false → c ≡ false → (a || (b && c)) ≡ false
-neither a true c h k = rw (h, k) refl
-neither a false c h k = rw h refl
-
-inner : (a b c : Bool) → a ≡ false → b ≡ false → (a || (b && c)) ≡ false
-inner a b c h k = rw (h, k) refl
-
 there : (rest : List ℕ) → 2 + stated_length rest ≤ length rest → is_cut_off rest ≡ false
-there rest h =
-    neither (nat_lt (length rest) 2) (is_in record_lengths (stated_length rest)) (nat_lt (length rest) (2 + stated_length rest))
-    (not_below (length rest) 2 (omega (arith, h))) (not_below (length rest) (2 + stated_length rest) h)
+there rest h = rw (not_below (length rest) 2 (omega (arith, h)), not_below (length rest) (2 + stated_length rest) h) (and-false (is_in record_lengths (stated_length rest)))
 
 not_cut : (c : Record) (left : List ℕ) → RecordFits c → is_cut_off (record_text c ++ left) ≡ false
 not_cut c left f =
@@ -100,7 +93,7 @@ apart b h k = cc
 not_bad : (rest : List ℕ) → is_cut_off rest ≡ true → HasBadLength rest ⊎ HasBadBody rest → ⊥
 not_bad rest cut bad =
     ⊎_elim
-    (λ (h : HasBadLength rest). apart (is_cut_off rest) cut (inner (nat_lt (length rest) 2) (is_in record_lengths (stated_length rest)) (nat_lt (length rest) (2 + stated_length rest)) (not_below (length rest) 2 h.0) h.1))
+    (λ (h : HasBadLength rest). apart (is_cut_off rest) cut (rw (not_below (length rest) 2 h.0, h.1) refl))
     (λ (h : HasBadBody rest). apart (is_cut_off rest) cut (there rest h.0))
     bad
 
@@ -127,21 +120,16 @@ stops_bad s rest bad c left f k e =
     (λ (h : HasBadBody rest). h.1 c left f e)
     bad
 
-none_some : (o : Option (List KeyRow)) (keys : List KeyRow) → o ≡ None → o ≡ Some keys → ⊥
-none_some o keys h g = cc
-
 stops_unknown : (s : State) (d : Record) (more : List ℕ) → RecordFits d → keys_held s d.name ≡ None → Stops s (record_text d ++ more)
 stops_unknown s d more g none c left f k e =
     let same = (same_record d c more left g f e).0 in
-    none_some (keys_held s d.name) k.keys none (ap (λ (x : Record). keys_held s x.name) same ∙ k.held)
-
-same_keys : (o : Option (List KeyRow)) (keys others : List KeyRow) → o ≡ Some keys → o ≡ Some others → keys ≡ others
-same_keys o keys others h g = cc
+    none-some k.keys (sym none ∙ (ap (λ (x : Record). keys_held s x.name) same ∙ k.held))
 
 stops_version : (s : State) (d : Record) (more : List ℕ) (keys : List KeyRow) → RecordFits d → keys_held s d.name ≡ Some keys → d.key.kvno ≢ newest_kvno keys + 1 → Stops s (record_text d ++ more)
 stops_version s d more keys g held wrong c left f k e =
     let same = (same_record d c more left g f e).0 in
-    let others = same_keys (keys_held s d.name) keys k.keys held (ap (λ (x : Record). keys_held s x.name) same ∙ k.held) in
+    let both : Some keys ≡ Some k.keys = sym held ∙ (ap (λ (x : Record). keys_held s x.name) same ∙ k.held) in
+    let others : keys ≡ k.keys = cc in
     wrong (ap (λ (x : Record). x.key.kvno) same ∙ (k.next ∙ ap (λ (ks : List KeyRow). newest_kvno ks + 1) (sym others)))
 
 same_stop : (s : State) (cs ds : List Record) (x y : List ℕ) → AreNext s cs → AreNext s ds → Stops (restored s cs) x → Stops (restored s ds) y → records_text cs ++ x ≡ records_text ds ++ y → (cs ≡ ds) × (x ≡ y)
@@ -155,19 +143,13 @@ same_stop s (c ∷ cs) (d ∷ ds) x y h g p q e =
     let g2 : AreNext (with_kept_key c.name c.key s) ds = subst (λ (z : Record). AreNext (with_kept_key z.name z.key s) ds) (sym r.0) g.2 in
     let q2 : Stops (restored (with_kept_key c.name c.key s) ds) y = subst (λ (z : Record). Stops (restored (with_kept_key z.name z.key s) ds) y) (sym r.0) q in
     let m = same_stop (with_kept_key c.name c.key s) cs ds x y h.2 g2 p q2 r.1 in
-    (pair c d cs ds r.0 m.0, m.1)
-  where
-    pair : (c d : Record) (cs ds : List Record) → c ≡ d → cs ≡ ds → c ∷ cs ≡ d ∷ ds
-    pair c d cs ds h k = cc
-
-same_whole : (cs ds : List Record) (x y : List ℕ) → cs ≡ ds → x ≡ y → whole cs x ≡ whole ds y
-same_whole cs ds x y h k = cc
+    (cc (r.0, m.0), m.1)
 
 -- a text that comes to whole records and one that is cut off comes to nothing else
 pub reads_one : (s : State) (text : List ℕ) (cs : List Record) (cut : List ℕ) → Begins s text cs cut → is_cut_off cut ≡ true → (reading : Reading) → IsReading s text reading → reading ≡ whole cs cut
 reads_one s text cs cut b c (whole ds rest) h =
     let m = same_stop s ds cs rest cut h.0.next b.next (stops_cut (restored s ds) rest h.1) (stops_cut (restored s cs) cut c) (sym h.0.text_is ∙ b.text_is) in
-    same_whole ds cs rest cut m.0 m.1
+    cc (m.0, m.1)
 reads_one s text cs cut b c (bad_record n) h =
     let m = same_stop s h.0 cs h.1 cut h.2.next b.next (stops_bad (restored s h.0) h.1 h.3) (stops_cut (restored s cs) cut c) (sym h.2.text_is ∙ b.text_is) in
     absurd (not_bad h.1 (ap is_cut_off m.1 ∙ c) h.3)
