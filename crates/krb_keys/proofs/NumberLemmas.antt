@@ -1,7 +1,7 @@
 -- Bytes as whole numbers, and their sums in ones' complement.
 use Rattle.std.proofs.Common.{◌≡◌, ℕ, zero, suc, ◌+◌, ◌-◌, ◌*◌, ◌/◌, ◌%◌, ◌^◌, ◌<◌, ◌≤◌, List, [], ◌∷◌, ◌++◌, length, take, drop, get_or, set, length-set, get_or-set_same, length-append, refl, sym, ap, lit<, ◌∙◌, subst, arith, add-one, length-drop, replicate}
 use Rattle.std.proofs.Math.Seq.{drop-cons}
-use Rattle.std.proofs.Math.Nat.{pow-succ', mod-eq_of_lt}
+use Rattle.std.proofs.Math.Nat.{pow-succ', pow-le-pow_right, mod-eq_of_lt}
 use Rattle.std.proofs.lemmas.Bool.{cases_lt}
 use Rattle.std.proofs.lemmas.Nat.{mod-mul-add, div-mul-add, div-add-mod', mod_below, mod-pow-add, pow-add, shr-shr, mul-add-lt, pow_pos}
 use Rattle.std.proofs.lemmas.List.{drop-set-lt, drop_all, get_or_append_left, get_or_push, get_or-drop, take-append-drop, drop_more}
@@ -152,22 +152,19 @@ add_part_step was sum part n k carry total lw ls lp h same et old =
     add_step was sum n k carry (get_or part k 0) (value (drop (k + 1) part)) total lw ls h same et old
     ∙ ap (λ (x : ℕ). value (drop k was) + x) (sym (rw lp at (value-drop part k (omega arith))))
 
-abbrev suc_of : ℕ → ℕ
-suc_of n = n + 1
-
 -- what is left of s + b, once s is reduced, is what ones' complement addition of what is left of s and b gives
 residue_add : (m s b : ℕ) → 0 < m → b ≤ m → residue m s + b ≤ m → residue m (s + b) ≡ residue m s + b
 unfolding residue
 residue_add m zero zero pos small fits = refl
 residue_add m zero (suc b) pos small fits =
     let e : 0 + suc b ≡ suc b = omega arith in let lt : b < m = omega arith in
-    ap (residue m) e ∙ ap suc_of (mod-eq_of_lt lt) ∙ omega arith
+    ap (residue m) e ∙ ap (λ (n : ℕ). n + 1) (mod-eq_of_lt lt) ∙ omega arith
 residue_add m (suc s) b pos small fits =
     let e : suc s + b ≡ suc (s + b) = omega arith in
     let lt : s % m + b < m = omega arith in
     let split : s + b ≡ s / m * m + (s % m + b) = omega (arith, div-add-mod' s m) in
     let r : (s + b) % m ≡ s % m + b = ap (λ (x : ℕ). x % m) split ∙ mod-mul-add (s / m) m (s % m + b) lt in
-    ap (residue m) e ∙ ap suc_of r ∙ omega arith
+    ap (residue m) e ∙ ap (λ (n : ℕ). n + 1) r ∙ omega arith
 
 residue_wrap : (m s b : ℕ) → 0 < m → b ≤ m → m < residue m s + b → residue m (s + b) + m ≡ residue m s + b
 unfolding residue
@@ -206,8 +203,4 @@ value_zeros zero = refl
 value_zeros (suc n) = rw (value_zeros n) (omega arith)
 
 pub two_five_six_le : (n : ℕ) → 1 ≤ n → 256 ≤ 256 ^ n
-two_five_six_le zero h = absurd (omega arith)
-two_five_six_le (suc n) h =
-    let one : 0 < 256 ^ n = subst (λ (x : ℕ). 0 < x) (sym (pow_of_256 n)) (pow_pos (8 * n)) in
-    let p : 256 ^ suc n ≡ 256 * 256 ^ n = pow-succ' 256 n in
-    omega arith
+two_five_six_le n h = let le : 256 ^ 1 ≤ 256 ^ n = pow-le-pow_right (let some : 0 < 256 = omega arith in some) {i = 1} {j = n} h in omega arith
