@@ -29,28 +29,17 @@ next_of_left before_too_long rest h = is_too_long rest h.0 h.1
 not_a_message : (end : End) (bytes : List ℕ) → next_at end ≡ message bytes → ⊥
 unfolding next_at
 not_a_message between bytes h = cc
-not_a_message within_length bytes h = cc
-not_a_message within_message bytes h = cc
-not_a_message before_too_long bytes h = cc
+not_a_message end bytes h = cc
 
 -- two ends of one stream
 same_end : (one other : End) (rest : List ℕ) → IsLeft one rest → IsLeft other rest → other ≡ one
 same_end between between rest h g = refl
-same_end between within_length rest h g = absurd (omega (arith, ap length h))
-same_end between within_message rest h g = absurd (omega (arith, ap length h))
-same_end between before_too_long rest h g = absurd (omega (arith, ap length h))
-same_end within_length between rest h g = absurd (omega (arith, ap length g))
 same_end within_length within_length rest h g = refl
-same_end within_length within_message rest h g = absurd (omega arith)
-same_end within_length before_too_long rest h g = absurd (omega arith)
-same_end within_message between rest h g = absurd (omega (arith, ap length g))
-same_end within_message within_length rest h g = absurd (omega arith)
 same_end within_message within_message rest h g = refl
-same_end within_message before_too_long rest h g = absurd (omega arith)
-same_end before_too_long between rest h g = absurd (omega (arith, ap length g))
-same_end before_too_long within_length rest h g = absurd (omega arith)
-same_end before_too_long within_message rest h g = absurd (omega arith)
 same_end before_too_long before_too_long rest h g = refl
+same_end between other rest h g = absurd (omega (arith, ap length h))
+same_end one between rest h g = absurd (omega (arith, ap length g))
+same_end one other rest h g = absurd (omega arith)
 
 -- what comes next in a stream that begins with a message
 next_is : (stream one rest : List ℕ) → length one ≤ longest → stream ≡ sent one ++ rest → next_piece stream ≡ message one

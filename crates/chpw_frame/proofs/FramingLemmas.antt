@@ -3,6 +3,7 @@ use Rattle.std.proofs.Common.{◌≡◌, ℕ, zero, suc, ◌+◌, ◌<◌, ◌�
 use Rattle.std.specs.Prelude.{nat_lt, ◌==◌, Bool, not, ◌&&◌, ◌||◌, if◌then◌else◌, All}
 use Rattle.std.specs.Int.{from_be_bytes, to_be_bytes, w16}
 use Rattle.std.specs.List.{list_any}
+use Rattle.krb_elements.proofs.CompleteLemmas.{and_true}
 use Rattle.std.proofs.lemmas.Nat.{from_be_bytes-to_be_bytes_2, be_bytes_2}
 use Rattle.std.proofs.lemmas.List.{take-append-drop, length-take-le}
 use Rattle.std.proofs.lemmas.List.Elements.{All-take, All-drop, All-head, All-tail}
@@ -51,19 +52,14 @@ framed_is_whole versions may_be_empty version xs tail taken v some h =
     (rw (a, b, c, e, d) refl, version_is version xs tail v, ap_is version xs tail h, tail_is version xs tail h)
 
 -- what no fault says
-cleared : (whole taken parts : Bool) → (if not whole then Some BadLength else if not taken then Some BadVersion else if parts then Some BadParts else None) ≡ None → (whole ≡ true) × (parts ≡ false)
-cleared false taken parts h = cc
-cleared true false parts h = cc
-cleared true true true h = cc
-cleared true true false h = (refl, refl)
+pub cleared : (whole taken parts : Bool) → (if not whole then Some BadLength else if not taken then Some BadVersion else if parts then Some BadParts else None) ≡ None
+    → (whole ≡ true) × (taken ≡ true) × (parts ≡ false)
+cleared true true false h = (refl, refl, refl)
+cleared whole taken parts h = cc
 
-both_are : (a b : Bool) → (a && b) ≡ true → b ≡ true
-both_are true b h = h
-both_are false b h = cc
-
-neither : (a b : Bool) → (a || b) ≡ false → b ≡ false
+pub neither : (a b : Bool) → (a || b) ≡ false → (a ≡ false) × (b ≡ false)
 neither true b h = cc
-neither false b h = h
+neither false b h = (refl, h)
 
 -- the bytes of a list of bytes
 pub bytes_at : (xs : List ℕ) → All (λ b. b < 256) xs → (i : ℕ) → get_or xs i 0 < 256
@@ -79,18 +75,12 @@ length-parts : (n : ℕ) (rest : List ℕ) → length (take n rest) + length (dr
 length-parts n rest = sym (length-append (take n rest) (drop n rest)) ∙ ap length (take-append-drop n rest)
 
 pub whole_is_framed : WholeIsFramed
-whole_is_framed versions may_be_empty [] small none = cc
-whole_is_framed versions may_be_empty (a ∷ []) small none = cc
-whole_is_framed versions may_be_empty (a ∷ b ∷ []) small none = cc
-whole_is_framed versions may_be_empty (a ∷ b ∷ c ∷ []) small none = cc
-whole_is_framed versions may_be_empty (a ∷ b ∷ c ∷ d ∷ []) small none = cc
-whole_is_framed versions may_be_empty (a ∷ b ∷ c ∷ d ∷ e ∷ []) small none = cc
 whole_is_framed versions may_be_empty (a ∷ b ∷ c ∷ d ∷ e ∷ f ∷ rest) small none =
     let bytes : List ℕ = a ∷ b ∷ c ∷ d ∷ e ∷ f ∷ rest in
     let n : ℕ = ap_length_of bytes in
     let clear = cleared (is_whole bytes) (list_any (λ v. v == version_of bytes) versions) ((not may_be_empty && (n == 0)) || is_past_end bytes) none in
-    let stated : number_at bytes 0 ≡ length bytes = same_is (number_at bytes 0) (length bytes) (both_are (not (nat_lt (length bytes) header_length)) (number_at bytes 0 == length bytes) clear.0) in
-    let within : header_length + n ≤ length bytes = not_below_is (length bytes) (header_length + n) (neither (not may_be_empty && (n == 0)) (is_past_end bytes) clear.1) in
+    let stated : number_at bytes 0 ≡ length bytes = same_is (number_at bytes 0) (length bytes) (and_true (not (nat_lt (length bytes) header_length)) (number_at bytes 0 == length bytes) clear.0).1 in
+    let within : header_length + n ≤ length bytes = not_below_is (length bytes) (header_length + n) (neither (not may_be_empty && (n == 0)) (is_past_end bytes) clear.2).1 in
     let ap_length : length (take n rest) ≡ n = length-take-le n rest (omega (arith, within)) in
     let sum = length-parts n rest in
     let whole : header_length + length (take n rest) + length (drop n rest) ≡ number_at bytes 0 = omega (arith, sum, stated) in
@@ -102,3 +92,4 @@ whole_is_framed versions may_be_empty (a ∷ b ∷ c ∷ d ∷ e ∷ f ∷ rest)
     ∙ ap (λ (vs : List ℕ). (a ∷ b ∷ []) ++ vs ++ to_be_bytes w16 (length (take n rest)) ++ take n rest ++ drop n rest) v
     ∙ ap (λ (ms : List ℕ). (a ∷ b ∷ []) ++ (c ∷ d ∷ []) ++ ms ++ take n rest ++ drop n rest) m
     ∙ ap (λ (zs : List ℕ). a ∷ b ∷ c ∷ d ∷ e ∷ f ∷ zs) (take-append-drop n rest))
+whole_is_framed versions may_be_empty bytes small none = cc

@@ -1,11 +1,11 @@
 -- The next piece of a stream, by what was read of it.
-use Rattle.std.proofs.Common.{◌≡◌, ℕ, zero, suc, ◌+◌, ◌≤◌, ◌<◌, List, [], ◌++◌, length, take, drop, Option, Some, None, refl, sym, ◌∙◌, ap, arith, length-append, inl, inr}
+use Rattle.std.proofs.Common.{◌≡◌, ℕ, ◌+◌, ◌≤◌, ◌<◌, List, ◌++◌, length, take, drop, Option, Some, None, refl, sym, ◌∙◌, ap, arith, length-append, inr}
 use Rattle.std.proofs.lemmas.List.{append-nil, length-take-le, drop-drop}
 use Rattle.std.proofs.Math.Seq.{take-append_seam, drop-append_seam}
 use Rattle.std.proofs.lemmas.Nat.{from_be_bytes-to_be_bytes_4}
 use Rattle.std.specs.Int.{from_be_bytes, to_be_bytes, w32}
 use Rattle.std.specs.Io.KnownBytes.{Consumes, IsAtEnd}
-use Rattle.chpw_frame.specs.Stream.{message, ended, cut_off, too_long, next_piece, behind_piece, stated_length, sent, longest}
+use Rattle.chpw_frame.specs.Stream.{message, cut_off, too_long, next_piece, behind_piece, stated_length, sent, longest}
 use Rattle.chpw_frame.specs.Receiving.{TakesPiece, ConsumesSome, IsLength}
 use Rattle.read_fully.proofs.FillingLemmas.{consumes_more}
 use Rattle.chpw_frame.proofs.Tests.{is_below, not_below}
@@ -40,9 +40,6 @@ is_message s g k =
     let d = not_below (length s) (4 + stated_length s) k in
     rw (a, b, c, d) refl
 
-length-taken : (n : ℕ) (xs : List ℕ) → n ≤ length xs → length (take n xs) ≡ n
-length-taken n xs h = length-take-le n xs h
-
 pub dropped : (s body left : List ℕ) (k : ℕ) → drop k s ≡ body ++ left → drop (k + length body) s ≡ left
 dropped s body left k h = sym (drop-drop (length body) k s) ∙ (ap (λ (zs : List ℕ). drop (length body) zs) h ∙ drop-append_seam body left)
 
@@ -60,36 +57,13 @@ module _ (header : List ℕ) (n : ℕ) (h : IsLength header n) (more : List ℕ)
   size : length (header ++ more) ≡ 4 + length more
   size = length-append header more ∙ ap (λ (k : ℕ). k + length more) h.0
 
-pub takes_ended : (old new : Option (List ℕ)) (buffer : List ℕ) → Consumes old new (take 0 buffer) → IsAtEnd new → TakesPiece ended old new
-takes_ended None new buffer h e = tt
-takes_ended (Some s) None buffer h e = absurd h
-takes_ended (Some s) (Some left) buffer h e =
-    let nil : s ≡ [] = h ∙ e in
-    (ap next_piece nil, e)
-
-pub takes_cut_off : (old new : Option (List ℕ)) (buffer : List ℕ) (count : ℕ) → 0 < count → count < length buffer → length buffer ≡ 4 → Consumes old new (take count buffer) → IsAtEnd new → TakesPiece cut_off old new
-takes_cut_off None new buffer count p q l h e = tt
-takes_cut_off (Some s) None buffer count p q l h e = absurd h
-takes_cut_off (Some s) (Some left) buffer count p q l h e =
-    let all : s ≡ take count buffer = h ∙ (ap (λ (zs : List ℕ). take count buffer ++ zs) e ∙ append-nil (take count buffer)) in
-    let size : length s ≡ count = ap length all ∙ length-taken count buffer (omega arith) in
-    (is_cut_off s (omega (arith, size, p)) (omega (arith, size, q, l)), e)
-
-pub takes_too_long : (old new : Option (List ℕ)) (header : List ℕ) (n : ℕ) → IsLength header n → longest < n → Consumes old new header → TakesPiece too_long old new
-takes_too_long None new header n h g c = tt
-takes_too_long (Some s) None header n h g c = absurd c
-takes_too_long (Some s) (Some left) header n h g c =
-    let st : stated_length s ≡ n = ap stated_length c ∙ stated header n h left in
-    let sz : length s ≡ 4 + length left = ap length c ∙ size header n h left in
-    (is_too_long s (omega (arith, sz)) (omega (arith, st, g)), sym (ap (λ (zs : List ℕ). drop 4 zs) c ∙ back header n h left))
-
 pub takes_short : (old mid new : Option (List ℕ)) (header : List ℕ) (n : ℕ) (buffer : List ℕ) (count : ℕ) → IsLength header n → n ≤ longest → length buffer ≡ n → count < n → Consumes old mid header → Consumes mid new (take count buffer) → IsAtEnd new → TakesPiece cut_off old new
 takes_short None mid new header n buffer count h g l k c d e = tt
 takes_short (Some s) None new header n buffer count h g l k c d e = absurd c
 takes_short (Some s) (Some t) None header n buffer count h g l k c d e = absurd d
 takes_short (Some s) (Some t) (Some left) header n buffer count h g l k c d e =
     let all : t ≡ take count buffer = d ∙ (ap (λ (zs : List ℕ). take count buffer ++ zs) e ∙ append-nil (take count buffer)) in
-    let part : length t ≡ count = ap length all ∙ length-taken count buffer (omega (arith, l, k)) in
+    let part : length t ≡ count = ap length all ∙ length-take-le count buffer (omega (arith, l, k)) in
     let st : stated_length s ≡ n = ap stated_length c ∙ stated header n h t in
     let sz : length s ≡ 4 + length t = ap length c ∙ size header n h t in
     (is_cut_short s (omega (arith, sz)) (omega (arith, st, g)) (omega (arith, sz, st, part, k)), e)
@@ -108,16 +82,10 @@ takes_message (Some s) (Some t) (Some left) header n body h g l c d =
     (is_message s (omega (arith, st, g)) (omega (arith, sz, szt, st, l)) ∙ ap message got, sym (dropped s body left 4 bk))
 
 -- what was taken before a read failed
-pub begun_length : (old new : Option (List ℕ)) (buffer : List ℕ) (count : ℕ) → count < length buffer → length buffer ≡ 4 → Consumes old new (take count buffer) → ConsumesSome old new
-begun_length old new buffer zero q l h = ([], h, inl refl)
-begun_length old new buffer (suc k) q l h =
-    let size : length (take (suc k) buffer) ≡ suc k = length-taken (suc k) buffer (omega arith) in
-    (take (suc k) buffer, h, inr (is_cut_off (take (suc k) buffer) (omega (arith, size)) (omega (arith, size, q, l))))
-
 pub begun_body : (old mid new : Option (List ℕ)) (header : List ℕ) (n : ℕ) (buffer : List ℕ) (count : ℕ) → IsLength header n → n ≤ longest → length buffer ≡ n → count < n → Consumes old mid header → Consumes mid new (take count buffer) → ConsumesSome old new
 begun_body old mid new header n buffer count h g l k c d =
     let body : List ℕ = take count buffer in
-    let part : length body ≡ count = length-taken count buffer (omega (arith, l, k)) in
+    let part : length body ≡ count = length-take-le count buffer (omega (arith, l, k)) in
     let st : stated_length (header ++ body) ≡ n = stated header n h body in
     let sz : length (header ++ body) ≡ 4 + length body = size header n h body in
     (header ++ body, consumes_more old mid new header body c d, inr (is_cut_short (header ++ body) (omega (arith, sz)) (omega (arith, st, g)) (omega (arith, sz, st, part, k))))

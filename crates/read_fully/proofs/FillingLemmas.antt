@@ -3,7 +3,7 @@ use Rattle.std.proofs.Common.{◌≡◌, ℕ, ◌+◌, ◌≤◌, List, [], ◌+
 use Rattle.std.proofs.lemmas.List.{take-append-le, length-take-le}
 use Rattle.std.proofs.Math.Seq.{take-append-add}
 use borrow.Rule.Slice.PartMut.{put_mid, post_of}
-use Rattle.std.specs.Io.KnownBytes.{Consumes, Keeps}
+use Rattle.std.specs.Io.KnownBytes.{Consumes}
 
 pub consumes_none : (a : Option (List ℕ)) → Consumes a a []
 consumes_none None = tt
@@ -14,12 +14,6 @@ consumes_more None b c xs ys h g = tt
 consumes_more (Some ws) None c xs ys h g = absurd h
 consumes_more (Some ws) (Some bs) None xs ys h g = absurd g
 consumes_more (Some ws) (Some bs) (Some cs) xs ys h g = h ∙ (ap (λ (zs : List ℕ). xs ++ zs) g ∙ sym (append_assoc xs ys cs))
-
-pub consumes_kept : (a b c : Option (List ℕ)) (xs : List ℕ) → Consumes a b xs → Keeps b c → Consumes a c xs
-consumes_kept None b c xs h g = tt
-consumes_kept (Some ws) None c xs h g = absurd h
-consumes_kept (Some ws) (Some bs) None xs h g = absurd g
-consumes_kept (Some ws) (Some bs) (Some cs) xs h g = h ∙ ap (λ (zs : List ℕ). xs ++ zs) (sym g)
 
 -- a part's front was written
 pub put_front : (a k : ℕ) (xs ys : List ℕ) (n : ℕ) → a ≤ length xs → n ≤ length ys → take (a + n) (put_mid a k xs ys) ≡ take a xs ++ take n ys
