@@ -23,40 +23,30 @@ bind_err : {A B : Type 0} (r : Result A DerFault) (g : A → Result B DerFault) 
 bind_err (Ok x) g f e = inr (x, refl, e)
 bind_err (Err d) g f e = let same = same_fault d f e in inl (rw same refl)
 
--- a test that failed, or the step after it
-guard_err : {A : Type 0} (b : Bool) (d : DerFault) (r : Result A DerFault) (f : DerFault) → cond b (Err d) r ≡ Err f → (d ≡ f) ⊎ (r ≡ Err f)
-guard_err true d r f e = inl (same_fault d f e)
-guard_err false d r f e = inr e
+stands : {A : Type 0} (d f : DerFault) → ◌≡◌ {A = Result A DerFault} (Err d) (Err f) → f.place ≡ d.place
+stands d f e = sym (ap (λ (h : DerFault). h.place) (same_fault d f e))
 
-stands : (d f : DerFault) → d ≡ f → f.place ≡ d.place
-stands d f e = sym (ap (λ (h : DerFault). h.place) e)
+-- what a test chooses between, each of whose faults has a property
+either : {A : Type 0} (P : Type 0) (b : Bool) (x y : Result A DerFault) (f : DerFault) → cond b x y ≡ Err f → (x ≡ Err f → P) → (y ≡ Err f → P) → P
+either P true x y f e p q = p e
+either P false x y f e p q = q e
 
 -- ---- the faults of an element stand where it starts
 
 tag_fault : (tag place : ℕ) (left : List ℕ) (f : DerFault) → tag_at tag (record { place = place; left = left }) ≡ Err f → f.place ≡ place
 unfolding tag_at
-tag_fault tag place [] f e = stands _ f (same_fault _ f e)
-tag_fault tag place (b ∷ left) f e = elim (chosen (eqb b tag) _ _ _ e) [
-  | inl is ↦ not_err left f is.1
-  | inr other ↦ stands _ f (same_fault _ f other.1)
-]
+tag_fault tag place [] f e = stands _ f e
+tag_fault tag place (b ∷ left) f e = either (f.place ≡ place) (eqb b tag) _ _ f e (not_err left f) (stands _ f)
 
 length_fault : (place : ℕ) (bytes : List ℕ) (f : DerFault) → length_at place bytes ≡ Err f → f.place ≡ place
 unfolding length_at
-length_fault place [] f e = stands _ f (same_fault _ f e)
-length_fault place (b ∷ bytes) f e = elim (chosen (ltb b 128) _ _ _ e) [
-  | inl short ↦ not_err _ f short.1
-  | inr long ↦ elim (guard_err (eqb b 128 || ltb 132 b) _ _ f long.1) [
-    | inl form ↦ stands _ f form
-    | inr more ↦ elim (guard_err (ltb (length bytes) (b - 128)) _ _ f more) [
-      | inl cut ↦ stands _ f cut
-      | inr more ↦ elim (guard_err (starts 0 (take (b - 128) bytes) || ltb (number (take (b - 128) bytes)) 128) _ _ f more) [
-        | inl longer ↦ stands _ f longer
-        | inr ok ↦ not_err _ f ok
-      ]
-    ]
-  ]
-]
+length_fault place [] f e = stands _ f e
+length_fault place (b ∷ bytes) f e =
+    let P : Type 0 = f.place ≡ place in
+    either P (ltb b 128) _ _ f e (not_err _ f)
+    (λ long. either P (eqb b 128 || ltb 132 b) _ _ f long (stands _ f)
+    (λ form. either P (ltb (length bytes) (b - 128)) _ _ f form (stands _ f)
+    (λ whole. either P (starts 0 (take (b - 128) bytes) || ltb (number (take (b - 128) bytes)) 128) _ _ f whole (stands _ f) (not_err _ f))))
 
 element_fault : (tag : ℕ) (input : Input) (f : DerFault) → element_at tag input ≡ Err f → f.place ≡ input.place
 unfolding element_at
@@ -64,28 +54,19 @@ element_fault tag input f e = elim (bind_err (tag_at tag input) (λ bytes. lengt
   | inl first ↦ tag_fault tag input.place input.left f first
   | inr a ↦ elim (bind_err (length_at input.place a.0) (λ n. cond (ltb (length n.1) n.0) (Err _) (Ok (piece_of (input.place + (length input.left - length n.1)) n.0 n.1))) f a.2) [
     | inl second ↦ length_fault input.place a.0 f second
-    | inr b ↦ elim (guard_err (ltb (length b.0.1) b.0.0) _ _ f b.2) [
-      | inl cut ↦ stands _ f cut
-      | inr ok ↦ not_err _ f ok
-    ]
+    | inr b ↦ either (f.place ≡ input.place) (ltb (length b.0.1) b.0.0) _ _ f b.2 (stands _ f) (not_err _ f)
   ]
 ]
 
 ended_fault : (input : Input) (f : DerFault) → ended input ≡ Err f → f.place ≡ input.place
-ended_fault input f e = elim (chosen (eqb (length input.left) 0) _ _ _ e) [
-  | inl ok ↦ not_err tt f ok.1
-  | inr more ↦ stands _ f (same_fault _ f more.1)
-]
+ended_fault input f e = either (f.place ≡ input.place) (eqb (length input.left) 0) _ _ f e (not_err tt f) (stands _ f)
 
 integer_fault : (low high : ℤ) (place : ℕ) (content : List ℕ) (f : DerFault) → integer_in low high place content ≡ Err f → f.place ≡ place
 unfolding integer_in
-integer_fault low high place content f e = elim (guard_err (not (is_shortest_integer content)) _ _ f e) [
-  | inl form ↦ stands _ f form
-  | inr more ↦ elim (guard_err (int_lt (signed content) low || int_lt high (signed content)) _ _ f more) [
-    | inl range ↦ stands _ f range
-    | inr ok ↦ not_err _ f ok
-  ]
-]
+integer_fault low high place content f e =
+    let P : Type 0 = f.place ≡ place in
+    either P (not (is_shortest_integer content)) _ _ f e (stands _ f)
+    (λ form. either P (int_lt (signed content) low || int_lt high (signed content)) _ _ f form (stands _ f) (not_err _ f))
 
 word_fault : (r : Result ℤ DerFault) (f : DerFault) → in_word r ≡ Err f → r ≡ Err f
 word_fault (Ok n) f e = not_err _ f e
@@ -97,17 +78,11 @@ sequence_number_fault place content f e = integer_fault least_sequence_number gr
 
 bits_fault : (place : ℕ) (content : List ℕ) (f : DerFault) → bits_in place content ≡ Err f → f.place ≡ place
 unfolding bits_in
-bits_fault place content f e = elim (chosen (is_bit_string content) _ _ _ e) [
-  | inl ok ↦ not_err _ f ok.1
-  | inr wrong ↦ stands _ f (same_fault _ f wrong.1)
-]
+bits_fault place content f e = either (f.place ≡ place) (is_bit_string content) _ _ f e (not_err _ f) (stands _ f)
 
 time_fault : (place : ℕ) (content : List ℕ) (f : DerFault) → time_in place content ≡ Err f → f.place ≡ place
 unfolding time_in
-time_fault place content f e = elim (chosen (is_time content) _ _ _ e) [
-  | inl ok ↦ not_err _ f ok.1
-  | inr wrong ↦ stands _ f (same_fault _ f wrong.1)
-]
+time_fault place content f e = either (f.place ≡ place) (is_time content) _ _ f e (not_err _ f) (stands _ f)
 
 meaning_fault : (kind : Primitive) (place : ℕ) (content : List ℕ) (f : DerFault) → meaning_of kind place content ≡ Err f → f.place ≡ place
 meaning_fault (integer low high) place content f e = integer_fault low high place content f e
@@ -169,42 +144,35 @@ inside_within {A} tag spells read is_sound within input f h =
 each_within : {A : Type 0} (spells : List ℕ → A → Type 0) (read : Input → Result (A × Input) DerFault) → IsSound spells read → IsWithin read → (budget : ℕ) → IsWithin (reads_each read budget)
 each_within spells read is_sound within zero input f e = not_err _ f e
 each_within spells read is_sound within (suc budget) input f e =
-    elim (chosen (eqb (length input.left) 0) _ _ _ e) [
-      | inl none ↦ not_err _ f none.1
-      | inr some ↦ elim (bind_err (read input) (λ y. reads_each read budget y.1 >>= λ ys. Ok (y.0 ∷ ys.0, ys.1)) f some.1) [
-        | inl first ↦ within input f first
-        | inr a ↦ elim (bind_err (reads_each read budget a.0.1) (λ ys. Ok (a.0.0 ∷ ys.0, ys.1)) f a.2) [
-          | inl more ↦
-              let le = each_within spells read is_sound within budget a.0.1 f more in
-              let same = kept spells input a.0 (is_sound input a.0 a.1) in
-              omega (arith, le, same)
-          | inr ok ↦ not_err _ f ok.2
-        ]
+    either (f.place ≤ end_of input) (eqb (length input.left) 0) _ _ f e (not_err _ f)
+    (λ some. elim (bind_err (read input) (λ y. reads_each read budget y.1 >>= λ ys. Ok (y.0 ∷ ys.0, ys.1)) f some) [
+      | inl first ↦ within input f first
+      | inr a ↦ elim (bind_err (reads_each read budget a.0.1) (λ ys. Ok (a.0.0 ∷ ys.0, ys.1)) f a.2) [
+        | inl more ↦
+            let le = each_within spells read is_sound within budget a.0.1 f more in
+            let same = kept spells input a.0 (is_sound input a.0 a.1) in
+            omega (arith, le, same)
+        | inr ok ↦ not_err _ f ok.2
       ]
-    ]
+    ])
 
 further_within : (low high budget : ℕ) → IsWithin (reads_further low high budget)
 further_within low high zero input f e = not_err _ f e
 further_within low high (suc budget) input f e =
-    elim (chosen (starts_between low high input.left) _ _ _ e) [
-      | inl some ↦ elim (bind_err (element_at (first_of input.left) input) (λ y. reads_further low high budget y.after) f some.1) [
-        | inl first ↦ let is = element_fault (first_of input.left) input f first in omega (arith, is)
-        | inr a ↦
-            let le = further_within low high budget a.0.after f a.2 in
-            let same = element_kept (first_of input.left) input a.0 a.1 in
-            omega (arith, le, same)
-      ]
-      | inr none ↦ not_err _ f none.1
-    ]
+    either (f.place ≤ end_of input) (starts_between low high input.left) _ _ f e
+    (λ some. elim (bind_err (element_at (first_of input.left) input) (λ y. reads_further low high budget y.after) f some) [
+      | inl first ↦ let is = element_fault (first_of input.left) input f first in omega (arith, is)
+      | inr a ↦
+          let le = further_within low high budget a.0.after f a.2 in
+          let same = element_kept (first_of input.left) input a.0 a.1 in
+          omega (arith, le, same)
+    ])
+    (not_err _ f)
 
 optional_within : {A : Type 0} (tag : ℕ) (read : Input → Result (A × Input) DerFault) → IsWithin read → IsWithin (reads_optional tag read)
-optional_within tag read within input f e = elim (chosen (starts tag input.left) _ _ _ e) [
-  | inl there ↦ elim (bind_err (read input) (λ y. Ok (Some y.0, y.1)) f there.1) [
-    | inl first ↦ within input f first
-    | inr ok ↦ not_err _ f ok.2
-  ]
-  | inr none ↦ not_err _ f none.1
-]
+optional_within tag read within input f e = either (f.place ≤ end_of input) (starts tag input.left) _ _ f e
+    (λ there. elim (bind_err (read input) (λ y. Ok (Some y.0, y.1)) f there) [ inl first ↦ within input f first | inr ok ↦ not_err _ f ok.2 ])
+    (not_err _ f)
 
 optional_kept : {A : Type 0} (spells : List ℕ → A → Type 0) (tag : ℕ) (read : Input → Result (A × Input) DerFault) → IsSound spells read
     → (input : Input) (x : Option A × Input) → reads_optional tag read input ≡ Ok x → end_of x.1 ≡ end_of input
