@@ -1,10 +1,11 @@
 //! The table: the principals with their keys, and the ids used.
-ghost use Rattle.std.specs.Prelude.{◌≡◌, ◌≤◌, ◌<◌, length, All, MatchBool, IfOk, IfSome, true, find, max, map, option_copied, slice_get};
+ghost use Rattle.std.specs.Prelude.{◌≡◌, ◌≤◌, ◌<◌, length, All, MatchBool, IfOk, IfSome, Some, true, find, max, map, option_copied, option_map, slice_get};
 ghost use Rattle.chpw_rules.specs.Limits.{entry_counts};
 ghost use Rattle.chpw_rules.specs.Fitting.{config_fits};
 ghost use Rattle.chpw_table.specs.Agreement.{Agrees};
 ghost use Rattle.chpw_table.specs.State.{opening_of, keys_held};
-ghost use Rattle.chpw_table.specs.Lookups.{lookup_of};
+ghost use Rattle.chpw_table.specs.Holding.{StandsAt};
+ghost use Rattle.chpw_table.specs.Lookups.{lookup_of, lookup_with, StandsOnce};
 
 mod changing;
 mod decision;
@@ -154,8 +155,37 @@ impl Table {
     pub fn name_at(&self, place: u32) -> Option<&Name>
         ensures value { option_copied result
             ≡ slice_get (map (λ p. p.name) self.now.state.principals) place }
+        ensures once { IfSome result (λ name. StandsOnce self.now.state name.now place) }
     {
-        self.principals.get(place as usize).map(|p| &p.name)
+        self.principal_at(place).map(|p| &p.name)
+    }
+
+    /// The name at this place, as `name_at` gives it, and what `lookup` shows of it.
+    pub fn row_at(&self, place: u32) -> Option<(&Name, Lookup)>
+        ensures name { option_map (λ row. row.0.now) result
+            ≡ slice_get (map (λ p. p.name) self.now.state.principals) place }
+        ensures value { IfSome result (λ row. lookup_of self.now row.0.now ≡ Some row.1) }
+        ensures positive { IfSome result (λ row. (1 ≤ row.1.policy) × All (λ n. 1 ≤ n) row.1.held) }
+    {
+        match self.principal_at(place) {
+            None => None,
+            Some(principal) => Some((&principal.name, self.shown(principal.keys.as_slice()))),
+        }
+    }
+
+    fn principal_at(&self, place: u32) -> Option<&Principal>
+        ensures value { option_copied result ≡ slice_get self.now.state.principals place }
+        ensures stands { IfSome result (λ p. StandsAt self.now.state place p.now) }
+    {
+        // A field is read, so that the type's invariant is known here.
+        let _ = &self.principals;
+        self.get(place)
+    }
+
+    fn get(&self, place: u32) -> Option<&Principal>
+        ensures value { option_copied result ≡ slice_get self.now.state.principals place }
+    {
+        self.principals.get(place as usize)
     }
 
     /// Its policy. The depth is at most 16, and the iteration count of new keys at least 1.
@@ -174,13 +204,25 @@ impl Table {
         ensures few { IfSome result (λ l. (1 ≤ length l.held) × (length l.held ≤ 16)) }
         ensures positive { IfSome result (λ l. (1 ≤ l.policy) × All (λ n. 1 ≤ n) l.held) }
     {
-        let keys = self.keys_of(name)?;
-        Some(Lookup {
+        match self.keys_of(name) {
+            None => None,
+            Some(keys) => Some(self.shown(keys)),
+        }
+    }
+
+    // What is shown of a name with these keys.
+    fn shown(&self, keys: &[KeyRow]) -> Lookup
+        requires few { length keys.now ≤ 17 }
+        ensures value { result ≡ lookup_with self.now keys.now }
+        ensures positive { All (λ k. 1 ≤ k.count) keys.now
+            → (1 ≤ result.policy) × All (λ n. 1 ≤ n) result.held }
+    {
+        Lookup {
             kvno: kvno_of(keys),
             held: counts_of(keys),
             policy: self.policy.iterations,
             seen: self.seen,
-        })
+        }
     }
 
     /// The keys of a name, 1 to 16, newest first; none for an unknown one.
