@@ -6,14 +6,6 @@ use Rattle.chpw_table.specs.Versions.{KeyChange}
 use Rattle.chpw_fronts.specs.declared.entry.LogEntry.{LogEntry}
 use Rattle.chpw_fronts.specs.Pens.{written_by, pen_after, IsUnspent, newest_or}
 
-if_false : {A : Type 0} (b : Bool) (x y : A) → b ≡ false → (if b then x else y) ≡ y
-if_false true x y h = absurd (cc)
-if_false false x y h = refl
-
-if_true : {A : Type 0} (b : Bool) (x y : A) → b ≡ true → (if b then x else y) ≡ x
-if_true true x y h = refl
-if_true false x y h = absurd (cc)
-
 written_step : (b : Bool) (c : KeyChange) (a1 a0 r1 r0 : List KeyChange) (p1 p0 : ℕ) (ys : List LogEntry) → a1 ≡ r1 ++ written_by p1 ys → a0 ≡ r0 ++ written_by p0 ys
     → (if b then c ∷ a1 else a0) ≡ (if b then c ∷ r1 else r0) ++ written_by (if b then p1 else p0) ys
 written_step true c a1 a0 r1 r0 p1 p0 ys h1 h0 = ap (λ w. c ∷ w) h1
@@ -33,11 +25,11 @@ pen_append k (e ∷ l) ys = pen_step (e.by == k) _ _ _ _ ys (pen_append e.next l
 
 pub unspent_written : (p : ℕ) (xs : List LogEntry) → IsUnspent p xs → written_by p xs ≡ []
 unspent_written p [] u = refl
-unspent_written p (e ∷ l) u = if_false (e.by == p) _ _ u.0 ∙ unspent_written p l u.1
+unspent_written p (e ∷ l) u = rw u.0 (unspent_written p l u.1)
 
 pub unspent_pen : (p : ℕ) (xs : List LogEntry) → IsUnspent p xs → pen_after p xs ≡ p
 unspent_pen p [] u = refl
-unspent_pen p (e ∷ l) u = if_false (e.by == p) _ _ u.0 ∙ unspent_pen p l u.1
+unspent_pen p (e ∷ l) u = rw u.0 (unspent_pen p l u.1)
 
 pub unspent_tail : (p : ℕ) (xs ys : List LogEntry) → IsUnspent p (xs ++ ys) → IsUnspent p ys
 unspent_tail p [] ys u = u
@@ -71,8 +63,8 @@ pub added : (k : ℕ) (xs log ys : List LogEntry) (e : LogEntry) → pen_after k
 added k xs log ys e is pre u all =
     let w = whole k e.by xs log is pre u in
     let t : (e.by == e.by) ≡ true = grind (arith, nat_tests) in
-    let one : written_by (pen_after k log) (e ∷ []) ≡ e.change ∷ [] = ap (λ q. written_by q (e ∷ [])) w.1 ∙ if_true (e.by == e.by) _ _ t in
-    let pen : pen_after (pen_after k log) (e ∷ []) ≡ e.next = ap (λ q. pen_after q (e ∷ [])) w.1 ∙ if_true (e.by == e.by) _ _ t in (
+    let one : written_by (pen_after k log) (e ∷ []) ≡ e.change ∷ [] = ap (λ q. written_by q (e ∷ [])) w.1 ∙ rw t refl in
+    let pen : pen_after (pen_after k log) (e ∷ []) ≡ e.next = ap (λ q. pen_after q (e ∷ [])) w.1 ∙ rw t refl in (
       ap (λ l. written_by k l) all ∙ (written_append k log (e ∷ []) ∙ (ap (λ l. l ++ written_by (pen_after k log) (e ∷ [])) w.0 ∙ ap (λ l. written_by k xs ++ l) one)),
       ap (λ l. pen_after k l) all ∙ (pen_append k log (e ∷ []) ∙ pen),
     )
@@ -119,7 +111,3 @@ begins_whole f l z c d pf pl e rest is same =
     let pre : IsPrefix rest z = prefix_trans rest f z (d ∷ [], sym is) pf in
     let all : rest ≡ l = prefix_same rest l z pre pl n in
     ([], append-nil f ∙ (is ∙ (ap (λ w. w ++ d ∷ []) all ∙ ap (λ x. l ++ x ∷ []) same)))
-
-pub empty_list : (f : List KeyChange) → length f ≡ 0 → f ≡ []
-empty_list [] e = refl
-empty_list (x ∷ f) e = absurd (omega arith)
