@@ -30,17 +30,8 @@ AllTied x list views = (seat : ℕ) (v : View) → get_elem? views seat ≡ some
 unknown_tied : (x : Version) (list : List KeyChange) → IsTied x list unknown
 unknown_tied x list t = absurd (cc)
 
-more : (l m n : List KeyChange) → IsPrefix l m → IsPrefix l (m ++ n)
-more l m n p = prefix_trans l m (m ++ n) p (n, refl)
-
 moved : (x y : Version) (list n : List KeyChange) (v : View) → y.root ≡ x.root → IsTied x list v → IsTied y (list ++ n) v
-moved x y list n v e h k = let t = h k in (t.0 ∙ sym (ap (λ m. m.book) e), t.1 ∙ sym (ap (λ m. m.log) e), more v.front list n t.2)
-
-kept : (x y : Version) (list n : List KeyChange) (views : List View) (seat : ℕ) (w : View) → y.root ≡ x.root → AllTied x list views → IsTied y (list ++ n) w → AllTied y (list ++ n) (set views seat w)
-kept x y list n views seat w e each own j u at =
-    ⊎_elim (λ (t : (j ≡ seat) × (w ≡ u)). subst (λ z. IsTied y (list ++ n) z) t.1 own)
-    (λ (t : (j ≢ seat) × (get_elem? views j ≡ some u)). moved x y list n u e (each j u t.1))
-    (at_set views seat j w u at)
+moved x y list n v e h k = let t = h k in (t.0 ∙ sym (ap (λ m. m.book) e), t.1 ∙ sym (ap (λ m. m.log) e), prefix_trans v.front list (list ++ n) t.2 (n, refl))
 
 same : (x : Version) (list : List KeyChange) (views : List View) (seat : ℕ) (w : View) → AllTied x list views → IsTied x list w → AllTied x list (set views seat w)
 same x list views seat w each own j u at =
@@ -114,7 +105,7 @@ published_at seat b r v x list o sh ob ol num next room views (all, is, each) at
     let told : w.front ≡ list ++ c ∷ [] = ap (λ (l : List KeyChange). l ++ named (opening_state v.root) o.change ∷ []) sh.1 ∙ ap (λ l. list ++ named (opening_state l) o.change ∷ []) sh.0.2 in
     let own : IsPrefix w.front (list ++ c ∷ []) = subst (λ (l : List KeyChange). IsPrefix l (list ++ c ∷ [])) (sym told) (prefix_self (list ++ c ∷ [])) in
     let before : AllTied x list views = subst (λ (l : List KeyChange). AllTied x l views) (sym whole) each in
-    (w, (list ++ c ∷ [], next, kept x y list (c ∷ []) views seat w refl before (λ k. (mine.0, mine.1, own))), refl)
+    (w, (list ++ c ∷ [], next, same y (list ++ c ∷ []) views seat w (λ j u t. moved x y list (c ∷ []) u refl (before j u t)) (λ k. (mine.0, mine.1, own))), refl)
 
 pub shelved_after : (b : LogName) (r : List LogEntry) (v w : View) (x y : Version) (list : List KeyChange) (o : Operation) → IsShelved b r v x list → o.seen.book ≡ b → changes_in r o.seen.log ≡ list
     → HasNumber (opening_state r) o.change → IsNextVersion (opening_state r) list (named (opening_state r) o.change) → length list + 1 < 2147483648 → y ≡ applied x o → Published v x y w → IsShelved b r w y (list ++ named (opening_state r) o.change ∷ [])

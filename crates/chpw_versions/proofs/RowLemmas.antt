@@ -49,11 +49,8 @@ after_change kept c of name row = if is_same_name of name then option_map (with_
 same_test : (a b name : Name) → is_same_name a b ≡ true → is_same_name a name ≡ is_same_name b name
 same_test a b name h = ap (λ (n : Name). is_same_name n name) ((is_same_name-Decides a b).0 h)
 
-both_ways : (b : Bool) → b ≡ false → b ≡ true → ⊥
-both_ways b x y = cc
-
 other_test : (r of name : Name) → is_same_name r of ≡ false → is_same_name r name ≡ true → (b : Bool) → is_same_name of name ≡ b → b ≡ false
-other_test r of name e f true g = absurd (both_ways (is_same_name r of) e ((is_same_name-Decides r of).1 ((is_same_name-Decides r name).0 f ∙ sym ((is_same_name-Decides of name).0 g))))
+other_test r of name e f true g = sym ((is_same_name-Decides r of).1 ((is_same_name-Decides r name).0 f ∙ sym ((is_same_name-Decides of name).0 g))) ∙ e
 other_test r of name e f false g = refl
 
 at_head : (kept : ℕ) (c : NumberedChange) (of : Name) (r : Row) (rs : List Row) (name : Name) → is_same_name r.name of ≡ true → (b : Bool) → is_same_name r.name name ≡ b
@@ -99,23 +96,20 @@ place_number [] name n d h e f = absurd (omega arith)
 place_number (r ∷ rs) name zero d h e f = e
 place_number (r ∷ rs) name (suc n) d h e f = (f 0 (omega arith), place_number rs name n d (omega (arith, h)) e (λ k l. f (suc k) (omega (arith, l))))
 
-pub at_number : (ps : List Principal) (name : Name) (n : ℕ) → IsNumberOf (map (λ (p : Principal). p.name) ps) name n → name_at ps n ≡ name
+at_number : (ps : List Principal) (name : Name) (n : ℕ) → IsNumberOf (map (λ (p : Principal). p.name) ps) name n → name_at ps n ≡ name
 at_number [] name n h = absurd h
 at_number (p ∷ ps) name zero h = (is_same_name-Decides p.name name).0 h
 at_number (p ∷ ps) name (suc n) h = at_number ps name n h.1
 
--- the number that was found
-pub found_number : (opening : State) (rows : List Row) (name : Name) (n : ℕ) (d : Row) → names_of_rows rows ≡ names_of opening → position (λ (r : Row). is_same_name r.name name) rows ≡ Some n
-    → IsNumberOf (names_of opening) name n
-found_number opening rows name n d e h =
-    let placed = position-Some (λ (r : Row). is_same_name r.name name) rows n d h in
-    subst (λ ns. IsNumberOf ns name n) e (place_number rows name n d placed.0 placed.1 placed.2)
-
--- a change with that number is one of that name
-pub named_change : (opening : State) (name : Name) (c : NumberedChange) → IsNumberOf (names_of opening) name c.number → HasNumber opening c × (named opening c ≡ change_for name c)
-named_change opening name c h =
-    let is : name_at opening.principals c.number ≡ name = at_number opening.principals name c.number h in
-    (subst (λ m. IsNumberOf (names_of opening) m c.number) (sym is) h, ap (λ m. change_for m c) is)
+-- a change with the number that was found for a name is one of that name
+pub named_change : (opening : State) (rows : List Row) (name : Name) (c : NumberedChange) → names_of_rows rows ≡ names_of opening → position (λ (r : Row). is_same_name r.name name) rows ≡ Some c.number
+    → HasNumber opening c × (named opening c ≡ change_for name c)
+named_change opening rows name c e found =
+    let none : Row = record { name = name; kvno = 0; counts = [] } in
+    let placed = position-Some (λ (r : Row). is_same_name r.name name) rows c.number none found in
+    let number : IsNumberOf (names_of opening) name c.number = subst (λ ns. IsNumberOf ns name c.number) e (place_number rows name c.number none placed.0 placed.1 placed.2) in
+    let is : name_at opening.principals c.number ≡ name = at_number opening.principals name c.number number in
+    (subst (λ m. IsNumberOf (names_of opening) m c.number) (sym is) number, ap (λ m. change_for m c) is)
 
 -- a name that the rows show has a number
 pub has_number : (rows : List Row) (name : Name) (row : Shown) → shown_in rows name ≡ Some row → position (λ (r : Row). is_same_name r.name name) rows ≡ None → ⊥

@@ -105,7 +105,7 @@ abbrev pub IsWaiting : LogName → List LogEntry → List KeyChange → List Ope
 IsWaiting log root list ops None = ops ≡ []
 IsWaiting log root list ops (Some c) =
     (o : Operation) × (ops ≡ o ∷ []) × (o.change ≡ c) × (o.seen.book ≡ log) × (changes_in root o.seen.log ≡ list)
-    × HasNumber (opening_state root) c × IsNextVersion (opening_state root) list (named (opening_state root) c)
+    × HasNumber (opening_state root) o.change × IsNextVersion (opening_state root) list (named (opening_state root) o.change)
 
 -- what the writer holds shows this list, and it knows that
 abbrev pub IsShelved : LogName → List LogEntry → View → Version → List KeyChange → Type 0

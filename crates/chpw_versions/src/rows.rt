@@ -103,7 +103,7 @@ fn lookup_of(row: &Row, policy: u32, seen: u32) -> Lookup
 {
     Lookup {
         kvno: row.kvno,
-        held: copied(&row.counts),
+        held: row.counts.copied(),
         policy,
         seen,
     }
@@ -123,25 +123,9 @@ fn put_row(row: &mut Row, change: NumberedChange, kept: u8)
     requires kept { (1 ≤ kept) × (kept ≤ 16) }
     ensures value { row.new ≡ changed_row kept change row.old }
 {
-    row.counts = with_front(change.count, row.counts.as_slice(), usize::from(kept));
-    row.kvno = change.kvno;
-}
-
-// The count in front of these, of which the newest are kept.
-fn with_front(count: u32, held: &[u32], kept: usize) -> Counts
-    requires kept { (1 ≤ kept) × (kept ≤ 16) }
-    ensures value { result ≡ take kept (count ∷ held.now) }
-{
     let mut counts = Counts::new();
-    let _ = counts.push(count);
-    counts.extend(newest(held, kept - 1));
-    counts
-}
-
-fn copied(counts: &Counts) -> Counts
-    ensures value { result ≡ counts.now }
-{
-    let mut copy = Counts::new();
-    copy.extend(counts.as_slice());
-    copy
+    let _ = counts.push(change.count);
+    counts.extend(newest(row.counts.as_slice(), usize::from(kept) - 1));
+    row.counts = counts;
+    row.kvno = change.kvno;
 }

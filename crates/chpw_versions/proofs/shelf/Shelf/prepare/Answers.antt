@@ -12,7 +12,7 @@ use Rattle.chpw_versions.specs.declared.version.Operation.{Operation}
 use Rattle.chpw_versions.specs.Known.{Shelved}
 use Rattle.chpw_versions.specs.Rising.{IsNextVersion}
 use Rattle.chpw_versions.specs.Following.{IsShelved, IsWaiting}
-use Rattle.chpw_versions.proofs.RowLemmas.{has_number, none_of, none_mapped, found_number, named_change, change_for}
+use Rattle.chpw_versions.proofs.RowLemmas.{has_number, none_of, none_mapped, named_change, change_for}
 use Rattle.chpw_versions.proofs.MoveLemmas.{of_some, put_some}
 use Rattle.chpw_versions.proofs.shelf.Shelf.prepare.Goals.{in-Err, in-Ok}
 use Rattle.chpw_versions.proofs.shelf.Shelf.prepare.Goals as goal
@@ -44,8 +44,7 @@ invariant_of-self-in-Ok g c =
     let ops : drop c.append.new.self.behind c.append.new.self.log.items ≡ o ∷ [] = c.in-Ok.ensures.pending ∙ ap (λ (l : List Operation). l ++ o ∷ []) empty in
     let place : position (λ (x : Row). is_same_name x.name c.args.name.now) w.desk.shown.value.rows.rows ≡ Some c.in-Some-number_of.number =
     sym (ap (λ (x : Version). position (λ (q : Row). is_same_name q.name c.args.name.now) x.rows.rows) c.published.ensures) ∙ (sym c.number_of.ensures.value ∙ c.in-Some-number_of.is) in
-    let number = found_number (opening_state r) w.desk.shown.value.rows.rows c.args.name.now c.in-Some-number_of.number (record { name = c.args.name.now; kvno = 0; counts = [] }) inv.0.2.names place in
-    let named_is = named_change (opening_state r) c.args.name.now change number in
+    let named_is = named_change (opening_state r) w.desk.shown.value.rows.rows c.args.name.now change inv.0.2.names place in
     let shelved : IsShelved b r (view c.append.new.self.desk.place) c.append.new.self.desk.shown.value list = subst (λ d. IsShelved b r (view d.place) d.shown.value list) (sym c.append.ensures.desk) inv.0 in
     let next : IsNextVersion (opening_state r) list (named (opening_state r) change) =
     subst (λ (k : KeyChange). IsNextVersion (opening_state r) list k) (sym named_is.1)
@@ -63,8 +62,7 @@ returns-clause-ok g c =
     let change : NumberedChange = record { number = c.in-Some-number_of.number; kvno = c.args.kvno; count = c.args.count } in
     let place : position (λ (x : Row). is_same_name x.name c.args.name.now) w.desk.shown.value.rows.rows ≡ Some c.in-Some-number_of.number =
     sym (ap (λ (x : Version). position (λ (q : Row). is_same_name q.name c.args.name.now) x.rows.rows) c.published.ensures) ∙ (sym c.number_of.ensures.value ∙ c.in-Some-number_of.is) in
-    let number = found_number (opening_state r) w.desk.shown.value.rows.rows c.args.name.now c.in-Some-number_of.number (record { name = c.args.name.now; kvno = 0; counts = [] }) inv.0.2.names place in
-    let named_is = named_change (opening_state r) c.args.name.now change number in
+    let named_is = named_change (opening_state r) w.desk.shown.value.rows.rows c.args.name.now change inv.0.2.names place in
     let f : List KeyChange → KeyChange → Shelved = λ l k. record { list = l; waiting = Some k } in
     let same : f list (named (opening_state r) change) ≡ f c.args.self.now.list (record { name = c.args.name.now; kvno = c.args.kvno; count = c.args.count }) =
     ap (λ l. f l (named (opening_state r) change)) (ap (λ (s : Shelved). s.list) c.self.view_is) ∙ ap (λ k. f c.args.self.now.list k) named_is.1 in
