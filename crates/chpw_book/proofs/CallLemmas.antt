@@ -1,10 +1,7 @@
 -- What a call under the lock tells its caller.
-use Rattle.std.proofs.Common.{◌≡◌, ◌≢◌, ℕ, List, [], refl, ◌∙◌, ap}
+use Rattle.std.proofs.Common.{◌≡◌, ◌≢◌, ℕ, List, refl, ◌∙◌}
 use Rattle.chpw_table.specs.declared.times.Moment.{Moment}
 use Rattle.chpw_table.specs.declared.request.Opened.{Opened}
-use Rattle.chpw_table.specs.declared.verdict.Verdict.{Verdict}
-use Rattle.chpw_table.specs.declared.history.Event.TheVariants.{Ask}
-use Rattle.chpw_table.specs.declared.history.Entry.{Entry}
 use Rattle.chpw_table.specs.declared.outcome.DecideFault.{DecideFault}
 use Rattle.chpw_table.specs.declared.outcome.DecideFault.TheVariants.{Full, NeedKeys, Memory}
 use Rattle.chpw_table.specs.State.{State}
@@ -12,12 +9,10 @@ use Rattle.chpw_table.specs.Agreement.{Held}
 use Rattle.chpw_table.specs.Refusals.{IsFirst}
 use Rattle.chpw_table.specs.History.{missing, outcome}
 use Rattle.chpw_table.proofs.AgreementLemmas.{same_missing}
-use Rattle.chpw_decider.specs.Deciding.{AddsReceipt, IsFinal}
+use Rattle.chpw_decider.specs.Deciding.{IsFinal}
 use Rattle.chpw_decider.specs.Entered.{AsksFor}
-use Rattle.chpw_book.specs.Passes.{Carried}
-use Rattle.chpw_book.specs.Receipts.{receipt_of}
 use Rattle.chpw_book.specs.Stored.{Stored, Replays}
-use Rattle.chpw_book.specs.Calls.{Notes, AsksAfter}
+use Rattle.chpw_book.specs.Calls.{AsksAfter}
 
 -- Full is told of a full table alone
 pub full_at : (t : Held) (counts : List ℕ) (f : DecideFault) → IsFirst t counts f → f ≡ Full → t.events ≡ t.max_entries
@@ -43,13 +38,4 @@ asks_of_first opening workers b now o f k h = record {
   before = b.history;
   legal = k.legal;
   asks = asks_for b.table (missing b.table.state now o) (missing (outcome opening b.history) now o) f (same_missing b.table.state (outcome opening b.history) now o k.agrees) h;
-}
-
--- the receipt of a call is one more of the pass
-pub adds_of_notes : (opening : State) (mine more : Carried) (now : Moment) (o : Opened) (v : Verdict) → Notes opening mine more now (Ask o v) → AddsReceipt mine.receipts more.receipts now o v
-adds_of_notes opening mine more now o v n = record {
-  receipt = receipt_of n.before n.entry;
-  added = n.gains.receipts;
-  now_is = ap (λ (e : Entry). e.now) n.entry_is;
-  event_is = ap (λ (e : Entry). e.event) n.entry_is;
 }

@@ -1,5 +1,5 @@
 -- One more entry keeps what a book's type says.
-use Rattle.std.proofs.Common.{◌≡◌, ◌≢◌, ℕ, zero, suc, ◌+◌, ◌-◌, ◌^◌, ◌<◌, ◌≤◌, List, [], ◌∷◌, ◌++◌, length, map, Bool, true, false, ◌==◌, if◌then◌else◌, Option, refl, sym, ◌∙◌, ap, subst, arith, append-nil, length-append, slice_index, slice_set, length-set, add-zero, zero-add}
+use Rattle.std.proofs.Common.{◌≡◌, ◌≢◌, ℕ, zero, suc, ◌+◌, ◌<◌, ◌≤◌, List, [], ◌∷◌, ◌++◌, length, map, Bool, true, false, ◌==◌, if◌then◌else◌, Option, refl, sym, ◌∙◌, ap, subst, arith, append-nil, length-append, slice_index, slice_set, length-set, add-zero, zero-add}
 use Rattle.std.specs.Prelude.{IfSome, All, count_by}
 use Rattle.std.specs.Option.{option_map}
 use Rattle.std.specs.List.{range_with_len}
@@ -7,7 +7,7 @@ use Rattle.std.proofs.lemmas.Bool.Decides.{nat_tests}
 use Rattle.std.proofs.lemmas.Grind.{get_or-set_at}
 use Rattle.std.proofs.lemmas.List.{get_or-set_other, map-append}
 use Rattle.std.proofs.lemmas.List.Elements.{filter-append, All-append, All-cons, All-nil}
-use Rattle.std.proofs.lemmas.List.Sums.{sum_by-append}
+use Rattle.std.proofs.lemmas.List.Sums.{sum_by-append, length-filter, count_by-le-length}
 use Rattle.chpw_table.specs.declared.times.Moment.{Moment}
 use Rattle.chpw_table.specs.declared.request.Opened.{Opened}
 use Rattle.chpw_table.specs.declared.outcome.Outcome.{Outcome}
@@ -57,7 +57,7 @@ numbers_more es e h n =
     ∙ (ap (λ k. range_with_len 1 (length es) ++ k ∷ []) next
     ∙ (sym (range_more 1 (length es)) ∙ ap (range_with_len 1) (sym (one_longer es e)))))
 
-pub numbered_more : (es : List Entry) (e : Entry) → IsNumbered es → e.number ≡ length (entries_of e.worker es) + 1 → IsNumbered (es ++ e ∷ [])
+numbered_more : (es : List Entry) (e : Entry) → IsNumbered es → e.number ≡ length (entries_of e.worker es) + 1 → IsNumbered (es ++ e ∷ [])
 numbered_more es e h n w = at (e.worker == w) refl
   where
     at : (b : Bool) → (e.worker == w) ≡ b → map (λ (x : Entry). x.number) (entries_of w (es ++ e ∷ [])) ≡ range_with_len 1 (length (entries_of w (es ++ e ∷ [])))
@@ -78,7 +78,7 @@ count_at counts es e w h l below false is =
     let apart : w ≢ e.worker = grind (arith, nat_tests) in
     get_or-set_other counts e.worker w (slice_index counts e.worker + 1) 0 apart ∙ (h.counts_are w below ∙ ap (λ (xs : List Entry). length xs) (sym (others_stay w es e is)))
 
-pub counted_more : (counts : List ℕ) (es : List Entry) (e : Entry) → IsCounted counts es → e.worker < length counts → IsCounted (slice_set counts e.worker (slice_index counts e.worker + 1)) (es ++ e ∷ [])
+counted_more : (counts : List ℕ) (es : List Entry) (e : Entry) → IsCounted counts es → e.worker < length counts → IsCounted (slice_set counts e.worker (slice_index counts e.worker + 1)) (es ++ e ∷ [])
 counted_more counts es e h l = record {
   counts_are = λ w below. count_at counts es e w h l (simp length-set at below) (e.worker == w) refl;
   workers =
@@ -89,12 +89,7 @@ counted_more counts es e h l = record {
 
 -- a worker has no more entries than there are
 pub few_entries : (w : ℕ) (es : List Entry) → length (entries_of w es) ≤ length es
-few_entries w [] = omega arith
-few_entries w (e ∷ es) = at (is_of w e) (few_entries w es)
-  where
-    at : (b : Bool) → length (entries_of w es) ≤ length es → length (if b then e ∷ entries_of w es else entries_of w es) ≤ length (e ∷ es)
-    at true h = omega (arith, h)
-    at false h = omega (arith, h)
+few_entries w es = subst (λ (n : ℕ). n ≤ length es) (sym (length-filter (is_of w) es)) (count_by-le-length (is_of w) es)
 
 count_more : (p : Entry → Bool) (es : List Entry) (e : Entry) → count_by p (es ++ e ∷ []) ≡ (if p e then count_by p es + 1 else count_by p es)
 count_more p es e =
@@ -104,7 +99,7 @@ count_more p es e =
 
 -- ---- all together
 
-pub kept_more : (opening : State) (workers : ℕ) (b : Stored) (e : Entry) (t : Held) (n : ℕ) (told : Option (List ℕ))
+kept_more : (opening : State) (workers : ℕ) (b : Stored) (e : Entry) (t : Held) (n : ℕ) (told : Option (List ℕ))
     → Replays opening workers b
     → IsJudged (outcome opening b.history) e.now e.io_failed e.event
     → Agrees t.state (step_entry (outcome opening b.history) e)
@@ -126,18 +121,6 @@ kept_more opening workers b e t n told k decided agrees tells below number event
   room = let a = one_longer b.history e in let r = k.room in omega (arith, a, r, events);
 }
 
-pub kept_next : (opening : State) (workers : ℕ) (b : Stored) (e : Entry) (t : Held) (es : List Entry) (counts : List ℕ) (changes n : ℕ) (told : Option (List ℕ))
-    → Replays opening workers b
-    → IsJudged (outcome opening b.history) e.now e.io_failed e.event
-    → Agrees t.state (step_entry (outcome opening b.history) e)
-    → told ≡ option_map (λ xs. xs ++ event_appended (outcome opening b.history) e.event) b.told
-    → e.worker < length b.counts → e.number ≡ length (entries_of e.worker b.history) + 1
-    → t.events ≡ b.table.events + 1
-    → es ≡ b.history ++ e ∷ [] → counts ≡ slice_set b.counts e.worker (slice_index b.counts e.worker + 1) → changes ≡ (if is_accepted e.event then b.changes + 1 else b.changes) → n ≡ b.total + 1
-    → Replays opening workers (record { table = t; history = es; counts = counts; changes = changes; total = n; told = told })
-kept_next opening workers b e t es counts changes n told k decided agrees tells below number events h c d total =
-    rw (h, c, d) (kept_more opening workers b e t n told k decided agrees tells below number events total)
-
 -- a step of the table, and its entry
 pub kept_step : (opening : State) (workers : ℕ) (b : Stored) (w : ℕ) (now : Moment) (o : Opened) (r : Outcome) (t : Held) (es : List Entry) (counts : List ℕ) (changes n : ℕ) (told : Option (List ℕ))
     → Replays opening workers b → Steps b.table t now o r → ((s : State) → Agrees b.table.state s → told ≡ option_map (λ xs. xs ++ appended s o r.verdict) b.told)
@@ -146,4 +129,4 @@ pub kept_step : (opening : State) (workers : ℕ) (b : Stored) (w : ℕ) (now : 
     → Replays opening workers (record { table = t; history = es; counts = counts; changes = changes; total = n; told = told })
 kept_step opening workers b w now o r t es counts changes n told k steps tells below h c d total =
     let s : State = outcome opening b.history in
-    kept_next opening workers b (next_entry b.history w now r.io_failed (Ask o r.verdict)) t es counts changes n told k (steps.legal s k.agrees) (steps.agrees s k.agrees) (tells s k.agrees) below refl steps.events h c d total
+    rw (h, c, d) (kept_more opening workers b (next_entry b.history w now r.io_failed (Ask o r.verdict)) t n told k (steps.legal s k.agrees) (steps.agrees s k.agrees) (tells s k.agrees) below refl steps.events total)

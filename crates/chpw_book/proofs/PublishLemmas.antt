@@ -22,7 +22,7 @@ use Rattle.chpw_versions.specs.Known.{Known, Shelved}
 use Rattle.chpw_changes.proofs.ChangeLemmas.{changes_counted}
 use Rattle.chpw_changes.proofs.KeptLemmas.{kept_list}
 use Rattle.chpw_book.specs.Passes.{Carried}
-use Rattle.chpw_book.specs.Stored.{Stored, Gains, Adds}
+use Rattle.chpw_book.specs.Stored.{Stored}
 use Rattle.chpw_book.specs.Calls.{Notes}
 use Rattle.chpw_book.specs.Publishing.{Publishes, Shelves, IsStored, with_waiting, joined, published, told_list}
 use Rattle.chpw_book.proofs.GrowsLemmas.{one_longer}
@@ -75,15 +75,6 @@ list_room opening workers b later mine mid s t now event p h =
     let few = h.few in
     omega (arith, long, counted, some, grown, few)
 
--- ---- what the pass is told, which is none of what a decision adds to it
-
-gains_told : (before : List Entry) (e : Entry) (mine mid more : Carried) (place : Known) → more ≡ record mid { place = place } → Gains before e mine mid → Gains before e mine more
-gains_told before e mine mid more place is g = rw is (record { receipts = g.receipts; share = g.share; same = g.same })
-
-pub adds_told : (before later : Stored) (mine mid more : Carried) (place : Known) (now : Moment) (event : Event) → more ≡ record mid { place = place } → Adds before later mine mid now event → Adds before later mine more now event
-adds_told before later mine mid more place now event is a =
-    record { entry = a.entry; entry_is = a.entry_is; history = a.history; counts = a.counts; room = a.room; events = a.events; limit = a.limit; gains = gains_told before.history a.entry mine mid more place is a.gains }
-
 -- all that a call tells its caller
 pub notes_next : (opening : State) (workers : ℕ) (b later : Stored) (mine mid more : Carried) (s t u : Shelved) (now : Moment) (event : Event)
     → Publishes opening b.history b.table.state.broken s → IsStored opening workers b later mine mid s t now event → Publishes opening later.history later.table.state.broken u
@@ -98,7 +89,7 @@ notes_next opening workers b later mine mid more s t u now event p h q begins is
       entry = h.adds.entry;
       entry_is = h.adds.entry_is;
       legal = subst (λ (es : List Entry). IsLegal opening es) h.adds.history h.replays.1.legal;
-      gains = gains_told b.history h.adds.entry mine mid more (told_list (is_accepted event) u.list mid.place) is h.adds.gains;
+      gains = rw is (record { receipts = h.adds.gains.receipts; share = h.adds.gains.share; same = h.adds.gains.same });
       tells = record { begins = subst (λ (xs : List KeyChange). IsPrefix mine.place.told xs) p.list begins; tells = place };
     }
 
