@@ -10,7 +10,8 @@ use Rattle.krb_elements.specs.BitStrings.{bits_in, is_bit_string}
 use Rattle.krb_elements.specs.Times.{time_in, is_time}
 use Rattle.krb_elements.specs.Reading.{Input, Piece, starts, first_of, starts_between, tag_at, length_at, element_at, piece_of, meaning_of, ended, reads_each, reads_further, reads_optional, reads, reads_all}
 use Rattle.krb_elements.specs.Grammar.{Spells, IsElement}
-use Rattle.krb_elements.proofs.SoundLemmas.{bind_ok, guard_ok, ok_is, chosen, element_takes, Takes, IsSound, inside_sound, sound}
+use Rattle.krb_elements.proofs.StepLemmas.{bind_ok, guard_ok, ok_is, chosen}
+use Rattle.krb_elements.proofs.SoundLemmas.{element_takes, Takes, IsSound, inside_sound, sound}
 
 same_fault : {A : Type 0} (d f : DerFault) → ◌≡◌ {A = Result A DerFault} (Err d) (Err f) → d ≡ f
 same_fault d f e = cc
