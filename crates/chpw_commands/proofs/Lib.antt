@@ -1,6 +1,5 @@
 pub mod NumberLemmas
 pub mod SplitLemmas
-pub mod EachLemmas
 pub mod TextLemmas
 pub mod SetupLemmas
 pub mod AppendLemmas

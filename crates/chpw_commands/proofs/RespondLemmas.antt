@@ -23,11 +23,6 @@ use Rattle.chpw_commands.specs.Stages.{Machine, append_fails, response_at, respo
 use Rattle.chpw_commands.specs.Following.{Runs, refusal_of}
 use Rattle.chpw_commands.proofs.AppendLemmas.{failed_of, told_of, io_is}
 
-response_said : (b : Bool) (ns : List ℕ) (v : Verdict) → b ≡ false → ns ≡ [] → (if b then Full else response_at ns v) ≡ Said v
-response_said true ns v e f = cc
-response_said false [] v e f = refl
-response_said false (n ∷ ns) v e f = cc
-
 is_below : (m n : ℕ) → m < n → (m == n) ≡ false
 is_below m n h = grind (arith, nat_tests)
 
@@ -44,8 +39,7 @@ module _ (d : Drill) (a : Asked) (x : Outcome) (k : RequestSink) (t : Held) (c :
   said_is =
       let here : IsDecided m.state a.now a.opened x.io_failed x.verdict = c.legal m.state r.state in
       let low : m.events < m.max_entries = rw (← r.events, ← r.max_entries) c.room in
-      ap (λ (v : Verdict). Said v) (here.verdict_is ∙ ap (λ (b : Bool). verdict m.state a.now a.opened b) same_io)
-      ∙ sym (response_said (m.events == m.max_entries) (missing m.state a.now a.opened) (verdict m.state a.now a.opened (append_fails m a)) (is_below m.events m.max_entries low) here.derived)
+      rw (is_below m.events m.max_entries low, here.derived) (ap (λ (v : Verdict). Said v) (here.verdict_is ∙ ap (λ (b : Bool). verdict m.state a.now a.opened b) same_io))
 
   pub runs_on : Runs (record { table = t; realm = d.realm; fails = d.fails && not x.io_failed }) (machine_after (response_to m a) m a)
   runs_on =
@@ -58,26 +52,20 @@ module _ (d : Drill) (a : Asked) (x : Outcome) (k : RequestSink) (t : Held) (c :
       } in
       subst (λ (y : Response). Runs (record { table = t; realm = d.realm; fails = d.fails && not x.io_failed }) (machine_after y m a)) said_is after
 
-response_needs : (b : Bool) (ns : List ℕ) (v : Verdict) → b ≡ false → ns ≢ [] → (if b then Full else response_at ns v) ≡ Need ns
-response_needs true ns v e f = cc
-response_needs false [] v e f = absurd (f refl)
-response_needs false (n ∷ ns) v e f = refl
-
-response_full : (b : Bool) (x : Response) → b ≡ true → (if b then Full else x) ≡ Full
-response_full true x e = refl
-response_full false x e = cc
+needed : (ns : List ℕ) (v : Verdict) → ns ≢ [] → response_at ns v ≡ Need ns
+needed [] v f = absurd (f refl)
+needed (n ∷ ns) v f = refl
 
 module _ (d : Drill) (a : Asked) (m : Machine) (r : Runs d m) where
   pub refused_is : (f : DecideFault) (x : Response) → IsFirst d.table (missing m.state a.now a.opened) f → refusal_of f ≡ Some x → x ≡ response_to m a
   refused_is fault.Full x first e =
       let full : m.events ≡ m.max_entries = sym r.events ∙ (first ∙ r.max_entries) in
       let this : x ≡ Full = cc in
-      this ∙ sym (response_full (m.events == m.max_entries) _ (is_full m.events m.max_entries full))
+      rw (is_full m.events m.max_entries full) this
   refused_is (fault.NeedKeys given) x first e =
       let low : m.events < m.max_entries = rw (← r.events, ← r.max_entries) first.0 in
       let this : x ≡ Need given = cc in
-      this ∙ (ap (λ (ns : List ℕ). Need ns) first.2
-      ∙ sym (response_needs (m.events == m.max_entries) (missing m.state a.now a.opened) (verdict m.state a.now a.opened (append_fails m a)) (is_below m.events m.max_entries low) first.1))
+      rw (is_below m.events m.max_entries low, needed (missing m.state a.now a.opened) (verdict m.state a.now a.opened (append_fails m a)) first.1) (this ∙ ap (λ (ns : List ℕ). Need ns) first.2)
   refused_is fault.Memory x first e = cc
 
   stays : (f : DecideFault) (x : Response) → refusal_of f ≡ Some x → machine_after x m a ≡ m

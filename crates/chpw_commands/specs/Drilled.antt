@@ -3,6 +3,7 @@ use Rattle.std.specs.Prelude.{ℕ, ◌+◌, ◌==◌, List, [], ◌∷◌, ◌++
 use Rattle.std.specs.Fmt.{decimal}
 use Rattle.std.specs.Option.{option_map_or}
 use Rattle.std.specs.List.{slice_split}
+use Rattle.chpw_commands.specs.declared.drill.Drilled.{Drilled}
 use Rattle.chpw_commands.specs.declared.drill.DrillFault.{DrillFault}
 use Rattle.chpw_commands.specs.declared.drill.DrillFault.TheVariants as fault
 use Rattle.chpw_commands.specs.Words.{◌>>=◌}
@@ -18,11 +19,7 @@ abbrev pub turn : Stage → List ℕ → Option Turn
 turn stage [] = Some (silent stage)
 turn stage (b ∷ bs) = line_of (realm_at stage) (b ∷ bs) >>= turn_line stage
 
--- what is printed up to the first bad line, and that line's number, if there is one
-pub record Drilled : Type 0 where
-  pub output : List ℕ
-  pub bad : Option ℕ
-
+-- this is printed before the rest
 abbrev pub behind : List ℕ → Drilled → Drilled
 behind printed rest = record { output = printed ++ rest.output; bad = rest.bad }
 

@@ -17,7 +17,6 @@ use client::ask;
 use ending::Ending;
 use std::alloc::AllocError;
 use std::fs::{File, Files};
-use std::io::{BufWriter, Write};
 use std::net::{Net, TcpListener, TcpStream};
 use std::process::ExitCode;
 use std::rt::Env;
@@ -106,16 +105,11 @@ where
     }
 }
 
-// The script on standard input; what it prints is written in few pieces.
+// The script on standard input.
 fn drill<'a>(rt: &(impl Input + Print + AllocGlobal)) -> Ending<'a> {
-    let Ok(mut writer) = BufWriter::new(rt.alloc(), io::writer(rt)) else {
-        return Ending::Early(DrillFault::Memory);
-    };
-    let ended = run_drill(rt.alloc(), &mut rt.reader(), &mut writer);
-    match (writer.flush(), ended) {
-        (Err(_), _) => Ending::Early(DrillFault::Write),
-        (Ok(()), Err(fault)) => Ending::Early(fault),
-        (Ok(()), Ok(())) => Ending::Good,
+    match run_drill(rt.alloc(), &mut rt.reader(), &mut io::writer(rt)) {
+        Ok(()) => Ending::Good,
+        Err(fault) => Ending::Early(fault),
     }
 }
 
