@@ -10,22 +10,22 @@ use Rattle.chpw_table.specs.Completing.{completed}
 use Rattle.chpw_decider.specs.Deciding.{AddsReceipt, IsCompletedFrom}
 use Rattle.chpw_answer.specs.declared.messages.Seal.{Seal}
 use Rattle.chpw_answer.specs.declared.messages.Incoming.{Incoming}
-use Rattle.chpw_answer.specs.declared.messages.OpensTo.{OpensTo}
-use Rattle.chpw_answer.specs.declared.messages.OpensTo.TheVariants as program
+use Rattle.chpw_answer.specs.declared.messages.OpenResult.{OpenResult}
+use Rattle.chpw_answer.specs.declared.messages.OpenResult.TheVariants as program
 use Rattle.chpw_answer.specs.declared.deciding.Decision.{Decision}
 use Rattle.chpw_answer.specs.declared.deciding.Decision.TheVariants as decision
 use Rattle.chpw_answer.specs.Requests.{Request, Opens, refused, opened, opened_under, password_in}
-use Rattle.chpw_answer.specs.Holding.{IsIncoming, IsOpensTo, answer_in}
+use Rattle.chpw_answer.specs.Holding.{IsIncoming, IsOpenResult, answer_in}
 use Rattle.chpw_answer.specs.Answers.{history_full, reply, AnswersRequest, IsAnswer}
 use Rattle.chpw_answer.specs.Trying.{IsDecision}
 use Rattle.chpw_answer.proofs.CompletingLemmas.{completed_on, under}
 
 module _ (error_frame : Answer → Moment → List ℕ) (private_frame : Seal → Answer → List ℕ → List ℕ) (full : Type 0) (words : List ℕ) (now : Moment) (old new : List Receipt) where
   -- what answers its request answers the message
-  pub answers_message : (opens : Opens → Type 0) (found : OpensTo) (i : Incoming) (bytes : List ℕ) → found ≡ program.Opened i → ((o : Opens) × opens o × IsOpensTo o found)
+  pub answers_message : (opens : Opens → Type 0) (found : OpenResult) (i : Incoming) (bytes : List ℕ) → found ≡ program.Opened i → ((o : Opens) × opens o × IsOpenResult o found)
       → ((q : Request) → IsIncoming q i → AnswersRequest error_frame private_frame full q words now old new bytes) → IsAnswer error_frame private_frame full opens words now old new bytes
-  answers_message opens found i bytes e (refused a, is, h) f = absurd (subst (λ (x : OpensTo). IsOpensTo (refused a) x) e h)
-  answers_message opens found i bytes e (opened q, is, h) f = (opened q, is, f q (subst (λ (x : OpensTo). IsOpensTo (opened q) x) e h))
+  answers_message opens found i bytes e (refused a, is, h) f = absurd (subst (λ (x : OpenResult). IsOpenResult (refused a) x) e h)
+  answers_message opens found i bytes e (opened q, is, h) f = (opened q, is, f q (subst (λ (x : OpenResult). IsOpenResult (opened q) x) e h))
 
   -- a full history
   pub answers_full : (password : List ℕ) (ready : Opened) (mid : List Receipt) (d : Decision) (r : Refusal) (q : Request) (bytes : List ℕ) → mid ≡ old → d ≡ decision.Full → IsDecision full d password ready now mid new

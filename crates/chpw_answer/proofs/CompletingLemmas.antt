@@ -1,9 +1,8 @@
 -- Keys derived in several steps.
-use Rattle.std.proofs.Common.{◌≡◌, ℕ, List, [], ◌∷◌, ◌++◌, Bool, true, false, Ok, Err, refl, sym, ◌∙◌, ap}
+use Rattle.std.proofs.Common.{◌≡◌, ℕ, List, [], ◌∷◌, ◌++◌, Bool, true, false, refl, sym, ◌∙◌, ap}
 use Rattle.std.proofs.lemmas.List.{append-nil}
-use Rattle.std.specs.Prelude.{Result, IfOk}
 use Rattle.chpw_table.specs.declared.request.Body.{Body}
-use Rattle.chpw_table.specs.declared.request.Body.TheVariants.{Ask, BadPrivate, BadData}
+use Rattle.chpw_table.specs.declared.request.Body.TheVariants.{Ask}
 use Rattle.chpw_table.specs.declared.request.Opened.{Opened}
 use Rattle.chpw_table.specs.Digests.{Derivation, has_count}
 use Rattle.chpw_table.specs.Derivations.{with_counts, keys_from}
@@ -11,7 +10,7 @@ use Rattle.chpw_table.specs.Requests.{target_of}
 use Rattle.chpw_table.proofs.DerivationLemmas.{with_counts_there, with_counts_new}
 use Rattle.chpw_table.specs.Completing.{completed, salt_of}
 use Rattle.chpw_decider.specs.Deciding.{IsCompletedFrom}
-use Rattle.chpw_answer.specs.Requests.{Request, Content, new_password, bad_private, bad_data, opened_under, password_in}
+use Rattle.chpw_answer.specs.Requests.{Request, Content, new_password, opened_under, password_in}
 
 with_none : (p s : List ℕ) (d : Derivation) → with_counts p s d [] ≡ d
 with_none p s d = append-nil d
@@ -31,8 +30,7 @@ twice p s (x ∷ xs) ys d = twice_at p s d (has_count d x) x xs ys (twice p s xs
 completed_twice_at : (p xs ys : List ℕ) (o : Opened) (b : Body) → completed p ys (completed p xs (record o { body = b })) ≡ completed p (xs ++ ys) (record o { body = b })
 completed_twice_at p xs ys o (Ask target digest) =
     ap (λ (d : Derivation). record o { body = Ask target (record digest { derived = d }) }) (twice p (salt_of (target_of (record o { body = Ask target digest }))) xs ys digest.derived)
-completed_twice_at p xs ys o BadPrivate = refl
-completed_twice_at p xs ys o BadData = refl
+completed_twice_at p xs ys o body = refl
 
 pub completed_twice : (p xs ys : List ℕ) (o : Opened) → completed p ys (completed p xs o) ≡ completed p (xs ++ ys) o
 completed_twice p xs ys o = completed_twice_at p xs ys o o.body
@@ -43,21 +41,15 @@ completed_on p a b c h g = (h.0 ++ g.0, g.1 ∙ (ap (completed p g.0) h.1 ∙ co
 completed_none_at : (p : List ℕ) (o : Opened) (b : Body) → record o { body = b } ≡ completed p [] (record o { body = b })
 completed_none_at p o (Ask target digest) =
     ap (λ (d : Derivation). record o { body = Ask target (record digest { derived = d }) }) (sym (with_none p (salt_of (target_of (record o { body = Ask target digest }))) digest.derived))
-completed_none_at p o BadPrivate = refl
-completed_none_at p o BadData = refl
+completed_none_at p o body = refl
 
 pub completed_none : (p : List ℕ) (o : Opened) → IsCompletedFrom p o o
 completed_none p o = ([], completed_none_at p o o.body)
 
 under_at : (counts : List ℕ) (q : Request) (a : Content) → completed (password_in a) counts (opened_under [] (record q { content = a })) ≡ opened_under counts (record q { content = a })
 under_at counts q (new_password target password) = refl
-under_at counts q bad_private = refl
-under_at counts q bad_data = refl
+under_at counts q content = refl
 
 -- keys derived of the request's own password
 pub under : (counts : List ℕ) (q : Request) → completed (password_in q.content) counts (opened_under [] q) ≡ opened_under counts q
 under counts q = under_at counts q q.content
-
-pub ok_map : {A E : Type 0} (P Q : A → Type 0) (r : Result A E) → ((x : A) → P x → Q x) → IfOk r P → IfOk r Q
-ok_map P Q (Ok x) f h = f x h
-ok_map P Q (Err e) f h = tt

@@ -24,7 +24,7 @@ use Rattle.chpw_table.specs.Step.{step, new_key, with_key, after}
 use Rattle.chpw_table.specs.History.{missing}
 use Rattle.chpw_table.proofs.WantedLemmas.{ascends_once, lacking_all}
 use Rattle.chpw_decider.proofs.CompletingLemmas.{has_all}
-use Rattle.chpw_answer.specs.Requests.{Request, Content, new_password, bad_private, bad_data, opened_under}
+use Rattle.chpw_answer.specs.Requests.{Request, Content, new_password, bad_data, opened_under}
 use Rattle.chpw_answer.specs.Judging.{judged, JudgedAlike}
 
 itself : (n : ℕ) → (n == n) ≡ true
@@ -74,37 +74,17 @@ rows a b c d e f g h i j r l x =
     else if r then Reused else if l then LastVersion else if x then Broken else Done
 
 last_reads : (r l x : Bool) → reads_keys (if r then Reused else if l then LastVersion else if x then Broken else Done) ≡ true
-last_reads true l x = refl
-last_reads false true x = refl
 last_reads false false true = refl
-last_reads false false false = refl
+last_reads r l x = refl
 
 rows_alike : (a b c d e f g h i j r r' l x y : Bool) → (reads_keys (rows a b c d e f g h i j r l y) ≡ true → r ≡ r') → rows a b c d e f g h i j r l x ≡ rows a b c d e f g h i j r' l x
-rows_alike true b c d e f g h i j r r' l x y k = refl
-rows_alike false true c d e f g h i j r r' l x y k = refl
-rows_alike false false true d e f g h i j r r' l x y k = refl
-rows_alike false false false true e f g h i j r r' l x y k = refl
-rows_alike false false false false true f g h i j r r' l x y k = refl
-rows_alike false false false false false true g h i j r r' l x y k = refl
-rows_alike false false false false false false true h i j r r' l x y k = refl
-rows_alike false false false false false false false true i j r r' l x y k = refl
-rows_alike false false false false false false false false true j r r' l x y k = refl
-rows_alike false false false false false false false false false true r r' l x y k = refl
 rows_alike false false false false false false false false false false r r' l x y k =
     ap (λ (z : Bool). rows false false false false false false false false false false z l x) (k (last_reads r l y))
+rows_alike a b c d e f g h i j r r' l x y k = refl
 
 done_reads : (a b c d e f g h i j r l x y : Bool) → is_done (rows a b c d e f g h i j r l x) ≡ true → reads_keys (rows a b c d e f g h i j r l y) ≡ true
-done_reads true b c d e f g h i j r l x y k = cc
-done_reads false true c d e f g h i j r l x y k = cc
-done_reads false false true d e f g h i j r l x y k = cc
-done_reads false false false true e f g h i j r l x y k = cc
-done_reads false false false false true f g h i j r l x y k = cc
-done_reads false false false false false true g h i j r l x y k = cc
-done_reads false false false false false false true h i j r l x y k = cc
-done_reads false false false false false false false true i j r l x y k = cc
-done_reads false false false false false false false false true j r l x y k = cc
-done_reads false false false false false false false false false true r l x y k = cc
 done_reads false false false false false false false false false false r l x y k = last_reads r l y
+done_reads a b c d e f g h i j r l x y k = cc
 
 -- a request with this digest
 module _ (s : State) (now : Moment) (base : Opened) (target : Option Target) (size classes : ℕ) where
@@ -185,8 +165,7 @@ judged_content : (s : State) (now : Moment) (q : Request) (content : Content) (c
     → (verdict s now (opened_under counts (record q { content = content })) io ≡ verdict s now (judged s (record q { content = content })) io)
     × (step s now (opened_under counts (record q { content = content })) io ≡ step s now (judged s (record q { content = content })) io)
 judged_content s now q (new_password target password) counts io none = judged_at s now (opened_under [] (record q { content = bad_data })) target _ _ password _ counts io none
-judged_content s now q bad_private counts io none = (refl, refl)
-judged_content s now q bad_data counts io none = (refl, refl)
+judged_content s now q content counts io none = (refl, refl)
 
 pub judged_alike : JudgedAlike
 judged_alike s now q counts io none = judged_content s now q q.content counts io none

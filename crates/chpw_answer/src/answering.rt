@@ -9,7 +9,7 @@ use crate::completing::derive_shown;
 use crate::deciding::{Decision, decide};
 use crate::drawing::Drawing;
 use crate::gate::{Gate, Spot};
-use crate::messages::{Incoming, Messages, OpensTo, Seal};
+use crate::messages::{Incoming, Messages, OpenResult, Seal};
 use chpw_decider::Decider;
 use chpw_table::{Moment, Verdict};
 use krb_protocol::Refusal;
@@ -67,8 +67,8 @@ pub fn answer_message<M: Messages, D: Decider, G: Gate>(
     ensures refused { OnErr result (AddsOne D.gathered D.follows decider.old decider.new) }
 {
     let incoming = match service.open(alloc, peer, message)? {
-        OpensTo::Opened(incoming) => incoming,
-        OpensTo::Refused(refusal) => {
+        OpenResult::Opened(incoming) => incoming,
+        OpenResult::Refused(refusal) => {
             let bytes = service.make_error(alloc, refusal, drawn.now)?;
             return Ok(Answered {
                 bytes,

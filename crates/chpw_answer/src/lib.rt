@@ -12,4 +12,4 @@ mod messages;
 pub use answering::{Answered, answer, answer_message};
 pub use drawing::Drawing;
 pub use gate::{Gate, NoGate, Spot};
-pub use messages::{Incoming, Messages, OpensTo, Seal};
+pub use messages::{Incoming, Messages, OpenResult, Seal};

@@ -5,7 +5,7 @@ ghost use Rattle.chpw_table.specs.Times.{IsMoment};
 ghost use Rattle.chpw_table.specs.Replies.{Answer, by_private};
 ghost use Rattle.chpw_answer.specs.declared.messages.Seal.{Seal};
 ghost use Rattle.chpw_answer.specs.Requests.{Opens};
-ghost use Rattle.chpw_answer.specs.Holding.{IsInTime, IsOpensTo, IsReplyTime, answer_in};
+ghost use Rattle.chpw_answer.specs.Holding.{IsInTime, IsOpenResult, IsReplyTime, answer_in};
 
 use chpw_rules::Items;
 use chpw_table::{Moment, Opened};
@@ -37,7 +37,7 @@ pub struct Incoming {
 
 /// What a message opens to.
 #[derive(Drop)]
-pub enum OpensTo {
+pub enum OpenResult {
     Refused(Refusal),
     Opened(Incoming),
 }
@@ -57,8 +57,8 @@ pub trait Messages {
     fn realm(&self) -> &[u8];
 
     /// Opens a message from this peer, an IPv4 address, high byte first.
-    fn open(&self, alloc: Global, peer: [u8; 4], message: &[u8]) -> Result<OpensTo, AllocError>
-        ensures opening { IfOk result (λ found. (o : Opens) × opens self.now peer message.now o × IsOpensTo o found) }
+    fn open(&self, alloc: Global, peer: [u8; 4], message: &[u8]) -> Result<OpenResult, AllocError>
+        ensures opening { IfOk result (λ found. (o : Opens) × opens self.now peer message.now o × IsOpenResult o found) }
         ensures times { IfOk result IsInTime };
 
     /// The reply that is a KRB-ERROR of this moment, whose microseconds are below 1,000,000.

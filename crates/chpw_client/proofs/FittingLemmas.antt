@@ -1,23 +1,22 @@
 -- The records of a request fit, and so do its messages; how long they are at most.
-use Rattle.std.proofs.Common.{◌≡◌, ℕ, ◌*◌, ◌≤◌, ◌<◌, true, false, Bool, List, [], ◌∷◌, length, map, leb, Option, Some, None, ap, arith, refl, subst, ℤ, pos, ◌≤ℤ◌}
-use Rattle.std.specs.Prelude.{is_some, if◌then◌else◌, IfSome, option_map}
+use Rattle.std.proofs.Common.{◌≡◌, ℕ, ◌*◌, ◌≤◌, ◌<◌, true, false, Bool, List, [], ◌∷◌, length, map, leb, Option, Some, None, arith, refl, subst}
+use Rattle.std.specs.Prelude.{if◌then◌else◌, IfSome, option_map}
 use Rattle.std.specs.List.{list_all}
 use Rattle.std.proofs.lemmas.Bool.{leb-true}
 use Rattle.std.proofs.lemmas.Int.{ints}
 use Rattle.krb_keys.specs.KeyUsages.{usage_ticket, usage_ap_req_authenticator, usage_krb_priv}
-use Rattle.krb_elements.specs.Shapes.{Value, ◌&◌, flags, general_string, kerberos_time, microseconds}
+use Rattle.krb_elements.specs.Shapes.{Value, ◌&◌, flags, general_string}
 use Rattle.krb_elements.specs.Texts.{each_is, fits, is_in_range, text}
 use Rattle.krb_elements.proofs.CompleteLemmas.{and_both, and_true, one_value}
 use Rattle.krb_elements.proofs.TextLemmas.{text_spells}
-use Rattle.krb_elements.proofs.TimeLemmas.{time_of_some}
 use Rattle.krb_protocol.specs.Numbers as protocol
 use Rattle.krb_der.specs.Types as types
 use Rattle.krb_der.specs.Values.{ap_req_value, authenticator_value, change_passwd_data_value, enc_krb_priv_part_value, enc_ticket_part_value, krb_priv_value, principal_name_value, ticket_value}
 use Rattle.krb_der.specs.declared.ticket.Ticket.{Ticket}
 use Rattle.krb_msgs.specs.Lengths.{longest_each}
 use Rattle.krb_msgs.specs.Making.{SpellsTicket, ap_req_of, priv_of, word_bytes}
-use Rattle.krb_msgs.proofs.LengthLemmas.{between}
-use Rattle.krb_msgs.proofs.FittingLemmas.{ap_reqs_fit, length-sealed, privs_fit, tickets_fit}
+use Rattle.krb_msgs.proofs.LengthLemmas.{micros_range, time_range}
+use Rattle.krb_msgs.proofs.FittingLemmas.{ap_reqs_fit, privs_fit, sealed_length, tickets_fit}
 use Rattle.krb_msgs.proofs.PartLemmas.{some_text}
 use Rattle.krb_msgs.proofs.WordLemmas.{length-word_bytes}
 use Rattle.krb_msgs.proofs.ReplyFittingLemmas.{priv_parts_fit}
@@ -26,7 +25,7 @@ use Rattle.chpw_rules.specs.Names.{is_component, is_name}
 use Rattle.chpw_rules.specs.declared.name.Name.{Name}
 use Rattle.chpw_client.specs.Questions.{IsAskable, Question}
 use Rattle.chpw_client.specs.Requests.{ap_req_text, authenticator, bit, change, longest_ap_req, longest_krb_priv, principal, priv_text, private_part, ticket, ticket_part, ticket_text}
-use Rattle.chpw_client.specs.Words.{key_of}
+use Rattle.chpw_client.specs.Words.{drawn_key}
 use Rattle.chpw_client.specs.declared.drawing.Drawing.{Drawing}
 use Rattle.chpw_client.proofs.LengthLemmas.{close_fits, closest, texts_are_close}
 
@@ -65,15 +64,6 @@ principal_range name = and_both (components_range name.parts) refl
 
 -- ---- numbers and times
 
-time_range : (t : ℤ) → pos 0 ≤ℤ t → t ≤ℤ pos 253402300799 → is_in_range kerberos_time t ≡ true
-time_range t low high = ap is_some (time_of_some t (omega (arith, ints, low), high))
-
-micros_range : (n : ℕ) → n < 1000000 → is_in_range microseconds (pos n) ≡ true
-micros_range n lt =
-    let low : pos 0 ≤ℤ pos n = omega (arith, ints) in
-    let high : pos n ≤ℤ pos 999999 = omega (arith, ints, lt) in
-    between (pos 0) (pos 999999) (pos n) low high
-
 initial_range : (initial : Bool) → is_in_range flags (if initial then bit protocol.ticket_initial else 0) ≡ true
 initial_range true = refl
 initial_range false = refl
@@ -98,7 +88,7 @@ ticket_part_close q w ask sizes =
 ticket_part_range : (q : Question) (w : Drawing) → IsAskable q
     → is_in_range types.enc_ticket_part (enc_ticket_part_value (ticket_part q w)) ≡ true
 ticket_part_range q w ask =
-    let start = time_range q.now.seconds ask.start (omega (arith, ints, ask.end)) in
+    let start = time_range q.now.seconds (omega (arith, ints, ask.start)) (omega (arith, ints, ask.end)) in
     let end = time_range _ (omega (arith, ints, ask.start)) (omega (arith, ints, ask.end)) in
     and_both (initial_range q.initial) (and_both (principal_range q.client) (and_both start (and_both end refl)))
 
@@ -131,8 +121,7 @@ ticket_close : (q : Question) (w : Drawing) → IsAskable q → HasSizes w
 ticket_close q w ask sizes =
     let v = enc_ticket_part_value (ticket_part q w) in
     let short = ticket_part_short q w ask sizes in
-    let len = length-sealed q.service.key usage_ticket (word_bytes w.ticket) (text types.enc_ticket_part v)
-    (sixteen w.ticket sizes.ticket) (some_text types.enc_ticket_part v refl) in
+    let len = sealed_length q.service.key usage_ticket (word_bytes w.ticket) types.enc_ticket_part v (sixteen w.ticket sizes.ticket) refl in
     omega (arith, len, short, ask.realm)
 
 -- ---- the AP-REQ
@@ -147,7 +136,7 @@ authenticator_close q w ask sizes =
 authenticator_range : (q : Question) (w : Drawing) → IsAskable q
     → is_in_range types.authenticator (authenticator_value (authenticator q w)) ≡ true
 authenticator_range q w ask =
-    let now = time_range q.now.seconds ask.start (omega (arith, ints, ask.end)) in
+    let now = time_range q.now.seconds (omega (arith, ints, ask.start)) (omega (arith, ints, ask.end)) in
     and_both (principal_range q.client) (and_both (micros_range q.now.micros ask.micros) (and_both now refl))
 
 pub authenticator_fits : (q : Question) (w : Drawing) → IsAskable q → HasSizes w
@@ -166,12 +155,12 @@ authenticator_short q w ask sizes =
 -- with any ticket that the ticket's text spells
 pub ap_req_fits : (q : Question) (w : Drawing) (t : Ticket) → IsAskable q → HasSizes w
     → SpellsTicket (ticket_text q w) t
-    → fits types.ap_req (ap_req_value (ap_req_of t (bit protocol.mutual_required) (authenticator q w) (key_of w.session) (word_bytes w.authenticator))) ≡ true
+    → fits types.ap_req (ap_req_value (ap_req_of t (bit protocol.mutual_required) (authenticator q w) (drawn_key w.session) (word_bytes w.authenticator))) ≡ true
 ap_req_fits q w t ask sizes spelled =
     let close = ticket_close q w ask sizes in
     let long = texts_are_close types.ticket (ticket_value (ticket q w)) (omega (arith, close)) in
     let short = authenticator_short q w ask sizes in
-    ap_reqs_fit (ticket q w) t (bit protocol.mutual_required) (authenticator q w) (key_of w.session) (word_bytes w.authenticator)
+    ap_reqs_fit (ticket q w) t (bit protocol.mutual_required) (authenticator q w) (drawn_key w.session) (word_bytes w.authenticator)
     (sixteen w.authenticator sizes.authenticator) (omega arith) (ticket_fits q w ask sizes) spelled
     (omega (arith, close, long, short))
 
@@ -185,14 +174,14 @@ ap_req_short q w t ask sizes spelled =
     let close : closest types.ticket (ticket_value t) ≤ 2010 =
     subst (λ x. closest types.ticket x ≤ 2010) same (ticket_close q w ask sizes) in
     let short = authenticator_short q w ask sizes in
-    let len = length-sealed (key_of w.session) usage_ap_req_authenticator (word_bytes w.authenticator) (text types.authenticator v)
-    (sixteen w.authenticator sizes.authenticator) (some_text types.authenticator v refl) in
-    let all = texts_are_close types.ap_req (ap_req_value (ap_req_of t (bit protocol.mutual_required) (authenticator q w) (key_of w.session) (word_bytes w.authenticator)))
+    let len = sealed_length (drawn_key w.session) usage_ap_req_authenticator (word_bytes w.authenticator) types.authenticator v
+    (sixteen w.authenticator sizes.authenticator) refl in
+    let all = texts_are_close types.ap_req (ap_req_value (ap_req_of t (bit protocol.mutual_required) (authenticator q w) (drawn_key w.session) (word_bytes w.authenticator)))
     (omega (arith, close, short, len)) in
     omega (arith, all, close, short, len)
 
 pub ap_req_some : (q : Question) (w : Drawing) (t : Ticket) → 0 < length (ap_req_text t q w)
-ap_req_some q w t = some_text types.ap_req (ap_req_value (ap_req_of t (bit protocol.mutual_required) (authenticator q w) (key_of w.session) (word_bytes w.authenticator))) refl
+ap_req_some q w t = some_text types.ap_req (ap_req_value (ap_req_of t (bit protocol.mutual_required) (authenticator q w) (drawn_key w.session) (word_bytes w.authenticator))) refl
 
 -- ---- the KRB-PRIV
 
@@ -243,17 +232,16 @@ private_part_short q ask =
     omega (arith, short, part)
 
 pub priv_fits : (q : Question) (w : Drawing) → IsAskable q → HasSizes w
-    → fits types.krb_priv (krb_priv_value (priv_of (private_part q) (key_of w.subkey) (word_bytes w.private))) ≡ true
+    → fits types.krb_priv (krb_priv_value (priv_of (private_part q) (drawn_key w.subkey) (word_bytes w.private))) ≡ true
 priv_fits q w ask sizes =
     let short = private_part_short q ask in
-    privs_fit (private_part q) (key_of w.subkey) (word_bytes w.private) (sixteen w.private sizes.private) (omega (arith, short))
+    privs_fit (private_part q) (drawn_key w.subkey) (word_bytes w.private) (sixteen w.private sizes.private) (omega (arith, short))
 
 pub priv_short : (q : Question) (w : Drawing) → IsAskable q → HasSizes w → length (priv_text q w) ≤ longest_krb_priv
 priv_short q w ask sizes =
     let v = enc_krb_priv_part_value (private_part q) in
     let short = private_part_short q ask in
-    let len = length-sealed (key_of w.subkey) usage_krb_priv (word_bytes w.private) (text types.enc_krb_priv_part v)
-    (sixteen w.private sizes.private) (some_text types.enc_krb_priv_part v refl) in
-    let all = texts_are_close types.krb_priv (krb_priv_value (priv_of (private_part q) (key_of w.subkey) (word_bytes w.private)))
+    let len = sealed_length (drawn_key w.subkey) usage_krb_priv (word_bytes w.private) types.enc_krb_priv_part v (sixteen w.private sizes.private) refl in
+    let all = texts_are_close types.krb_priv (krb_priv_value (priv_of (private_part q) (drawn_key w.subkey) (word_bytes w.private)))
     (omega (arith, short, len)) in
     omega (arith, all, short, len)

@@ -1,4 +1,3 @@
 pub mod FittingLemmas
 pub mod LengthLemmas
 pub mod RequestLemmas
-pub mod WordLemmas

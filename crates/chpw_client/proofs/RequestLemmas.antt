@@ -1,5 +1,5 @@
 -- The texts of a request are those of its records.
-use Rattle.std.proofs.Common.{◌≡◌, ◌∙◌, ℕ, true, List, refl, sym, subst, ap}
+use Rattle.std.proofs.Common.{◌≡◌, ◌∙◌, ℕ, true, List, refl, sym, subst}
 use Rattle.krb_elements.specs.Texts.{fits, text}
 use Rattle.krb_elements.proofs.TextLemmas.{text_spells}
 use Rattle.krb_der.specs.Types as types
@@ -12,7 +12,7 @@ use Rattle.krb_keys.specs.declared.key.Key.{Key}
 use Rattle.krb_msgs.specs.Making.{SpellsTicket, ap_req_of, priv_of, ticket_of, word_bytes}
 use Rattle.chpw_client.specs.Questions.{Question}
 use Rattle.chpw_client.specs.Requests.{ap_req_text, authenticator, bit, priv_text, private_part, ticket_part, ticket_text}
-use Rattle.chpw_client.specs.Words.{key_of}
+use Rattle.chpw_client.specs.Words.{drawn_key}
 use Rattle.chpw_client.specs.declared.drawing.Drawing.{Drawing}
 use Rattle.krb_protocol.specs.Numbers as protocol
 
@@ -25,24 +25,16 @@ ticket_taken made bytes fit is =
 -- the ticket's text, by its parts
 pub same_ticket : (q : Question) (w : Drawing) (part : EncTicketPart) (c bytes : List ℕ) → part ≡ ticket_part q w → c ≡ word_bytes w.ticket
     → bytes ≡ text types.ticket (ticket_value (ticket_of q.realm part q.service c)) → bytes ≡ ticket_text q w
-same_ticket q w part c bytes p words is =
-    is ∙ ap (λ (x : EncTicketPart). text types.ticket (ticket_value (ticket_of q.realm x q.service c))) p
-    ∙ ap (λ (x : List ℕ). text types.ticket (ticket_value (ticket_of q.realm (ticket_part q w) q.service x))) words
+same_ticket q w part c bytes p words is = is ∙ rw (p, words) refl
 
 -- the AP-REQ's text
 pub same_request : (q : Question) (w : Drawing) (t : Ticket) (a : Authenticator) (key : Key) (c bytes : List ℕ)
-    → a ≡ authenticator q w → key ≡ key_of w.session → c ≡ word_bytes w.authenticator
+    → a ≡ authenticator q w → key ≡ drawn_key w.session → c ≡ word_bytes w.authenticator
     → bytes ≡ text types.ap_req (ap_req_value (ap_req_of t (bit protocol.mutual_required) a key c)) → bytes ≡ ap_req_text t q w
-same_request q w t a key c bytes is_a is_key words is =
-    is ∙ ap (λ (x : Authenticator). text types.ap_req (ap_req_value (ap_req_of t (bit protocol.mutual_required) x key c))) is_a
-    ∙ ap (λ (x : Key). text types.ap_req (ap_req_value (ap_req_of t (bit protocol.mutual_required) (authenticator q w) x c))) is_key
-    ∙ ap (λ (x : List ℕ). text types.ap_req (ap_req_value (ap_req_of t (bit protocol.mutual_required) (authenticator q w) (key_of w.session) x))) words
+same_request q w t a key c bytes is_a is_key words is = is ∙ rw (is_a, is_key, words) refl
 
 -- the KRB-PRIV's text
 pub same_priv : (q : Question) (w : Drawing) (part : EncKrbPrivPart) (key : Key) (c bytes : List ℕ)
-    → part ≡ private_part q → key ≡ key_of w.subkey → c ≡ word_bytes w.private
+    → part ≡ private_part q → key ≡ drawn_key w.subkey → c ≡ word_bytes w.private
     → bytes ≡ text types.krb_priv (krb_priv_value (priv_of part key c)) → bytes ≡ priv_text q w
-same_priv q w part key c bytes is_part is_key words is =
-    is ∙ ap (λ (x : EncKrbPrivPart). text types.krb_priv (krb_priv_value (priv_of x key c))) is_part
-    ∙ ap (λ (x : Key). text types.krb_priv (krb_priv_value (priv_of (private_part q) x c))) is_key
-    ∙ ap (λ (x : List ℕ). text types.krb_priv (krb_priv_value (priv_of (private_part q) (key_of w.subkey) x))) words
+same_priv q w part key c bytes is_part is_key words is = is ∙ rw (is_part, is_key, words) refl

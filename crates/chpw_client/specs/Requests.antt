@@ -16,7 +16,7 @@ use Rattle.krb_msgs.specs.Making.{SpellsTicket, ap_req_of, priv_of, priv_part_of
 use Rattle.chpw_frame.specs.Framing.{framed, request_version}
 use Rattle.chpw_rules.specs.declared.name.Name.{Name}
 use Rattle.chpw_client.specs.Questions.{Question}
-use Rattle.chpw_client.specs.Words.{key_of}
+use Rattle.chpw_client.specs.Words.{drawn_key}
 use Rattle.chpw_client.specs.declared.drawing.Drawing.{Drawing}
 use Rattle.chpw_client.specs.declared.request.Sent.{Sent}
 
@@ -86,11 +86,11 @@ ticket_text q w = text types.ticket (ticket_value (ticket q w))
 -- with this ticket, and mutual authentication asked for
 abbrev pub ap_req_text : Ticket → Question → Drawing → List ℕ
 ap_req_text t q w = text types.ap_req (ap_req_value (ap_req_of t (bit protocol.mutual_required)
-    (authenticator q w) (key_of w.session) (word_bytes w.authenticator)))
+    (authenticator q w) (drawn_key w.session) (word_bytes w.authenticator)))
 
 abbrev pub priv_text : Question → Drawing → List ℕ
 priv_text q w = text types.krb_priv (krb_priv_value
-    (priv_of (private_part q) (key_of w.subkey) (word_bytes w.private)))
+    (priv_of (private_part q) (drawn_key w.subkey) (word_bytes w.private)))
 
 -- The most bytes of the two, of the longest names, realm and password: with six more they are no
 -- longer than a message.
@@ -104,7 +104,7 @@ longest_krb_priv = 61800
 pub record IsRequest (q : Question) (w : Drawing) (sent : Sent) : Type 0 where
   pub message : (t : Ticket) × SpellsTicket (ticket_text q w) t
       × (sent.message ≡ framed request_version (ap_req_text t q w) (priv_text q w))
-  pub session : sent.session ≡ key_of w.session
-  pub subkey : sent.subkey ≡ key_of w.subkey
+  pub session : sent.session ≡ drawn_key w.session
+  pub subkey : sent.subkey ≡ drawn_key w.subkey
   pub ctime : sent.ctime.0 ≡ q.now.seconds
   pub cusec : sent.cusec.0 ≡ q.now.micros

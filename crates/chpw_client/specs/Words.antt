@@ -9,5 +9,5 @@ use Rattle.chpw_client.specs.declared.drawing.Drawing.{Drawing}
 abbrev pub words_of : Drawing → List ℕ
 words_of w = w.session ++ (w.subkey ++ (w.ticket ++ (w.authenticator ++ w.private)))
 
-abbrev pub key_of : List ℕ → Key
-key_of words = Aes256 (word_bytes words)
+abbrev pub drawn_key : List ℕ → Key
+drawn_key words = Aes256 (word_bytes words)

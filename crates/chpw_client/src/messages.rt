@@ -3,7 +3,7 @@ ghost use Rattle.std.specs.Prelude.{◌≡◌, ◌≤◌, ◌<◌, ◌^◌, leng
 ghost use Rattle.krb_der.specs.declared.ticket.Ticket.{Ticket};
 ghost use Rattle.krb_msgs.specs.Making.{SpellsTicket};
 ghost use Rattle.chpw_client.specs.Requests.{ap_req_text, longest_ap_req, longest_krb_priv, priv_text, ticket_text};
-ghost use Rattle.chpw_client.specs.Words.{key_of as key_in};
+ghost use Rattle.chpw_client.specs.Words.{drawn_key};
 ghost use Rattle.chpw_client.specs.Questions.{IsAskable, question_of};
 
 use crate::asked::Asked;
@@ -18,8 +18,8 @@ use std::alloc::{AllocError, Global};
 const OPTIONS: u32 = 1 << (31 - MUTUAL_REQUIRED);
 
 /// The key of etype 18 of these words.
-pub(crate) fn key_of(words: [u32; 8]) -> Key
-    ensures value { result ≡ key_in words }
+pub(crate) fn drawn_key(words: [u32; 8]) -> Key
+    ensures value { result ≡ drawn_key words }
 {
     Key::Aes256(key_bytes(words))
 }
@@ -51,7 +51,7 @@ pub(crate) fn ap_req(
         &ticket,
         OPTIONS,
         &authenticator,
-        &key_of(words.session),
+        &drawn_key(words.session),
         word_bytes(words.authenticator),
     )
 }
@@ -71,7 +71,7 @@ pub(crate) fn krb_priv(
     make_priv(
         alloc,
         &part,
-        &key_of(words.subkey),
+        &drawn_key(words.subkey),
         word_bytes(words.private),
     )
 }

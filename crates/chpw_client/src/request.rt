@@ -13,13 +13,13 @@ ghost use Rattle.krb_msgs.specs.declared.service_keys.ServiceKey.{ServiceKey};
 
 use crate::asked::Asked;
 use crate::drawing::{Drawing, draw};
-use crate::messages::{ap_req, key_of, krb_priv};
+use crate::messages::{ap_req, drawn_key, krb_priv};
 use chpw_frame::join_request;
 use chpw_rules::{Config, Items, Name, ServiceRow};
 use chpw_serve::Words;
 use chpw_table::Moment;
 use krb_der::{KerberosTime, Microseconds};
-use krb_keys::{Key, key_of as key_of_row};
+use krb_keys::{Key, key_of};
 use krb_msgs::ServiceKey;
 use std::alloc::{AllocError, Global};
 
@@ -105,7 +105,7 @@ fn first_key(rows: &[ServiceRow]) -> ServiceKey
 {
     match rows {
         [] => unreachable!(),
-        [row, ..] => match key_of_row(row.etype, row.key.as_slice()) {
+        [row, ..] => match key_of(row.etype, row.key.as_slice()) {
             Ok(key) => ServiceKey {
                 kvno: row.kvno,
                 key,
@@ -124,8 +124,8 @@ fn request_of(alloc: Global, asked: &Asked<'_>, words: &Drawing) -> Result<Sent,
     let tail = krb_priv(alloc, asked, words)?;
     Ok(Sent {
         message: Items::of(join_request(alloc, &ap, &tail)?),
-        session: key_of(words.session),
-        subkey: key_of(words.subkey),
+        session: drawn_key(words.session),
+        subkey: drawn_key(words.subkey),
         ctime: KerberosTime(asked.now.seconds),
         cusec: Microseconds(asked.now.micros),
     })

@@ -1,17 +1,12 @@
 -- A message opens to one answer.
 use Rattle.std.proofs.Common.{◌≡◌, ℕ, List, Option, Some, None, option_map, Result, Ok, Err, refl, sym, ◌∙◌, ap, subst, false}
-use Rattle.std.specs.Prelude.{option_and_then, IfSome}
+use Rattle.std.specs.Prelude.{option_and_then}
 use Rattle.krb_keys.specs.Keys.{IsProtocolKey}
-use Rattle.krb_keys.specs.declared.key.Key.{Key}
 use Rattle.krb_elements.proofs.CompleteLemmas.{one_value}
-use Rattle.krb_der.specs.Types.{authenticator, change_passwd_data, encryption_key}
-use Rattle.krb_der.specs.Values.{authenticator_value, change_passwd_data_value, encryption_key_value}
-use Rattle.krb_der.specs.declared.authenticator.Authenticator.{Authenticator}
+use Rattle.krb_der.specs.Types.{change_passwd_data}
+use Rattle.krb_der.specs.Values.{change_passwd_data_value}
 use Rattle.krb_der.specs.declared.change_passwd_data.ChangePasswdData.{ChangePasswdData}
-use Rattle.krb_der.specs.declared.encrypted_data.EncryptionKey.{EncryptionKey}
 use Rattle.krb_der.specs.declared.principal_name.PrincipalName.{PrincipalName}
-use Rattle.krb_msgs.specs.Authenticators.{OpensAuthenticator}
-use Rattle.krb_msgs.specs.Accepted.{Accepts, IsSubkey, opened_of}
 use Rattle.krb_msgs.specs.ApExchange.{OpensAp}
 use Rattle.krb_msgs.specs.OneAnswer.{AreProtocolKeys, IsOne}
 use Rattle.krb_msgs.specs.declared.service_keys.ServiceKey.{ServiceKey}
@@ -19,9 +14,7 @@ use Rattle.krb_msgs.specs.declared.ap_exchange.ApOpened.{ApOpened}
 use Rattle.krb_msgs.specs.declared.private_message.Private.{Private}
 use Rattle.krb_msgs.specs.declared.fault.ApFault.{ApFault}
 use Rattle.krb_msgs.specs.declared.fault.PrivFault.{PrivFault}
-use Rattle.krb_msgs.proofs.AnswerLemmas.{ok_is}
-use Rattle.krb_msgs.proofs.OneAnswerLemmas.{ap_reqs_open_once, privs_open_once}
-use Rattle.krb_msgs.proofs.OpenedLemmas.{found_passes, held_passes, then_passes}
+use Rattle.krb_msgs.proofs.OneAnswerLemmas.{ap_reqs_open_once, privs_open_once, subkey_is_key}
 use Rattle.chpw_frame.specs.declared.change_data.ChangeData.{ChangeData}
 use Rattle.chpw_frame.specs.declared.change_data.ChangeTarget.{ChangeTarget}
 use Rattle.chpw_frame.specs.declared.fault.FrameFault.{FrameFault}
@@ -32,37 +25,6 @@ use Rattle.chpw_frame.proofs.ChangeLemmas.{asks_complete}
 use Rattle.chpw_answer.specs.Requests.{Content, new_password, bad_private, bad_data, opened}
 use Rattle.chpw_messages.specs.Opening.{Asks, IsAsked, IsContent, OpensAs, OpensFramed, OpensParts, request_of, stamp_in, target_in}
 use Rattle.chpw_messages.specs.OneOpening.{MessagesOpenOnce}
-use Rattle.chpw_messages.proofs.OctetLemmas.{AreBytes, holds_bytes, HoldsBytes, key_of_bytes}
-
--- ---- the subkey
-
-key_in_field : (field : Option EncryptionKey) (key : Key)
-    → IfSome (option_map encryption_key_value field) (HoldsBytes encryption_key) → IsSubkey field key → IsProtocolKey key
-key_in_field None key held h = absurd h
-key_in_field (Some field) key held h =
-    subst (λ (o : Option Key). IfSome o IsProtocolKey) h (key_of_bytes field.keytype field.keyvalue held.1.0)
-
--- the subkey of an AP-REQ that opened is a protocol key
-subkey_is_key : (realm : List ℕ) (keys : List ServiceKey) (bytes peer : List ℕ) (a : ApOpened)
-    → OpensAp realm keys bytes peer (Ok a) → IsProtocolKey a.subkey
-unfolding OpensAp OpensAuthenticator Accepts
-subkey_is_key realm keys bytes peer found h =
-    let presented = then_passes h in
-    let ticket = then_passes presented.2 in
-    let sealed = then_passes ticket.2 in
-    let accepts = found_passes (held_passes (held_passes sealed.2).1).1 in
-    let is : found ≡ opened_of ticket.0.0 ticket.0.1 sealed.0 accepts.0 = ok_is _ _ accepts.2 in
-    let part = then_passes sealed.1 in
-    let same : sealed.0 ≡ part.0 = ok_is _ _ (held_passes part.2).1 in
-    let plain = then_passes part.1 in
-    let unsealed = found_passes plain.1 in
-    let read = found_passes plain.2 in
-    let same_again : part.0 ≡ read.0 = ok_is _ _ read.2 in
-    let are : AreBytes plain.0 = subst AreBytes (sym (ok_is plain.0 unsealed.0 unsealed.2)) unsealed.1.1.4 in
-    let held = holds_bytes authenticator plain.0 (authenticator_value read.0) read.1 are in
-    let field : IsSubkey read.0.subkey accepts.0 = subst (λ (x : Authenticator). IsSubkey x.subkey accepts.0) (same ∙ same_again) accepts.1 in
-    subst (λ (o : ApOpened). IsProtocolKey o.subkey) (sym is)
-    (key_in_field read.0.subkey accepts.0 held.1.1.1.1.1.1.0 field)
 
 -- ---- what is asked
 

@@ -1,5 +1,5 @@
 -- A message that is cut short.
-use Rattle.std.proofs.Common.{◌≡◌, ℕ, suc, ◌+◌, ◌-◌, ◌<◌, ◌≤◌, List, ◌∷◌, ◌++◌, Bool, true, false, ◌&&◌, length, take, drop, Option, Some, None, Result, Ok, Err, refl, sym, ◌∙◌, ap, subst, arith, inl, inr}
+use Rattle.std.proofs.Common.{◌≡◌, ℕ, suc, ◌+◌, ◌-◌, ◌<◌, ◌≤◌, List, ◌∷◌, ◌++◌, true, false, ◌&&◌, length, take, drop, Option, Some, None, Result, Ok, Err, refl, sym, ◌∙◌, ap, subst, arith, inl, inr}
 use Rattle.std.specs.Prelude.{◌||◌, ◌==◌, nat_lt, if◌then◌else◌}
 use Rattle.std.specs.Int.{to_be_bytes, w16}
 use Rattle.std.specs.List.{list_any}
@@ -31,7 +31,7 @@ use Rattle.chpw_frame.proofs.Tests.{is_below, is_same, not_below, not_below_is}
 use Rattle.chpw_answer.specs.Requests.{Opens, Request, bad_data, opened}
 use Rattle.chpw_messages.specs.Opening.{IsContent, OpensAs, OpensFramed, OpensParts, OpensTo, request_of, stamp_in}
 use Rattle.chpw_messages.specs.Prefixes.{KrbPrivsFollow, PrefixesOpen, cut_short, shortened}
-use Rattle.chpw_messages.proofs.VersionLemmas.{cleared}
+use Rattle.chpw_frame.proofs.FramingLemmas.{cleared, neither}
 
 -- ---- the KRB-PRIV
 
@@ -85,7 +85,7 @@ follows realm version tail (Ok a) q h other =
     is_krb_priv a.subkey a.seq_number tail h.0 h.1
     (λ bad. other (same ∙ subst (λ (p : Result Private PrivFault). IsContent realm version p h.2.0) bad h.2.1))
 
--- ---- the frame
+-- ---- the frame, and the message
 
 -- less than a header
 no_header : (n : ℕ) (bytes : List ℕ) → n < 6 → first_fault request_versions false (shortened n bytes) ≡ Some BadLength
@@ -94,9 +94,21 @@ no_header n bytes lt =
     let short : nat_lt (length (shortened n bytes)) 6 ≡ true = is_below _ _ (omega (arith, size, lt)) in
     rw short refl
 
-first_not : (a b : Bool) → (a || b) ≡ false → a ≡ false
-first_not true b h = cc
-first_not false b h = refl
+opens_so : (realm : List ℕ) (keys : List ServiceKey) (peer bytes : List ℕ) (o : Opens) (f : Option FrameFault)
+    → first_fault request_versions false bytes ≡ f → OpensFramed realm keys peer bytes f o → OpensTo realm keys peer bytes o
+opens_so realm keys peer bytes o f is h = subst (λ (g : Option FrameFault). OpensFramed realm keys peer bytes g o) (sym is) h
+
+-- a request has no fault
+opened_has_none : (realm : List ℕ) (keys : List ServiceKey) (peer bytes : List ℕ) (q : Request) (f : Option FrameFault)
+    → first_fault request_versions false bytes ≡ f → OpensFramed realm keys peer bytes f (opened q)
+    → (first_fault request_versions false bytes ≡ None) × OpensParts realm keys peer (version_of bytes) (ap_of bytes) (tail_of bytes) (opened q)
+opened_has_none realm keys peer bytes q (Some fault) is h = absurd cc
+opened_has_none realm keys peer bytes q None is h = (is, h)
+
+pub krb_privs_follow : KrbPrivsFollow
+krb_privs_follow realm keys peer bytes q h other =
+    let parts = (opened_has_none realm keys peer bytes q _ refl h).1 in
+    follows realm (version_of bytes) (tail_of bytes) parts.0 q parts.2 other
 
 -- so many more than a header
 abbrev six : ℕ → ℕ
@@ -119,7 +131,7 @@ module _ (hi lo c d e f : ℕ) (rest : List ℕ) (m : ℕ) (le : m ≤ length re
   fault_of_left fit none =
       let clear = cleared (is_whole whole) (list_any (λ (v : ℕ). v == version_of whole) request_versions)
       ((true && (ap_length_of whole == 0)) || is_past_end whole) none in
-      let some_ap = first_not (ap_length_of whole == 0) (is_past_end whole) clear.2 in
+      let some_ap = (neither (ap_length_of whole == 0) (is_past_end whole) clear.2).0 in
       let header : nat_lt (length left) 6 ≡ false = not_below (length left) 6 (omega (arith, size)) in
       let stated = is_same (number_at left 0) (length left) (from_be_bytes-to_be_bytes_2 (six m) (omega (arith, fit)) ∙ sym size) in
       let past : is_past_end left ≡ nat_lt (six m) (6 + ap_length_of whole) = ap (λ (n : ℕ). nat_lt n (6 + ap_length_of whole)) size in
@@ -133,51 +145,28 @@ module _ (hi lo c d e f : ℕ) (rest : List ℕ) (m : ℕ) (le : m ≤ length re
       ap (λ (n : ℕ). drop (ap_length_of whole) (take n rest)) (let e : m ≡ ap_length_of whole + (m - ap_length_of whole) = omega (arith, enough) in e)
       ∙ drop-take (ap_length_of whole) (m - ap_length_of whole) rest
 
--- ---- the message
-
-opens_so : (realm : List ℕ) (keys : List ServiceKey) (peer bytes : List ℕ) (o : Opens) (f : Option FrameFault)
-    → first_fault request_versions false bytes ≡ f → OpensFramed realm keys peer bytes f o → OpensTo realm keys peer bytes o
-opens_so realm keys peer bytes o f is h = subst (λ (g : Option FrameFault). OpensFramed realm keys peer bytes g o) (sym is) h
-
--- a request has no fault
-opened_has_none : (realm : List ℕ) (keys : List ServiceKey) (peer bytes : List ℕ) (q : Request) (f : Option FrameFault)
-    → first_fault request_versions false bytes ≡ f → OpensFramed realm keys peer bytes f (opened q)
-    → (first_fault request_versions false bytes ≡ None) × OpensParts realm keys peer (version_of bytes) (ap_of bytes) (tail_of bytes) (opened q)
-opened_has_none realm keys peer bytes q (Some fault) is h = absurd cc
-opened_has_none realm keys peer bytes q None is h = (is, h)
-
-pub krb_privs_follow : KrbPrivsFollow
-krb_privs_follow realm keys peer bytes q h other =
-    let parts = (opened_has_none realm keys peer bytes q _ refl h).1 in
-    follows realm (version_of bytes) (tail_of bytes) parts.0 q parts.2 other
-
--- a header and more
-header_and_more : (realm : List ℕ) (keys : List ServiceKey) (peer : List ℕ) (hi lo c d e f : ℕ) (rest : List ℕ) (q : Request) (m : KrbPriv) (k : ℕ)
-    → OpensTo realm keys peer (hi ∷ lo ∷ c ∷ d ∷ e ∷ f ∷ rest) (opened q)
-    → Spells krb_priv (tail_of (hi ∷ lo ∷ c ∷ d ∷ e ∷ f ∷ rest)) (krb_priv_value m)
-    → six k ≤ longest → k < length rest
-    → OpensTo realm keys peer (shortened (six k) (hi ∷ lo ∷ c ∷ d ∷ e ∷ f ∷ rest)) (cut_short (six k) (hi ∷ lo ∷ c ∷ d ∷ e ∷ f ∷ rest) q)
-header_and_more realm keys peer hi lo c d e f rest q m k h spelled fit lt =
-    let bytes : List ℕ = hi ∷ lo ∷ c ∷ d ∷ e ∷ f ∷ rest in
-    let short : List ℕ = shortened (six k) bytes in
-    let whole = opened_has_none realm keys peer bytes q _ refl h in
-    let le : k ≤ length rest = omega (arith, lt) in
-    let fault = fault_of_left hi lo c d e f rest k le fit whole.0 in
-    let header : nat_lt (six k) 6 ≡ false = not_below (six k) 6 (omega arith) in
-    elim (same_or_not (nat_lt (six k) (6 + ap_length_of bytes))) [
-      | inl cut ↦ opens_so realm keys peer short _ (Some BadParts) (fault ∙ rw cut refl) (rw (header, cut) refl)
-      | inr enough ↦
-          let ap_le : ap_length_of bytes ≤ k = (let n = not_below_is _ _ enough in omega (arith, n)) in
-          let behind = length-drop (ap_length_of bytes) rest in
-          let parts = whole.1 in
-          let less = less_opens realm (version_of bytes) (tail_of bytes) (k - ap_length_of bytes) m parts.0 q spelled (omega (arith, behind, ap_le, lt)) parts.2 in
-          let opens : OpensParts realm keys peer (version_of bytes) (ap_of short) (tail_of short) (opened (without_content q)) = (
-            parts.0,
-            subst (λ (b : List ℕ). OpensAp realm keys b peer parts.0) (sym (same_ap hi lo c d e f rest k le ap_le)) parts.1,
-            subst (λ (b : List ℕ). OpensAs realm (version_of bytes) b parts.0 (opened (without_content q))) (sym (less_tail hi lo c d e f rest k le ap_le)) less,
-          ) in
-          opens_so realm keys peer short _ None (fault ∙ rw enough refl) (rw (header, enough) opens)
-    ]
+  -- it opens to what is cut short
+  left_opens : (realm : List ℕ) (keys : List ServiceKey) (peer : List ℕ) (q : Request) (k : KrbPriv) → m < length rest → six m ≤ longest
+      → OpensTo realm keys peer whole (opened q) → Spells krb_priv (tail_of whole) (krb_priv_value k)
+      → OpensTo realm keys peer left (cut_short (six m) whole q)
+  left_opens realm keys peer q k lt fit h spelled =
+      let is = opened_has_none realm keys peer whole q _ refl h in
+      let fault = fault_of_left fit is.0 in
+      let header : nat_lt (six m) 6 ≡ false = not_below (six m) 6 (omega arith) in
+      elim (same_or_not (nat_lt (six m) (6 + ap_length_of whole))) [
+        | inl cut ↦ opens_so realm keys peer left _ (Some BadParts) (fault ∙ rw cut refl) (rw (header, cut) refl)
+        | inr enough ↦
+            let ap_le : ap_length_of whole ≤ m = (let n = not_below_is _ _ enough in omega (arith, n)) in
+            let behind = length-drop (ap_length_of whole) rest in
+            let parts = is.1 in
+            let less = less_opens realm (version_of whole) (tail_of whole) (m - ap_length_of whole) k parts.0 q spelled (omega (arith, behind, ap_le, lt)) parts.2 in
+            let opens : OpensParts realm keys peer (version_of whole) (ap_of left) (tail_of left) (opened (without_content q)) = (
+              parts.0,
+              subst (λ (b : List ℕ). OpensAp realm keys b peer parts.0) (sym (same_ap ap_le)) parts.1,
+              subst (λ (b : List ℕ). OpensAs realm (version_of whole) b parts.0 (opened (without_content q))) (sym (less_tail ap_le)) less,
+            ) in
+            opens_so realm keys peer left _ None (fault ∙ rw enough refl) (rw (header, enough) opens)
+      ]
 
 -- at least a header
 more_than_header : (realm : List ℕ) (keys : List ServiceKey) (peer bytes : List ℕ) (q : Request) (m : KrbPriv) (k : ℕ)
@@ -185,7 +174,7 @@ more_than_header : (realm : List ℕ) (keys : List ServiceKey) (peer bytes : Lis
     → length bytes ≤ longest → six k < length bytes
     → OpensTo realm keys peer (shortened (six k) bytes) (cut_short (six k) bytes q)
 more_than_header realm keys peer (hi ∷ lo ∷ c ∷ d ∷ e ∷ f ∷ rest) q m k h spelled fit lt =
-    header_and_more realm keys peer hi lo c d e f rest q m k h spelled (omega (arith, fit, lt)) (omega (arith, lt))
+    left_opens hi lo c d e f rest k (omega (arith, lt)) realm keys peer q m (omega (arith, lt)) (omega (arith, fit, lt)) h spelled
 more_than_header realm keys peer bytes q m k h spelled fit lt = absurd (omega (arith, lt))
 
 pub prefixes_open : PrefixesOpen

@@ -1,5 +1,6 @@
 -- A reply opens to what it was made of.
-use Rattle.std.proofs.Common.{◌≡◌, ℕ, ◌+◌, ◌≤◌, List, [], ◌∷◌, ◌++◌, true, length, take, drop, None, Ok, refl, sym, subst, arith, lit<}
+use Rattle.std.proofs.Common.{◌≡◌, ℕ, ◌+◌, ◌<◌, ◌≤◌, List, [], ◌∷◌, true, length, take, drop, None, Ok, refl, sym, subst, arith, lit<}
+use Rattle.std.specs.Prelude.{All}
 use Rattle.std.specs.Int.{to_be_bytes, w16}
 use Rattle.std.proofs.lemmas.List.{length-drop, length-take-le}
 use Rattle.krb_keys.specs.declared.key.Key.{Key}
@@ -10,6 +11,7 @@ use Rattle.krb_der.specs.Types.{enc_ap_rep_part, enc_krb_priv_part, krb_error}
 use Rattle.krb_der.specs.Values.{enc_ap_rep_part_value, enc_krb_priv_part_value, krb_error_value}
 use Rattle.krb_msgs.specs.Making.{ap_rep_of, priv_of, word_bytes}
 use Rattle.krb_msgs.specs.Replies.{OpensReply}
+use Rattle.krb_msgs.proofs.OctetLemmas.{both_are, each_is, text_bytes, two_bytes, words_are}
 use Rattle.krb_msgs.proofs.OpeningLemmas.{errors_open, replies_open}
 use Rattle.krb_msgs.proofs.WordLemmas.{length-word_bytes}
 use Rattle.chpw_frame.specs.Framing.{framed, reply_version, reply_versions, tail_of}
@@ -18,9 +20,7 @@ use Rattle.chpw_frame.proofs.FramingLemmas.{framed_is_whole}
 use Rattle.chpw_table.specs.Replies.{Answer, by_error, by_private}
 use Rattle.chpw_messages.specs.Replies.{ap_rep_part, ap_rep_text, error_record, priv_part, priv_text}
 use Rattle.chpw_messages.specs.RepliesOpen.{ErrorFramesOpen, PrivateFramesOpen, Tells, reply_in}
-use Rattle.chpw_messages.proofs.OctetLemmas.{AreBytes}
 use Rattle.chpw_messages.proofs.ReplyLemmas.{ap_rep_fits, ap_rep_part_fits, ap_rep_short, error_fits, error_short, priv_fits, priv_part_fits, priv_short}
-use Rattle.chpw_messages.proofs.TextLemmas.{both_are, each_is, text_bytes, two_bytes, words_are}
 
 -- a frame of two parts says what they do
 tells : (session subkey : Key) (ctime : KerberosTime) (cusec : Microseconds) (front tail : List ℕ) (a : Answer)
@@ -43,7 +43,7 @@ error_frames_open session subkey ctime cusec realm code error words now is_realm
     (errors_open session subkey ctime cusec m code words
     (error_fits realm code error words now is_realm moment micros range le) (refl, refl) lt refl)
 
-loopback_bytes : AreBytes (127 ∷ 0 ∷ 0 ∷ 1 ∷ [])
+loopback_bytes : All (λ b. b < 256) (127 ∷ 0 ∷ 0 ∷ 1 ∷ [])
 loopback_bytes = each_is (127 ∷ 0 ∷ 0 ∷ 1 ∷ []) (lit< tt, (lit< tt, (lit< tt, (lit< tt, tt))))
 
 pub private_frames_open : PrivateFramesOpen
@@ -58,7 +58,7 @@ private_frames_open seal code words drawn times lt le are nine =
     let fit = ap_rep_part_fits seal drawn times in
     let private_fit = priv_part_fits a drawn le in
     let plain = text_bytes enc_ap_rep_part (enc_ap_rep_part_value part) refl (tt, (tt, (tt, (tt, tt)))) in
-    let said : AreBytes (to_be_bytes w16 code ++ words) = both_are (to_be_bytes w16 code) words (two_bytes code) are in
+    let said = both_are (to_be_bytes w16 code) words (two_bytes code) are in
     let private_plain = text_bytes enc_krb_priv_part (enc_krb_priv_part_value private) refl
     (said, (tt, (tt, (tt, ((tt, (loopback_bytes, tt)), (tt, tt)))))) in
     let short = ap_rep_short seal drawn first first16 in

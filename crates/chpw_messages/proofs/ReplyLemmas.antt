@@ -1,20 +1,17 @@
 -- Replies can be made: their records fit, and they are short.
 use Rattle.std.proofs.Common.{◌≡◌, ℕ, ◌≤◌, ◌<◌, ◌^◌, true, List, ◌++◌, length, length-append, sym, ◌∙◌, subst, ap, arith, refl, ℤ, pos, negsuc, ◌≤ℤ◌}
-use Rattle.std.specs.Prelude.{is_some}
 use Rattle.std.specs.Int.{to_be_bytes, w16}
 use Rattle.std.proofs.lemmas.Int.{ints}
 use Rattle.krb_keys.specs.KeyUsages.{usage_ap_rep_enc_part, usage_krb_priv}
-use Rattle.krb_elements.specs.Shapes.{int32, kerberos_time, microseconds}
+use Rattle.krb_elements.specs.Shapes.{int32}
 use Rattle.krb_elements.specs.Texts.{fits, is_in_range, text}
-use Rattle.krb_elements.proofs.TimeLemmas.{time_of_some}
 use Rattle.krb_der.specs.Types.{ap_rep, enc_ap_rep_part, enc_krb_priv_part, krb_error, krb_priv}
 use Rattle.krb_der.specs.Values.{ap_rep_value, enc_ap_rep_part_value, enc_krb_priv_part_value, krb_error_value, krb_priv_value}
 use Rattle.krb_der.specs.declared.krb_error.KrbError.{KrbError}
 use Rattle.krb_msgs.specs.Making.{ap_rep_of, priv_of}
 use Rattle.krb_msgs.specs.ReplyFitting.{IsShort}
-use Rattle.krb_msgs.proofs.LengthLemmas.{between, texts_are_short}
-use Rattle.krb_msgs.proofs.FittingLemmas.{ap_reps_fit, length-sealed, privs_fit}
-use Rattle.krb_msgs.proofs.PartLemmas.{some_text}
+use Rattle.krb_msgs.proofs.LengthLemmas.{between, micros_range, texts_are_short, time_range}
+use Rattle.krb_msgs.proofs.FittingLemmas.{ap_reps_fit, privs_fit, sealed_length}
 use Rattle.krb_msgs.proofs.ReplyFittingLemmas.{ap_rep_parts_fit, errors_fit, priv_parts_fit}
 use Rattle.chpw_table.specs.declared.times.Moment.{Moment}
 use Rattle.chpw_table.specs.Times.{IsMoment}
@@ -23,15 +20,6 @@ use Rattle.chpw_answer.specs.declared.messages.Seal.{Seal}
 use Rattle.chpw_answer.specs.Holding.{IsReplyTime}
 use Rattle.chpw_messages.specs.Service.{IsRealm}
 use Rattle.chpw_messages.specs.Replies.{ap_rep_part, error_record, priv_part, seq_number_of}
-
-time_range : (t : ℤ) → negsuc 62167219199 ≤ℤ t → t ≤ℤ pos 253402300799 → is_in_range kerberos_time t ≡ true
-time_range t low high = ap is_some (time_of_some t (low, high))
-
-micros_range : (n : ℕ) → n < 1000000 → is_in_range microseconds (pos n) ≡ true
-micros_range n lt =
-    let low : pos 0 ≤ℤ pos n = omega (arith, ints) in
-    let high : pos n ≤ℤ pos 999999 = omega (arith, ints, lt) in
-    between (pos 0) (pos 999999) (pos n) low high
 
 -- ---- a KRB-ERROR
 
@@ -81,8 +69,7 @@ pub ap_rep_short : (seal : Seal) (words c : List ℕ) → length c ≡ 16
     → length (text ap_rep (ap_rep_value (ap_rep_of (ap_rep_part seal words) seal.session c))) ≤ 500
 ap_rep_short seal words c c16 =
     let v = enc_ap_rep_part_value (ap_rep_part seal words) in
-    let plain : List ℕ = text enc_ap_rep_part v in
-    let len = length-sealed seal.session usage_ap_rep_enc_part c plain c16 (some_text enc_ap_rep_part v refl) in
+    let len = sealed_length seal.session usage_ap_rep_enc_part c enc_ap_rep_part v c16 refl in
     let part = texts_are_short enc_ap_rep_part v in
     let short = texts_are_short ap_rep (ap_rep_value (ap_rep_of (ap_rep_part seal words) seal.session c)) in
     omega (arith, len, part, short)
@@ -103,8 +90,7 @@ pub priv_short : (seal : Seal) (a : Answer) (words c : List ℕ) → length a.te
     → length (text krb_priv (krb_priv_value (priv_of (priv_part a words) seal.subkey c))) ≤ 1000
 priv_short seal a words c le c16 =
     let v = enc_krb_priv_part_value (priv_part a words) in
-    let plain : List ℕ = text enc_krb_priv_part v in
-    let len = length-sealed seal.subkey usage_krb_priv c plain c16 (some_text enc_krb_priv_part v refl) in
+    let len = sealed_length seal.subkey usage_krb_priv c enc_krb_priv_part v c16 refl in
     let part = texts_are_short enc_krb_priv_part v in
     let short = texts_are_short krb_priv (krb_priv_value (priv_of (priv_part a words) seal.subkey c)) in
     omega (arith, len, part, short, length-append (to_be_bytes w16 a.code) a.text, le)

@@ -6,9 +6,9 @@ use Rattle.krb_msgs.specs.declared.private_message.Private.{Private}
 use Rattle.krb_msgs.specs.declared.fault.PrivFault.{PrivFault}
 use Rattle.krb_msgs.specs.PrivateMessages.{OpensPriv}
 use Rattle.chpw_table.specs.declared.request.Target.{Target}
-use Rattle.chpw_answer.specs.declared.messages.OpensTo as program
+use Rattle.chpw_answer.specs.declared.messages.OpenResult as program
 use Rattle.chpw_answer.specs.Requests.{Content, Opens, body_under, password_in}
-use Rattle.chpw_answer.specs.Holding.{IsOpensTo}
+use Rattle.chpw_answer.specs.Holding.{IsOpenResult}
 use Rattle.chpw_messages.specs.declared.content.Content as held
 use Rattle.chpw_messages.specs.Opening.{IsContent, OpensParts, OpensTo, stamp_in}
 
@@ -24,10 +24,10 @@ HoldsContent realm version a tail h =
     × ((content : Content) × IsContent realm version private content × IsHeld content (stamp_in private) h)
 
 -- the program holds what these parts open to
-abbrev pub HoldsParts : List ℕ → List ServiceKey → List ℕ → ℕ → List ℕ → List ℕ → program.OpensTo → Type 0
+abbrev pub HoldsParts : List ℕ → List ServiceKey → List ℕ → ℕ → List ℕ → List ℕ → program.OpenResult → Type 0
 HoldsParts realm keys peer version ap_req tail found =
-    (o : Opens) × OpensParts realm keys peer version ap_req tail o × IsOpensTo o found
+    (o : Opens) × OpensParts realm keys peer version ap_req tail o × IsOpenResult o found
 
 -- the program holds what a message opens to
-abbrev pub HoldsMessage : List ℕ → List ServiceKey → List ℕ → List ℕ → program.OpensTo → Type 0
-HoldsMessage realm keys peer bytes found = (o : Opens) × OpensTo realm keys peer bytes o × IsOpensTo o found
+abbrev pub HoldsMessage : List ℕ → List ServiceKey → List ℕ → List ℕ → program.OpenResult → Type 0
+HoldsMessage realm keys peer bytes found = (o : Opens) × OpensTo realm keys peer bytes o × IsOpenResult o found

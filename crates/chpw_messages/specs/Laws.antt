@@ -15,7 +15,7 @@ use Rattle.krb_msgs.specs.Accepted.{opened_of}
 use Rattle.krb_msgs.specs.PrivateMessages.{MayFollow, private_of}
 use Rattle.krb_msgs.specs.declared.service_keys.ServiceKey.{ServiceKey}
 use Rattle.chpw_frame.specs.declared.change_data.ChangeData.{ChangeData}
-use Rattle.chpw_frame.specs.Framing.{framed, request_version}
+use Rattle.chpw_frame.specs.Framing.{framed, header_length, request_version}
 use Rattle.chpw_frame.specs.Stream.{longest}
 use Rattle.chpw_frame.specs.ChangeData.{change_value}
 use Rattle.chpw_answer.specs.Requests.{Opens, Request, opened, new_password}
@@ -50,6 +50,6 @@ PartsOpen = (realm : List ℕ) (keys : List ServiceKey) (peer : List ℕ) (reque
 -- parts in a frame, as long as a frame may be, open as they do
 abbrev pub FramesOpen : Type 0
 FramesOpen = (realm : List ℕ) (keys : List ServiceKey) (peer ap tail : List ℕ) (o : Opens)
-    → 0 < length ap → 6 + length ap + length tail ≤ longest
+    → 0 < length ap → header_length + length ap + length tail ≤ longest
     → OpensParts realm keys peer request_version ap tail o
     → OpensTo realm keys peer (framed request_version ap tail) o

@@ -6,7 +6,7 @@ ghost use Rattle.chpw_messages.specs.Holds.{HoldsMessage, HoldsParts};
 
 use crate::content::open_content;
 use crate::incoming::incoming_of;
-use chpw_answer::OpensTo;
+use chpw_answer::OpenResult;
 use chpw_frame::{Parts, split_request};
 use krb_msgs::{OpenError, ServiceKey, open_ap};
 use std::alloc::{AllocError, Global};
@@ -18,12 +18,12 @@ pub(crate) fn open_message(
     keys: &[ServiceKey],
     peer: [u8; 4],
     message: &[u8],
-) -> Result<OpensTo, AllocError>
+) -> Result<OpenResult, AllocError>
     ensures opening { IfOk result (HoldsMessage realm.now keys.now peer message.now) }
     ensures times { IfOk result IsInTime }
 {
     match split_request(message) {
-        Err(fault) => Ok(OpensTo::Refused(fault.refusal())),
+        Err(fault) => Ok(OpenResult::Refused(fault.refusal())),
         Ok(parts) => open_parts(alloc, realm, keys, peer, parts),
     }
 }
@@ -35,7 +35,7 @@ fn open_parts(
     keys: &[ServiceKey],
     peer: [u8; 4],
     parts: Parts<'_>,
-) -> Result<OpensTo, AllocError>
+) -> Result<OpenResult, AllocError>
     requires version { parts.version ≡ request_version }
     ensures opening { IfOk result (HoldsParts realm.now keys.now peer
         parts.entry.version parts.entry.ap.now parts.entry.tail.now) }
@@ -43,10 +43,10 @@ fn open_parts(
 {
     match open_ap(alloc, realm, keys, parts.ap, peer) {
         Err(OpenError::Memory) => Err(AllocError),
-        Err(OpenError::Fault(fault)) => Ok(OpensTo::Refused(fault.refusal())),
+        Err(OpenError::Fault(fault)) => Ok(OpenResult::Refused(fault.refusal())),
         Ok(opened) => {
             let content = open_content(alloc, realm, &opened, parts.tail)?;
-            Ok(OpensTo::Opened(incoming_of(alloc, opened, content)?))
+            Ok(OpenResult::Opened(incoming_of(alloc, opened, content)?))
         }
     }
 }

@@ -10,7 +10,7 @@ ghost use Rattle.chpw_messages.specs.Service.{configured, held};
 use crate::opening::open_message;
 use crate::private_reply::private_reply;
 use crate::replies::error_reply;
-use chpw_answer::{Messages, OpensTo, Seal};
+use chpw_answer::{Messages, OpenResult, Seal};
 use chpw_rules::{Config, Items, ServiceRow};
 use chpw_table::Moment;
 use krb_keys::{BadKey, Key, key_of};
@@ -104,7 +104,7 @@ impl Messages for Service {
         self.realm.as_slice()
     }
 
-    fn open(&self, alloc: Global, peer: [u8; 4], message: &[u8]) -> Result<OpensTo, AllocError> {
+    fn open(&self, alloc: Global, peer: [u8; 4], message: &[u8]) -> Result<OpenResult, AllocError> {
         open_message(alloc, self.realm.as_slice(), &self.keys, peer, message)
     }
 

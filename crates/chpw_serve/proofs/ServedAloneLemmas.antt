@@ -49,14 +49,12 @@ module _ {C X : Type 0} (error_frame : Answer → Moment → List ℕ) (private_
 
   end_grows : (e : Ended) (n : ℕ) (last final : StreamState C X Kept) → EndsAlone e n last final → Grows last.decider final.decider
   unfolding Grows
-  end_grows end.Input n last final (less, h) = stays last.decider final.decider h.1.1
-  end_grows end.CutOff n last final (less, h) = stays last.decider final.decider h.1.1
-  end_grows end.ReadFault n last final (less, h) = stays last.decider final.decider h.1.1
   end_grows end.TooLong n last final (less, h) = stays last.decider final.decider h.2
   end_grows end.WriteFault n last final (less, inl h) = (answer_grows _ h.0.text h.0.words h.0.moment last.decider.receipts final.decider.receipts h.0.reply h.2.answer.reply, h.2.answer.goes_on)
   end_grows end.WriteFault n last final (less, inr h) = stays last.decider final.decider h.2
   end_grows end.Memory n last final (less, h) = ((h.1.0.0, h.1.0.1), h.1.1)
   end_grows end.Count n last final h = stays last.decider final.decider (ap (λ (p : StreamState C X Kept). p.decider) h.1)
+  end_grows e n last final (less, h) = stays last.decider final.decider h.1.1
 
   module _ (start last final : StreamState C X Kept) (legal : IsLegal start.decider.opening.state (entries final.decider.receipts)) (room : start.decider.opening.events + length final.decider.receipts ≤ start.decider.opening.max_entries)
       (turns : List Turn) (stream : List ℕ) (w : Chain error_frame private_frame opens moments random start.decider.opening final.decider.receipts legal room start last turns stream)

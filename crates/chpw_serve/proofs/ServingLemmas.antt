@@ -36,13 +36,8 @@ module _ {C X D : Type 0} (answers : List ℕ → List ℕ → Moment → D → 
   }
 
   pub so_far_ends : (start now final : StreamState C X D) (n : ℕ) (e : Ended) → SoFar start now n → n < 65536 → EndsBy answers adds refusal moments random e now final → IsServed answers adds refusal moments random e start final
-  so_far_ends start now final n end.Input h less g = record { turns = h.turns; last = now; served = h.served; end_is = (omega (arith, h.count, less), g) }
-  so_far_ends start now final n end.CutOff h less g = record { turns = h.turns; last = now; served = h.served; end_is = (omega (arith, h.count, less), g) }
-  so_far_ends start now final n end.TooLong h less g = record { turns = h.turns; last = now; served = h.served; end_is = (omega (arith, h.count, less), g) }
-  so_far_ends start now final n end.ReadFault h less g = record { turns = h.turns; last = now; served = h.served; end_is = (omega (arith, h.count, less), g) }
-  so_far_ends start now final n end.WriteFault h less g = record { turns = h.turns; last = now; served = h.served; end_is = (omega (arith, h.count, less), g) }
-  so_far_ends start now final n end.Memory h less g = record { turns = h.turns; last = now; served = h.served; end_is = (omega (arith, h.count, less), g) }
   so_far_ends start now final n end.Count h less g = absurd g
+  so_far_ends start now final n e h less g = record { turns = h.turns; last = now; served = h.served; end_is = (omega (arith, h.count, less), g) }
 
   -- a message that is too long, refused
   pub too_long_ends : (now final : StreamState C X D) (e : Ended) → TakesPiece too_long now.left final.left → IsRefused refusal moments random e now.around final.around → final.decider ≡ now.decider → adds now.decider final.decider
@@ -50,10 +45,7 @@ module _ {C X D : Type 0} (answers : List ℕ → List ℕ → Moment → D → 
   too_long_ends now final end.TooLong h r same a = (h, r, same)
   too_long_ends now final end.WriteFault h r same a = inr (h, r, same)
   too_long_ends now final end.Memory h r same a = (r, a, inr (too_long, h))
-  too_long_ends now final end.Input h r same a = absurd r
-  too_long_ends now final end.CutOff h r same a = absurd r
-  too_long_ends now final end.ReadFault h r same a = absurd r
-  too_long_ends now final end.Count h r same a = absurd r
+  too_long_ends now final e h r same a = absurd r
 
   pub so_far_counted : (start now : StreamState C X D) (n : ℕ) → SoFar start now n → 65536 ≤ n → IsServed answers adds refusal moments random end.Count start now
   so_far_counted start now n h many = record { turns = h.turns; last = now; served = h.served; end_is = (omega (arith, h.count, h.few, many), refl) }

@@ -1,5 +1,5 @@
 -- What an answer tells of the checks that gave it.
-use Rattle.std.proofs.Common.{◌≡◌, rules, sym, ap, subst, Result, Ok, Err}
+use Rattle.std.proofs.Common.{◌≡◌, rules, sym, subst, Result, Ok, Err}
 use Rattle.std.specs.Result.{IsErrAnd}
 use Rattle.krb_msgs.specs.declared.fault.OpenError.{OpenError}
 use Rattle.krb_msgs.specs.declared.fault.OpenError.TheVariants as errors
@@ -13,21 +13,11 @@ good F v = Ok v
 abbrev bad : {F : Type 0} (A : Type 0) → F → Result A F
 bad A e = Err e
 
-value_of : {A F : Type 0} → A → Result A F → A
-value_of other (Ok v) = v
-value_of other (Err e) = other
-
-fault_of : {A F : Type 0} → F → Result A F → F
-fault_of other (Ok v) = other
-fault_of other (Err e) = e
-
 pub ok_is : {A F : Type 0} (v w : A) → good F v ≡ good F w → v ≡ w
-unfolding value_of
-ok_is v w e = ap (value_of v) e
+ok_is v w e = cc
 
 pub err_is : {A F : Type 0} (e f : F) → bad A e ≡ bad A f → e ≡ f
-unfolding fault_of
-err_is e f same = ap (fault_of e) same
+err_is e f same = cc
 
 pub ok_err : {A F : Type 0} {v : A} {e : F} → Ok v ≡ Err e → ⊥
 ok_err h = search rules

@@ -11,20 +11,20 @@ use Rattle.krb_keys.specs.declared.key.Key.{Key}
 use Rattle.krb_keys.specs.declared.key.Key.TheVariants.{Aes128, Aes256}
 use Rattle.krb_keys.proofs.SealingLemmas.{length-checksum_of}
 use Rattle.krb_elements.specs.Shapes.{Shape, Value, ◌&◌, uint32, tagged, field, nothing, int32, flags}
+use Rattle.krb_elements.specs.Grammar.{is_element}
 use Rattle.krb_elements.specs.Texts.{fits, is_in_range, longest_text, text}
 use Rattle.krb_elements.proofs.CompleteLemmas.{and_both, and_true, one_value}
 use Rattle.krb_elements.proofs.TextLemmas.{text_spells}
 use Rattle.krb_protocol.specs.Numbers as protocol
 use Rattle.krb_der.specs.Types as types
 use Rattle.krb_der.specs.Types.{ap_rep, ap_req, authenticator, enc_ap_rep_part, enc_krb_priv_part, enc_ticket_part, encrypted_data, krb_priv}
-use Rattle.krb_der.specs.Values.{ap_rep_value, ap_req_value, authenticator_value, enc_ap_rep_part_value, enc_krb_priv_part_value, enc_ticket_part_value, krb_priv_value, principal_name_value, ticket_value}
-use Rattle.krb_msgs.specs.Making.{ap_rep_of, ap_req_of, priv_of, service_name, ticket_of}
-use Rattle.krb_msgs.specs.Lengths.{longest}
+use Rattle.krb_der.specs.Values.{ap_rep_value, ap_req_value, authenticator_value, enc_ap_rep_part_value, enc_krb_priv_part_value, enc_ticket_part_value, krb_priv_value, ticket_value}
+use Rattle.krb_msgs.specs.Making.{ap_rep_of, ap_req_of, priv_of, ticket_of}
 use Rattle.krb_msgs.specs.Fitting.{ApRepsFit, ApReqsFit, PrivsFit, TicketsAreShort, TicketsFit}
-use Rattle.krb_msgs.proofs.LengthLemmas.{between, short_element, short_texts_fit, texts_are_short}
+use Rattle.krb_msgs.proofs.LengthLemmas.{between, fit, short_element, short_texts_fit, texts_are_short}
 use Rattle.krb_msgs.proofs.PartLemmas.{some_text}
 
-pub length-sealed : (key : Key) (usage : ℕ) (confounder plain : List ℕ) → length confounder ≡ 16
+length-sealed : (key : Key) (usage : ℕ) (confounder plain : List ℕ) → length confounder ≡ 16
     → 0 < length plain → length (sealed key usage confounder plain) ≡ length plain + 28
 unfolding sealed enciphered
 length-sealed key usage confounder plain c16 some =
@@ -32,6 +32,11 @@ length-sealed key usage confounder plain c16 some =
     let ke : List ℕ = bytes_of (encryption_key key usage) in
     let long : length whole ≡ length plain + 16 = omega (arith, length-append confounder plain) in
     omega (arith, length-append (enciphered key usage whole) (checksum_of key usage whole), length-checksum_of key usage whole, length-cts (aes ke) (length-aes ke) whole (omega arith))
+
+-- of a value's text
+pub sealed_length : (key : Key) (usage : ℕ) (confounder : List ℕ) (s : Shape) (v : Value s) → length confounder ≡ 16 → is_element s ≡ true
+    → length (sealed key usage confounder (text s v)) ≡ length (text s v) + 28
+sealed_length key usage confounder s v c16 one = length-sealed key usage confounder (text s v) c16 (some_text s v one)
 
 -- ---- the value of a sealed part
 
@@ -55,61 +60,27 @@ kvno_sealed_range (Aes256 bytes) n cipher lt = and_both (kvno_range n lt) refl
 
 -- ---- the messages
 
-fit : (s : Shape) (v : Value s) → is_in_range s v ≡ true → longest s v ≤ longest_text → fits s v ≡ true
-fit s v range le = short_texts_fit s v range (let short = texts_are_short s v in omega (arith, short, le))
-
-ap_rep_range : (key : Key) (cipher : List ℕ)
-    → is_in_range ap_rep (protocol.pvno & protocol.krb_ap_rep & sealed_value key None cipher & tt) ≡ true
-ap_rep_range (Aes128 bytes) cipher = refl
-ap_rep_range (Aes256 bytes) cipher = refl
-
-ap_rep_short : (key : Key) (cipher : List ℕ) → length cipher ≤ 65028
-    → longest ap_rep (protocol.pvno & protocol.krb_ap_rep & sealed_value key None cipher & tt) ≤ longest_text
-ap_rep_short key cipher le = omega (arith, le)
-
 pub ap_reps_fit : ApRepsFit
 ap_reps_fit part session confounder c16 le =
-    let plain : List ℕ = text enc_ap_rep_part (enc_ap_rep_part_value part) in
-    let cipher : List ℕ = sealed session usage_ap_rep_enc_part confounder plain in
-    let len = length-sealed session usage_ap_rep_enc_part confounder plain c16 (some_text enc_ap_rep_part (enc_ap_rep_part_value part) refl) in
-    fit ap_rep (ap_rep_value (ap_rep_of part session confounder)) (ap_rep_range session cipher) (ap_rep_short session cipher (omega (arith, len, le)))
-
-priv_range : (key : Key) (cipher : List ℕ)
-    → is_in_range krb_priv (protocol.pvno & protocol.krb_priv & sealed_value key None cipher & tt) ≡ true
-priv_range (Aes128 bytes) cipher = refl
-priv_range (Aes256 bytes) cipher = refl
-
-priv_short : (key : Key) (cipher : List ℕ) → length cipher ≤ 65028
-    → longest krb_priv (protocol.pvno & protocol.krb_priv & sealed_value key None cipher & tt) ≤ longest_text
-priv_short key cipher le = omega (arith, le)
+    let cipher : List ℕ = sealed session usage_ap_rep_enc_part confounder (text enc_ap_rep_part (enc_ap_rep_part_value part)) in
+    let len = sealed_length session usage_ap_rep_enc_part confounder enc_ap_rep_part (enc_ap_rep_part_value part) c16 refl in
+    fit ap_rep (ap_rep_value (ap_rep_of part session confounder)) (and_both (sealed_range session cipher) refl) (omega (arith, len, le))
 
 pub privs_fit : PrivsFit
 privs_fit part subkey confounder c16 le =
-    let plain : List ℕ = text enc_krb_priv_part (enc_krb_priv_part_value part) in
-    let cipher : List ℕ = sealed subkey usage_krb_priv confounder plain in
-    let len = length-sealed subkey usage_krb_priv confounder plain c16 (some_text enc_krb_priv_part (enc_krb_priv_part_value part) refl) in
-    fit krb_priv (krb_priv_value (priv_of part subkey confounder)) (priv_range subkey cipher) (priv_short subkey cipher (omega (arith, len, le)))
-
-ticket_range : (realm : List ℕ) (key : Key) (n : ℕ) (cipher : List ℕ) → n < 2 ^ 32
-    → is_in_range types.ticket (protocol.pvno & realm & principal_name_value service_name & sealed_value key (Some n) cipher & tt) ≡ true
-ticket_range realm key n cipher lt = and_both (kvno_sealed_range key n cipher lt) refl
-
-ticket_short : (realm : List ℕ) (key : Key) (n : ℕ) (cipher : List ℕ) → length realm + length cipher ≤ 65028
-    → longest types.ticket (protocol.pvno & realm & principal_name_value service_name & sealed_value key (Some n) cipher & tt) ≤ longest_text
-ticket_short realm key n cipher le = omega (arith, le)
+    let cipher : List ℕ = sealed subkey usage_krb_priv confounder (text enc_krb_priv_part (enc_krb_priv_part_value part)) in
+    let len = sealed_length subkey usage_krb_priv confounder enc_krb_priv_part (enc_krb_priv_part_value part) c16 refl in
+    fit krb_priv (krb_priv_value (priv_of part subkey confounder)) (and_both (sealed_range subkey cipher) refl) (omega (arith, len, le))
 
 pub tickets_fit : TicketsFit
 tickets_fit realm part service confounder c16 lt le =
-    let plain : List ℕ = text enc_ticket_part (enc_ticket_part_value part) in
-    let cipher : List ℕ = sealed service.key usage_ticket confounder plain in
-    let len = length-sealed service.key usage_ticket confounder plain c16 (some_text enc_ticket_part (enc_ticket_part_value part) refl) in
-    fit types.ticket (ticket_value (ticket_of realm part service confounder)) (ticket_range realm service.key service.kvno cipher lt) (ticket_short realm service.key service.kvno cipher (omega (arith, len, le)))
+    let cipher : List ℕ = sealed service.key usage_ticket confounder (text enc_ticket_part (enc_ticket_part_value part)) in
+    let len = sealed_length service.key usage_ticket confounder enc_ticket_part (enc_ticket_part_value part) c16 refl in
+    fit types.ticket (ticket_value (ticket_of realm part service confounder)) (and_both (kvno_sealed_range service.key service.kvno cipher lt) refl) (omega (arith, len, le))
 
 pub tickets_are_short : TicketsAreShort
 tickets_are_short realm part service confounder c16 =
-    let plain : List ℕ = text enc_ticket_part (enc_ticket_part_value part) in
-    let cipher : List ℕ = sealed service.key usage_ticket confounder plain in
-    let len = length-sealed service.key usage_ticket confounder plain c16 (some_text enc_ticket_part (enc_ticket_part_value part) refl) in
+    let len = sealed_length service.key usage_ticket confounder enc_ticket_part (enc_ticket_part_value part) c16 refl in
     let short = texts_are_short types.ticket (ticket_value (ticket_of realm part service confounder)) in
     omega (arith, len, short)
 
@@ -158,9 +129,8 @@ request_short options v key cipher le =
 pub ap_reqs_fit : ApReqsFit
 unfolding fits
 ap_reqs_fit made t options a session confounder c16 lt fit_made spelled le =
-    let plain : List ℕ = text authenticator (authenticator_value a) in
-    let cipher : List ℕ = sealed session usage_ap_req_authenticator confounder plain in
-    let len = length-sealed session usage_ap_req_authenticator confounder plain c16 (some_text authenticator (authenticator_value a) refl) in
+    let cipher : List ℕ = sealed session usage_ap_req_authenticator confounder (text authenticator (authenticator_value a)) in
+    let len = sealed_length session usage_ap_req_authenticator confounder authenticator (authenticator_value a) c16 refl in
     let same : ticket_value made ≡ ticket_value t = one_value types.ticket refl _ _ _ (text_spells types.ticket refl (ticket_value made) fit_made) spelled in
     let range = (and_true _ _ fit_made).0 in
     short_texts_fit ap_req (ap_req_value (ap_req_of t options a session confounder))

@@ -1,20 +1,21 @@
 -- The text of a value is no longer than its sum; numbers in a range.
-use Rattle.std.proofs.Common.{◌≡◌, ℕ, ◌+◌, ◌≤◌, true, List, [], ◌∷◌, Option, Some, None, ap, arith, length, length-append, not, eqb, ltb, inl, inr, ℤ, pos, ◌≤ℤ◌, w64}
-use Rattle.std.specs.Prelude.{int_lt}
+use Rattle.std.proofs.Common.{◌≡◌, ℕ, ◌+◌, ◌≤◌, true, List, [], ◌∷◌, Option, Some, None, ap, arith, length, length-append, not, eqb, ltb, inl, inr, ℤ, pos, negsuc, ◌<◌, ◌≤ℤ◌, w64}
+use Rattle.std.specs.Prelude.{int_lt, is_some}
 use Rattle.std.proofs.lemmas.Int.{ints, by_lt_z}
 use Rattle.std.specs.Int.{cast_unsigned, to_be_bytes}
 use Rattle.std.specs.List.{flat_map}
 use Rattle.std.proofs.lemmas.Bool.{le-leb}
 use Rattle.std.proofs.lemmas.List.Concat.{flat_map-cons}
-use Rattle.krb_elements.specs.Shapes.{Primitive, integer, sequence_number, octets, bits, time, primitive, tagged, many, further, nothing, field, option, Meaning, is_between, tag_of}
+use Rattle.krb_elements.specs.Shapes.{Primitive, integer, sequence_number, octets, bits, time, primitive, tagged, many, further, nothing, field, option, kerberos_time, microseconds, Meaning, Shape, Value, is_between, tag_of}
 use Rattle.krb_elements.specs.Integers.{integer_octets, repeats_sign, without_sign}
 use Rattle.krb_elements.specs.BitStrings.{bits_octets}
 use Rattle.krb_elements.specs.Times.{is_writable, time_octets, time_of}
-use Rattle.krb_elements.specs.Texts.{content_of, element, fits, length_octets, optional_text, text, time_content, without_zeros}
+use Rattle.krb_elements.specs.Texts.{content_of, element, fits, is_in_range, length_octets, longest_text, optional_text, text, time_content, without_zeros}
 use Rattle.krb_elements.proofs.CompleteLemmas.{and_both, same_or_not}
+use Rattle.krb_elements.proofs.TimeLemmas.{time_of_some}
 use Rattle.krb_msgs.specs.Lengths.{ShortTextsFit, TextsAreShort, longest, longest_content, longest_each, longest_optional}
 
-short-without_zeros : (bytes : List ℕ) → length (without_zeros bytes) ≤ length bytes
+pub short-without_zeros : (bytes : List ℕ) → length (without_zeros bytes) ≤ length bytes
 short-without_zeros [] = omega arith
 short-without_zeros (b ∷ bytes) = elim (same_or_not (eqb b 0)) [
   | inl e ↦ let less = short-without_zeros bytes in rw e (omega (arith, less))
@@ -83,6 +84,9 @@ pub short_texts_fit : ShortTextsFit
 unfolding fits
 short_texts_fit s v range le = and_both range (le-leb _ _ le)
 
+pub fit : (s : Shape) (v : Value s) → is_in_range s v ≡ true → longest s v ≤ longest_text → fits s v ≡ true
+fit s v range le = let short = texts_are_short s v in short_texts_fit s v range (omega (arith, short, le))
+
 -- ---- numbers in a range
 
 not_less : (a b : ℤ) → b ≤ℤ a → not (int_lt a b) ≡ true
@@ -90,3 +94,12 @@ not_less a b le = by_lt_z a b (λ lt. absurd (omega (arith, ints))) (λ _. grind
 
 pub between : (low high n : ℤ) → low ≤ℤ n → n ≤ℤ high → is_between low high n ≡ true
 between low high n le ge = and_both (not_less n low le) (not_less high n ge)
+
+pub time_range : (t : ℤ) → negsuc 62167219199 ≤ℤ t → t ≤ℤ pos 253402300799 → is_in_range kerberos_time t ≡ true
+time_range t low high = ap is_some (time_of_some t (low, high))
+
+pub micros_range : (n : ℕ) → n < 1000000 → is_in_range microseconds (pos n) ≡ true
+micros_range n lt =
+    let low : pos 0 ≤ℤ pos n = omega (arith, ints) in
+    let high : pos n ≤ℤ pos 999999 = omega (arith, ints, lt) in
+    between (pos 0) (pos 999999) (pos n) low high

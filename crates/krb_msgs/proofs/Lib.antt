@@ -5,8 +5,8 @@ pub mod LengthLemmas
 pub mod FittingLemmas
 pub mod OpenedLemmas
 pub mod InverseLemmas
+pub mod OctetLemmas
 pub mod UniqueLemmas
 pub mod OneAnswerLemmas
 pub mod ReplyFittingLemmas
 pub mod WordLemmas
-pub mod AlikeLemmas

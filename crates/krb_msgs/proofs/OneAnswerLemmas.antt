@@ -1,31 +1,28 @@
--- A message opens to one answer.
-use Rattle.std.proofs.Common.{◌≡◌, rules, ℕ, ◌<◌, ◌&&◌, Bool, true, List, [], ◌∷◌, ◌++◌, length, Option, Some, None, option_map, refl, sym, subst, eqb, inl, inr, ℤ, pos, Ok}
-use Rattle.std.specs.Ordering.{int_eq}
+-- A message opens to one answer; and two AP-REQs that share their sealed parts and the service key open
+-- alike.
+use Rattle.std.proofs.Common.{◌≡◌, rules, ℕ, Bool, true, List, [], ◌∷◌, Option, Some, None, option_map, refl, sym, subst, inl, inr, ℤ, Ok, ◌∙◌}
+use Rattle.std.specs.Prelude.{IfSome}
 use Rattle.std.specs.List.{find}
-use Rattle.std.proofs.lemmas.Bool.{eqb-true}
-use Rattle.std.proofs.lemmas.List.{take_at, drop_at}
-use Rattle.std.proofs.lemmas.List.Elements.{All-take, All-drop}
 use Rattle.krb_aes.specs.Bytes.{AreBytes}
-use Rattle.krb_keys.specs.Keys.{IsProtocolKey, key_of}
+use Rattle.krb_keys.specs.Keys.{IsProtocolKey, key_of, etype_of, number_of}
 use Rattle.krb_keys.specs.declared.key.Key.{Key}
-use Rattle.krb_keys.specs.declared.key.Key.TheVariants.{Aes128, Aes256}
 use Rattle.krb_keys.proofs.SealingLemmas.{sealed_once}
 use Rattle.krb_elements.specs.Shapes.{Shape, Value}
-use Rattle.krb_elements.specs.Grammar.{IsElement, Spells, is_legal}
-use Rattle.krb_elements.proofs.CompleteLemmas.{and_true, one_value, same_or_not}
-use Rattle.krb_der.specs.Types.{ap_req, ap_rep, authenticator, enc_ap_rep_part, enc_krb_priv_part, enc_ticket_part, krb_error, krb_priv}
-use Rattle.krb_der.specs.Values.{ap_req_value, ap_rep_value, authenticator_value, enc_ap_rep_part_value, enc_krb_priv_part_value, enc_ticket_part_value, krb_error_value, krb_priv_value}
-use Rattle.krb_der.specs.declared.ap_req.ApReq.{ApReq}
-use Rattle.krb_der.specs.declared.authenticator.Authenticator.{Authenticator}
+use Rattle.krb_elements.specs.Grammar.{Spells, is_legal}
+use Rattle.krb_elements.proofs.CompleteLemmas.{one_value, same_or_not}
 use Rattle.krb_elements.specs.declared.kerberos_time.KerberosTime.{KerberosTime}
 use Rattle.krb_elements.specs.declared.numbers.Microseconds.{Microseconds}
+use Rattle.krb_der.specs.Types.{ap_req, ap_rep, authenticator, enc_ap_rep_part, enc_krb_priv_part, enc_ticket_part, encryption_key, krb_error, krb_priv}
+use Rattle.krb_der.specs.Values.{ap_req_value, ap_rep_value, authenticator_value, enc_ap_rep_part_value, enc_krb_priv_part_value, enc_ticket_part_value, encryption_key_value, krb_error_value, krb_priv_value}
+use Rattle.krb_der.specs.declared.ap_req.ApReq.{ApReq}
+use Rattle.krb_der.specs.declared.authenticator.Authenticator.{Authenticator}
 use Rattle.krb_der.specs.declared.encrypted_data.EncryptedData.{EncryptedData}
 use Rattle.krb_der.specs.declared.encrypted_data.EncryptionKey.{EncryptionKey}
 use Rattle.krb_der.specs.declared.enc_ticket_part.EncTicketPart.{EncTicketPart}
-use Rattle.krb_msgs.specs.Checks.{Passed}
+use Rattle.krb_msgs.specs.Checks.{Passed, goes_on}
 use Rattle.krb_msgs.specs.Parts.{OpensPart, Reads, Unseals}
 use Rattle.krb_msgs.specs.ServiceKeys.{service_key}
-use Rattle.krb_msgs.specs.Presented.{Presents}
+use Rattle.krb_msgs.specs.Presented.{Presents, IsServiceKey}
 use Rattle.krb_msgs.specs.Tickets.{OpensTicket}
 use Rattle.krb_msgs.specs.Authenticators.{OpensAuthenticator}
 use Rattle.krb_msgs.specs.Accepted.{Accepts, IsSubkey, opened_of}
@@ -33,10 +30,13 @@ use Rattle.krb_msgs.specs.ApExchange.{OpensAp}
 use Rattle.krb_msgs.specs.PrivateMessages.{OpensPriv, private_of}
 use Rattle.krb_msgs.specs.Replies.{OpensApRep, OpensError, OpensReply, OpensResult, SaysCode, reply_of}
 use Rattle.krb_msgs.specs.OneAnswer.{ApReqsOpenOnce, AreProtocolKeys, IsOne, PrivsOpenOnce, RepliesOpenOnce}
+use Rattle.krb_msgs.specs.declared.ap_exchange.ApOpened.{ApOpened}
 use Rattle.krb_msgs.specs.declared.service_keys.ServiceKey.{ServiceKey}
+use Rattle.krb_msgs.specs.Laws.{ApReqsOpenAlike}
 use Rattle.krb_msgs.proofs.InverseLemmas.{TellsApart, ap_rep_apart, ap_rep_part_apart, ap_req_apart, authenticator_apart, error_apart, krb_priv_apart, priv_part_apart, ticket_part_apart}
 use Rattle.krb_msgs.proofs.OpenedLemmas.{found_passes, held_passes, then_passes}
 use Rattle.krb_msgs.proofs.AnswerLemmas.{ok_is}
+use Rattle.krb_msgs.proofs.OctetLemmas.{HoldsBytes, holds_bytes, key_of_bytes}
 use Rattle.krb_msgs.proofs.UniqueLemmas.{one_found, one_held, one_passed, one_some, one_then, some_is}
 
 -- ---- parts
@@ -60,51 +60,18 @@ one_part s view key usage part f g legal apart is_key =
 
 -- ---- keys
 
-left : (xs ys : List ℕ) → AreBytes (xs ++ ys) → AreBytes xs
-left xs ys h =
-    subst AreBytes (take_at xs ys (length xs) refl) (All-take (λ x. x < 256) (length xs) (xs ++ ys) h)
+-- the octet strings of a part that was opened are made of bytes
+part_bytes : {X F : Type 0} (s : Shape) (view : X → Value s) (key : Key) (usage : ℕ) (part : EncryptedData) (f g : F) (x : X)
+    → OpensPart s view key usage part f g (Ok x) → HoldsBytes s (view x)
+part_bytes s view key usage part f g x h =
+    let plain = then_passes h in
+    let unsealed = found_passes plain.1 in
+    let read = found_passes plain.2 in
+    let bytes : AreBytes plain.0 = subst AreBytes (sym (ok_is plain.0 unsealed.0 unsealed.2)) unsealed.1.1.4 in
+    subst (λ y. HoldsBytes s (view y)) (sym (ok_is x read.0 read.2)) (holds_bytes s plain.0 (view read.0) read.1 bytes)
 
-right : (xs ys : List ℕ) → AreBytes (xs ++ ys) → AreBytes ys
-right xs ys h =
-    subst AreBytes (drop_at xs ys (length xs) refl) (All-drop (λ x. x < 256) (length xs) (xs ++ ys) h)
-
-inside : (tag : ℕ) (content text : List ℕ) → AreBytes text → IsElement tag content text → AreBytes content
-inside tag content text h (octets, is_length, is) =
-    right (tag ∷ octets) content (subst AreBytes is h)
-
--- the session key's bytes are bytes of the ticket's text
-session_bytes : (part : EncTicketPart) (text : List ℕ) → AreBytes text → Spells enc_ticket_part text (enc_ticket_part_value part)
-    → AreBytes part.key.keyvalue
-session_bytes part text bytes h =
-    let outer = inside _ _ _ bytes h.1 in
-    let fields = inside _ _ _ outer h.2.1 in
-    let flags = h.2.2 in
-    let behind_flags = right flags.0 flags.1 (subst AreBytes flags.2 fields) in
-    let key = flags.4 in
-    let one = left key.0 key.1 (subst AreBytes key.2 behind_flags) in
-    let tagged = inside _ _ _ one key.3.1 in
-    let record_fields = inside _ _ _ tagged key.3.2.1 in
-    let type = key.3.2.2 in
-    let behind_type = right type.0 type.1 (subst AreBytes type.2 record_fields) in
-    let value = type.4 in
-    let last = left value.0 value.1 (subst AreBytes value.2 behind_type) in
-    let content = inside _ _ _ last value.3.1 in
-    subst AreBytes value.3.2.2 (inside _ _ _ content value.3.2.1)
-
-key_of_is_key : (number : ℤ) (bytes : List ℕ) (key : Key) → AreBytes bytes → key_of number bytes ≡ Some key → IsProtocolKey key
-key_of_is_key number bytes key are h = elim (same_or_not (int_eq number (pos 17) && eqb (length bytes) 16)) [
-  | inl e ↦
-      let is = some_is (Aes128 bytes) key (rw e at h) in
-      let long = eqb-true (length bytes) 16 (and_true (int_eq number (pos 17)) (eqb (length bytes) 16) e).1 in
-      subst IsProtocolKey is (long, are)
-  | inr e ↦ elim (same_or_not (int_eq number (pos 18) && eqb (length bytes) 32)) [
-    | inl f ↦
-        let is = some_is (Aes256 bytes) key (rw (e, f) at h) in
-        let long = eqb-true (length bytes) 32 (and_true (int_eq number (pos 18)) (eqb (length bytes) 32) f).1 in
-        subst IsProtocolKey is (long, are)
-    | inr f ↦ let none = rw (e, f) at h in absurd (search (rules, none))
-  ]
-]
+key_in_field : (field : EncryptionKey) (key : Key) → AreBytes field.keyvalue → key_of field.keytype field.keyvalue ≡ Some key → IsProtocolKey key
+key_in_field field key are h = subst (λ (o : Option Key). IfSome o IsProtocolKey) h (key_of_bytes field.keytype field.keyvalue are)
 
 pub found_is_key : (test : ServiceKey → Bool) (keys : List ServiceKey) (key : Key) → AreProtocolKeys keys
     → option_map (λ (k : ServiceKey). k.key) (find test keys) ≡ Some key → IsProtocolKey key
@@ -148,15 +115,30 @@ unfolding OpensTicket
 session_is_key key sealed ticket h =
     let opens = then_passes h in
     let session = found_passes opens.2 in
-    let plain = then_passes opens.1 in
-    let unsealed = found_passes plain.1 in
-    let read = found_passes plain.2 in
-    let bytes : AreBytes plain.0 = subst AreBytes (sym (ok_is plain.0 unsealed.0 unsealed.2)) unsealed.1.1.4 in
-    let field = session_bytes read.0 plain.0 bytes read.1 in
-    let part : opens.0 ≡ read.0 = ok_is opens.0 read.0 read.2 in
-    let field_bytes : AreBytes opens.0.key.keyvalue = subst (λ (p : EncTicketPart). AreBytes p.key.keyvalue) (sym part) field in
+    let held = part_bytes enc_ticket_part enc_ticket_part_value key _ sealed _ _ opens.0 opens.1 in
     subst (λ (p : EncTicketPart × Key). IsProtocolKey p.1) (sym (ok_is ticket (opens.0, session.0) session.2))
-    (key_of_is_key opens.0.key.keytype opens.0.key.keyvalue session.0 field_bytes session.1)
+    (key_in_field opens.0.key session.0 held.1.0.1.0 session.1)
+
+key_in_subkey : (field : Option EncryptionKey) (key : Key)
+    → IfSome (option_map encryption_key_value field) (HoldsBytes encryption_key) → IsSubkey field key → IsProtocolKey key
+key_in_subkey None key held h = absurd h
+key_in_subkey (Some field) key held h = key_in_field field key held.1.0 h
+
+-- the subkey of an AP-REQ that opened is a protocol key
+pub subkey_is_key : (realm : List ℕ) (keys : List ServiceKey) (bytes peer : List ℕ) (a : ApOpened)
+    → OpensAp realm keys bytes peer (Ok a) → IsProtocolKey a.subkey
+unfolding OpensAp OpensAuthenticator Accepts
+subkey_is_key realm keys bytes peer a h =
+    let presented = then_passes h in
+    let ticket = then_passes presented.2 in
+    let sealed = then_passes ticket.2 in
+    let accepts = found_passes (held_passes (held_passes sealed.2).1).1 in
+    let part = then_passes sealed.1 in
+    let held = part_bytes authenticator authenticator_value ticket.0.1 _ presented.0.0.authenticator _ _ part.0 part.1 in
+    let same : sealed.0 ≡ part.0 = ok_is _ _ (held_passes part.2).1 in
+    let field : IsSubkey part.0.subkey accepts.0 = subst (λ (x : Authenticator). IsSubkey x.subkey accepts.0) same accepts.1 in
+    subst (λ (o : ApOpened). IsProtocolKey o.subkey) (sym (ok_is a (opened_of ticket.0.0 ticket.0.1 sealed.0 accepts.0) accepts.2))
+    (key_in_subkey part.0.subkey accepts.0 held.1.1.1.1.1.1.0 field)
 
 pub one_authenticator : (session : Key) (sealed : EncryptedData) → IsProtocolKey session → IsOne (OpensAuthenticator session sealed)
 unfolding OpensAuthenticator
@@ -216,3 +198,85 @@ unfolding OpensReply
 replies_open_once session subkey ctime cusec [] tail is_key is_subkey = one_error tail
 replies_open_once session subkey ctime cusec (b ∷ bytes) tail is_key is_subkey =
     one_then _ _ (one_ap_rep session ctime cusec (b ∷ bytes) is_key) (λ _ _. one_result subkey tail is_subkey)
+
+-- ---- two AP-REQs
+
+-- a part's kvno says nothing
+abbrev bare : ℤ → List ℕ → EncryptedData
+bare etype cipher = record { etype = etype; kvno = None; cipher = cipher }
+
+etype_is : {X F : Type 0} (s : Shape) (view : X → Value s) (key : Key) (usage : ℕ) (part : EncryptedData) (f g : F) (x : X)
+    → OpensPart s view key usage part f g (Ok x) → part.etype ≡ number_of (etype_of key)
+etype_is s view key usage part f g x h = (found_passes (then_passes h).1).1.0
+
+same_part : {X F : Type 0} (s : Shape) (view : X → Value s) (key : Key) (usage : ℕ) (part other : EncryptedData) (f g : F) (x : X)
+    → OpensPart s view key usage part f g (Ok x) → other.etype ≡ number_of (etype_of key) → part.cipher ≡ other.cipher
+    → OpensPart s view key usage other f g (Ok x)
+same_part s view key usage part other f g x h etype cipher =
+    subst (λ (e : ℤ). OpensPart s view key usage (bare e other.cipher) f g (Ok x)) (etype_is s view key usage part f g x h ∙ sym etype)
+    (subst (λ (c : List ℕ). OpensPart s view key usage (bare part.etype c) f g (Ok x)) cipher h)
+
+same_ticket : (key : Key) (part other : EncryptedData) (ticket others : EncTicketPart × Key)
+    → OpensTicket key part (Ok ticket) → OpensTicket key other (Ok others) → part.cipher ≡ other.cipher
+    → OpensTicket key part (Ok others)
+unfolding OpensTicket
+same_ticket key part other ticket others h k cipher =
+    let opens = then_passes h in
+    let opens_other = then_passes k in
+    goes_on opens_other.0
+    (same_part enc_ticket_part enc_ticket_part_value key _ other part _ _ opens_other.0 opens_other.1 (etype_is enc_ticket_part enc_ticket_part_value key _ part _ _ opens.0 opens.1) (sym cipher)) opens_other.2
+
+same_authenticator : (session : Key) (part other : EncryptedData) (a b : Authenticator)
+    → OpensAuthenticator session part (Ok a) → OpensAuthenticator session other (Ok b) → part.cipher ≡ other.cipher
+    → OpensAuthenticator session part (Ok b)
+unfolding OpensAuthenticator
+same_authenticator session part other a b h k cipher =
+    let opens = then_passes h in
+    let opens_other = then_passes k in
+    goes_on opens_other.0
+    (same_part authenticator authenticator_value session _ other part _ _ opens_other.0 opens_other.1 (etype_is authenticator authenticator_value session _ part _ _ opens.0 opens.1) (sym cipher)) opens_other.2
+
+-- what ticket and authenticator of an AP-REQ that opens hold
+abbrev Holds : List ℕ → Key → ApReq → ApOpened → Type 0
+Holds peer key request a =
+    (ticket : EncTicketPart × Key) × OpensTicket key request.ticket.enc_part (Ok ticket)
+    × ((x : Authenticator) × OpensAuthenticator ticket.1 request.authenticator (Ok x) × Accepts peer ticket.0 ticket.1 x (Ok a))
+
+holds : (realm : List ℕ) (keys : List ServiceKey) (peer bytes : List ℕ) (request : ApReq) (key : Key) (a : ApOpened)
+    → Spells ap_req bytes (ap_req_value request) → IsServiceKey keys request.ticket.enc_part key
+    → OpensAp realm keys bytes peer (Ok a) → Holds peer key request a
+unfolding OpensAp Presents
+holds realm keys peer bytes request key a spelled taken h =
+    let presented = then_passes h in
+    let read = then_passes presented.1 in
+    let found = found_passes (held_passes (held_passes (held_passes (held_passes (held_passes read.2).1).1).1).1).1 in
+    let one = found_passes read.1 in
+    let same : read.0 ≡ request = ok_is _ _ one.2 ∙ ap_req_apart one.0 request (one_value ap_req refl bytes _ _ one.1 spelled) in
+    let taken_again : IsServiceKey keys request.ticket.enc_part found.0 = subst (λ (r : ApReq). IsServiceKey keys r.ticket.enc_part found.0) same found.1 in
+    let same_key : found.0 ≡ key = some_is found.0 key (sym taken_again ∙ taken) in
+    let first : Holds peer presented.0.1 presented.0.0 a = (
+    let ticket = then_passes presented.2 in
+    let authenticator = then_passes ticket.2 in
+    (ticket.0, ticket.1, (authenticator.0, authenticator.1, authenticator.2))
+    ) in
+    let second : Holds peer found.0 read.0 a = subst (λ (p : ApReq × Key). Holds peer p.1 p.0 a) (ok_is presented.0 (read.0, found.0) found.2) first in
+    subst (λ (k : Key). Holds peer k request a) same_key (subst (λ (r : ApReq). Holds peer found.0 r a) same second)
+
+pub ap_reqs_open_alike : ApReqsOpenAlike
+ap_reqs_open_alike realm keys peer bytes others request other key a b are spelled spelled_other taken taken_other tickets authenticators opens opens_other =
+    let one = holds realm keys peer bytes request key a spelled taken opens in
+    let two = holds realm keys peer others other key b spelled_other taken_other opens_other in
+    let same : one.0 ≡ two.0 =
+    ok_is one.0 two.0 (one_ticket key request.ticket.enc_part (found_is_key _ keys key are taken) (Ok one.0) (Ok two.0) one.1
+    (same_ticket key request.ticket.enc_part other.ticket.enc_part one.0 two.0 one.1 two.1 tickets)) in
+    let session = session_is_key key request.ticket.enc_part one.0 one.1 in
+    let second : OpensAuthenticator one.0.1 other.authenticator (Ok two.2.0) =
+    subst (λ (t : EncTicketPart × Key). OpensAuthenticator t.1 other.authenticator (Ok two.2.0)) (sym same) two.2.1 in
+    let same_again : one.2.0 ≡ two.2.0 =
+    ok_is one.2.0 two.2.0 (one_authenticator one.0.1 request.authenticator session (Ok one.2.0) (Ok two.2.0) one.2.1
+    (same_authenticator one.0.1 request.authenticator other.authenticator one.2.0 two.2.0 one.2.1 second authenticators)) in
+    let third : Accepts peer one.0.0 one.0.1 two.2.0 (Ok b) =
+    subst (λ (t : EncTicketPart × Key). Accepts peer t.0 t.1 two.2.0 (Ok b)) (sym same) two.2.2 in
+    let fourth : Accepts peer one.0.0 one.0.1 one.2.0 (Ok b) =
+    subst (λ (x : Authenticator). Accepts peer one.0.0 one.0.1 x (Ok b)) (sym same_again) third in
+    ok_is a b (one_accepted peer one.0.0 one.0.1 one.2.0 (Ok a) (Ok b) one.2.2 fourth)

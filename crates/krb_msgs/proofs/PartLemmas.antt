@@ -3,7 +3,7 @@ use Rattle.std.proofs.Common.{◌≡◌, rules, ℕ, ◌<◌, List, ◌∷◌, l
 use Rattle.krb_keys.specs.Keys.{etype_of, number_of}
 use Rattle.krb_keys.specs.declared.key.Key.{Key}
 use Rattle.krb_keys.specs.declared.key.Key.TheVariants.{Aes128, Aes256}
-use Rattle.krb_elements.specs.Shapes.{Shape, Value, primitive, tagged, many, further, nothing, field, option}
+use Rattle.krb_elements.specs.Shapes.{Shape, Value, primitive, tagged}
 use Rattle.krb_elements.specs.Texts.{element, length_octets, text, fits}
 use Rattle.krb_elements.specs.Grammar.{is_element, is_legal}
 use Rattle.krb_elements.proofs.TextLemmas.{text_spells}
@@ -22,11 +22,7 @@ some_element tag content =
 pub some_text : (s : Shape) (v : Value s) → is_element s ≡ true → 0 < length (text s v)
 some_text (primitive kind) v h = some_element _ _
 some_text (tagged tag s) v h = some_element tag (text s v)
-some_text (many item) v h = absurd (search (rules, h))
-some_text (further low high) v h = absurd (search (rules, h))
-some_text nothing v h = absurd (search (rules, h))
-some_text (field first rest) v h = absurd (search (rules, h))
-some_text (option tag first rest) v h = absurd (search (rules, h))
+some_text s v h = absurd (search (rules, h))
 
 -- a record is read from its text
 pub reads_text : {X F : Type 0} (s : Shape) (view : X → Value s) (x : X) (fault : F)

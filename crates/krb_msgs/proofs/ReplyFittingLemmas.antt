@@ -2,7 +2,7 @@
 use Rattle.std.proofs.Common.{◌≡◌, ℕ, ◌≤◌, ◌<◌, ◌^◌, true, refl, arith}
 use Rattle.std.proofs.lemmas.Bool.{lt-ltb}
 use Rattle.krb_elements.specs.Shapes.{Shape, Value, seq_number}
-use Rattle.krb_elements.specs.Texts.{fits, is_in_range, longest_text}
+use Rattle.krb_elements.specs.Texts.{is_in_range}
 use Rattle.krb_elements.proofs.CompleteLemmas.{and_both}
 use Rattle.krb_der.specs.Types.{enc_ap_rep_part, enc_krb_priv_part, krb_error}
 use Rattle.krb_der.specs.Values.{enc_ap_rep_part_value, enc_krb_priv_part_value, krb_error_value}
@@ -10,7 +10,7 @@ use Rattle.krb_msgs.specs.Fitting.{longest_part}
 use Rattle.krb_msgs.specs.Lengths.{longest}
 use Rattle.krb_msgs.specs.Making.{ap_rep_part_of, error_of, priv_part_of}
 use Rattle.krb_msgs.specs.ReplyFitting.{ApRepPartsFit, ErrorsFit, IsShort, PrivPartsFit}
-use Rattle.krb_msgs.proofs.LengthLemmas.{short_texts_fit, texts_are_short}
+use Rattle.krb_msgs.proofs.LengthLemmas.{fit, short_texts_fit, texts_are_short}
 
 short_part : (s : Shape) (v : Value s) → is_in_range s v ≡ true → longest s v ≤ longest_part → IsShort s v
 short_part s v range le =
@@ -30,10 +30,7 @@ priv_parts_fit user_data number lt le =
     short_part enc_krb_priv_part (enc_krb_priv_part_value (priv_part_of user_data number))
     (and_both (number_range number lt) refl) (omega (arith, le))
 
-error_short : (v : Value krb_error) → is_in_range krb_error v ≡ true → longest krb_error v ≤ longest_text → fits krb_error v ≡ true
-error_short v range le = short_texts_fit krb_error v range (let short = texts_are_short krb_error v in omega (arith, short, le))
-
 pub errors_fit : ErrorsFit
 errors_fit stime susec code realm e_data moment is_code le =
-    error_short (krb_error_value (error_of stime susec code realm e_data))
+    fit krb_error (krb_error_value (error_of stime susec code realm e_data))
     (and_both moment.0 (and_both moment.1 (and_both is_code refl))) (omega (arith, le))

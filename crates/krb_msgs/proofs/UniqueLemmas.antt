@@ -1,16 +1,11 @@
 -- Checks in a row leave one answer, where each leaves one value.
-use Rattle.std.proofs.Common.{◌≡◌, sym, subst, ap, ◌∙◌, Result, Ok, Err, Option, Some, None}
+use Rattle.std.proofs.Common.{◌≡◌, sym, subst, ap, ◌∙◌, Result, Ok, Err, Option, Some}
 use Rattle.krb_msgs.specs.Checks.{Held, met, unmet, Found, of_one, of_none, Then, goes_on, stops, Passed}
 use Rattle.krb_msgs.specs.OneAnswer.{IsOne}
 use Rattle.krb_msgs.proofs.AnswerLemmas.{err_is, ok_err, ok_is}
 
-some_of : {A : Type 0} → A → Option A → A
-some_of other None = other
-some_of other (Some v) = v
-
 pub some_is : {A : Type 0} (v w : A) → Some v ≡ Some w → v ≡ w
-unfolding some_of
-some_is v w e = ap (some_of v) e
+some_is v w e = cc
 
 -- what an equation says of a value
 pub one_some : {A : Type 0} (o : Option A) → IsOne (λ (v : A). o ≡ Some v)

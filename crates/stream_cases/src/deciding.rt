@@ -5,7 +5,7 @@ use crate::messages::{Message, no_case, shown_reply, text_of};
 use crate::serving::PEER;
 use crate::watched::{Mood, Watched};
 use crate::world::{World, shown};
-use chpw_answer::{Messages, NoGate, OpensTo, answer};
+use chpw_answer::{Messages, NoGate, OpenResult, answer};
 use chpw_decider::{Alone, Decider};
 use chpw_journal::MemorySink;
 use chpw_messages::Service;
@@ -133,8 +133,8 @@ fn with_table(alloc: Global, verdict: &str, table: &Alone<MemorySink>) -> io::Re
 /// A message's request, with no keys derived, and its password.
 fn opened(alloc: Global, service: &Service, message: &Message) -> io::Result<(Opened, Vec<u8>)> {
     match service.open(alloc, PEER, &message.bytes)? {
-        OpensTo::Refused(_) => Err(no_case()),
-        OpensTo::Opened(incoming) => Ok((incoming.opened, incoming.password.into_vec())),
+        OpenResult::Refused(_) => Err(no_case()),
+        OpenResult::Opened(incoming) => Ok((incoming.opened, incoming.password.into_vec())),
     }
 }
 

@@ -1,7 +1,7 @@
 //! Whoever opens messages, and has no memory for the replies to those that opened.
 ghost use Rattle.std.specs.Prelude.{◌≡◌};
 
-use chpw_answer::{Messages, OpensTo, Seal};
+use chpw_answer::{Messages, OpenResult, Seal};
 use chpw_table::Moment;
 use krb_protocol::Refusal;
 use std::alloc::{AllocError, Global};
@@ -23,7 +23,7 @@ impl<M: Messages> Messages for Sparing<'_, M> {
         self.messages.realm()
     }
 
-    fn open(&self, alloc: Global, peer: [u8; 4], message: &[u8]) -> Result<OpensTo, AllocError> {
+    fn open(&self, alloc: Global, peer: [u8; 4], message: &[u8]) -> Result<OpenResult, AllocError> {
         self.messages.open(alloc, peer, message)
     }
 

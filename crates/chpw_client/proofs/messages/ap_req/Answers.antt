@@ -48,7 +48,7 @@ make_ap_req-requires-clause-message c = λ t spelled.
     let sizes : HasSizes w = search rules in
     let is = same_ticket q w c.in_ok-part.part c.word_bytes.result c.deref.result.now c.in_ok-part.ensures.value c.word_bytes.ensures.value
     (c.deref.ensures.value ∙ c.in_ok-ticket.ensures.text) in
-    rw (c.in_ok-authenticator.ensures.value, c.key_of.ensures.value, c.word_bytes-2.ensures.value)
+    rw (c.in_ok-authenticator.ensures.value, c.drawn_key.ensures.value, c.word_bytes-2.ensures.value)
     (ap_req_fits q w t c.requires.askable sizes (subst (λ (z : List ℕ). SpellsTicket z t) is spelled))
 
 pub returns : goal.returns
@@ -60,10 +60,10 @@ returns c =
     same_ticket q w c.in_ok-part.part c.word_bytes.result c.deref.result.now c.in_ok-part.ensures.value c.word_bytes.ensures.value
     (c.deref.ensures.value ∙ c.in_ok-ticket.ensures.text) in
     let made : Ticket → List ℕ = λ t. text types.ap_req
-    (ap_req_value (ap_req_of t (bit protocol.mutual_required) c.in_ok-authenticator.authenticator c.key_of.result c.word_bytes-2.result)) in
+    (ap_req_value (ap_req_of t (bit protocol.mutual_required) c.in_ok-authenticator.authenticator c.drawn_key.result c.word_bytes-2.result)) in
     let same : (t : Ticket) (bytes : List ℕ) → bytes ≡ made t → bytes ≡ ap_req_text t q w = λ t bytes is.
-    same_request q w t c.in_ok-authenticator.authenticator c.key_of.result c.word_bytes-2.result bytes
-    c.in_ok-authenticator.ensures.value c.key_of.ensures.value c.word_bytes-2.ensures.value is in
+    same_request q w t c.in_ok-authenticator.authenticator c.drawn_key.result c.word_bytes-2.result bytes
+    c.in_ok-authenticator.ensures.value c.drawn_key.ensures.value c.word_bytes-2.ensures.value is in
     record {
       text = IfOk-weaker c.make_ap_req.result _ _
           (λ v h. (h.0, subst (λ (z : List ℕ). SpellsTicket z h.0) is h.1, same h.0 _ h.2)) c.make_ap_req.ensures.text;

@@ -1,8 +1,5 @@
 use Rattle.krb_msgs.proofs.LengthLemmas.{short_texts_fit, texts_are_short}
 use Rattle.krb_msgs.proofs.laws.lengths.Goals as goal
 
-pub returns-clause-short : goal.returns-clause-short
-returns-clause-short c = texts_are_short
-
-pub returns-clause-fits : goal.returns-clause-fits
-returns-clause-fits c = short_texts_fit
+pub returns : goal.returns
+returns c = record { short = texts_are_short; fits = short_texts_fit }

@@ -2,20 +2,5 @@ use Rattle.krb_msgs.proofs.FittingLemmas.{ap_reps_fit, ap_reqs_fit, privs_fit, t
 use Rattle.krb_msgs.proofs.OpenedLemmas.{opened_times_fit}
 use Rattle.krb_msgs.proofs.laws.messages_fit.Goals as goal
 
-pub returns-clause-ticket : goal.returns-clause-ticket
-returns-clause-ticket c = tickets_fit
-
-pub returns-clause-ticket_length : goal.returns-clause-ticket_length
-returns-clause-ticket_length c = tickets_are_short
-
-pub returns-clause-ap_req : goal.returns-clause-ap_req
-returns-clause-ap_req c = ap_reqs_fit
-
-pub returns-clause-ap_rep : goal.returns-clause-ap_rep
-returns-clause-ap_rep c = ap_reps_fit
-
-pub returns-clause-krb_priv : goal.returns-clause-krb_priv
-returns-clause-krb_priv c = privs_fit
-
-pub returns-clause-times : goal.returns-clause-times
-returns-clause-times c = opened_times_fit
+pub returns : goal.returns
+returns c = record { ticket = tickets_fit; ticket_length = tickets_are_short; ap_req = ap_reqs_fit; ap_rep = ap_reps_fit; krb_priv = privs_fit; times = opened_times_fit }

@@ -1,5 +1,5 @@
-use Rattle.std.proofs.Common.{◌≡◌, ℕ, true, subst, sym, ap, ◌∙◌, Result, Ok, Err}
-use Rattle.std.specs.Result.{IfOk}
+use Rattle.std.proofs.Common.{◌≡◌, ℕ, true, subst, sym, ap, ◌∙◌, Ok, Err}
+use Rattle.std.proofs.lemmas.Result.{IfOk-weaker}
 use Rattle.krb_elements.specs.Reading.{Gives}
 use Rattle.krb_elements.specs.Texts.{text, fits}
 use Rattle.krb_elements.specs.declared.fault.DerFault.{DerFault}
@@ -27,10 +27,6 @@ message_of ticket options part = record {
 not_refused : {X Y : Type 0} (view : X → Y) (f : DerFault) (v : Y) → Gives view (Err (errors.Fault f)) (Ok v) → ⊥
 not_refused view f v h = ok_err h
 
-if_ok : {T E : Type 0} {P Q : T → Type 0} (r : Result T E) → ((v : T) → P v → Q v) → IfOk r P → IfOk r Q
-if_ok (Ok v) step h = step v h
-if_ok (Err e) step h = tt
-
 pub unreachable-requires : goal.unreachable-requires
 unreachable-requires c =
     let refused = rw c.in-Err-Fault.field-0-is at c.in-Err-Fault.ensures.found in
@@ -46,7 +42,7 @@ write_ap_req-requires c = record {
 pub returns : goal.returns
 returns c = record {
   text =
-      if_ok c.write_ap_req.result
+      IfOk-weaker c.write_ap_req.result _ _
       (λ v h. (c.in-Ok.ticket, c.in-Ok.ensures.value, h ∙ ap (λ (x : EncryptedData). text ap_req (ap_req_value (message_of c.in-Ok.ticket c.args.options x))) c.in_ok-seal_part.ensures.value))
       c.write_ap_req.ensures.text;
 }

@@ -1,18 +1,76 @@
--- The text of a value whose octet strings are made of bytes is made of bytes.
-use Rattle.std.proofs.Common.{◌≡◌, ℕ, ◌+◌, ◌<◌, ◌≤◌, ◌&&◌, Bool, List, [], ◌∷◌, ◌++◌, length, Some, None, Option, refl, subst, arith, inl, inr, eqb, ltb, true, false, sym, ℤ, pos, rules, lit<, get_or}
-use Rattle.std.specs.Prelude.{nat_lt}
+-- Texts and octet strings that are made of bytes: those of a value where its text is, its text where they
+-- are, and a key of such a string.
+use Rattle.std.proofs.Common.{◌≡◌, ℕ, ◌<◌, ◌&&◌, Bool, true, false, List, ◌∷◌, ◌++◌, length, Some, None, refl, subst, ℤ, pos, ◌+◌, [], Option, arith, inl, inr, eqb, ltb, sym, rules, lit<, get_or}
+use Rattle.std.specs.Prelude.{◌==◌, if◌then◌else◌, IfSome, nat_lt}
+use Rattle.std.specs.Ordering.{int_eq}
+use Rattle.std.proofs.lemmas.Bool.{eqb-true, ltb-true}
+use Rattle.std.proofs.lemmas.List.{take_at, drop_at}
+use Rattle.std.proofs.lemmas.List.Elements.{All-take, All-drop, All-append, All-cons, All-head, All-nil, All-tail}
 use Rattle.std.specs.Int.{cast_unsigned, to_be_bytes, to_le_bytes, w16, w32, w64}
-use Rattle.std.proofs.lemmas.List.Elements.{All-append, All-cons, All-head, All-nil, All-tail}
+use Rattle.krb_aes.specs.Bytes.{AreBytes}
+use Rattle.krb_keys.specs.Keys.{IsProtocolKey, key_of}
+use Rattle.krb_keys.specs.declared.key.Key.TheVariants.{Aes128, Aes256}
 use Rattle.krb_elements.specs.Shapes.{Primitive, integer, sequence_number, octets, bits, time, Shape, primitive, tagged, many, further, nothing, field, option, Meaning, Value, tag_of}
+use Rattle.krb_elements.specs.Grammar.{IsElement, Spells}
+use Rattle.krb_elements.proofs.CompleteLemmas.{and_true, same_or_not}
 use Rattle.krb_elements.specs.Integers.{integer_octets, repeats_sign, without_sign}
 use Rattle.krb_elements.specs.BitStrings.{bits_octets}
 use Rattle.krb_elements.specs.Times.{civil_text, time_of}
 use Rattle.krb_elements.specs.Texts.{content_of, element, length_octets, text, time_content, without_zeros}
-use Rattle.std.proofs.lemmas.Bool.{ltb-true}
-use Rattle.krb_elements.proofs.CompleteLemmas.{and_true, same_or_not}
 use Rattle.krb_elements.proofs.TimeLemmas.{civil_text_form, form_parts, time_of-exact}
 use Rattle.krb_msgs.specs.Making.{word_bytes}
-use Rattle.chpw_messages.proofs.OctetLemmas.{AreBytes, HoldsBytes}
+use Rattle.krb_msgs.proofs.LengthLemmas.{short-without_zeros}
+
+-- ---- octet strings
+
+-- whether a value's octet strings are made of bytes; those of lists aren't looked at
+abbrev pub HoldsBytes : (s : Shape) → Value s → Type 0
+HoldsBytes (primitive (octets tag)) v = AreBytes v
+HoldsBytes (tagged tag s) v = HoldsBytes s v
+HoldsBytes (field first rest) v = HoldsBytes first v.0 × HoldsBytes rest v.1
+HoldsBytes (option tag first rest) v = IfSome v.0 (HoldsBytes first) × HoldsBytes rest v.1
+HoldsBytes s v = Unit {0}
+
+front : (xs ys text : List ℕ) → text ≡ xs ++ ys → AreBytes text → AreBytes xs
+front xs ys text is are =
+    subst AreBytes (take_at xs ys (length xs) refl) (All-take (λ b. b < 256) (length xs) (xs ++ ys) (subst AreBytes is are))
+
+behind : (xs ys text : List ℕ) → text ≡ xs ++ ys → AreBytes text → AreBytes ys
+behind xs ys text is are =
+    subst AreBytes (drop_at xs ys (length xs) refl) (All-drop (λ b. b < 256) (length xs) (xs ++ ys) (subst AreBytes is are))
+
+inside : (tag : ℕ) (content text : List ℕ) → IsElement tag content text → AreBytes text → AreBytes content
+inside tag content text h = behind (tag ∷ h.0) content text h.2
+
+pub holds_bytes : (s : Shape) (text : List ℕ) (v : Value s) → Spells s text v → AreBytes text → HoldsBytes s v
+holds_bytes (primitive (octets tag)) text v h are = subst AreBytes h.2 (inside tag h.0 text h.1 are)
+holds_bytes (tagged tag s) text v h are = holds_bytes s h.0 v h.2 (inside tag h.0 text h.1 are)
+holds_bytes (field first rest) text v h are =
+    (holds_bytes first h.0 v.0 h.3 (front h.0 h.1 text h.2 are), holds_bytes rest h.1 v.1 h.4 (behind h.0 h.1 text h.2 are))
+holds_bytes (option tag first rest) text (None, w) h are = (tt, holds_bytes rest text w h are)
+holds_bytes (option tag first rest) text (Some v, w) h are = (
+  holds_bytes first h.3.0 v h.3.2 (inside tag h.3.0 h.0 h.3.1 (front h.0 h.1 text h.2 are)),
+  holds_bytes rest h.1 w h.4 (behind h.0 h.1 text h.2 are),
+)
+holds_bytes s text v h are = tt
+
+-- ---- keys
+
+-- what is made by two tests of a number and a length
+made : (is_17 is_18 : Bool) (bytes : List ℕ) → AreBytes bytes → (is_17 ≡ true → length bytes ≡ 16) → (is_18 ≡ true → length bytes ≡ 32)
+    → IfSome (if is_17 then Some (Aes128 bytes) else if is_18 then Some (Aes256 bytes) else None) IsProtocolKey
+made true is_18 bytes are short long = (short refl, are)
+made false true bytes are short long = (long refl, are)
+made false false bytes are short long = tt
+
+-- the key made of bytes is a protocol key
+pub key_of_bytes : (number : ℤ) (bytes : List ℕ) → AreBytes bytes → IfSome (key_of number bytes) IsProtocolKey
+key_of_bytes number bytes are =
+    made (int_eq number (pos 17) && (length bytes == 16)) (int_eq number (pos 18) && (length bytes == 32)) bytes are
+    (λ h. eqb-true (length bytes) 16 (and_true (int_eq number (pos 17)) (length bytes == 16) h).1)
+    (λ h. eqb-true (length bytes) 32 (and_true (int_eq number (pos 18)) (length bytes == 32) h).1)
+
+-- ---- the text of a value whose octet strings are made of bytes
 
 none_are : AreBytes []
 none_are = All-nil (λ (b : ℕ). b < 256)
@@ -68,19 +126,12 @@ sign_gone (b ∷ bytes) are = elim (same_or_not (repeats_sign b bytes)) [
   | inr e ↦ rw e are
 ]
 
-few_left : (bytes : List ℕ) → length (without_zeros bytes) ≤ length bytes
-few_left [] = omega arith
-few_left (b ∷ bytes) = elim (same_or_not (eqb b 0)) [
-  | inl e ↦ let less = few_left bytes in rw e (omega (arith, less))
-  | inr e ↦ rw e (omega arith)
-]
-
 -- a length below 2 ^ 64 has at most eight bytes
 length_bytes : (n : ℕ) → AreBytes (length_octets n)
 unfolding length_octets
 length_bytes n =
     let rest = zeros_gone (to_be_bytes w64 n) (eight_bytes n) in
-    let few = few_left (to_be_bytes w64 n) in
+    let few = short-without_zeros (to_be_bytes w64 n) in
     elim (same_or_not (ltb n 128)) [
       | inl e ↦ let lt = ltb-true n 128 e in rw e (one_more n [] (omega (arith, lt)) none_are)
       | inr e ↦ rw e (one_more (128 + length (without_zeros (to_be_bytes w64 n))) (without_zeros (to_be_bytes w64 n)) (omega (arith, few)) rest)
