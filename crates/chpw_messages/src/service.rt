@@ -1,8 +1,7 @@
 //! The service: its realm and its keys.
 ghost use Rattle.std.specs.Prelude.{◌≡◌, true, map, IfOk};
 ghost use Rattle.std.specs.List.{list_all};
-ghost use Rattle.std.specs.Result.{result_ok};
-ghost use Rattle.krb_keys.specs.Keys.{IsProtocolKey, key_of};
+ghost use Rattle.krb_keys.specs.Keys.{IsProtocolKey};
 ghost use Rattle.krb_msgs.specs.OneAnswer.{AreProtocolKeys};
 ghost use Rattle.chpw_rules.specs.Fitting.{config_fits, service_key_fits};
 ghost use Rattle.chpw_messages.specs.Service.{configured, held};
@@ -13,7 +12,7 @@ use crate::replies::error_reply;
 use chpw_answer::{Messages, OpenResult, Seal};
 use chpw_rules::{Config, Items, ServiceRow};
 use chpw_table::Moment;
-use krb_keys::{BadKey, Key, key_of};
+use krb_keys::key_of;
 use krb_msgs::ServiceKey;
 use krb_protocol::Refusal;
 use std::alloc::{AllocError, Global};
@@ -66,20 +65,12 @@ fn service_keys(alloc: Global, rows: &[ServiceRow]) -> Result<Vec<ServiceKey>, A
     Ok(keys)
 }
 
-/// The key of an encryption type with these bytes.
-fn key_in(etype: i32, bytes: &[u8]) -> Result<Key, BadKey>
-    ensures value { result_ok result ≡ key_of etype bytes.now }
-    ensures protocol { IfOk result IsProtocolKey }
-{
-    key_of(etype, bytes)
-}
-
 fn service_key(row: &ServiceRow) -> ServiceKey
     requires fits { service_key_fits row.now ≡ true }
     ensures value { held result ≡ configured row.now }
     ensures protocol { IsProtocolKey result.key }
 {
-    match key_in(row.etype, row.key.as_slice()) {
+    match key_of(row.etype, row.key.as_slice()) {
         Ok(key) => ServiceKey {
             kvno: row.kvno,
             key,
