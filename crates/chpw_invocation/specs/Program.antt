@@ -49,14 +49,17 @@ client = command (codes "client")
     ∷ flag (codes "no-initial")
     ∷ [])
 
--- one of them has to be named
-abbrev pub program : App
-program = record {
-  top = record (new_shape (codes "chpw_server")) {
-    is_leaf = false;
+-- with a version, and one of the commands below it has to be named
+abbrev pub leading : App → App
+leading a = record a {
+  top = record a.top {
     has_version = true;
     subcommand_required = true;
     arg_required_else_help = true;
   };
+}
+
+abbrev pub program : App
+program = record (leading (alone (record (new_shape (codes "chpw_server")) { is_leaf = false }))) {
   subs = drill ∷ check ∷ serve ∷ client ∷ [];
 }

@@ -1,12 +1,14 @@
 //! The program's commands, with their help.
-ghost use Rattle.std.specs.Prelude.{◌≡◌, [], IfOk};
+ghost use Rattle.std.specs.Prelude.{◌≡◌, [], false, IfOk};
+ghost use Rattle.clap.specs.Simple.{with_rule, with_subcommand};
+ghost use Rattle.clap.specs.Walk.{rule_of};
 ghost use Rattle.clap.specs.Words.{app_of};
 ghost use Rattle.chpw_invocation.specs.Program as specs_of;
 
 use crate::options::{
     connections_option, flag_option, optional_option, port_option, required_option, workers_option,
 };
-use clap::Command;
+use clap::{Arg, Command};
 use std::alloc::{AllocError, Global};
 
 const VERSION: &str = "0.1";
@@ -92,6 +94,41 @@ fn described<'a>(alloc: Global, name: &'a str, about: &'a str, more: &'a str) ->
     Command::new(alloc, name).about(about).after_help(more)
 }
 
+// The command with one more option.
+fn with_option<'a>(command: Command<'a>, option: Arg<'a>) -> Result<Command<'a>, AllocError>
+    requires command { specs_of.IsLocal command }
+    requires option { option.global ≡ false }
+    ensures shape { IfOk result (λ c.
+        app_of c ≡ with_rule (app_of command.entry) (rule_of option.entry)) }
+    ensures local { IfOk result specs_of.IsLocal }
+{
+    let command = command.arg(option)?;
+    Ok(command)
+}
+
+// The command with one more below it.
+fn with_command<'a>(command: Command<'a>, below: Command<'a>) -> Result<Command<'a>, AllocError>
+    requires command { specs_of.IsLocal command }
+    requires below { specs_of.IsLocal below }
+    ensures shape { IfOk result (λ c.
+        app_of c ≡ with_subcommand (app_of command.entry) (app_of below.entry).top) }
+    ensures local { IfOk result specs_of.IsLocal }
+{
+    let command = command.subcommand(below)?;
+    Ok(command)
+}
+
+// The command with a version, of which one below it has to be named.
+fn leading<'a>(command: Command<'a>) -> Command<'a>
+    ensures shape { app_of result ≡ specs_of.leading (app_of command.entry) }
+    ensures local { specs_of.IsLocal command.entry → specs_of.IsLocal result }
+{
+    command
+        .version(VERSION)
+        .subcommand_required(true)
+        .arg_required_else_help(true)
+}
+
 fn drill<'a>(alloc: Global) -> Command<'a>
     ensures shape { app_of result ≡ specs_of.alone specs_of.drill }
     ensures local { specs_of.IsLocal result }
@@ -103,39 +140,59 @@ fn check<'a>(alloc: Global) -> Result<Command<'a>, AllocError>
     ensures shape { IfOk result (λ c. app_of c ≡ specs_of.alone specs_of.check) }
     ensures local { IfOk result specs_of.IsLocal }
 {
-    described(alloc, "check", CHECK, CHECK_MORE).arg(required_option(
-        alloc,
-        "config",
-        "FILE",
-        CONFIG_HELP,
-    ))
+    let command = described(alloc, "check", CHECK, CHECK_MORE);
+    let command = with_option(
+        command,
+        required_option(alloc, "config", "FILE", CONFIG_HELP),
+    )?;
+    Ok(command)
 }
 
 fn serve<'a>(alloc: Global) -> Result<Command<'a>, AllocError>
     ensures shape { IfOk result (λ c. app_of c ≡ specs_of.alone specs_of.serve) }
     ensures local { IfOk result specs_of.IsLocal }
 {
-    described(alloc, "serve", SERVE, SERVE_MORE)
-        .arg(required_option(alloc, "config", "FILE", CONFIG_HELP))?
-        .arg(required_option(alloc, "journal", "FILE", JOURNAL_HELP))?
-        .arg(required_option(alloc, "seed", "FILE", SEED_HELP))?
-        .arg(port_option(alloc, PORT_HELP))?
-        .arg(workers_option(alloc, WORKERS_HELP))?
-        .arg(connections_option(alloc, CONNECTIONS_HELP))
+    let command = described(alloc, "serve", SERVE, SERVE_MORE);
+    let command = with_option(
+        command,
+        required_option(alloc, "config", "FILE", CONFIG_HELP),
+    )?;
+    let command = with_option(
+        command,
+        required_option(alloc, "journal", "FILE", JOURNAL_HELP),
+    )?;
+    let command = with_option(command, required_option(alloc, "seed", "FILE", SEED_HELP))?;
+    let command = with_option(command, port_option(alloc, PORT_HELP))?;
+    let command = with_option(command, workers_option(alloc, WORKERS_HELP))?;
+    let command = with_option(command, connections_option(alloc, CONNECTIONS_HELP))?;
+    Ok(command)
 }
 
 fn client<'a>(alloc: Global) -> Result<Command<'a>, AllocError>
     ensures shape { IfOk result (λ c. app_of c ≡ specs_of.alone specs_of.client) }
     ensures local { IfOk result specs_of.IsLocal }
 {
-    described(alloc, "client", CLIENT, CLIENT_MORE)
-        .arg(required_option(alloc, "config", "FILE", CONFIG_HELP))?
-        .arg(required_option(alloc, "seed", "FILE", SEED_HELP))?
-        .arg(port_option(alloc, PORT_HELP))?
-        .arg(required_option(alloc, "client", "NAME", CLIENT_HELP))?
-        .arg(required_option(alloc, "password", "TEXT", PASSWORD_HELP))?
-        .arg(optional_option(alloc, "target", "NAME", TARGET_HELP))?
-        .arg(flag_option(alloc, "no-initial", NO_INITIAL_HELP))
+    let command = described(alloc, "client", CLIENT, CLIENT_MORE);
+    let command = with_option(
+        command,
+        required_option(alloc, "config", "FILE", CONFIG_HELP),
+    )?;
+    let command = with_option(command, required_option(alloc, "seed", "FILE", SEED_HELP))?;
+    let command = with_option(command, port_option(alloc, PORT_HELP))?;
+    let command = with_option(
+        command,
+        required_option(alloc, "client", "NAME", CLIENT_HELP),
+    )?;
+    let command = with_option(
+        command,
+        required_option(alloc, "password", "TEXT", PASSWORD_HELP),
+    )?;
+    let command = with_option(
+        command,
+        optional_option(alloc, "target", "NAME", TARGET_HELP),
+    )?;
+    let command = with_option(command, flag_option(alloc, "no-initial", NO_INITIAL_HELP))?;
+    Ok(command)
 }
 
 /// The program, with all its commands.
@@ -143,12 +200,10 @@ pub(crate) fn program<'a>(alloc: Global) -> Result<Command<'a>, AllocError>
     ensures shape { IfOk result (λ c. app_of c ≡ specs_of.program) }
     ensures local { IfOk result specs_of.IsLocal }
 {
-    described(alloc, "chpw_server", ABOUT, STATUSES)
-        .version(VERSION)
-        .subcommand_required(true)
-        .arg_required_else_help(true)
-        .subcommand(drill(alloc))?
-        .subcommand(check(alloc)?)?
-        .subcommand(serve(alloc)?)?
-        .subcommand(client(alloc)?)
+    let program = leading(described(alloc, "chpw_server", ABOUT, STATUSES));
+    let program = with_command(program, drill(alloc))?;
+    let program = with_command(program, check(alloc)?)?;
+    let program = with_command(program, serve(alloc)?)?;
+    let program = with_command(program, client(alloc)?)?;
+    Ok(program)
 }
