@@ -2,7 +2,7 @@
 ghost use Rattle.std.specs.Prelude.{◌≡◌, ◌^◌, ◌<◌, length};
 ghost use Rattle.chpw_book.specs.Starting.{IsNamed, workers_of};
 
-use crate::realm::{NOW, PASSWORD, Quiet, change, closed, table, verdict};
+use crate::desks::{change, closed, table, verdict};
 use chpw_book::{CloseFault, CloseRefused, Desk, DeskName, Pass, UnnamedDesk, agree};
 use chpw_table::{Entry, Event, Opened, Receipt, Verdict};
 use std::alloc::{AllocError, Global};
@@ -11,10 +11,11 @@ use std::process::Abort;
 use std::sync::Wait;
 use std::test::Fail;
 use std::thread::{Threads, join};
+use test_realm::{NOW, PASSWORD, Tally};
 
 #[test]
 fn one_request_of_two_workers(rt: HostRuntime) -> Result<(), Fail> {
-    let table = table(&rt, rt.alloc(), 9)?;
+    let table = table(rt.alloc(), 9)?;
     let one = change(rt.alloc(), 0, 1)?;
     let two = change(rt.alloc(), 0, 1)?;
     two_at::<Brand, _>(&rt, rt.alloc(), UnnamedDesk::of(table, 2), one, two)
@@ -31,7 +32,7 @@ fn two_at<D: DeskName + Send + Sync, R: Threads + Wait + Abort + Sync>(
     requires name { IsNamed unnamed D.name D.parts D.book D.root D.workers }
     requires workers { workers_of unnamed ≡ 2 }
 {
-    let (desk, mut passes) = Desk::<D, Quiet>::start(rt, alloc, unnamed, Quiet)?;
+    let (desk, mut passes) = Desk::<D, Tally>::start(rt, alloc, unnamed, Tally::new())?;
     let mut second = passes.pop().expect(rt, "a pass");
     let mut first = passes.pop().expect(rt, "a pass");
     let shared = &desk;
@@ -54,9 +55,9 @@ fn two_at<D: DeskName + Send + Sync, R: Threads + Wait + Abort + Sync>(
 // A desk without a worker's pass stays open, and is given back.
 fn refused<D: DeskName, R: Wait + Abort>(
     rt: &R,
-    desk: Desk<D, Quiet>,
+    desk: Desk<D, Tally>,
     passes: Vec<Pass<D>>,
-) -> (Desk<D, Quiet>, Vec<Pass<D>>) {
+) -> (Desk<D, Tally>, Vec<Pass<D>>) {
     let count = passes.len();
     match desk.close(rt, passes) {
         Ok(_) => panic!(rt; "a pass is missing"),

@@ -2,7 +2,7 @@
 ghost use Rattle.std.specs.Prelude.{◌≡◌};
 ghost use Rattle.chpw_book.specs.Starting.{IsNamed, workers_of};
 
-use crate::realm::{NOW, PASSWORD, Quiet, change, closed, is_full, shown, table, verdict};
+use crate::desks::{change, closed, is_full, shown, table, verdict};
 use chpw_book::{AtDesk, Desk, DeskName, UnnamedDesk};
 use chpw_decider::Decider;
 use chpw_table::{DecideFault, Opened, Refused, Verdict};
@@ -11,10 +11,11 @@ use std::marker::Brand;
 use std::process::Abort;
 use std::sync::Wait;
 use std::test::Fail;
+use test_realm::{NOW, PASSWORD, Tally};
 
 #[test]
 fn keys_that_are_asked_for(rt: HostRuntime) -> Result<(), Fail> {
-    let table = table(&rt, rt.alloc(), 2)?;
+    let table = table(rt.alloc(), 2)?;
     let opened = change(rt.alloc(), 0, 1)?;
     ask_and_complete::<Brand, _>(&rt, rt.alloc(), UnnamedDesk::of(table, 1), opened)
 }
@@ -29,7 +30,7 @@ fn ask_and_complete<D: DeskName, R: Wait + Abort>(
     requires name { IsNamed unnamed D.name D.parts D.book D.root D.workers }
     requires workers { workers_of unnamed ≡ 1 }
 {
-    let (desk, mut passes) = Desk::<D, Quiet>::start(rt, alloc, unnamed, Quiet)?;
+    let (desk, mut passes) = Desk::<D, Tally>::start(rt, alloc, unnamed, Tally::new())?;
     let mut pass = passes.pop().expect(rt, "a pass");
     let refused = desk
         .decide(rt, &mut pass, NOW, opened)
@@ -60,7 +61,7 @@ fn completed(rt: &impl Abort, refused: Refused) -> Opened {
 
 #[test]
 fn keys_derived_under_the_lock(rt: HostRuntime) -> Result<(), Fail> {
-    let table = table(&rt, rt.alloc(), 1)?;
+    let table = table(rt.alloc(), 1)?;
     let first = change(rt.alloc(), 0, 1)?;
     let second = change(rt.alloc(), 0, 2)?;
     derive_and_fill::<Brand, _>(&rt, rt.alloc(), UnnamedDesk::of(table, 1), first, second)
@@ -77,7 +78,7 @@ fn derive_and_fill<D: DeskName, R: Wait + Abort>(
     requires name { IsNamed unnamed D.name D.parts D.book D.root D.workers }
     requires workers { workers_of unnamed ≡ 1 }
 {
-    let (desk, mut passes) = Desk::<D, Quiet>::start(rt, alloc, unnamed, Quiet)?;
+    let (desk, mut passes) = Desk::<D, Tally>::start(rt, alloc, unnamed, Tally::new())?;
     let mut pass = passes.pop().expect(rt, "a pass");
     let mut place = AtDesk {
         rt,

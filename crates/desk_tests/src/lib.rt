@@ -4,9 +4,9 @@
 #[cfg(test)]
 mod closing;
 #[cfg(test)]
-mod keys;
+mod desks;
 #[cfg(test)]
-mod realm;
+mod keys;
 #[cfg(test)]
 mod sides;
 #[cfg(test)]

@@ -2,7 +2,7 @@
 ghost use Rattle.std.specs.Prelude.{◌≡◌, ◌<◌, All};
 ghost use Rattle.chpw_book.specs.Starting.{IsNamed, workers_of};
 
-use crate::realm::{NOW, PASSWORD, Quiet, change, closed, shown, table, verdict};
+use crate::desks::{change, closed, shown, table, verdict};
 use chpw_book::{Desk, DeskName, Pass, UnnamedDesk};
 use chpw_table::{Opened, Verdict};
 use std::alloc::Global;
@@ -12,10 +12,11 @@ use std::sync::Wait;
 use std::test::Fail;
 use std::thread;
 use std::thread::Threads;
+use test_realm::{NOW, PASSWORD, Tally};
 
 #[test]
 fn sixteen_workers(rt: HostRuntime) -> Result<(), Fail> {
-    let table = table(&rt, rt.alloc(), 100)?;
+    let table = table(rt.alloc(), 100)?;
     all_at::<Brand, _>(&rt, rt.alloc(), UnnamedDesk::of(table, 16))
 }
 
@@ -28,7 +29,7 @@ fn all_at<D: DeskName + Send + Sync, R: Threads + Wait + Abort + Sync>(
     requires name { IsNamed unnamed D.name D.parts D.book D.root D.workers }
     requires workers { workers_of unnamed ≡ 16 }
 {
-    let (desk, mut passes) = Desk::<D, Quiet>::start(rt, alloc, unnamed, Quiet)?;
+    let (desk, mut passes) = Desk::<D, Tally>::start(rt, alloc, unnamed, Tally::new())?;
     let shared = &desk;
     thread::for_each_mut(
         rt,
@@ -50,7 +51,7 @@ fn all_at<D: DeskName + Send + Sync, R: Threads + Wait + Abort + Sync>(
 fn change_own<D: DeskName, R: Wait + Abort>(
     rt: &R,
     alloc: Global,
-    desk: &Desk<D, Quiet>,
+    desk: &Desk<D, Tally>,
     pass: &mut Pass<D>,
 ) {
     let worker = pass.worker();
@@ -71,8 +72,8 @@ pub fn asked(rt: &impl Abort, alloc: Global, number: u8, cusec: u32) -> Opened {
 
 #[test]
 fn two_desks(rt: HostRuntime) -> Result<(), Fail> {
-    let first = table(&rt, rt.alloc(), 9)?;
-    let second = table(&rt, rt.alloc(), 9)?;
+    let first = table(rt.alloc(), 9)?;
+    let second = table(rt.alloc(), 9)?;
     let opened = change(rt.alloc(), 0, 1)?;
     both_at::<Brand, Brand, _>(
         &rt,
@@ -93,13 +94,13 @@ fn both_at<D: DeskName, E: DeskName, R: Wait + Abort>(
     requires one { IsNamed unnamed.0 D.name D.parts D.book D.root D.workers }
     requires two { IsNamed unnamed.1 E.name E.parts E.book E.root E.workers }
 {
-    let (one, mut ones) = Desk::<D, Quiet>::start(rt, alloc, unnamed.0, Quiet)?;
+    let (one, mut ones) = Desk::<D, Tally>::start(rt, alloc, unnamed.0, Tally::new())?;
     let mut first = ones.pop().expect(rt, "a pass");
     let done = one.decide_deriving(rt, &mut first, NOW, opened, PASSWORD);
     assert!(rt; verdict(done) == Some(Verdict::Done));
     assert!(rt; shown(rt, alloc, &one, &mut first) == (2, 1));
     one.abandon(rt);
-    let (two, mut twos) = Desk::<E, Quiet>::start(rt, alloc, unnamed.1, Quiet)?;
+    let (two, mut twos) = Desk::<E, Tally>::start(rt, alloc, unnamed.1, Tally::new())?;
     let mut second = twos.pop().expect(rt, "a pass");
     assert!(rt; shown(rt, alloc, &two, &mut second) == (1, 0));
     two.abandon(rt);

@@ -2,7 +2,7 @@
 ghost use Rattle.std.specs.Prelude.{◌≡◌};
 ghost use Rattle.chpw_book.specs.Starting.{IsNamed};
 
-use crate::realm::{NOW, PASSWORD, Quiet, change, closed, name, shown, table, verdict};
+use crate::desks::{change, closed, name, shown, table, verdict};
 use crate::sides::asked;
 use chpw_book::{AtDesk, Desk, DeskName, Pass, UnnamedDesk};
 use chpw_decider::Decider;
@@ -14,6 +14,7 @@ use std::sync::Wait;
 use std::test::Fail;
 use std::thread;
 use std::thread::Threads;
+use test_realm::{NOW, PASSWORD, Tally};
 
 // How often alice's password is changed, and how often each other worker looks.
 const CHANGES: u32 = 40;
@@ -22,7 +23,7 @@ const LOOKS: u32 = 500;
 
 #[test]
 fn fronts_that_are_learnt(rt: HostRuntime) -> Result<(), Fail> {
-    let table = table(&rt, rt.alloc(), 9)?;
+    let table = table(rt.alloc(), 9)?;
     let opened = change(rt.alloc(), 0, 1)?;
     three_at::<Brand, _>(&rt, rt.alloc(), UnnamedDesk::of(table, 3), opened)
 }
@@ -36,7 +37,7 @@ fn three_at<D: DeskName, R: Wait + Abort>(
 ) -> Result<(), Fail>
     requires name { IsNamed unnamed D.name D.parts D.book D.root D.workers }
 {
-    let (desk, mut passes) = Desk::<D, Quiet>::start(rt, alloc, unnamed, Quiet)?;
+    let (desk, mut passes) = Desk::<D, Tally>::start(rt, alloc, unnamed, Tally::new())?;
     let mut third = passes.pop().expect(rt, "a pass");
     let mut second = passes.pop().expect(rt, "a pass");
     let mut first = passes.pop().expect(rt, "a pass");
@@ -58,7 +59,7 @@ fn three_at<D: DeskName, R: Wait + Abort>(
 
 #[test]
 fn what_a_worker_is_shown(rt: HostRuntime) -> Result<(), Fail> {
-    let table = table(&rt, rt.alloc(), 9)?;
+    let table = table(rt.alloc(), 9)?;
     let opened = change(rt.alloc(), 0, 1)?;
     worker_at::<Brand, _>(&rt, rt.alloc(), UnnamedDesk::of(table, 1), opened)
 }
@@ -74,7 +75,7 @@ fn worker_at<D: DeskName, R: Wait + Abort>(
     requires name { IsNamed unnamed D.name D.parts D.book D.root D.workers }
 {
     let names = [name(alloc, 0)?, name(alloc, 1)?, name(alloc, 16)?];
-    let (desk, mut passes) = Desk::<D, Quiet>::start(rt, alloc, unnamed, Quiet)?;
+    let (desk, mut passes) = Desk::<D, Tally>::start(rt, alloc, unnamed, Tally::new())?;
     let mut pass = passes.pop().expect(rt, "a pass");
     let mut worker = AtDesk {
         rt,
@@ -95,7 +96,7 @@ fn worker_at<D: DeskName, R: Wait + Abort>(
 
 #[test]
 fn lookups_beside_changes(rt: HostRuntime) -> Result<(), Fail> {
-    let table = table(&rt, rt.alloc(), 100)?;
+    let table = table(rt.alloc(), 100)?;
     all_at::<Brand, _>(&rt, rt.alloc(), UnnamedDesk::of(table, 16))
 }
 
@@ -107,7 +108,7 @@ fn all_at<D: DeskName + Send + Sync, R: Threads + Wait + Abort + Sync>(
 ) -> Result<(), Fail>
     requires name { IsNamed unnamed D.name D.parts D.book D.root D.workers }
 {
-    let (desk, mut passes) = Desk::<D, Quiet>::start(rt, alloc, unnamed, Quiet)?;
+    let (desk, mut passes) = Desk::<D, Tally>::start(rt, alloc, unnamed, Tally::new())?;
     let shared = &desk;
     thread::for_each_mut(
         rt,
@@ -130,7 +131,7 @@ fn all_at<D: DeskName + Send + Sync, R: Threads + Wait + Abort + Sync>(
 fn change_often<D: DeskName, R: Wait + Abort>(
     rt: &R,
     alloc: Global,
-    desk: &Desk<D, Quiet>,
+    desk: &Desk<D, Tally>,
     pass: &mut Pass<D>,
 ) {
     for number in 0..CHANGES {
@@ -156,7 +157,7 @@ fn change_often<D: DeskName, R: Wait + Abort>(
 fn look_often<D: DeskName, R: Wait + Abort>(
     rt: &R,
     alloc: Global,
-    desk: &Desk<D, Quiet>,
+    desk: &Desk<D, Tally>,
     pass: &mut Pass<D>,
 ) {
     let mut seen = 0;
