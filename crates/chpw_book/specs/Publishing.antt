@@ -76,6 +76,10 @@ pub record Tells (opening : State) (before later : List Entry) (mine more : Know
 abbrev pub MayShow : Held → Known → Known → Name → Option Lookup → Type 0
 MayShow opening mine more name found = ((found ≡ None) × (more ≡ mine)) ⊎ LooksUp opening mine more name found
 
+-- the row of a name of which this is shown
+abbrev pub row_showing : Name → Lookup → Row
+row_showing name l = record { name = name; kvno = l.kvno; counts = l.held }
+
 -- the row of a name whose keys are these
 abbrev pub row_with : Name → Option (List KeyRow) → Row
 row_with name None = record { name = name; kvno = 0; counts = [] }

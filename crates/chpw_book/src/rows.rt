@@ -1,10 +1,10 @@
 //! The rows that lookups show at first.
 ghost use Rattle.std.specs.Prelude.{◌≡◌, ◌≤◌, ◌<◌, ◌^◌, All, IfOk, OnOk, map, max};
 ghost use Rattle.chpw_versions.specs.Rows.{HasPositive, IsPositive};
-ghost use Rattle.chpw_book.specs.Publishing.{row_under, table_rows};
+ghost use Rattle.chpw_book.specs.Publishing.{row_showing, row_under, table_rows};
 
 use chpw_rules::Name;
-use chpw_table::{Counts, Table};
+use chpw_table::{Lookup, Table};
 use chpw_versions::{Row, Rows};
 use std::alloc::{AllocError, Global};
 
@@ -27,8 +27,8 @@ fn all_rows(alloc: Global, table: &Table) -> Result<Vec<Row>, AllocError>
 {
     let mut rows = Vec::new(alloc);
     let mut place = 0u32;
-    while let Some(name) = table.name_at(place) {
-        rows.push(row_of(table, name)?)?;
+    while let Some((name, shown)) = table.row_at(place) {
+        rows.push(row_of(name, shown)?)?;
         // More names than that no memory holds.
         let Some(next) = place.checked_add(1) else {
             return Err(AllocError);
@@ -38,21 +38,12 @@ fn all_rows(alloc: Global, table: &Table) -> Result<Vec<Row>, AllocError>
     Ok(rows)
 }
 
-fn row_of(table: &Table, name: &Name) -> Result<Row, AllocError>
-    ensures value { IfOk result (λ row. row ≡ row_under table.now.state name.now) }
-    ensures positive { IfOk result HasPositive }
+fn row_of(name: &Name, shown: Lookup) -> Result<Row, AllocError>
+    ensures value { IfOk result (λ row. row ≡ row_showing name.now shown) }
 {
-    let copy = name.clone()?;
-    Ok(match table.lookup(name) {
-        None => Row {
-            name: copy,
-            kvno: 0,
-            counts: Counts::new(),
-        },
-        Some(found) => Row {
-            name: copy,
-            kvno: found.kvno,
-            counts: found.held,
-        },
+    Ok(Row {
+        name: name.clone()?,
+        kvno: shown.kvno,
+        counts: shown.held,
     })
 }
