@@ -1,10 +1,11 @@
 //! What is wrong with a configuration, in words for a person: the part by its place and its name,
 //! the key, and what it must be.
 use crate::fault::{ConfigError, ConfigFault, ConfigFaultKind, Location, Part};
+use crate::reading::DEFAULT_ENTRIES;
 use chpw_rules::{
-    AES128_LENGTH, AES256_LENGTH, COMPONENT_COUNTS, COMPONENT_LENGTHS, DEFAULT_ENTRIES, DEPTHS,
-    ENTRY_COUNTS, ETYPES, ITERATION_COUNTS, KEY_COUNTS, KVNOS, Limits, MIN_CLASS_COUNTS,
-    MIN_LENGTHS, PRINCIPAL_COUNTS, REALM_LENGTHS, RULE_COUNTS, SERVICE_KEY_COUNTS, key_length,
+    AES128_LENGTH, AES256_LENGTH, COMPONENT_COUNTS, COMPONENT_LENGTHS, DEPTHS, ENTRY_COUNTS,
+    ETYPES, ITERATION_COUNTS, KEY_COUNTS, KVNOS, Limits, MIN_CLASS_COUNTS, MIN_LENGTHS,
+    PRINCIPAL_COUNTS, REALM_LENGTHS, RULE_COUNTS, SERVICE_KEY_COUNTS, key_length,
 };
 use std::alloc::{AllocError, Global};
 use toml::{Table, Value};

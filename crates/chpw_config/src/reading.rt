@@ -12,14 +12,17 @@ use crate::fault::{ConfigError, ConfigFault, ConfigFaultKind, Location, Part};
 use crate::kinds::a_table;
 use crate::seen::{add_name, no_names};
 use chpw_rules::{
-    AES128_LENGTH, AES256_LENGTH, Config, DEFAULT_ENTRIES, DEPTHS, ENTRY_COUNTS, ETYPES,
-    ITERATION_COUNTS, Items, KEY_COUNTS, KVNOS, KeyBytes, MIN_CLASS_COUNTS, MIN_LENGTHS,
-    PRINCIPAL_COUNTS, Policy, PrincipalRow, REALM_LENGTHS, RULE_COUNTS, Rule, Rules,
-    SERVICE_KEY_COUNTS, ServiceRow, key_length, stands_in,
+    AES128_LENGTH, AES256_LENGTH, Config, DEPTHS, ENTRY_COUNTS, ETYPES, ITERATION_COUNTS, Items,
+    KEY_COUNTS, KVNOS, KeyBytes, MIN_CLASS_COUNTS, MIN_LENGTHS, PRINCIPAL_COUNTS, Policy,
+    PrincipalRow, REALM_LENGTHS, RULE_COUNTS, Rule, Rules, SERVICE_KEY_COUNTS, ServiceRow,
+    key_length, stands_in,
 };
 use std::alloc::Global;
 use std::collections::BTreeSet;
 use toml::{Table, Value};
+
+/// How many events a history may have where a file doesn't say.
+pub(crate) const DEFAULT_ENTRIES: usize = ENTRY_COUNTS.high;
 
 fn read_policy(table: &Table) -> Result<Policy, ConfigFault>
     ensures value { result ≡ policy_of (table_view table.now) }

@@ -17,8 +17,6 @@ pub const ENTRY_COUNTS: Limits = Limits {
     low: 1,
     high: 1_048_576,
 };
-/// How many it may have where a file doesn't say.
-pub const DEFAULT_ENTRIES: usize = ENTRY_COUNTS.high;
 /// Key version numbers (UInt32 of RFC 4120 section 5.2.4, from 1).
 pub const KVNOS: Limits = Limits {
     low: 1,
