@@ -7,8 +7,16 @@ use Rattle.chpw_journal.specs.declared.record.Record.{Record}
 use Rattle.chpw_journal.specs.declared.fault.RestoreFault.{RestoreFault}
 use Rattle.chpw_journal.specs.declared.restoring.Restored.{Restored}
 use Rattle.chpw_journal.specs.declared.journal_file.Journal.{Journal}
+use Rattle.chpw_journal.specs.declared.journal_file.OpenFault.{OpenFault}
+use Rattle.chpw_journal.specs.declared.journal_file.OpenFault.TheVariants.{CannotRead, CannotWrite, Restore}
 use Rattle.chpw_journal.specs.JournalText.{restored, AreNext}
 use Rattle.chpw_journal.specs.Restoring.{IsRestored, IsRefused}
+
+-- of a file that isn't read yet
+abbrev pub IsUnopened : OpenFault → Type 0
+IsUnopened CannotRead = Unit {0}
+IsUnopened CannotWrite = Unit {0}
+IsUnopened (Restore fault) = ⊥
 
 pub record IsOpened (before : Held) (j : Journal) : Type 0 where
   pub records : List Record

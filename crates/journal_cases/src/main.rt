@@ -12,7 +12,8 @@ mod refusal;
 mod restoring;
 
 use case_lines::{Answers, print_answers};
-use chpw_journal::{OpenFault, open_journal};
+use chpw_journal::{Journal, JournalFile, OpenFault};
+use chpw_table::Table;
 use failing::decided;
 use journal::journal_of;
 use realm::table;
@@ -25,6 +26,15 @@ use std::io::{self, Error, ErrorKind};
 /// Where a journal stands that is opened as a file.
 const SCRATCH: &str = "scratch-journal";
 
+/// The journal in that file, restored onto a table.
+fn restored_file<R: Files<File = File>>(
+    rt: &R,
+    alloc: Global,
+    table: Table,
+) -> Result<Journal, OpenFault> {
+    JournalFile::lock(rt, SCRATCH)?.restore(alloc, table)
+}
+
 /// What opening a file with these bytes gives, and how many bytes are in it then.
 fn opened<R: Files<File = File> + AllocGlobal>(
     rt: &R,
@@ -32,7 +42,7 @@ fn opened<R: Files<File = File> + AllocGlobal>(
     journal: &[u8],
 ) -> Result<String, Refusal> {
     fs::write(rt, SCRATCH, journal)?;
-    let told = match open_journal(rt, alloc, SCRATCH, table(alloc)?) {
+    let told = match restored_file(rt, alloc, table(alloc)?) {
         Ok(journal) if journal.found => "found",
         Ok(_) => "new",
         Err(OpenFault::CannotRead) => "cannot read",
