@@ -2,8 +2,10 @@
 #![tactic(auto)]
 
 mod clock;
+mod entrance;
 mod line;
 mod pool;
+mod worker;
 
 pub use clock::{MachineClock, machine_moment};
-pub use pool::{Pool, PoolFault, run_pool, run_pool_with};
+pub use pool::{Pool, PoolFault, Terms, run_pool, run_pool_with};

@@ -1,35 +1,49 @@
 //! The connections that wait for one worker.
-ghost use Rattle.std.specs.Prelude.{◌≡◌, ◌==◌, ◌&&◌, not, ◌∷◌, ◌++◌, [], None, OnOk, OnErr, true, option_to_list};
-ghost use Rattle.std.specs.VecDeque.{deque_len};
+ghost use Rattle.std.specs.Prelude.{◌≡◌, ◌≤◌, ◌<◌, nat_lt, ◌==◌, ◌&&◌, not, ◌∷◌, ◌++◌, [], None, IfOk, true, option_to_list};
+ghost use Rattle.std.specs.VecDeque.{deque_capacity, deque_len};
+ghost use Rattle.chpw_pool.specs.declared.line.TheConstants.{MAX_WAITING};
 
 use std::alloc::{AllocError, Global};
 use std::collections::VecDeque;
-use std::net::TcpStream;
+use std::net::{SocketAddr, TcpStream};
 use std::sync::{Condvar, Mutex, Wait};
 
-/// A connection, and the IPv4 address at its other end, high byte first.
+/// So many connections wait for a worker at the most.
+pub(crate) const MAX_WAITING: usize = 32;
+
+/// A connection, and the address at its other end.
 #[derive(Drop)]
 pub(crate) struct Connection {
     pub stream: TcpStream,
-    pub peer: [u8; 4],
+    pub address: SocketAddr,
 }
 
 #[derive(Drop)]
 struct Waiting {
     connections: VecDeque<Connection>,
     closed: bool,
+    ghost few: { deque_len connections ≤ MAX_WAITING },
+    ghost room: { MAX_WAITING ≤ deque_capacity connections },
 }
 
 impl Waiting {
-    fn put(&mut self, connection: Connection) -> Result<(), AllocError>
-        ensures last { OnOk result (self.new.connections.items
-            ≡ self.old.connections.items ++ connection ∷ []) }
-        ensures same { OnErr result (self.new.connections.items ≡ self.old.connections.items) }
+    // None yet, with room for all.
+    fn new(alloc: Global) -> Result<Waiting, AllocError>
+        ensures none { IfOk result (λ w. w.connections.items ≡ []) }
+    {
+        Ok(Waiting {
+            connections: VecDeque::with_capacity(alloc, MAX_WAITING)?,
+            closed: false,
+        })
+    }
+
+    fn put(&mut self, connection: Connection)
+        requires room { deque_len self.old.connections < MAX_WAITING }
+        ensures last { self.new.connections.items ≡ self.old.connections.items ++ connection ∷ [] }
         ensures closed { self.new.closed ≡ self.old.closed }
     {
-        match self.connections.push_back(connection) {
-            Ok(()) => Ok(()),
-            Err(_) => Err(AllocError),
+        if self.connections.push_back(connection).is_err() {
+            unreachable!();
         }
     }
 
@@ -38,6 +52,13 @@ impl Waiting {
         ensures same { self.new.connections.items ≡ self.old.connections.items }
     {
         self.closed = true;
+    }
+
+    // Whether no more may be put.
+    fn is_full(&self) -> bool
+        ensures value { result ≡ not (nat_lt (deque_len self.now.connections) MAX_WAITING) }
+    {
+        self.connections.len() >= MAX_WAITING
     }
 
     // Whether there is nothing to take yet.
@@ -62,38 +83,41 @@ impl Waiting {
 #[derive(Drop)]
 pub(crate) struct Line {
     waiting: Mutex<Waiting>,
-    moved: Condvar,
+    came: Condvar,
+    left: Condvar,
 }
 
 impl Line {
-    pub fn new(alloc: Global) -> Line {
-        Line {
-            waiting: Mutex::new(Waiting {
-                connections: VecDeque::new(alloc),
-                closed: false,
-            }),
-            moved: Condvar::new(),
-        }
+    pub fn new(alloc: Global) -> Result<Line, AllocError> {
+        Ok(Line {
+            waiting: Mutex::new(Waiting::new(alloc)?),
+            came: Condvar::new(),
+            left: Condvar::new(),
+        })
     }
 
-    /// Puts a connection at the end. After `AllocError` it is closed.
-    pub fn put<R: Wait>(&self, rt: &R, connection: Connection) -> Result<(), AllocError> {
-        let put = self.waiting.lock(rt).put(connection);
-        self.moved.notify_one();
-        put
+    /// Puts a connection at the end, as soon as there is room.
+    pub fn put<R: Wait>(&self, rt: &R, connection: Connection) {
+        let mut waiting = self
+            .left
+            .wait_while(rt, self.waiting.lock(rt), |waiting| waiting.is_full());
+        waiting.put(connection);
+        self.came.notify_one();
     }
 
     /// No more connections come.
     pub fn close<R: Wait>(&self, rt: &R) {
         self.waiting.lock(rt).close();
-        self.moved.notify_one();
+        self.came.notify_one();
     }
 
     /// The first connection, as soon as there is one; none where no more come.
     pub fn take<R: Wait>(&self, rt: &R) -> Option<Connection> {
         let mut waiting = self
-            .moved
+            .came
             .wait_while(rt, self.waiting.lock(rt), |waiting| waiting.is_idle());
-        waiting.take()
+        let first = waiting.take();
+        self.left.notify_one();
+        first
     }
 }

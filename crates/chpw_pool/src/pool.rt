@@ -1,17 +1,19 @@
 //! Workers at one desk.
-ghost use Rattle.std.specs.Prelude.{◌≡◌, ◌%◌, ◌<◌, length, vec_len, IfOk, IfErr};
+ghost use Rattle.std.specs.Prelude.{◌≡◌, ◌%◌, ◌<◌, length, vec_len, IfOk};
 ghost use Rattle.rand_chacha.specs.ChaCha.{key_of};
 ghost use Rattle.chpw_serve.specs.WordStreams.{GivesFromTheFirst, stream_start};
-ghost use Rattle.chpw_pool.specs.Pools.{Ends, IsAcceptFault, peer_in};
+ghost use Rattle.chpw_pool.specs.Pools.{Ends};
 
 use crate::clock::MachineClock;
-use crate::line::{Connection, Line};
+use crate::entrance::Entrance;
+use crate::line::Line;
+use crate::worker::{Worker, work};
 use chpw_answer::{Gate, Messages, NoGate};
 use chpw_book::{AtDesk, Desk, DeskName, Pass};
-use chpw_serve::{WorkerWords, serve_stream};
+use chpw_serve::WorkerWords;
 use chpw_table::JournalSink;
 use std::alloc::{AllocError, Global};
-use std::net::{SocketAddr, TcpListener};
+use std::net::{OpenListener, TcpStream};
 use std::sync::{Mutex, Wait};
 use std::thread::Threads;
 use std::{thread, time};
@@ -19,52 +21,68 @@ use std::{thread, time};
 /// Why a pool ended early.
 #[derive(Clone, Copy, PartialEq, Eq, Debug, Drop)]
 pub enum PoolFault {
-    /// A connection could not be accepted.
+    /// The listener couldn't go on.
     Accept,
     /// A worker's thread could not be started.
     Start,
-    /// A growth was refused.
+    /// A growth was refused, before the first connection.
     Memory,
 }
 
 /// What a pool did.
 #[derive(Clone, Copy, PartialEq, Eq, Debug, Drop)]
 pub struct Pool {
-    /// The connections that were handed to a worker, each served to its end.
+    /// The connections that were accepted and handed to a worker, each served to its end.
     pub served: u32,
     pub fault: Option<PoolFault>,
 }
 
-/// What all workers share: the service, the desk, and the seed of their random words.
+/// What a pool is to do.
+#[derive(Clone, Copy, Drop)]
+pub struct Terms {
+    /// The seed of the random words.
+    pub seed: [u8; 32],
+    /// After how many connections it ends.
+    pub connections: u32,
+    /// After how many seconds a read or a write that waits is one that failed; at least 1, and without a
+    /// limit where there is none.
+    pub idle: Option<u16>,
+}
+
+/// What all workers share: the clock, the service, the desk, and how long they wait for a client.
 #[derive(Drop)]
-struct Shared<'a, M, D: DeskName, S: JournalSink> {
+struct Shared<'a, T: time::Clock, M, D: DeskName, S: JournalSink> {
     alloc: Global,
+    time: &'a T,
     service: &'a M,
     desk: &'a Desk<D, S>,
-    seed: [u8; 32],
+    idle: Option<u16>,
 }
 
 /// Serves so many connections at a desk, connection i (from 0) by worker i modulo their number,
-/// each worker one after the other; a worker draws its words from the stream of its own number. It
-/// returns when the connections are served, or, after a fault, those before it; each thread has
-/// ended then.
+/// each worker one after the other; a worker draws its words from the stream of its own number, and
+/// its moments from the clock `time`. At most 32 connections wait for a worker; while its next one
+/// would be the 33rd, none is accepted. It returns when the connections are served, or, after a
+/// fault, those before it; each thread has ended then.
 pub fn run_pool<
     R: Threads + Wait + time::Clock + Sync,
+    T: time::Clock + Sync,
+    L: OpenListener<Stream = TcpStream>,
     M: Messages + Sync,
     D: DeskName + Send + Sync,
     S: JournalSink + Send,
 >(
     rt: &R,
     alloc: Global,
-    listener: &TcpListener,
+    time: &T,
+    listener: &L,
     service: &M,
     desk: &Desk<D, S>,
     passes: &mut [Pass<D>],
-    seed: [u8; 32],
-    connections: u32,
+    terms: Terms,
 ) -> Pool
     requires passes { 0 < length passes.old }
-    ensures ends { Ends connections result }
+    ensures ends { Ends terms.connections result }
 {
     match no_gates(alloc, passes.len()) {
         Err(_) => Pool {
@@ -72,15 +90,7 @@ pub fn run_pool<
             fault: Some(PoolFault::Memory),
         },
         Ok(gates) => run_pool_with(
-            rt,
-            alloc,
-            listener,
-            service,
-            desk,
-            passes,
-            seed,
-            connections,
-            gates,
+            rt, alloc, time, listener, service, desk, passes, terms, gates,
         ),
     }
 }
@@ -94,6 +104,8 @@ fn no_gates(alloc: Global, count: usize) -> Result<Vec<NoGate>, AllocError>
 /// The same with a gate for each worker.
 pub fn run_pool_with<
     R: Threads + Wait + time::Clock + Sync,
+    T: time::Clock + Sync,
+    L: OpenListener<Stream = TcpStream>,
     M: Messages + Sync,
     D: DeskName + Send + Sync,
     S: JournalSink + Send,
@@ -101,30 +113,31 @@ pub fn run_pool_with<
 >(
     rt: &R,
     alloc: Global,
-    listener: &TcpListener,
+    time: &T,
+    listener: &L,
     service: &M,
     desk: &Desk<D, S>,
     passes: &mut [Pass<D>],
-    seed: [u8; 32],
-    connections: u32,
+    terms: Terms,
     gates: Vec<G>,
 ) -> Pool
     requires passes { 0 < length passes.old }
     requires gates { length gates.items ≡ length passes.old }
-    ensures ends { Ends connections result }
+    ensures ends { Ends terms.connections result }
 {
     let shared = Shared {
         alloc,
+        time,
         service,
         desk,
-        seed,
+        idle: terms.idle,
     };
     match posts(alloc, gates) {
         Err(_) => Pool {
             served: 0,
             fault: Some(PoolFault::Memory),
         },
-        Ok(posts) => run_posts(rt, &shared, listener, posts.as_slice(), passes, connections),
+        Ok(posts) => run_posts(rt, &shared, listener, posts.as_slice(), passes, terms),
     }
 }
 
@@ -138,33 +151,41 @@ struct Post<G> {
 fn posts<G: Drop>(alloc: Global, gates: Vec<G>) -> Result<Vec<Post<G>>, AllocError>
     ensures { IfOk result (λ v. vec_len v ≡ vec_len gates) }
 {
-    gates
-        .into_iter()
-        .map(|gate| Post {
-            line: Line::new(alloc),
+    let mut posts = Vec::with_capacity(alloc, gates.len())?;
+    for gate in gates {
+        posts.push(Post {
+            line: Line::new(alloc)?,
             gate: Mutex::new(gate),
-        })
-        .collect(alloc)
+        })?;
+    }
+    Ok(posts)
 }
 
 // A thread for each worker, while this one accepts.
 fn run_posts<
     R: Threads + Wait + time::Clock + Sync,
+    T: time::Clock + Sync,
+    L: OpenListener<Stream = TcpStream>,
     M: Messages + Sync,
     D: DeskName + Send + Sync,
     S: JournalSink + Send,
     G: Gate + Send + Drop,
 >(
     rt: &R,
-    shared: &Shared<'_, M, D, S>,
-    listener: &TcpListener,
+    shared: &Shared<'_, T, M, D, S>,
+    listener: &L,
     posts: &[Post<G>],
     passes: &mut [Pass<D>],
-    connections: u32,
+    terms: Terms,
 ) -> Pool
     requires posts { 0 < length posts.now }
-    ensures ends { Ends connections result }
+    ensures ends { Ends terms.connections result }
 {
+    let Terms {
+        seed,
+        connections,
+        idle: _,
+    } = terms;
     thread::scope(
         thread::scope_env(),
         rt,
@@ -174,13 +195,16 @@ fn run_posts<
         {
             let mut started = true;
             for (post, pass) in posts.iter().zip(passes.iter_mut()) {
-                if scope.spawn(move || work(rt, shared, post, pass)).is_err() {
+                if scope
+                    .spawn(move || begin(rt, shared, post, pass, seed))
+                    .is_err()
+                {
                     started = false;
                     break;
                 }
             }
             let pool = if started {
-                accept_all(rt, listener, posts, connections)
+                accept_all(rt, &mut Entrance::new(listener), posts, connections)
             } else {
                 Pool {
                     served: 0,
@@ -195,24 +219,27 @@ fn run_posts<
     )
 }
 
-// Hands each connection to its worker.
-fn accept_all<R: Wait, G>(
+// Hands each connection to its worker. It served as many as came in.
+fn accept_all<R: Wait + time::Clock, L: OpenListener<Stream = TcpStream>, G>(
     rt: &R,
-    listener: &TcpListener,
+    entrance: &mut Entrance<'_, L>,
     posts: &[Post<G>],
     connections: u32,
 ) -> Pool
     requires posts { 0 < length posts.now }
+    requires start { entrance.old.accepted ≡ 0 }
     ensures ends { Ends connections result }
+    ensures accepted { entrance.new.accepted ≡ result.served }
 {
     for served in 0..connections {
-        let post = &posts[worker_of(served, posts.len())];
-        if let Err(fault) = accept(rt, listener, post) {
+        let Ok(connection) = entrance.accept(rt) else {
             return Pool {
                 served,
-                fault: Some(fault),
+                fault: Some(PoolFault::Accept),
             };
-        }
+        };
+        let post = &posts[worker_of(served, posts.len())];
+        post.line.put(rt, connection);
     }
     Pool {
         served: connections,
@@ -229,34 +256,6 @@ fn worker_of(connection: u32, workers: usize) -> usize
     connection as usize % workers
 }
 
-// Puts the next connection in the line of a post.
-fn accept<R: Wait, G>(rt: &R, listener: &TcpListener, post: &Post<G>) -> Result<(), PoolFault>
-    ensures fault { IfErr result IsAcceptFault }
-{
-    let Ok((stream, address)) = listener.accept() else {
-        return Err(PoolFault::Accept);
-    };
-    let _ = stream.set_nodelay(true);
-    let connection = Connection {
-        stream,
-        peer: peer_of(address),
-    };
-    match post.line.put(rt, connection) {
-        Ok(()) => Ok(()),
-        Err(_) => Err(PoolFault::Memory),
-    }
-}
-
-// An IPv4 address, high byte first; that of no host where it is another one.
-fn peer_of(address: SocketAddr) -> [u8; 4]
-    ensures value { result ≡ peer_in address }
-{
-    match address {
-        SocketAddr::V4(address) => address.ip().octets(),
-        SocketAddr::V6(_) => [0; 4],
-    }
-}
-
 // The words of a pass's worker: the stream of its number.
 fn words_of<D: DeskName>(seed: [u8; 32], pass: &Pass<D>) -> WorkerWords
     ensures start { result ≡ stream_start (key_of seed) pass.now.worker }
@@ -265,36 +264,28 @@ fn words_of<D: DeskName>(seed: [u8; 32], pass: &Pass<D>) -> WorkerWords
     WorkerWords::new(seed, u64::from(pass.worker()))
 }
 
-// Serves the connections of a post, until no more come.
-fn work<R: Wait + time::Clock, M: Messages, D: DeskName, S: JournalSink, G: Gate>(
+// The worker of a pass, at its post.
+fn begin<R: Wait + time::Clock, T: time::Clock, M: Messages, D: DeskName, S: JournalSink, G: Gate>(
     rt: &R,
-    shared: &Shared<'_, M, D, S>,
+    shared: &Shared<'_, T, M, D, S>,
     post: &Post<G>,
     pass: &mut Pass<D>,
+    seed: [u8; 32],
 ) {
     let mut gate = post.gate.lock(rt);
-    let mut clock = MachineClock::new(rt);
-    let mut words = words_of(shared.seed, pass);
-    let mut decider = AtDesk {
-        rt,
-        desk: shared.desk,
-        pass,
+    let words = words_of(seed, pass);
+    let mut worker = Worker {
+        alloc: shared.alloc,
+        service: shared.service,
+        idle: shared.idle,
+        decider: AtDesk {
+            rt,
+            desk: shared.desk,
+            pass,
+        },
+        gate: &mut *gate,
+        clock: MachineClock::new(shared.time),
+        words,
     };
-    for _ in rt.forever() {
-        let Some(connection) = post.line.take(rt) else {
-            return;
-        };
-        let Connection { stream, peer } = connection;
-        let _ended = serve_stream(
-            shared.alloc,
-            shared.service,
-            peer,
-            &mut &stream,
-            &mut &stream,
-            &mut decider,
-            &mut *gate,
-            &mut clock,
-            &mut words,
-        );
-    }
+    work(rt, &post.line, &mut worker);
 }
