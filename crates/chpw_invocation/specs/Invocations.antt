@@ -21,6 +21,11 @@ abbrev pub HasNumber : ℕ → ℕ → List Row → Text → ℕ → Type 0
 HasNumber low high options name number = (text : Text) × (one_of name options ≡ Some text)
     × (number ≡ digits_value 10 (without_leading_plus text)) × (low ≤ number) × (number ≤ high)
 
+-- an option that may be left out has this number, within these limits
+abbrev pub MayHaveNumber : ℕ → ℕ → List Row → Text → Option ℕ → Type 0
+MayHaveNumber low high options name None = first_of name options ≡ None
+MayHaveNumber low high options name (Some number) = HasNumber low high options name number
+
 -- a flag is given or isn't: clap matches true or false for it
 abbrev pub IsGiven : List Row → Text → Bool → Type 0
 IsGiven options name given = (one_of name options ≡ Some (codes "true") → given ≡ true)
@@ -34,6 +39,7 @@ pub record AsksServe (options : List Row) (asked : ServeOptions) : Type 0 where
   pub port : HasNumber 1 65535 options (codes "port") asked.port
   pub workers : HasNumber 1 16 options (codes "workers") asked.workers
   pub connections : HasNumber 1 4294967295 options (codes "connections") asked.connections
+  pub idle : MayHaveNumber 1 3600 options (codes "idle") asked.idle
 
 pub record AsksClient (options : List Row) (asked : ClientOptions) : Type 0 where
   pub config : HasText options (codes "config") asked.config.now

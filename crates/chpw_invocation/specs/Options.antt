@@ -21,6 +21,10 @@ flag name = record (new_rule name) { long = Some name; action = Some SetTrue }
 abbrev pub numbered : Text → ℕ → Rule
 numbered name limit = record (required name) { parser = Some (parser.Signed (pos 1) (pos limit)) }
 
+-- the same, where it may be left out
+abbrev pub may_be_numbered : Text → ℕ → Rule
+may_be_numbered name limit = record (optional name) { parser = Some (parser.Signed (pos 1) (pos limit)) }
+
 abbrev pub port : Rule
 port = numbered (codes "port") 65535
 
@@ -29,3 +33,6 @@ workers = numbered (codes "workers") 16
 
 abbrev pub connections : Rule
 connections = numbered (codes "connections") 4294967295
+
+abbrev pub idle : Rule
+idle = may_be_numbered (codes "idle") 3600

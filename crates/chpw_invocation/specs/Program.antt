@@ -4,7 +4,7 @@ use Rattle.clap.specs.Walk.{Rule, Text}
 use Rattle.clap.specs.Simple.{App, Shape, new_shape}
 use Rattle.clap.specs.declared.builder.command.Command.{Command}
 use Rattle.clap.specs.declared.builder.command.Command.TheViews.{out-Command}
-use Rattle.chpw_invocation.specs.Options.{required, optional, flag, port, workers, connections}
+use Rattle.chpw_invocation.specs.Options.{required, optional, flag, port, workers, connections, idle}
 
 abbrev pub command : Text → List Rule → Shape
 command name options = record (new_shape name) { rules = options }
@@ -25,7 +25,7 @@ drill = command (codes "drill") []
 abbrev pub check : Shape
 check = command (codes "check") (required (codes "config") ∷ [])
 
--- serve --config FILE --journal FILE --seed FILE --port N --workers N --connections N
+-- serve --config FILE --journal FILE --seed FILE --port N --workers N --connections N [--idle SECONDS]
 abbrev pub serve : Shape
 serve = command (codes "serve")
     (required (codes "config")
@@ -34,6 +34,7 @@ serve = command (codes "serve")
     ∷ port
     ∷ workers
     ∷ connections
+    ∷ idle
     ∷ [])
 
 -- client --config FILE --seed FILE --port N --client NAME --password TEXT [--target NAME]

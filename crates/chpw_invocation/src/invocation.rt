@@ -35,6 +35,9 @@ pub struct ServeOptions<'a> {
     pub workers: u8,
     /// After how many connections it ends; at least 1.
     pub connections: u32,
+    /// After how many seconds of waiting for its client a connection is ended, 1 to 3600; there is no
+    /// limit where this is none.
+    pub idle: Option<u16>,
     ghost some_workers: { (1 ≤ workers) × (workers ≤ 16) },
 }
 

@@ -3,7 +3,7 @@ ghost use Rattle.std.specs.Prelude.{◌≡◌, [], IfErr, IfOk, IfSome, OnOk, co
 ghost use Rattle.clap.specs.Faults.{fault_of};
 ghost use Rattle.clap.specs.Words.{first_of, found_of, rows_of, subcommand_of, subcommand_rows_of};
 ghost use Rattle.chpw_invocation.specs.Program.{program};
-ghost use Rattle.chpw_invocation.specs.Invocations.{AsksClient, AsksFor, AsksServe, HasNumber, IsGiven, IsRefusal};
+ghost use Rattle.chpw_invocation.specs.Invocations.{AsksClient, AsksFor, AsksServe, HasNumber, IsGiven, IsRefusal, MayHaveNumber};
 
 use crate::invocation::{ClientOptions, Invocation, ServeOptions};
 use crate::program::program as new_program;
@@ -65,6 +65,7 @@ fn serve_of<'a>(options: &ArgMatches<'a>) -> Option<ServeOptions<'a>>
         port: port_of(options)?,
         workers: workers_of(options)?,
         connections: connections_of(options)?,
+        idle: idle_of(options)?,
     })
 }
 
@@ -122,6 +123,19 @@ fn connections_of(options: &ArgMatches<'_>) -> Option<u32>
 {
     match options.get_one::<u32>("connections") {
         Some(connections) if connections > 0 => Some(connections),
+        _ => None,
+    }
+}
+
+// How long a connection waits for its client, where that is limited.
+fn idle_of(options: &ArgMatches<'_>) -> Option<Option<u16>>
+    ensures idle { IfSome result (MayHaveNumber 1 3600 (rows_of (found_of options.now)) (codes "idle")) }
+{
+    if text_of(options, "idle").is_none() {
+        return Some(None);
+    }
+    match options.get_one::<u16>("idle") {
+        Some(idle) if 1 <= idle && idle <= 3600 => Some(Some(idle)),
         _ => None,
     }
 }

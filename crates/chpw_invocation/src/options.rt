@@ -2,7 +2,7 @@
 ghost use Rattle.std.specs.Prelude.{◌≡◌, false, pos};
 ghost use Rattle.clap.specs.Walk.{rule_of};
 ghost use Rattle.clap.specs.declared.builder.value_parser.ValueParser.TheVariants as parser;
-ghost use Rattle.chpw_invocation.specs.Options.{connections, flag, optional, port, required, workers};
+ghost use Rattle.chpw_invocation.specs.Options.{connections, flag, idle, optional, port, required, workers};
 
 use clap::builder::ValueParser;
 use clap::{Arg, ArgAction, value_parser};
@@ -75,6 +75,13 @@ fn connection_count<'a>() -> ValueParser<'a>
     value_parser!(u32).range(1..)
 }
 
+// 1 to 3600.
+fn idle_seconds<'a>() -> ValueParser<'a>
+    ensures { result ≡ parser.Signed (pos 1) (pos 3600) }
+{
+    value_parser!(u16).range(1..=3600)
+}
+
 /// `--port`, which has to be there.
 pub(crate) fn port_option<'a>(alloc: Global, help: &'a str) -> Arg<'a>
     ensures rule { rule_of result ≡ port }
@@ -97,4 +104,12 @@ pub(crate) fn connections_option<'a>(alloc: Global, help: &'a str) -> Arg<'a>
     ensures local { result.global ≡ false }
 {
     required_option(alloc, "connections", "N", help).value_parser(connection_count())
+}
+
+/// `--idle`, which may be left out.
+pub(crate) fn idle_option<'a>(alloc: Global, help: &'a str) -> Arg<'a>
+    ensures rule { rule_of result ≡ idle }
+    ensures local { result.global ≡ false }
+{
+    optional_option(alloc, "idle", "SECONDS", help).value_parser(idle_seconds())
 }

@@ -6,7 +6,8 @@ ghost use Rattle.clap.specs.Words.{app_of};
 ghost use Rattle.chpw_invocation.specs.Program as specs_of;
 
 use crate::options::{
-    connections_option, flag_option, optional_option, port_option, required_option, workers_option,
+    connections_option, flag_option, idle_option, optional_option, port_option, required_option,
+    workers_option,
 };
 use clap::{Arg, Command};
 use std::alloc::{AllocError, Global};
@@ -48,7 +49,8 @@ const SERVE: &str = "Serves so many connections on a port of this machine, and e
 const SERVE_MORE: &str = "\
 Prints 'listening on 127.0.0.1:N' before the first connection is accepted, and at the end
 'entries N changes N': how many requests were decided, and how many of them changed a password.
-Connections go to the workers in turn; a client that is slow or silent holds up its own worker.
+Connections go to the workers in turn; a client that is slow or silent holds up its own worker, for
+as long as --idle says.
 
 Example:
   chpw_server serve --config samples/realm.toml --journal realm.journal --seed /dev/urandom \\
@@ -60,6 +62,9 @@ const JOURNAL_HELP: &str =
 const WORKERS_HELP: &str = "How many connections are served at a time, 1 to 16";
 
 const CONNECTIONS_HELP: &str = "After how many connections the service ends, 1 to 4294967295";
+
+const IDLE_HELP: &str =
+    "A connection whose client is waited for longer is ended, after 1 to 3600 seconds [default: none is]";
 
 const CLIENT: &str = "Sends one request to a service on this machine, with a ticket of its own.";
 
@@ -165,6 +170,7 @@ fn serve<'a>(alloc: Global) -> Result<Command<'a>, AllocError>
     let command = with_option(command, port_option(alloc, PORT_HELP))?;
     let command = with_option(command, workers_option(alloc, WORKERS_HELP))?;
     let command = with_option(command, connections_option(alloc, CONNECTIONS_HELP))?;
+    let command = with_option(command, idle_option(alloc, IDLE_HELP))?;
     Ok(command)
 }
 
