@@ -1,2 +1,4 @@
 pub mod Faults
+pub mod Opening
+pub mod Serving
 pub mod Tallies

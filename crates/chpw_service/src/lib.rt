@@ -9,4 +9,4 @@ mod starting;
 
 pub use fault::ServeFault;
 pub use files::{read_seed, read_settings};
-pub use serving::serve;
+pub use serving::{serve, serve_by};

@@ -2,6 +2,7 @@
 ghost use Rattle.std.specs.Prelude.{◌≡◌, ◌≤◌, ◌⊎◌, IfOk, IfErr, OnOk, IfSome, None, length};
 ghost use Rattle.chpw_book.specs.Starting.{IsNamed, workers_of};
 ghost use Rattle.chpw_service.specs.Faults.{IsLate, IsOfService, told_as};
+ghost use Rattle.chpw_service.specs.Serving.{IsAskedFor};
 ghost use Rattle.chpw_service.specs.declared.fault.ServeFault.TheVariants.{CannotListen, CannotPrint};
 
 use crate::closing::{Tally, close_desk};
@@ -12,7 +13,7 @@ use chpw_book::{Desk, DeskName, Pass, StartFault, UnnamedDesk};
 use chpw_invocation::ServeOptions;
 use chpw_journal::{FileSink, Journal};
 use chpw_messages::Service;
-use chpw_pool::{Pool, PoolFault, run_pool};
+use chpw_pool::{MachineClock, Pool, PoolFault, Terms, run_pool};
 use chpw_table::JournalSink;
 use std::fs::{File, Files};
 use std::marker::Brand;
@@ -46,16 +47,35 @@ pub fn serve<
 >(rt: &R, options: ServeOptions<'a>) -> Result<(), ServeFault<'a>>
     ensures fault { IfErr result (IsOfService options.entry) }
 {
+    serve_by(rt, rt, options)
+}
+
+/// The same by another clock than the machine's.
+pub fn serve_by<
+    'a,
+    R: Files<File = File>
+        + Net<Listener = TcpListener, Stream = TcpStream>
+        + Threads
+        + Wait
+        + Clock
+        + Print
+        + AllocGlobal
+        + Sync,
+    T: Clock + Sync,
+>(rt: &R, time: &T, options: ServeOptions<'a>) -> Result<(), ServeFault<'a>>
+    ensures fault { IfErr result (IsOfService options.entry) }
+{
     let config = read_settings(rt, options.config)?;
     let seed = read_seed(rt, options.seed)?;
     let Ok(service) = Service::of(rt.alloc(), &config) else {
         return Err(ServeFault::Memory);
     };
+    let mut clock = MachineClock::new(time);
     let Journal {
         table,
         sink,
         found: _,
-    } = open_table(rt, rt.alloc(), config, options.journal)?;
+    } = open_table(rt, rt.alloc(), config, options.journal, &mut clock)?;
     let listener = listen(rt, options.port)?;
     let ready = Ready {
         service,
@@ -63,7 +83,7 @@ pub fn serve<
         seed,
     };
     let unnamed = UnnamedDesk::of(table, options.workers);
-    serve_desk::<Brand, R>(rt, unnamed, sink, ready, options)
+    serve_desk::<Brand, R, T>(rt, time, unnamed, sink, ready, options)
 }
 
 fn listen<'a, R: Net<Listener = TcpListener, Stream = TcpStream>>(
@@ -83,14 +103,16 @@ fn serve_desk<
     'a,
     D: DeskName + Send + Sync,
     R: Threads + Wait + Clock + Print + AllocGlobal + Sync,
+    T: Clock + Sync,
 >(
     rt: &R,
+    time: &T,
     unnamed: UnnamedDesk,
     sink: FileSink<File>,
     ready: Ready,
     options: ServeOptions<'a>,
 ) -> Result<(), ServeFault<'a>>
-    requires workers { 1 ≤ workers_of unnamed }
+    requires workers { workers_of unnamed ≡ options.workers }
     requires name { IsNamed unnamed D.name D.parts D.book D.root D.workers }
     requires fresh { ⟦<FileSink<File> as JournalSink>⟧.failed sink ≡ 0 }
     ensures fault { IfErr result IsLate }
@@ -105,15 +127,26 @@ fn serve_desk<
     let pool = run_pool(
         rt,
         rt.alloc(),
+        time,
         &ready.listener,
         &ready.service,
         &desk,
         &mut passes,
-        ready.seed,
-        options.connections,
+        terms_of(&options, ready.seed),
     );
     let tally = close_desk(rt, desk, passes)?;
     end(rt, tally, pool)
+}
+
+// What the pool is to do.
+fn terms_of(options: &ServeOptions<'_>, seed: [u8; 32]) -> Terms
+    ensures value { IsAskedFor options.now seed result }
+{
+    Terms {
+        seed,
+        connections: options.connections,
+        idle: options.idle,
+    }
 }
 
 fn start_desk<D: DeskName, R: Wait + AllocGlobal>(

@@ -1,48 +1,43 @@
 //! The table that a service starts with.
-ghost use Rattle.std.specs.Prelude.{◌≡◌, ◌+ℤ◌, ◌-ℤ◌, pos, IfOk, IfErr, if◌then◌else◌, true};
+ghost use Rattle.std.specs.Prelude.{◌≡◌, IfOk, IfErr, true};
 ghost use Rattle.chpw_rules.specs.Fitting.{config_fits};
 ghost use Rattle.chpw_table.specs.Agreement.{Agrees};
-ghost use Rattle.chpw_table.specs.State.{opening_of};
 ghost use Rattle.chpw_table.specs.Times.{IsTime};
 ghost use Rattle.chpw_service.specs.Faults.{IsOfJournal};
+ghost use Rattle.chpw_service.specs.Opening.{IsOpening, opening_at};
 ghost use Rattle.chpw_service.specs.declared.fault.ServeFault.TheVariants.{Memory};
 
 use crate::fault::ServeFault;
-use chpw_journal::{FileSink, Journal, OpenFault, RestoreFault, open_journal, quiet_after};
-use chpw_pool::machine_moment;
+use chpw_journal::{FileSink, Journal, JournalFile, OpenFault, RestoreFault, quiet_after};
 use chpw_rules::Config;
-use chpw_table::{JournalSink, Table};
+use chpw_serve::Clock;
+use chpw_table::{JournalSink, Moment, Table};
 use std::alloc::Global;
-use std::fs;
 use std::fs::{File, Files};
-use std::time::Clock;
 
-/// The journal at a path, and the table restored from it. The table is quiet for 300 seconds from now
-/// on where there was a journal; where the machine's clock fails, now is 0.
-pub(crate) fn open_table<'a, R: Files<File = File> + Clock>(
+/// The journal at a path, and the table restored from it. The table is quiet for 300 seconds from its start
+/// on where there was a journal. The start is read from the clock once no other process has the journal.
+pub(crate) fn open_table<'a, R: Files<File = File>, C: Clock>(
     rt: &R,
     alloc: Global,
     config: Config,
     path: &'a str,
+    clock: &mut C,
 ) -> Result<Journal, ServeFault<'a>>
     requires fits { config_fits config ≡ true }
+    ensures opened { IfOk result (IsOpening C.gives config clock.old clock.new) }
     ensures fresh { IfOk result (λ j. ⟦<FileSink<File> as JournalSink>⟧.failed j.sink ≡ 0) }
     ensures fault { IfErr result (IsOfJournal path.now) }
 {
-    let Ok(found) = fs::exists(rt, path) else {
-        return Err(ServeFault::CannotRead(path));
+    let file = match JournalFile::lock(rt, path) {
+        Ok(file) => file,
+        Err(fault) => return Err(journal_fault(path, fault)),
     };
-    let table = opening_table(alloc, config, start_second(rt), found)?;
-    match open_journal(rt, alloc, path, table) {
+    let start = clock.now();
+    let table = opening_table(alloc, config, start, file.found)?;
+    match file.restore(alloc, table) {
+        Ok(journal) => Ok(journal),
         Err(fault) => Err(journal_fault(path, fault)),
-        Ok(journal) => {
-            // Another process made it meanwhile: this table would be quiet for too short a time.
-            if journal.found && !found {
-                Err(ServeFault::CannotRead(path))
-            } else {
-                Ok(journal)
-            }
-        }
     }
 }
 
@@ -50,28 +45,20 @@ pub(crate) fn open_table<'a, R: Files<File = File> + Clock>(
 fn opening_table<'a>(
     alloc: Global,
     config: Config,
-    start: i64,
+    start: Moment,
     found: bool,
 ) -> Result<Table, ServeFault<'a>>
     requires fits { config_fits config ≡ true }
-    requires start { IsTime start }
-    ensures opening { IfOk result (λ table. Agrees table.state (opening_of config
-        (if found then start +ℤ pos 300 else start -ℤ pos 301))) }
+    requires start { IsTime start.seconds }
+    ensures opening { IfOk result (λ table. Agrees table.state
+        (opening_at config start.seconds found)) }
+    ensures counts { IfOk result (λ t. (t.events ≡ 0) × (t.seen ≡ 0)
+        × (t.max_entries ≡ config.max_entries)) }
     ensures fault { IfErr result (λ fault. fault ≡ Memory) }
 {
-    match Table::start(alloc, config, quiet_after(start, found)) {
+    match Table::start(alloc, config, quiet_after(start.seconds, found)) {
         Ok(table) => Ok(table),
         Err(_) => Err(ServeFault::Memory),
-    }
-}
-
-// The machine's second.
-fn start_second<R: Clock>(rt: &R) -> i64
-    ensures range { IsTime result }
-{
-    match machine_moment(rt) {
-        Some(moment) => moment.seconds,
-        None => 0,
     }
 }
 

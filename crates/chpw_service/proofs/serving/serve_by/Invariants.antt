@@ -1,5 +1,5 @@
 use Rattle.chpw_book.specs.Starting.{ledger_name, ledger_parts, list_book, list_root, workers_of}
-use Rattle.chpw_service.proofs.serving.serve.Given as goal
+use Rattle.chpw_service.proofs.serving.serve_by.Given as goal
 
 abbrev pub ghosts-serve_desk-D-DeskName : goal.ghosts-serve_desk-D-DeskName
 ghosts-serve_desk-D-DeskName g a = record { workers = workers_of a.unnamed }
