@@ -1,11 +1,20 @@
-//! Tests of the pool and of the answers at a desk, with messages as they come over the network.
+//! Tests of the pool, of the service that runs it, and of the answers at a desk, with messages as they come
+//! over the network.
 #![tactic(auto)]
 
+#[cfg(test)]
+mod addresses;
 #[cfg(test)]
 mod answers;
 #[cfg(test)]
 mod gates;
 #[cfg(test)]
+mod limits;
+#[cfg(test)]
 mod pools;
 #[cfg(test)]
 mod realm;
+#[cfg(test)]
+mod services;
+#[cfg(test)]
+mod site;

@@ -1,143 +1,151 @@
-//! Pools on this machine, with their clients.
+//! Which worker serves a connection, when, and with which words.
 ghost use Rattle.std.specs.Prelude.{◌≡◌};
 ghost use Rattle.chpw_book.specs.Starting.{IsNamed, workers_of};
 
 use crate::gates::SecondFirst;
-use crate::realm::{CHANGED, opening, request, told};
+use crate::realm::{CHANGED, opening};
+use crate::site::{
+    Clients, Machine, Site, connect, expect_line, reply, requests, send, serve_all, terms,
+};
 use chpw_book::{Desk, DeskName, UnnamedDesk};
 use chpw_client::Sent;
-use chpw_frame::{LONGEST_MESSAGE, Received, read_tcp, write_tcp};
+use chpw_frame::split_reply;
 use chpw_journal::MemorySink;
 use chpw_messages::Service;
-use chpw_pool::{Pool, PoolFault, machine_moment, run_pool, run_pool_with};
+use chpw_pool::{Pool, run_pool_with};
 use std::alloc::Global;
 use std::io::Write;
 use std::marker::Brand;
 use std::net::{Net, TcpListener, TcpStream};
 use std::process::Abort;
-use std::sync::{Mutex, Wait};
+use std::sync::Mutex;
 use std::test::Fail;
-use std::thread::{Threads, join};
-use std::time::Clock;
+use std::thread::join;
 
-const SEED: [u8; 32] = [7; 32];
-
-const ROOM: usize = 1000;
-
-// What the tests need of the machine.
-trait Machine: Threads
-    + Wait
-    + Clock
-    + Abort
-    + Sync
-    + Net<Listener = TcpListener, Stream = TcpStream> {}
-
-impl<
-    R: Threads + Wait + Clock + Abort + Sync + Net<Listener = TcpListener, Stream = TcpStream>,
-> Machine for R {}
-
-fn connect<R: Machine>(rt: &R, port: u16) -> TcpStream {
-    TcpStream::connect(rt, ("127.0.0.1", port))
-        .ok()
-        .expect(rt, "a connection")
+// Two clients who connect before either asks; the second is answered first.
+#[derive(Drop)]
+struct Both {
+    one: Sent,
+    two: Sent,
 }
 
-fn send<R: Abort>(rt: &R, stream: &TcpStream, sent: &Sent) {
-    let message = sent.message.as_slice();
-    assert!(rt; message.len() <= LONGEST_MESSAGE);
-    assert!(rt; write_tcp(&mut &*stream, message).is_ok());
-}
-
-// The next reply says that the password is changed.
-fn expect_changed<R: Abort>(rt: &R, alloc: Global, sent: &Sent, stream: &TcpStream) {
-    match read_tcp(alloc, &mut &*stream) {
-        Ok(Received::Message(reply)) => {
-            assert!(rt; told(rt, alloc, sent, &reply).as_slice() == CHANGED);
-        }
-        _ => panic!(rt; "no reply"),
+impl<R: Net<Stream = TcpStream> + Abort> Clients<R> for Both {
+    fn ask(&self, rt: &R, alloc: Global, port: u16) {
+        let first = connect(rt, port);
+        let second = connect(rt, port);
+        send(rt, &first, self.one.message.as_slice());
+        send(rt, &second, self.two.message.as_slice());
+        expect_line(rt, alloc, &self.two, &second, CHANGED);
+        expect_line(rt, alloc, &self.one, &first, CHANGED);
     }
-}
-
-// Requests of alice and of bob at the machine's moment.
-fn requests<R: Machine>(rt: &R, alloc: Global) -> Result<(Sent, Sent), Fail> {
-    let now = machine_moment(rt).expect(rt, "a moment");
-    let alice = request(rt, alloc, "alice", now, "New-pass2")?;
-    let bob = request(rt, alloc, "bob", now, "New-pass2")?;
-    Ok((alice, bob))
-}
-
-// Of a pool that has served.
-fn give_up<D: DeskName, R: Machine>(rt: &R, desk: Desk<D, MemorySink>, pool: Pool) -> Pool {
-    desk.abandon(rt);
-    pool
 }
 
 #[test]
 fn two_connections(rt: HostRuntime) -> Result<(), Fail> {
-    let (service, table) = opening(rt.alloc(), 100)?;
+    let (one, two) = requests(&rt, rt.alloc())?;
     let listener = TcpListener::bind(&rt, ("127.0.0.1", 0u16))?;
-    let pool = pool_of_two::<Brand, _>(
-        &rt,
-        rt.alloc(),
-        UnnamedDesk::of(table, 2),
-        &service,
-        &listener,
-    )?;
-    assert!(rt; pool.served == 2 && pool.fault.is_none());
-    Ok(())
-}
-
-// A connection for each of two workers.
-fn pool_of_two<D: DeskName + Send + Sync, R: Machine>(
-    rt: &R,
-    alloc: Global,
-    unnamed: UnnamedDesk,
-    service: &Service,
-    listener: &TcpListener,
-) -> Result<Pool, Fail>
-    requires name { IsNamed unnamed D.name D.parts D.book D.root D.workers }
-    requires workers { workers_of unnamed ≡ 2 }
-{
     let port = listener.local_addr()?.port();
-    let (alice, bob) = requests(rt, alloc)?;
-    let sink = MemorySink::new(alloc, ROOM)?;
-    let (desk, mut passes) = Desk::<D, MemorySink>::start(rt, alloc, unnamed, sink)?;
-    let shared = &desk;
-    let (pool, ()) = join(
-        rt,
-        || {
-            assert!(rt; !passes.is_empty());
-            run_pool(rt, alloc, listener, service, shared, &mut passes, SEED, 2)
-        },
-        || ask_both(rt, alloc, port, &alice, &bob),
-    );
-    Ok(give_up(rt, desk, pool))
+    let site = Site {
+        time: &rt,
+        listener: &listener,
+        port,
+        workers: 2,
+        terms: terms(2),
+    };
+    serve_all(&rt, rt.alloc(), &site, &Both { one, two })
 }
 
-// Both connections are there before either asks; the second is answered first.
-fn ask_both<R: Machine>(rt: &R, alloc: Global, port: u16, one: &Sent, two: &Sent) {
-    let first = connect(rt, port);
-    let second = connect(rt, port);
-    send(rt, &first, one);
-    send(rt, &second, two);
-    expect_changed(rt, alloc, two, &second);
-    expect_changed(rt, alloc, one, &first);
+// A connection that ends in the middle of a message, while others go on.
+#[derive(Drop)]
+struct AfterOneCutOff {
+    others: Both,
+}
+
+impl<R: Net<Stream = TcpStream> + Abort> Clients<R> for AfterOneCutOff {
+    fn ask(&self, rt: &R, alloc: Global, port: u16) {
+        // A length of 256 bytes, and two of them.
+        let cut_off = connect(rt, port);
+        assert!(rt; (&cut_off).write_all(&[0, 0, 1, 0, 1, 0]).is_ok());
+        drop(cut_off);
+        self.others.ask(rt, alloc, port);
+    }
+}
+
+#[test]
+fn a_connection_cut_off(rt: HostRuntime) -> Result<(), Fail> {
+    let (one, two) = requests(&rt, rt.alloc())?;
+    let listener = TcpListener::bind(&rt, ("127.0.0.1", 0u16))?;
+    let port = listener.local_addr()?.port();
+    let site = Site {
+        time: &rt,
+        listener: &listener,
+        port,
+        workers: 2,
+        terms: terms(3),
+    };
+    let clients = AfterOneCutOff {
+        others: Both { one, two },
+    };
+    serve_all(&rt, rt.alloc(), &site, &clients)
+}
+
+// The second connects when the first has its reply. The replies are sealed under the same keys, and have
+// the same moment in their AP-REPs: they differ just where their confounders do.
+#[derive(Drop)]
+struct OneByOne {
+    one: Sent,
+    two: Sent,
+}
+
+impl<R: Net<Stream = TcpStream> + Abort> Clients<R> for OneByOne {
+    fn ask(&self, rt: &R, alloc: Global, port: u16) {
+        let first = connect(rt, port);
+        send(rt, &first, self.one.message.as_slice());
+        let one = reply(rt, alloc, &first);
+        drop(first);
+        let second = connect(rt, port);
+        send(rt, &second, self.two.message.as_slice());
+        let two = reply(rt, alloc, &second);
+        let one = split_reply(&one).ok().expect(rt, "a reply");
+        let two = split_reply(&two).ok().expect(rt, "a reply");
+        assert!(rt; !one.ap.is_empty() && one.ap.len() == two.ap.len());
+        assert!(rt; one.ap != two.ap && one.tail != two.tail);
+    }
+}
+
+#[test]
+fn one_worker_draws_no_word_twice(rt: HostRuntime) -> Result<(), Fail> {
+    let (one, two) = requests(&rt, rt.alloc())?;
+    let listener = TcpListener::bind(&rt, ("127.0.0.1", 0u16))?;
+    let port = listener.local_addr()?.port();
+    let site = Site {
+        time: &rt,
+        listener: &listener,
+        port,
+        workers: 1,
+        terms: terms(2),
+    };
+    serve_all(&rt, rt.alloc(), &site, &OneByOne { one, two })
 }
 
 #[test]
 fn the_second_answered_first(rt: HostRuntime) -> Result<(), Fail> {
     let (service, table) = opening(rt.alloc(), 100)?;
     let listener = TcpListener::bind(&rt, ("127.0.0.1", 0u16))?;
+    let port = listener.local_addr()?.port();
     let pool = gated_pool::<Brand, _>(
         &rt,
         rt.alloc(),
         UnnamedDesk::of(table, 2),
         &service,
         &listener,
+        port,
     )?;
     assert!(rt; pool.served == 2 && pool.fault.is_none());
     Ok(())
 }
+
+const ROOM: usize = 1000;
 
 // The worker of alice's connection decides only after bob has his reply.
 fn gated_pool<D: DeskName + Send + Sync, R: Machine>(
@@ -146,12 +154,13 @@ fn gated_pool<D: DeskName + Send + Sync, R: Machine>(
     unnamed: UnnamedDesk,
     service: &Service,
     listener: &TcpListener,
+    port: u16,
 ) -> Result<Pool, Fail>
     requires name { IsNamed unnamed D.name D.parts D.book D.root D.workers }
     requires workers { workers_of unnamed ≡ 2 }
 {
-    let port = listener.local_addr()?.port();
-    let (alice, bob) = requests(rt, alloc)?;
+    let (one, two) = requests(rt, alloc)?;
+    let clients = Both { one, two };
     let answered = Mutex::new(false);
     let gates = vec![in alloc; gate(rt, true, &answered), gate(rt, false, &answered)]?;
     let sink = MemorySink::new(alloc, ROOM)?;
@@ -164,18 +173,19 @@ fn gated_pool<D: DeskName + Send + Sync, R: Machine>(
             run_pool_with(
                 rt,
                 alloc,
+                rt,
                 listener,
                 service,
                 shared,
                 &mut passes,
-                SEED,
-                2,
+                terms(2),
                 gates,
             )
         },
-        || ask_both(rt, alloc, port, &alice, &bob),
+        || clients.ask(rt, alloc, port),
     );
-    Ok(give_up(rt, desk, pool))
+    desk.abandon(rt);
+    Ok(pool)
 }
 
 fn gate<'a, R: Machine>(
@@ -188,89 +198,4 @@ fn gate<'a, R: Machine>(
         is_first,
         answered,
     }
-}
-
-#[test]
-fn a_connection_cut_off(rt: HostRuntime) -> Result<(), Fail> {
-    let (service, table) = opening(rt.alloc(), 100)?;
-    let listener = TcpListener::bind(&rt, ("127.0.0.1", 0u16))?;
-    let pool = pool_of_three::<Brand, _>(
-        &rt,
-        rt.alloc(),
-        UnnamedDesk::of(table, 2),
-        &service,
-        &listener,
-    )?;
-    assert!(rt; pool.served == 3 && pool.fault.is_none());
-    Ok(())
-}
-
-// A connection that ends in the middle of a message, while others go on.
-fn pool_of_three<D: DeskName + Send + Sync, R: Machine>(
-    rt: &R,
-    alloc: Global,
-    unnamed: UnnamedDesk,
-    service: &Service,
-    listener: &TcpListener,
-) -> Result<Pool, Fail>
-    requires name { IsNamed unnamed D.name D.parts D.book D.root D.workers }
-    requires workers { workers_of unnamed ≡ 2 }
-{
-    let port = listener.local_addr()?.port();
-    let (alice, bob) = requests(rt, alloc)?;
-    let sink = MemorySink::new(alloc, ROOM)?;
-    let (desk, mut passes) = Desk::<D, MemorySink>::start(rt, alloc, unnamed, sink)?;
-    let shared = &desk;
-    let (pool, ()) = join(
-        rt,
-        || {
-            assert!(rt; !passes.is_empty());
-            run_pool(rt, alloc, listener, service, shared, &mut passes, SEED, 3)
-        },
-        || {
-            cut_off(rt, port);
-            ask_both(rt, alloc, port, &alice, &bob);
-        },
-    );
-    Ok(give_up(rt, desk, pool))
-}
-
-// A length of 256 bytes, and two of them.
-fn cut_off<R: Machine>(rt: &R, port: u16) {
-    let stream = connect(rt, port);
-    assert!(rt; (&stream).write_all(&[0, 0, 1, 0, 1, 0]).is_ok());
-}
-
-#[test]
-fn nothing_to_accept(rt: HostRuntime) -> Result<(), Fail> {
-    let (service, table) = opening(rt.alloc(), 100)?;
-    let listener = TcpListener::bind(&rt, ("127.0.0.1", 0u16))?;
-    let pool = refused_pool::<Brand, _>(
-        &rt,
-        rt.alloc(),
-        UnnamedDesk::of(table, 1),
-        &service,
-        &listener,
-    )?;
-    assert!(rt; pool.served == 0 && pool.fault == Some(PoolFault::Accept));
-    Ok(())
-}
-
-// A listener that doesn't wait refuses where no connection is there.
-fn refused_pool<D: DeskName + Send + Sync, R: Machine>(
-    rt: &R,
-    alloc: Global,
-    unnamed: UnnamedDesk,
-    service: &Service,
-    listener: &TcpListener,
-) -> Result<Pool, Fail>
-    requires name { IsNamed unnamed D.name D.parts D.book D.root D.workers }
-    requires workers { workers_of unnamed ≡ 1 }
-{
-    listener.set_nonblocking(true)?;
-    let sink = MemorySink::new(alloc, ROOM)?;
-    let (desk, mut passes) = Desk::<D, MemorySink>::start(rt, alloc, unnamed, sink)?;
-    assert!(rt; !passes.is_empty());
-    let pool = run_pool(rt, alloc, listener, service, &desk, &mut passes, SEED, 2);
-    Ok(give_up(rt, desk, pool))
 }

@@ -6,8 +6,11 @@ use chpw_messages::Service;
 use chpw_serve::WorkerWords;
 use chpw_table::{Moment, Table};
 use std::alloc::Global;
+use std::io;
 use std::process::Abort;
+use std::sync::atomic::{AtomicU64, Ordering};
 use std::test::Fail;
+use std::time::{Clock, Duration};
 use test_realm::{config, name};
 
 pub const CHANGED: &[u8] = b"code 0 password changed";
@@ -44,4 +47,36 @@ pub fn told<R: Abort>(rt: &R, alloc: Global, sent: &Sent, reply: &[u8]) -> Vec<u
     let line = client_line(alloc, sent, reply).ok().expect(rt, "memory");
     let (line, _) = line.expect(rt, "a reply to the request");
     line
+}
+
+/// A clock that stands still at a second until it is set.
+#[derive(Drop)]
+pub struct SetClock {
+    seconds: AtomicU64,
+}
+
+impl SetClock {
+    pub fn new(seconds: u64) -> SetClock {
+        SetClock {
+            seconds: AtomicU64::new(seconds),
+        }
+    }
+
+    pub fn set(&self, seconds: u64) {
+        self.seconds.store(seconds, Ordering::SeqCst);
+    }
+
+    fn time(&self) -> Duration {
+        Duration::from_secs(self.seconds.load(Ordering::SeqCst))
+    }
+}
+
+impl Clock for SetClock {
+    fn monotonic(&self) -> io::Result<Duration> {
+        Ok(self.time())
+    }
+
+    fn since_1970(&self) -> io::Result<Duration> {
+        Ok(self.time())
+    }
 }

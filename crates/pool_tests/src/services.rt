@@ -1,0 +1,182 @@
+//! The service with its files: where it listens, its words, and a second start at one journal.
+ghost use Rattle.std.specs.Prelude.{◌<◌, ◌^◌};
+
+use crate::realm::{CHANGED, SetClock, request};
+use crate::site::{expect_line, reply, send};
+use chpw_client::Sent;
+use chpw_frame::split_reply;
+use chpw_invocation::ServeOptions;
+use chpw_service::serve_by;
+use chpw_table::Moment;
+use std::alloc::Global;
+use std::fs;
+use std::net::{Net, TcpListener, TcpStream};
+use std::process::Abort;
+use std::test::Fail;
+use std::thread::{self, join};
+use std::time::{Clock, Duration};
+
+/// Alice, and the key of the requests' tickets.
+const CONFIG: &str = "\
+[service]
+realm = 'EXAMPLE.COM'
+[[service.key]]
+kvno = 3
+etype = 18
+key = '5a5a5a5a5a5a5a5a5a5a5a5a5a5a5a5a5a5a5a5a5a5a5a5a5a5a5a5a5a5a5a5a'
+[policy]
+min_length = 6
+min_classes = 2
+depth = 2
+iterations = 4
+set_needs_initial = false
+[[principal]]
+name = 'alice'
+[[principal.key]]
+kvno = 1
+iterations = 4
+aes128 = 'a1a1a1a1a1a1a1a1a1a1a1a1a1a1a1a1'
+aes256 = 'a1a1a1a1a1a1a1a1a1a1a1a1a1a1a1a1a1a1a1a1a1a1a1a1a1a1a1a1a1a1a1a1'
+";
+
+const CONFIG_FILE: &str = "services.toml";
+
+/// How a run that is quiet refuses.
+const QUIET: &[u8] = b"code 3 error 37 clock skew too great";
+
+/// When the first run starts.
+const START: u64 = 1_000_100;
+
+// A service of one worker for one connection.
+fn options<'a>(seed: &'a str, journal: &'a str, port: u16) -> ServeOptions<'a> {
+    ServeOptions {
+        config: CONFIG_FILE,
+        journal,
+        seed,
+        port,
+        workers: 1,
+        connections: 1,
+        idle: Some(10),
+    }
+}
+
+// A connection to a service that is starting. A read that waits 10 seconds fails.
+fn connect_soon<R: Net<Stream = TcpStream> + Clock + Abort>(rt: &R, port: u16) -> TcpStream {
+    for _ in 0..1000 {
+        if let Ok(stream) = TcpStream::connect(rt, ("127.0.0.1", port)) {
+            let limit = Some(Duration::from_secs(10));
+            assert!(rt; stream.set_read_timeout(limit).is_ok());
+            return stream;
+        }
+        thread::sleep(rt, Duration::from_millis(10));
+    }
+    panic!(rt; "no service");
+}
+
+fn moment(seconds: u64) -> Moment
+    requires { seconds < 2 ^ 63 }
+{
+    Moment {
+        seconds: seconds as i64,
+        micros: 7,
+    }
+}
+
+// Asks for these in turn over one connection, each at its second, and is answered so.
+fn ask_in_turn<R: Net<Stream = TcpStream> + Clock + Abort>(
+    rt: &R,
+    alloc: Global,
+    clock: &SetClock,
+    port: u16,
+    asked: &[(u64, &Sent, &[u8])],
+) {
+    let stream = connect_soon(rt, port);
+    for (second, sent, line) in asked {
+        clock.set(*second);
+        send(rt, &stream, sent.message.as_slice());
+        expect_line(rt, alloc, sent, &stream, line);
+    }
+}
+
+// The former run's message is refused, and a new one taken 301 seconds after the start.
+#[test]
+fn a_second_start(rt: HostRuntime) -> Result<(), Fail> {
+    fs::write(&rt, CONFIG_FILE, CONFIG.as_bytes())?;
+    fs::write(&rt, "restarts.seed", [1; 32].as_slice())?;
+    let _ = fs::remove_file(&rt, "restarts.journal");
+    let alloc = rt.alloc();
+    let former = request(&rt, alloc, "alice", moment(START), "New-pass2")?;
+    let later = request(&rt, alloc, "alice", moment(START + 301), "New-pass3")?;
+    let listener = TcpListener::bind(&rt, ("127.0.0.1", 0u16))?;
+    let port = listener.local_addr()?.port();
+    drop(listener);
+    let options = options("restarts.seed", "restarts.journal", port);
+    let clock = SetClock::new(START);
+    let once = [(START, &former, CHANGED)];
+    let (first, ()) = join(
+        &rt,
+        || serve_by(&rt, &clock, options).is_ok(),
+        || ask_in_turn(&rt, alloc, &clock, port, &once),
+    );
+    let again = [
+        (START, &former, QUIET),
+        (START + 300, &former, QUIET),
+        (START + 301, &later, CHANGED),
+    ];
+    clock.set(START);
+    let (second, ()) = join(
+        &rt,
+        || serve_by(&rt, &clock, options).is_ok(),
+        || ask_in_turn(&rt, alloc, &clock, port, &again),
+    );
+    assert!(rt; first && second);
+    assert_eq!(rt; fs::read(&rt, "restarts.journal")?.len(), 2 * 66);
+    Ok(())
+}
+
+// The reply of a service, which is at 127.0.0.1 alone.
+fn ask_once<R: Net<Stream = TcpStream> + Clock + Abort>(
+    rt: &R,
+    alloc: Global,
+    port: u16,
+    sent: &Sent,
+) -> Vec<u8> {
+    let stream = connect_soon(rt, port);
+    assert!(rt; TcpStream::connect(rt, ("127.0.0.2", port)).is_err());
+    send(rt, &stream, sent.message.as_slice());
+    reply(rt, alloc, &stream)
+}
+
+// One seed gives one reply to a request, another seed another.
+#[test]
+fn words_of_the_seed(rt: HostRuntime) -> Result<(), Fail> {
+    fs::write(&rt, CONFIG_FILE, CONFIG.as_bytes())?;
+    fs::write(&rt, "one.seed", [1; 32].as_slice())?;
+    fs::write(&rt, "other.seed", [2; 32].as_slice())?;
+    let alloc = rt.alloc();
+    let sent = request(&rt, alloc, "alice", moment(START), "New-pass2")?;
+    let listener = TcpListener::bind(&rt, ("127.0.0.1", 0u16))?;
+    let port = listener.local_addr()?.port();
+    drop(listener);
+    let clock = SetClock::new(START);
+    let mut replies = Vec::new(alloc);
+    for seed in ["one.seed", "one.seed", "other.seed"] {
+        let _ = fs::remove_file(&rt, "words.journal");
+        let options = options(seed, "words.journal", port);
+        let (served, found) = join(
+            &rt,
+            || serve_by(&rt, &clock, options).is_ok(),
+            || ask_once(&rt, alloc, port, &sent),
+        );
+        assert!(rt; served);
+        replies.push(found)?;
+    }
+    let [one, again, other] = replies.as_slice() else {
+        return Err(Fail::new("not three replies"));
+    };
+    assert!(rt; one == again);
+    let one = split_reply(one).ok().expect(&rt, "a reply");
+    let other = split_reply(other).ok().expect(&rt, "a reply");
+    assert!(rt; one.ap.len() == other.ap.len() && one.ap != other.ap);
+    Ok(())
+}
