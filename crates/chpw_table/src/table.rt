@@ -11,6 +11,7 @@ mod changing;
 mod decision;
 mod opening;
 mod preparing;
+mod reopening;
 mod restoring;
 mod step;
 mod wanted;
