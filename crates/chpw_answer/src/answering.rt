@@ -5,7 +5,7 @@ ghost use Rattle.chpw_answer.specs.Requests.{Opens};
 ghost use Rattle.chpw_answer.specs.Holding.{IsReplyTime, answer_in};
 ghost use Rattle.chpw_answer.specs.Answers.{Answering, AddsOne, is_opened, history_full as full_answer, reply as reply_to};
 
-use crate::completing::derive_shown;
+use crate::completing::derive_wanted;
 use crate::deciding::{Decision, decide};
 use crate::drawing::Drawing;
 use crate::gate::{Gate, Spot};
@@ -81,7 +81,13 @@ pub fn answer_message<M: Messages, D: Decider, G: Gate>(
         password,
         seal,
     } = incoming;
-    let ready = derive_shown(service.realm(), decider, opened, password.as_slice())?;
+    let ready = derive_wanted(
+        service.realm(),
+        decider,
+        drawn.now,
+        opened,
+        password.as_slice(),
+    )?;
     gate.at(Spot::Opened);
     let bytes = match decide(decider, drawn.now, ready, password.as_slice())? {
         Decision::Full => service.make_error(alloc, history_full(), drawn.now)?,

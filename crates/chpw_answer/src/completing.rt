@@ -1,18 +1,20 @@
 //! The keys of a new password, derived before the decision.
-ghost use Rattle.std.specs.Prelude.{◌≡◌, ◌≤◌, All, OnOk, OnErr, IfOk, IfSome};
+ghost use Rattle.std.specs.Prelude.{◌≡◌, ◌≤◌, All, OnOk, OnErr, IfOk};
 ghost use Rattle.chpw_table.specs.Completing.{completed};
 ghost use Rattle.chpw_decider.specs.Deciding.{IsCompletedFrom};
 
 use chpw_decider::Decider;
-use chpw_table::{Body, Counts, Lookup, Opened};
+use chpw_table::{Body, Counts, Moment, Opened};
 use std::alloc::{AllocError, Global};
 
-/// The request with the new password's keys under the counts that are shown of its target, where that
-/// is a principal of this realm.
+/// The request with the new password's keys as its decision at this moment would want them: none where
+/// it would be refused whatever they are. Of a target that isn't shown as a principal of this realm the
+/// decider isn't asked.
 #[tactic(auto, using(crate::proofs::CompletingLemmas::completed_none))]
-pub(crate) fn derive_shown<D: Decider>(
+pub(crate) fn derive_wanted<D: Decider>(
     realm: &[u8],
     decider: &mut D,
+    now: Moment,
     opened: Opened,
     password: &[u8],
 ) -> Result<Opened, AllocError>
@@ -21,20 +23,11 @@ pub(crate) fn derive_shown<D: Decider>(
     ensures follows { D.follows decider.old decider.new }
 {
     let mut opened = opened;
-    if let Some(shown) = look_up(realm, decider, &opened) {
-        derive_more(&mut opened, password, &shown_counts(shown))?;
+    if is_shown(realm, decider, &opened) {
+        let counts = decider.missing(now, &opened);
+        derive_more(&mut opened, password, &counts)?;
     }
     Ok(opened)
-}
-
-/// The counts of the keys held, and that of new keys.
-fn shown_counts(shown: Lookup) -> Counts
-    requires positive { (1 ≤ shown.policy) × All (λ n. 1 ≤ n) shown.held }
-    ensures positive { All (λ n. 1 ≤ n) result }
-{
-    let mut counts = shown.held;
-    let _ = counts.push(shown.policy);
-    counts
 }
 
 /// Derives the password's keys under these counts too, where the request has a new password.
@@ -51,11 +44,10 @@ pub(crate) fn derive_more(
     opened.complete(password, &salt, counts)
 }
 
-/// What is shown of the target of a new password.
-fn look_up<D: Decider>(realm: &[u8], decider: &mut D, opened: &Opened) -> Option<Lookup>
+/// Whether a lookup shows the target of a new password.
+fn is_shown<D: Decider>(realm: &[u8], decider: &mut D, opened: &Opened) -> bool
     ensures receipts { D.gathered decider.new ≡ D.gathered decider.old }
     ensures follows { D.follows decider.old decider.new }
-    ensures positive { IfSome result (λ l. (1 ≤ l.policy) × All (λ n. 1 ≤ n) l.held) }
 {
     let (target_realm, name) = match &opened.body {
         Body::Ask {
@@ -63,11 +55,7 @@ fn look_up<D: Decider>(realm: &[u8], decider: &mut D, opened: &Opened) -> Option
             ..
         } => (&target.realm, &target.name),
         Body::Ask { target: None, .. } => (&opened.crealm, &opened.client),
-        Body::BadPrivate | Body::BadData => return None,
+        Body::BadPrivate | Body::BadData => return false,
     };
-    if target_realm.as_slice() == realm {
-        decider.lookup(name)
-    } else {
-        None
-    }
+    target_realm.as_slice() == realm && decider.lookup(name).is_some()
 }

@@ -12,7 +12,7 @@ use Rattle.chpw_table.proofs.AgreementLemmas.{same_missing}
 use Rattle.chpw_decider.specs.Deciding.{IsFinal}
 use Rattle.chpw_decider.specs.Entered.{AsksFor}
 use Rattle.chpw_book.specs.Stored.{Stored, Replays}
-use Rattle.chpw_book.specs.Calls.{AsksAfter}
+use Rattle.chpw_book.specs.Calls.{AsksAfter, LacksAfter}
 
 -- Full is told of a full table alone
 pub full_at : (t : Held) (counts : List ℕ) (f : DecideFault) → IsFirst t counts f → f ≡ Full → t.events ≡ t.max_entries
@@ -38,4 +38,12 @@ asks_of_first opening workers b now o f k h = record {
   before = b.history;
   legal = k.legal;
   asks = asks_for b.table (missing b.table.state now o) (missing (outcome opening b.history) now o) f (same_missing b.table.state (outcome opening b.history) now o k.agrees) h;
+}
+
+-- so is what it lacks
+pub lacks_after : (opening : State) (workers : ℕ) (b : Stored) (now : Moment) (o : Opened) → Replays opening workers b → LacksAfter opening now o (missing b.table.state now o)
+lacks_after opening workers b now o k = record {
+  before = b.history;
+  legal = k.legal;
+  lacks = same_missing b.table.state (outcome opening b.history) now o k.agrees;
 }

@@ -1,5 +1,5 @@
 -- What one call at a desk answers, as far as its caller can know: other workers may have called before.
-use Rattle.std.specs.Prelude.{◌≡◌, List, [], ◌∷◌, ◌++◌}
+use Rattle.std.specs.Prelude.{◌≡◌, ℕ, List, [], ◌∷◌, ◌++◌}
 use Rattle.chpw_table.specs.declared.times.Moment.{Moment}
 use Rattle.chpw_table.specs.declared.request.Opened.{Opened}
 use Rattle.chpw_table.specs.declared.history.Event.{Event}
@@ -29,3 +29,9 @@ pub record AsksAfter (opening : State) (now : Moment) (o : Opened) (fault : Deci
   pub before : List Entry
   pub legal : IsLegal opening before
   pub asks : AsksFor (missing (outcome opening before) now o) fault
+
+-- after some such history the decision of this request lacks just these keys
+pub record LacksAfter (opening : State) (now : Moment) (o : Opened) (counts : List ℕ) : Type 0 where
+  pub before : List Entry
+  pub legal : IsLegal opening before
+  pub lacks : counts ≡ missing (outcome opening before) now o

@@ -1,5 +1,5 @@
 //! What lies under the lock: the table with its history, and the versions that lookups show.
-ghost use Rattle.std.specs.Prelude.{◌≡◌, ◌+◌, ◌-◌, ◌^◌, ◌<◌, [], IfOk, IfErr, IfSome, IfNone, OnErr, IsSome, length, map, true, false};
+ghost use Rattle.std.specs.Prelude.{◌≡◌, ◌+◌, ◌-◌, ◌^◌, ◌<◌, ◌≤◌, [], All, IfOk, IfErr, IfSome, IfNone, OnErr, IsSome, length, map, true, false};
 ghost use Rattle.std.specs.List.{range_with_len};
 ghost use mathlib.Core.List.{IsPrefix};
 ghost use Rattle.chpw_fronts.specs.Pens.{opening_state};
@@ -14,7 +14,8 @@ ghost use Rattle.chpw_table.specs.Versions.{accepted};
 ghost use Rattle.chpw_decider.specs.Deciding.{IsCompletedFrom, IsFinal};
 ghost use Rattle.chpw_book.specs.Closing.{IsRefusal, IsWhole, is_full};
 ghost use Rattle.chpw_book.specs.Stored.{Replays, Adds};
-ghost use Rattle.chpw_book.specs.Calls.{Notes, AsksAfter};
+ghost use Rattle.chpw_book.specs.Calls.{Notes, AsksAfter, LacksAfter};
+ghost use Rattle.chpw_table.specs.History.{missing};
 ghost use Rattle.chpw_book.specs.Passes.{new_pass};
 ghost use Rattle.chpw_book.specs.Starting.{IsNamed, table_of, workers_of};
 ghost use Rattle.chpw_book.specs.Publishing.{new_book, published, told_list};
@@ -26,7 +27,7 @@ use crate::rows::rows_of;
 use crate::store::Store;
 use crate::unnamed::{StartFault, UnnamedDesk};
 use chpw_decider::JournaledTable;
-use chpw_table::{Entry, JournalSink, Moment, Opened, Refused, Verdict};
+use chpw_table::{Counts, Entry, JournalSink, Moment, Opened, Refused, Verdict};
 use chpw_versions::Shelf;
 use std::alloc::Global;
 use std::marker::Model;
@@ -113,6 +114,17 @@ impl<D: DeskName, S: JournalSink> Book<D, S> {
         ensures published { self.now.list ≡ accepted (opening_state D.root) self.now.kept.history }
     {
         self.store.history()
+    }
+
+    /// The counts under which `decide` would look at keys that the digest lacks, were the history not
+    /// full: each at least 1, ascending, each once; none where it would look at no keys.
+    #[tactic(auto, using(crate::proofs::CallLemmas::lacks_after))]
+    pub fn missing(&self, now: Moment, opened: &Opened) -> Counts
+        ensures value { result ≡ missing self.now.kept.table.state now opened.now }
+        ensures after { LacksAfter (opening_state D.root) now opened.now result }
+        ensures positive { All (λ n. 1 ≤ n) result }
+    {
+        self.store.missing(now, opened)
     }
 
     /// One event: an entry of the pass's worker at the end, and its receipt in the pass. Where it was

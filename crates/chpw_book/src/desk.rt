@@ -9,7 +9,7 @@ ghost use Rattle.chpw_table.specs.Completing.{completed};
 ghost use Rattle.chpw_table.specs.Refusals.{AsksPositive};
 ghost use Rattle.chpw_decider.specs.Deciding.{IsCompletedFrom, IsFinal};
 ghost use Rattle.chpw_book.specs.Passes.{refused_with, new_pass};
-ghost use Rattle.chpw_book.specs.Calls.{Notes, AsksAfter};
+ghost use Rattle.chpw_book.specs.Calls.{Notes, AsksAfter, LacksAfter};
 ghost use Rattle.chpw_book.specs.Starting.{IsNamed, table_of, workers_of};
 ghost use Rattle.chpw_versions.specs.Looking.{LooksUp};
 
@@ -18,7 +18,7 @@ use crate::naming::DeskName;
 use crate::pass::Pass;
 use crate::unnamed::{StartFault, UnnamedDesk};
 use chpw_rules::Name;
-use chpw_table::{DecideFault, JournalSink, Lookup, Moment, Opened, Refused, Verdict};
+use chpw_table::{Counts, DecideFault, JournalSink, Lookup, Moment, Opened, Refused, Verdict};
 use chpw_versions::NotEntered;
 use std::alloc::Global;
 use std::sync::{Mutex, MutexGuard, Wait};
@@ -54,6 +54,18 @@ impl<D: DeskName, S: JournalSink> Desk<D, S> {
         let (book, passes) = Book::start(rt, alloc, unnamed, sink)?;
         let book = Mutex::new(book);
         Ok((Desk { book }, passes))
+    }
+
+    /// The counts under which `decide` would now look at keys that the digest lacks, were the history
+    /// not full, read under the lock: each at least 1; none where it would look at no keys.
+    pub fn missing<R: Wait>(&self, rt: &R, now: Moment, opened: &Opened) -> Counts
+        ensures after { LacksAfter (opening_state D.root) now opened.now result }
+        ensures positive { All (λ n. 1 ≤ n) result }
+    {
+        let book = self.book.lock(rt);
+        let counts = book.missing(now, opened);
+        MutexGuard::unlock(book);
+        counts
     }
 
     /// One event under the lock; its receipt joins the pass. Where the request was accepted, its change

@@ -7,9 +7,10 @@ ghost use Rattle.chpw_table.specs.Times.{IsMoment};
 ghost use Rattle.chpw_table.specs.Outcomes.{Steps, Writes};
 ghost use Rattle.chpw_table.specs.Refusals.{IsRefused};
 ghost use Rattle.chpw_table.specs.Lookups.{lookup_of};
+ghost use Rattle.chpw_table.specs.History.{missing};
 
 use chpw_rules::Name;
-use chpw_table::{JournalSink, Lookup, Moment, Opened, Outcome, Prepared, Refused, Table};
+use chpw_table::{Counts, JournalSink, Lookup, Moment, Opened, Outcome, Prepared, Refused, Table};
 
 /// A table and the sink that its changes go to. The sink's count of failures has room for one more, or
 /// the table is broken.
@@ -62,6 +63,14 @@ impl<S: JournalSink> JournaledTable<S> {
         self.table.lookup(name)
     }
 
+    /// The counts that a decision wants and the digest lacks (`Table::missing`).
+    pub fn missing(&self, now: Moment, opened: &Opened) -> Counts
+        ensures value { result ≡ missing self.now.table.state now opened.now }
+        ensures positive { All (λ n. 1 ≤ n) result }
+    {
+        self.table.missing(now, opened)
+    }
+
     /// The table.
     pub fn table(&self) -> &Table
         ensures value { result.now ≡ self.now.table }
@@ -72,6 +81,7 @@ impl<S: JournalSink> JournaledTable<S> {
     /// Takes them apart.
     pub fn into_parts(self) -> (Table, S)
         ensures value { result ≡ (self.table, self.sink) }
+        ensures room { result.0.state.broken ≡ false → S.failed result.1 < 2 ^ 64 - 1 }
     {
         let JournaledTable { table, sink } = self;
         (table, sink)

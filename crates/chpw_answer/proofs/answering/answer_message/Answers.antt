@@ -23,5 +23,5 @@ returns-clause-answers g c = record {
     | in-Full+in_ok-bytes-in-Full w ↦ fits_too c.match-branch-6.bytes w.in_ok-bytes-in-Full.bytes w.bytes-is w.in_ok-bytes-in-Full.ensures.fits
     | in-Verdict+in_ok-bytes-in-Verdict w ↦ fits_too c.match-branch-6.bytes w.in_ok-bytes-in-Verdict.bytes w.bytes-is w.in_ok-bytes-in-Verdict.ensures.fits
   ];
-  goes_on = g.met.D.Decider.goes_on c.args.decider.now c.derive_shown.new.decider c.decide.new.decider c.in_ok-ready.ensures.follows c.in_ok-decide.ensures.follows;
+  goes_on = g.met.D.Decider.goes_on c.args.decider.now c.derive_wanted.new.decider c.decide.new.decider c.in_ok-ready.ensures.follows c.in_ok-decide.ensures.follows;
 }
