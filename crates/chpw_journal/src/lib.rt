@@ -13,7 +13,7 @@ mod restoring;
 
 pub use fault::RestoreFault;
 pub use file_sink::FileSink;
-pub use journal_file::{Journal, JournalFile, OpenFault};
+pub use journal_file::{Journal, JournalFile, OpenFault, open_journal};
 pub use memory_sink::MemorySink;
 pub use quiet::quiet_after;
 pub use restoring::{Restored, restore};
