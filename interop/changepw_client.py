@@ -191,15 +191,15 @@ def sealed(key, usage, plain, kvno=None, confounder=CONFOUNDER):
 CHANGEPW = name(2, b"kadmin", b"changepw")
 
 
-def ticket(client, initial, service):
+def ticket(client, initial, service, starts):
     part = sequence(
         (0, flags(INITIAL if initial else 0)),
         (1, key_of(SESSION)),
         (2, string(REALM)),
         (3, name(1, client)),
         (4, sequence((0, integer(0)), (1, octets(b"")))),
-        (5, moment(1_000_000)),
-        (7, moment(1_003_600)),
+        (5, moment(starts)),
+        (7, moment(starts + 3_600)),
     )
     enc_part = sealed(service, 2, application(3, part), 3)
     return application(
@@ -207,7 +207,7 @@ def ticket(client, initial, service):
     )
 
 
-def ap_req(client, ctime, cusec, initial, service, subkey):
+def ap_req(client, ctime, cusec, initial, service, subkey, starts):
     authenticator = sequence(
         (0, integer(5)),
         (1, string(REALM)),
@@ -223,7 +223,7 @@ def ap_req(client, ctime, cusec, initial, service, subkey):
             (0, integer(5)),
             (1, integer(14)),
             (2, flags(MUTUAL_REQUIRED)),
-            (3, ticket(client, initial, service)),
+            (3, ticket(client, initial, service, starts)),
             (4, sealed(SESSION, 11, application(2, authenticator))),
         ),
     )
@@ -258,9 +258,10 @@ def request(
     subkey=True,
     ap_first=0x6E,
     forged=False,
+    starts=1_000_000,
 ):
     """A request: length, version 0xff80, the AP-REQ's length, the AP-REQ, the KRB-PRIV."""
-    ap = ap_req(client, ctime, cusec, initial, service, subkey)
+    ap = ap_req(client, ctime, cusec, initial, service, subkey, starts)
     ap = bytes([ap_first]) + ap[1:]
     tail = krb_priv(password, target, forged)
     return framed(0xFF80, ap, tail)

@@ -15,6 +15,7 @@ import subprocess
 import sys
 import tempfile
 import threading
+import time
 
 from journal import plain_record
 from kill import write_configuration
@@ -181,6 +182,16 @@ class Client:
         words = [f"{name}={value}" for name, value in options.items()]
         self.program.tell(f"client: {what}", wanted, "client", *words, *flags)
 
+    def told_soon(self):
+        """What it says to the first request that finds the service, which is starting."""
+        words = [f"{name}={value}" for name, value in self.options.items()]
+        for _ in range(100):
+            told = self.program.ended("client", *words)
+            if told[1] != "cannot connect":
+                break
+            time.sleep(0.1)
+        return told
+
 
 def client_alone(program):
     """What a client says without a service; each fault is told before those below it."""
@@ -241,6 +252,26 @@ def client_answered(program):
     program.report.tell("serve: its last line", server.last_words(), "entries 6 changes 1")
 
 
+def closed_descriptors(program):
+    """`serve` where one of 0, 1 and 2 is closed: the journal has the change, and nothing else."""
+
+    def tell(what, found, wanted):
+        program.report.tell(f"serve, {number} closed: {what}", found, wanted)
+
+    for number in range(3):
+        server = program.server("alice")
+        server.journal.unlink(missing_ok=True)
+        words = [str(word) for word in server.command(1)]
+        closing = ["sh", "-c", f'exec "$@" {number}>&-', "sh", *words]
+        server.process = subprocess.Popen(closing, stdout=subprocess.DEVNULL)
+        tell("a change", Client(program, server).told_soon(), ("code 0 password changed", "", 0))
+        tell("its status", server.process.wait(timeout=10), 0)
+        tell("its journal", server.journal.stat().st_size, len(plain_record("alice", 2)))
+        server.start(connections=1)
+        server.connect()
+        tell("started again", server.last_words(), "entries 0 changes 0")
+
+
 CASES = [
     command_lines,
     drill,
@@ -250,6 +281,7 @@ CASES = [
     client_alone,
     client_unanswered,
     client_answered,
+    closed_descriptors,
 ]
 
 

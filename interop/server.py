@@ -14,12 +14,13 @@ PROGRAM = pathlib.Path(__file__).resolve().parent.parent / "crates/chpw_server/o
 class Server:
     """`serve` in a folder with its configuration; the journal and the seed are made there."""
 
-    def __init__(self, program, folder, workers):
+    def __init__(self, program, folder, workers, idle=None):
         self.program = program
         self.configuration = folder / "realm.toml"
         self.journal = folder / "journal"
         self.seed = folder / "seed"
         self.workers = workers
+        self.idle = idle
         [self.port] = free_ports(1)
         self.seed.write_bytes(os.urandom(32))
         self.process = None
@@ -27,6 +28,8 @@ class Server:
     def command(self, connections):
         files = ["--config", self.configuration, "--journal", self.journal, "--seed", self.seed]
         numbers = ["--port", self.port, "--workers", self.workers, "--connections", connections]
+        if self.idle is not None:
+            numbers += ["--idle", self.idle]
         return [self.program, "serve", *files, *map(str, numbers)]
 
     def start(self, connections, **options):

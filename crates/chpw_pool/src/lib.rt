@@ -8,4 +8,4 @@ mod pool;
 mod worker;
 
 pub use clock::{MachineClock, machine_moment};
-pub use pool::{Pool, PoolFault, Terms, run_pool, run_pool_with};
+pub use pool::{Pool, PoolFault, Terms, run_pool, run_pool_by, run_pool_with};

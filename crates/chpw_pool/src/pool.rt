@@ -1,5 +1,5 @@
 //! Workers at one desk.
-ghost use Rattle.std.specs.Prelude.{◌≡◌, ◌%◌, ◌<◌, length, vec_len, IfOk};
+ghost use Rattle.std.specs.Prelude.{◌≡◌, ◌%◌, ◌<◌, length, vec_len, IfOk, None};
 ghost use Rattle.rand_chacha.specs.ChaCha.{key_of};
 ghost use Rattle.chpw_serve.specs.WordStreams.{GivesFromTheFirst, stream_start};
 ghost use Rattle.chpw_pool.specs.Pools.{Ends};
@@ -13,7 +13,7 @@ use chpw_book::{AtDesk, Desk, DeskName, Pass};
 use chpw_serve::WorkerWords;
 use chpw_table::JournalSink;
 use std::alloc::{AllocError, Global};
-use std::net::{OpenListener, TcpStream};
+use std::net::{OpenListener, TcpListener, TcpStream};
 use std::sync::{Mutex, Wait};
 use std::thread::Threads;
 use std::{thread, time};
@@ -61,51 +61,34 @@ struct Shared<'a, T: time::Clock, M, D: DeskName, S: JournalSink> {
 
 /// Serves so many connections at a desk, connection i (from 0) by worker i modulo their number,
 /// each worker one after the other; a worker draws its words from the stream of its own number, and
-/// its moments from the clock `time`. At most 32 connections wait for a worker; while its next one
+/// its moments from the machine's clock. At most 32 connections wait for a worker; while its next one
 /// would be the 33rd, none is accepted. It returns when the connections are served, or, after a
 /// fault, those before it; each thread has ended then.
 pub fn run_pool<
     R: Threads + Wait + time::Clock + Sync,
-    T: time::Clock + Sync,
-    L: OpenListener<Stream = TcpStream>,
     M: Messages + Sync,
     D: DeskName + Send + Sync,
     S: JournalSink + Send,
 >(
     rt: &R,
     alloc: Global,
-    time: &T,
-    listener: &L,
+    listener: &TcpListener,
     service: &M,
     desk: &Desk<D, S>,
     passes: &mut [Pass<D>],
-    terms: Terms,
+    seed: [u8; 32],
+    connections: u32,
 ) -> Pool
     requires passes { 0 < length passes.old }
-    ensures ends { Ends terms.connections result }
+    ensures ends { Ends connections result }
 {
-    match no_gates(alloc, passes.len()) {
-        Err(_) => Pool {
-            served: 0,
-            fault: Some(PoolFault::Memory),
-        },
-        Ok(gates) => run_pool_with(
-            rt, alloc, time, listener, service, desk, passes, terms, gates,
-        ),
-    }
-}
-
-fn no_gates(alloc: Global, count: usize) -> Result<Vec<NoGate>, AllocError>
-    ensures { IfOk result (λ v. vec_len v ≡ count) }
-{
-    Vec::from_elem(alloc, NoGate, count)
+    let terms = endless(seed, connections);
+    run_pool_by(rt, alloc, rt, listener, service, desk, passes, terms)
 }
 
 /// The same with a gate for each worker.
 pub fn run_pool_with<
     R: Threads + Wait + time::Clock + Sync,
-    T: time::Clock + Sync,
-    L: OpenListener<Stream = TcpStream>,
     M: Messages + Sync,
     D: DeskName + Send + Sync,
     S: JournalSink + Send,
@@ -113,16 +96,55 @@ pub fn run_pool_with<
 >(
     rt: &R,
     alloc: Global,
+    listener: &TcpListener,
+    service: &M,
+    desk: &Desk<D, S>,
+    passes: &mut [Pass<D>],
+    seed: [u8; 32],
+    connections: u32,
+    gates: Vec<G>,
+) -> Pool
+    requires passes { 0 < length passes.old }
+    requires gates { length gates.items ≡ length passes.old }
+    ensures ends { Ends connections result }
+{
+    let shared = Shared {
+        alloc,
+        time: rt,
+        service,
+        desk,
+        idle: None,
+    };
+    run_gated(
+        rt,
+        &shared,
+        listener,
+        passes,
+        endless(seed, connections),
+        gates,
+    )
+}
+
+/// The same as `run_pool` by any clock and at any listener, and with a limit on how long a read and a
+/// write may wait.
+pub fn run_pool_by<
+    R: Threads + Wait + time::Clock + Sync,
+    T: time::Clock + Sync,
+    L: OpenListener<Stream = TcpStream>,
+    M: Messages + Sync,
+    D: DeskName + Send + Sync,
+    S: JournalSink + Send,
+>(
+    rt: &R,
+    alloc: Global,
     time: &T,
     listener: &L,
     service: &M,
     desk: &Desk<D, S>,
     passes: &mut [Pass<D>],
     terms: Terms,
-    gates: Vec<G>,
 ) -> Pool
     requires passes { 0 < length passes.old }
-    requires gates { length gates.items ≡ length passes.old }
     ensures ends { Ends terms.connections result }
 {
     let shared = Shared {
@@ -132,12 +154,59 @@ pub fn run_pool_with<
         desk,
         idle: terms.idle,
     };
-    match posts(alloc, gates) {
+    match no_gates(alloc, passes.len()) {
         Err(_) => Pool {
             served: 0,
             fault: Some(PoolFault::Memory),
         },
-        Ok(posts) => run_posts(rt, &shared, listener, posts.as_slice(), passes, terms),
+        Ok(gates) => run_gated(rt, &shared, listener, passes, terms, gates),
+    }
+}
+
+// Without a limit on waiting.
+fn endless(seed: [u8; 32], connections: u32) -> Terms
+    ensures value { result ≡ record { seed = seed; connections = connections; idle = None } }
+{
+    Terms {
+        seed,
+        connections,
+        idle: None,
+    }
+}
+
+fn no_gates(alloc: Global, count: usize) -> Result<Vec<NoGate>, AllocError>
+    ensures { IfOk result (λ v. vec_len v ≡ count) }
+{
+    Vec::from_elem(alloc, NoGate, count)
+}
+
+// A gate for each worker, which it takes to its post.
+fn run_gated<
+    R: Threads + Wait + time::Clock + Sync,
+    T: time::Clock + Sync,
+    L: OpenListener<Stream = TcpStream>,
+    M: Messages + Sync,
+    D: DeskName + Send + Sync,
+    S: JournalSink + Send,
+    G: Gate + Send + Drop,
+>(
+    rt: &R,
+    shared: &Shared<'_, T, M, D, S>,
+    listener: &L,
+    passes: &mut [Pass<D>],
+    terms: Terms,
+    gates: Vec<G>,
+) -> Pool
+    requires passes { 0 < length passes.old }
+    requires gates { length gates.items ≡ length passes.old }
+    ensures ends { Ends terms.connections result }
+{
+    match posts(shared.alloc, gates) {
+        Err(_) => Pool {
+            served: 0,
+            fault: Some(PoolFault::Memory),
+        },
+        Ok(posts) => run_posts(rt, shared, listener, posts.as_slice(), passes, terms),
     }
 }
 

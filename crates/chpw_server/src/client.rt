@@ -1,8 +1,9 @@
 //! `client`: one request to a service on this machine, and what its reply says.
-ghost use Rattle.std.specs.Prelude.{◌≡◌, ◌<◌, ◌≤ℤ◌, pos, true, IfOk, IfSome};
+ghost use Rattle.std.specs.Prelude.{◌≡◌, ◌<◌, ◌≤ℤ◌, pos, true, Some, IfErr, IfOk, IfSome, option_map};
 ghost use Rattle.chpw_rules.specs.Fitting.{config_fits};
-ghost use Rattle.chpw_rules.specs.Names.{is_name};
+ghost use Rattle.chpw_rules.specs.Names.{is_name, name_of as name_in};
 ghost use Rattle.chpw_client.specs.Questions.{latest_second};
+ghost use Rattle.chpw_server.specs.Asking.{Asks, HasAsked, IsUnasked, Names, Tells};
 
 use crate::ending::Ending;
 use chpw_client::{LAST_START, LONGEST_PASSWORD, Sent, client_line, client_request};
@@ -23,9 +24,11 @@ use std::time::Clock;
 
 /// Sends the request, and prints what the reply says. The names, the password's length and the moment
 /// are looked at first, then the configuration and the seed are read, and then the service is called.
+#[tactic(auto, using(crate::proofs::AskingLemmas::unasked, crate::proofs::AskingLemmas::replied))]
 pub fn ask<'a, R>(rt: &R, options: ClientOptions<'a>) -> Ending<'a>
 where
     R: Files<File = File> + Net<Stream = TcpStream> + Clock + Print + AllocGlobal,
+    ensures asked { HasAsked options.entry result }
 {
     match request(rt, options) {
         Err(ending) => ending,
@@ -37,9 +40,12 @@ where
 }
 
 // The request, made with the first stream of the seed's words.
+#[tactic(auto, using(crate::proofs::AskingLemmas::asks))]
 fn request<'a, R>(rt: &R, options: ClientOptions<'a>) -> Result<Sent, Ending<'a>>
 where
     R: Files<File = File> + Clock + AllocGlobal,
+    ensures asks { IfOk result (Asks options.entry) }
+    ensures early { IfErr result IsUnasked }
 {
     let client = name_of(rt.alloc(), options.client)?;
     let target = target_of(rt.alloc(), options.target)?;
@@ -63,13 +69,17 @@ where
         !options.no_initial,
         &mut words,
     );
-    sent.map_err(|_| Ending::Early(DrillFault::Memory))
+    match sent {
+        Ok(sent) => Ok(sent),
+        Err(_) => Err(Ending::Early(DrillFault::Memory)),
+    }
 }
 
 fn settings<'a, R>(rt: &R, file: &'a str) -> Result<Config, Ending<'a>>
 where
     R: Files<File = File> + AllocGlobal,
     ensures fits { IfOk result (λ config. config_fits config ≡ true) }
+    ensures early { IfErr result IsUnasked }
 {
     match read_settings(rt, file) {
         Ok(config) => Ok(config),
@@ -77,7 +87,9 @@ where
     }
 }
 
-fn seed<'a, R: Files<File = File>>(rt: &R, file: &'a str) -> Result<[u8; 32], Ending<'a>> {
+fn seed<'a, R: Files<File = File>>(rt: &R, file: &'a str) -> Result<[u8; 32], Ending<'a>>
+    ensures early { IfErr result IsUnasked }
+{
     match read_seed(rt, file) {
         Ok(seed) => Ok(seed),
         Err(fault) => Err(Ending::Unserved(fault)),
@@ -86,6 +98,8 @@ fn seed<'a, R: Files<File = File>>(rt: &R, file: &'a str) -> Result<[u8; 32], En
 
 fn name_of<'a>(alloc: Global, text: &str) -> Result<Name, Ending<'a>>
     ensures fits { IfOk result (λ name. is_name name ≡ true) }
+    ensures value { IfOk result (λ name. name_in text.now ≡ Some name) }
+    ensures early { IfErr result IsUnasked }
 {
     match Name::parse(alloc, text) {
         Ok(Some(name)) => Ok(name),
@@ -96,6 +110,8 @@ fn name_of<'a>(alloc: Global, text: &str) -> Result<Name, Ending<'a>>
 
 fn target_of<'a>(alloc: Global, text: Option<&str>) -> Result<Option<Name>, Ending<'a>>
     ensures fits { IfOk result (λ found. IfSome found (λ name. is_name name ≡ true)) }
+    ensures value { IfOk result (Names (option_map (λ t. t.now) text.entry)) }
+    ensures early { IfErr result IsUnasked }
 {
     match text {
         None => Ok(None),
@@ -107,6 +123,7 @@ fn target_of<'a>(alloc: Global, text: Option<&str>) -> Result<Option<Name>, Endi
 fn lent(target: &Option<Name>) -> Option<&Name>
     requires fits { IfSome target.now (λ name. is_name name ≡ true) }
     ensures fits { IfSome result (λ name. is_name name.now ≡ true) }
+    ensures value { option_map (λ name. name.now) result ≡ target.now }
 {
     match target {
         Some(name) => Some(name),
@@ -119,6 +136,7 @@ fn moment<'a, R: Clock>(rt: &R) -> Result<Moment, Ending<'a>>
     ensures start { IfOk result (λ now. pos 0 ≤ℤ now.seconds) }
     ensures end { IfOk result (λ now. now.seconds ≤ℤ pos latest_second) }
     ensures micros { IfOk result (λ now. now.micros < 1000000) }
+    ensures early { IfErr result IsUnasked }
 {
     match machine_moment(rt) {
         Some(now) if now.seconds <= LAST_START => Ok(now),
@@ -130,6 +148,7 @@ fn moment<'a, R: Clock>(rt: &R) -> Result<Moment, Ending<'a>>
 fn exchange<'a, R>(rt: &R, port: u16, message: &[u8]) -> Result<Vec<u8>, Ending<'a>>
 where
     R: Net<Stream = TcpStream> + AllocGlobal,
+    ensures early { IfErr result IsUnasked }
 {
     let Ok(mut stream) = TcpStream::connect(rt, ("127.0.0.1", port)) else {
         return Err(Ending::Unconnected);
@@ -145,7 +164,9 @@ where
 }
 
 // Prints what a reply says.
-fn told<'a>(rt: &(impl Print + AllocGlobal), sent: &Sent, reply: &[u8]) -> Ending<'a> {
+fn told<'a>(rt: &(impl Print + AllocGlobal), sent: &Sent, reply: &[u8]) -> Ending<'a>
+    ensures tells { Tells sent.now reply.now result }
+{
     match client_line(rt.alloc(), sent, reply) {
         Err(_) => Ending::Early(DrillFault::Memory),
         Ok(None) => Ending::Unanswered,

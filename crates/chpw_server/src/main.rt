@@ -4,6 +4,9 @@
 #![tactic(auto)]
 
 mod client;
+#[cfg(test)]
+mod client_tests;
+mod descriptors;
 mod ending;
 #[cfg(test)]
 mod tests;
@@ -14,6 +17,7 @@ use chpw_service::serve;
 use clap::Error;
 use clap::error::ErrorKind;
 use client::ask;
+use descriptors::{NOTHING, hold_standard};
 use ending::Ending;
 use std::alloc::AllocError;
 use std::fs::{File, Files};
@@ -28,6 +32,9 @@ use std::{env, fs, io};
 /// Ends with 0; with 1 after a fault, which is told in a line on standard error; with 2 where the
 /// command line asks for no command or for help, whose text stands on standard error.
 fn main(rt: HostRuntime) -> ExitCode {
+    if hold_standard(&rt).is_err() {
+        return ExitCode::from(end(&rt, Ending::Unread(NOTHING)));
+    }
     let status = match words(&rt) {
         Ok(words) => end(&rt, run(&rt, words.as_slice())),
         Err(error) if error.kind() == io::ErrorKind::OutOfMemory => {

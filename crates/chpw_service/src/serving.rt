@@ -13,7 +13,7 @@ use chpw_book::{Desk, DeskName, Pass, StartFault, UnnamedDesk};
 use chpw_invocation::ServeOptions;
 use chpw_journal::{FileSink, Journal};
 use chpw_messages::Service;
-use chpw_pool::{MachineClock, Pool, PoolFault, Terms, run_pool};
+use chpw_pool::{MachineClock, Pool, PoolFault, Terms, run_pool_by};
 use chpw_table::JournalSink;
 use std::fs::{File, Files};
 use std::marker::Brand;
@@ -124,7 +124,7 @@ fn serve_desk<
         desk.abandon(rt);
         return Err(ServeFault::CannotPrint);
     }
-    let pool = run_pool(
+    let pool = run_pool_by(
         rt,
         rt.alloc(),
         time,

@@ -8,9 +8,8 @@ use krb_keys::Key;
 use std::alloc::Global;
 use test_realm::{NOW, name};
 
-/// What is answered to the changes of a case, `SINK: NAME PASSWORD, ..`, and restored after them.
-pub fn decided(alloc: Global, case: &str) -> Result<String, Refusal> {
-    let (sink, changes) = case.split_once(": ").ok_or(Refusal::NoSuchCase)?;
+/// What is answered to the changes of a case, `NAME PASSWORD, ..`, and restored after them.
+pub fn decided(alloc: Global, sink: &str, changes: &str) -> Result<String, Refusal> {
     let mut sink = sink_of(alloc, sink)?;
     let mut table = table(alloc)?;
     let mut answers = String::new(alloc);

@@ -14,10 +14,14 @@ pub fn journal_of(alloc: Global, pieces: &str) -> Result<Vec<u8>, Refusal> {
 }
 
 /// A piece: `nothing`; `NAME KVNO`, a record, with ` kind K` or ` length L` behind it where that is
-/// another; `first N of` before a record, of which only so many bytes are there.
+/// another; `NAME KVNO to KVNO`, a record for each version; `first N of` before a record, of which only
+/// so many bytes are there.
 fn bytes_of(alloc: Global, piece: &str) -> Result<Vec<u8>, Refusal> {
     if piece == "nothing" {
         return Ok(Vec::new(alloc));
+    }
+    if let Some((first, last)) = piece.split_once(" to ") {
+        return records_of(alloc, first, last);
     }
     match piece.strip_prefix("first ") {
         None => record_of(alloc, piece),
@@ -29,6 +33,16 @@ fn bytes_of(alloc: Global, piece: &str) -> Result<Vec<u8>, Refusal> {
             Ok(bytes)
         }
     }
+}
+
+/// From `NAME KVNO` to the other version.
+fn records_of(alloc: Global, first: &str, last: &str) -> Result<Vec<u8>, Refusal> {
+    let (name, first) = first.split_once(' ').ok_or(Refusal::NoSuchCase)?;
+    let mut records = Vec::new(alloc);
+    for kvno in number(first)?..=number(last)? {
+        records.extend_from_slice(plain_record(alloc, name, kvno)?.as_slice())?;
+    }
+    Ok(records)
 }
 
 fn record_of(alloc: Global, words: &str) -> Result<Vec<u8>, Refusal> {

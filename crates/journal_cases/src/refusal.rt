@@ -1,4 +1,5 @@
 //! Why a case has no answer.
+use chpw_journal::OpenFault;
 use std::alloc::{AllocError, AllocFailed};
 use std::io;
 use thiserror::Error;
@@ -9,7 +10,7 @@ pub enum Refusal {
     /// It names a piece that there isn't.
     #[error("there is no such case")]
     NoSuchCase,
-    /// The scratch file can't be written or read.
+    /// The scratch file can't be written, read or opened.
     #[error("no scratch file")]
     File,
     /// Memory ran out.
@@ -31,6 +32,12 @@ impl<T: Drop> From<AllocFailed<T>> for Refusal {
 
 impl From<io::Error> for Refusal {
     fn from(_: io::Error) -> Refusal {
+        Refusal::File
+    }
+}
+
+impl From<OpenFault> for Refusal {
+    fn from(_: OpenFault) -> Refusal {
         Refusal::File
     }
 }

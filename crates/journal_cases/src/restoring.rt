@@ -2,11 +2,27 @@
 use crate::realm::{table, versions};
 use crate::refusal::Refusal;
 use chpw_journal::{Restored, restore};
+use fake_streams::{Course, Giver, Way};
 use std::alloc::Global;
+use std::io::{BufReader, Read};
+
+/// What restoring a journal gives.
+pub fn restored(alloc: Global, mut journal: &[u8]) -> Result<String, Refusal> {
+    restored_by(alloc, &mut journal)
+}
+
+/// What restoring it gives where it is read in this way, and through a buffer as a file is.
+pub fn read(alloc: Global, way: &str, journal: &[u8]) -> Result<String, Refusal> {
+    let giver = Giver {
+        left: journal,
+        course: Course::start(Way::of(way)),
+    };
+    restored_by(alloc, &mut BufReader::new(alloc, giver)?)
+}
 
 /// Records, bytes and tail of a journal, and the versions that its principals then have; or its fault.
-pub fn restored(alloc: Global, mut journal: &[u8]) -> Result<String, Refusal> {
-    match restore(alloc, table(alloc)?, &mut journal) {
+fn restored_by<R: Read>(alloc: Global, reader: &mut R) -> Result<String, Refusal> {
+    match restore(alloc, table(alloc)?, reader) {
         Ok(r) => told(alloc, &r),
         Err(fault) => Ok(format!(in alloc; "{fault}")?),
     }

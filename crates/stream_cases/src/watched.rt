@@ -96,6 +96,10 @@ impl<S: JournalSink> Decider for Watched<S> {
         self.alone.lookup(name)
     }
 
+    fn missing(&mut self, now: Moment, opened: &Opened) -> Counts {
+        self.alone.missing(now, opened)
+    }
+
     fn decide(&mut self, now: Moment, opened: Opened) -> Result<Verdict, Refused> {
         self.note(&opened);
         match self.mood {

@@ -1,0 +1,56 @@
+-- What `client` sends for what its options ask, and which of its endings tell what the service said.
+use Rattle.std.specs.Prelude.{◌≡◌, ◌<◌, ℕ, not, true, List, Option, Some, None, option_map}
+use Rattle.chpw_rules.specs.declared.config.Config.{Config}
+use Rattle.chpw_rules.specs.declared.name.Name.{Name}
+use Rattle.chpw_rules.specs.Fitting.{config_fits}
+use Rattle.chpw_rules.specs.Names.{name_of}
+use Rattle.chpw_client.specs.Configured.{IsFirstKey}
+use Rattle.chpw_client.specs.Lines.{IsLine}
+use Rattle.chpw_client.specs.Questions.{Question}
+use Rattle.chpw_client.specs.Requests.{IsRequest}
+use Rattle.chpw_client.specs.declared.request.Sent.{Sent}
+use Rattle.chpw_invocation.specs.declared.invocation.ClientOptions.{ClientOptions}
+use Rattle.chpw_server.specs.declared.ending.Ending.{Ending}
+use Rattle.chpw_server.specs.declared.ending.Ending.TheVariants.{Good, Refused, Unanswered, Early}
+
+-- the name of a text, where there is one
+abbrev pub Names : Option (List ℕ) → Option Name → Type 0
+Names None None = Unit {0}
+Names (Some text) (Some name) = name_of text ≡ Some name
+Names _ _ = ⊥
+
+-- the client, the target and the password of the options, at some moment, in the realm of a configuration
+-- that fits and under its first service key
+pub record IsAsked (options : ClientOptions) (q : Question) : Type 0 where
+  pub config : Config
+  pub fits : config_fits config ≡ true
+  pub realm : q.realm ≡ config.realm
+  pub service : IsFirstKey config.service q.service
+  pub client : name_of options.client.now ≡ Some q.client
+  pub password : q.password ≡ options.password.now
+  pub target : Names (option_map (λ t. t.now) options.target) q.target
+  pub initial : q.initial ≡ not options.no_initial
+
+-- a request for that, of some words
+abbrev pub Asks : ClientOptions → Sent → Type 0
+Asks options sent = (question : Question) × IsAsked options question × (drawn : _) × IsRequest question drawn sent
+
+-- well just where the reply says code 0
+abbrev pub Tells : Sent → List ℕ → Ending → Type 0
+Tells sent reply Good = (line : List ℕ) × IsLine sent reply (Some (line, 0))
+Tells sent reply Refused = (line : List ℕ) × (status : ℕ) × IsLine sent reply (Some (line, status)) × (0 < status)
+Tells sent reply Unanswered = IsLine sent reply None
+Tells sent reply (Early fault) = Unit {0}
+Tells sent reply _ = ⊥
+
+-- without a reply it ends in another way
+abbrev pub IsUnasked : Ending → Type 0
+IsUnasked Good = ⊥
+IsUnasked Refused = ⊥
+IsUnasked _ = Unit {0}
+
+-- so it ends, where a reply to that request came
+abbrev pub HasAsked : ClientOptions → Ending → Type 0
+HasAsked options Good = (sent : Sent) × (reply : List ℕ) × Asks options sent × Tells sent reply Good
+HasAsked options Refused = (sent : Sent) × (reply : List ℕ) × Asks options sent × Tells sent reply Refused
+HasAsked options _ = Unit {0}
