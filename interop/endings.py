@@ -17,13 +17,21 @@ import tempfile
 import threading
 import time
 
-from journal import plain_record
-from kill import write_configuration
+from journal import Record, plain_record, read_journal
+from kill import ITERATIONS, keys_of
 from report import Report
+from sample_realm import write_configuration
 from server import PROGRAM, Server
 
 SCRIPT = "realm EXAMPLE.COM\npolicy 0 0 2 4096 no\nprincipal alice 1 4096:a1\nopen 10 -1\n"
 LONGEST_PASSWORD = 60_000
+NO_TEXT = "a word of the command line is not UTF-8"
+
+
+def closing(numbers, command):
+    """A command with these descriptors closed."""
+    closed = " ".join(f"{number}>&-" for number in numbers)
+    return ["sh", "-c", f'exec "$@" {closed}', "sh", *map(str, command)]
 
 
 class Program:
@@ -46,11 +54,12 @@ class Program:
         for server in self.servers:
             server.end()
 
-    def ended(self, *words, script=None, **streams):
+    def ended(self, *words, script=None, closed=(), **streams):
         """Standard output, standard error and status; of clap's text only that there is one."""
         streams = {"stdout": subprocess.PIPE, **streams}
+        command = [self.program, *words]
         done = subprocess.run(
-            [self.program, *words],
+            closing(closed, command) if closed else command,
             input=script,
             stderr=subprocess.PIPE,
             text=True,
@@ -82,6 +91,8 @@ def command_lines(program):
     program.tell("help for a command", text, "serve", "--help")
     program.tell("drill with an option", text, "drill", "--config", "c")
     program.tell("check without its file", text, "check")
+    program.tell("a word that isn't UTF-8", ("", NO_TEXT, 2), "drill", b"\xff")
+    program.tell("a file's name that isn't UTF-8", ("", NO_TEXT, 2), "check", "--config", b"a\xc3")
     for line, old, new in [
         (serve, "--workers 1", "--workers 17"),
         (serve, "--workers 1", "--workers 0"),
@@ -177,10 +188,10 @@ class Client:
             "--password": "New-pass2",
         }
 
-    def tell(self, what, wanted, *flags, **changed):
+    def tell(self, what, wanted, *flags, closed=(), **changed):
         options = self.options | {f"--{name}": value for name, value in changed.items()}
         words = [f"{name}={value}" for name, value in options.items()]
-        self.program.tell(f"client: {what}", wanted, "client", *words, *flags)
+        self.program.tell(f"client: {what}", wanted, "client", *words, *flags, closed=closed)
 
     def told_soon(self):
         """What it says to the first request that finds the service, which is starting."""
@@ -253,23 +264,50 @@ def client_answered(program):
 
 
 def closed_descriptors(program):
-    """`serve` where one of 0, 1 and 2 is closed: the journal has the change, and nothing else."""
+    """Each command with one of 0, 1 and 2 closed goes on, and reads or prints nothing there."""
+    nothing = ("", "", 0)
+    program.tell("drill, 0 closed", nothing, "drill", closed="0")
+    script = SCRIPT + "show alice\n"
+    program.tell("drill, 1 closed", nothing, "drill", script=script, closed="1")
+    bad = ("alice 1:4096:a1", "", 1)
+    program.tell("drill, 2 closed", bad, "drill", script=script + "show\n", closed="2")
+    write_configuration(program.folder / "good", ["alice"])
+    program.tell("check, 1 closed", nothing, "check", "--config", "good", closed="1")
+    missing = ("", "", 1)
+    program.tell("check, 2 closed", missing, "check", "--config", "missing", closed="2")
+    server = program.server("alice")
+    server.start(connections=2)
+    client = Client(program, server)
+    changed = ("code 0 password changed", "", 0)
+    client.tell("0 closed", changed, closed="0")
+    client.tell("1 closed", nothing, closed="1", password="New-pass3")
+    client.tell("2 closed", missing, closed="2", config="missing")
+
+
+def closed_under_a_change(program):
+    """`serve` where some of 0, 1 and 2 are closed: its journal has the change, and nothing else."""
+    for numbers in "0", "1", "2", "012":
+        serve_closed(program, numbers)
+
+
+def serve_closed(program, numbers):
+    """Serves one change with these closed, and starts again on its journal."""
 
     def tell(what, found, wanted):
-        program.report.tell(f"serve, {number} closed: {what}", found, wanted)
+        program.report.tell(f"serve, {numbers} closed: {what}", found, wanted)
 
-    for number in range(3):
-        server = program.server("alice")
-        server.journal.unlink(missing_ok=True)
-        words = [str(word) for word in server.command(1)]
-        closing = ["sh", "-c", f'exec "$@" {number}>&-', "sh", *words]
-        server.process = subprocess.Popen(closing, stdout=subprocess.DEVNULL)
-        tell("a change", Client(program, server).told_soon(), ("code 0 password changed", "", 0))
-        tell("its status", server.process.wait(timeout=10), 0)
-        tell("its journal", server.journal.stat().st_size, len(plain_record("alice", 2)))
-        server.start(connections=1)
-        server.connect()
-        tell("started again", server.last_words(), "entries 0 changes 0")
+    server = program.server("alice")
+    server.journal.unlink(missing_ok=True)
+    command = closing(numbers, server.command(1))
+    server.process = subprocess.Popen(command, stdout=subprocess.DEVNULL)
+    told = Client(program, server).told_soon()
+    tell("a change", told, ("code 0 password changed", "", 0))
+    tell("its status", server.process.wait(timeout=10), 0)
+    change = Record("alice", 2, ITERATIONS, *keys_of("alice", "New-pass2"))
+    tell("its journal", read_journal(server.journal.read_bytes()), ([change], b""))
+    server.start(connections=1)
+    server.connect()
+    tell("started again", server.last_words(), "entries 0 changes 0")
 
 
 CASES = [
@@ -282,6 +320,7 @@ CASES = [
     client_unanswered,
     client_answered,
     closed_descriptors,
+    closed_under_a_change,
 ]
 
 

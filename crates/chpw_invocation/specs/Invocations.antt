@@ -11,6 +11,7 @@ use Rattle.chpw_invocation.specs.declared.invocation.ClientOptions.{ClientOption
 use Rattle.chpw_invocation.specs.declared.invocation.ServeOptions.{ServeOptions}
 use Rattle.chpw_invocation.specs.declared.invocation.Invocation.{Invocation}
 use Rattle.chpw_invocation.specs.declared.invocation.Invocation.TheVariants.{Drill, Check, Serve, Client}
+use Rattle.chpw_invocation.specs.declared.invocation.TheConstants.{LONGEST_IDLE}
 
 -- an option that has to be there has this value
 abbrev pub HasText : List Row → Text → Text → Type 0
@@ -39,7 +40,7 @@ pub record AsksServe (options : List Row) (asked : ServeOptions) : Type 0 where
   pub port : HasNumber 1 65535 options (codes "port") asked.port
   pub workers : HasNumber 1 16 options (codes "workers") asked.workers
   pub connections : HasNumber 1 4294967295 options (codes "connections") asked.connections
-  pub idle : MayHaveNumber 1 3600 options (codes "idle") asked.idle
+  pub idle : MayHaveNumber 1 LONGEST_IDLE options (codes "idle") asked.idle
 
 pub record AsksClient (options : List Row) (asked : ClientOptions) : Type 0 where
   pub config : HasText options (codes "config") asked.config.now

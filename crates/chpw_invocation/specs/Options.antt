@@ -4,6 +4,7 @@ use Rattle.clap.specs.Walk.{Rule, Text}
 use Rattle.clap.specs.Simple.{new_rule}
 use Rattle.clap.specs.declared.builder.action.ArgAction.TheVariants.{Set, SetTrue}
 use Rattle.clap.specs.declared.builder.value_parser.ValueParser.TheVariants as parser
+use Rattle.chpw_invocation.specs.declared.invocation.TheConstants.{LONGEST_IDLE}
 
 -- `--NAME VALUE`
 abbrev pub optional : Text → Rule
@@ -35,4 +36,4 @@ abbrev pub connections : Rule
 connections = numbered (codes "connections") 4294967295
 
 abbrev pub idle : Rule
-idle = may_be_numbered (codes "idle") 3600
+idle = may_be_numbered (codes "idle") LONGEST_IDLE

@@ -1,6 +1,9 @@
 //! What a user asks the program for.
 ghost use Rattle.std.specs.Prelude.{◌≤◌};
 
+/// The greatest `--idle`, in seconds: an hour.
+pub const LONGEST_IDLE: u16 = 3600;
+
 /// What `client` sends, and where.
 #[derive(Clone, Copy, Drop)]
 pub struct ClientOptions<'a> {
@@ -35,8 +38,8 @@ pub struct ServeOptions<'a> {
     pub workers: u8,
     /// After how many connections it ends; at least 1.
     pub connections: u32,
-    /// After how many seconds of waiting for its client a connection is ended, 1 to 3600; there is no
-    /// limit where this is none.
+    /// After how many seconds of waiting for its client a connection is ended, 1 to
+    /// [`LONGEST_IDLE`]; there is no limit where this is none.
     pub idle: Option<u16>,
     ghost some_workers: { (1 ≤ workers) × (workers ≤ 16) },
 }

@@ -7,5 +7,5 @@ mod matching;
 mod options;
 mod program;
 
-pub use invocation::{ClientOptions, Invocation, ServeOptions};
+pub use invocation::{ClientOptions, Invocation, LONGEST_IDLE, ServeOptions};
 pub use matching::command_of;

@@ -5,7 +5,7 @@ ghost use Rattle.clap.specs.Words.{first_of, found_of, rows_of, subcommand_of, s
 ghost use Rattle.chpw_invocation.specs.Program.{program};
 ghost use Rattle.chpw_invocation.specs.Invocations.{AsksClient, AsksFor, AsksServe, HasNumber, IsGiven, IsRefusal, MayHaveNumber};
 
-use crate::invocation::{ClientOptions, Invocation, ServeOptions};
+use crate::invocation::{ClientOptions, Invocation, LONGEST_IDLE, ServeOptions};
 use crate::program::program as new_program;
 use clap::error::ErrorKind;
 use clap::{ArgMatches, Error};
@@ -129,13 +129,13 @@ fn connections_of(options: &ArgMatches<'_>) -> Option<u32>
 
 // How long a connection waits for its client, where that is limited.
 fn idle_of(options: &ArgMatches<'_>) -> Option<Option<u16>>
-    ensures idle { IfSome result (MayHaveNumber 1 3600 (rows_of (found_of options.now)) (codes "idle")) }
+    ensures idle { IfSome result (MayHaveNumber 1 LONGEST_IDLE (rows_of (found_of options.now)) (codes "idle")) }
 {
     if text_of(options, "idle").is_none() {
         return Some(None);
     }
     match options.get_one::<u16>("idle") {
-        Some(idle) if 1 <= idle && idle <= 3600 => Some(Some(idle)),
+        Some(idle) if 1 <= idle && idle <= LONGEST_IDLE => Some(Some(idle)),
         _ => None,
     }
 }

@@ -4,6 +4,7 @@ ghost use Rattle.clap.specs.Walk.{rule_of};
 ghost use Rattle.clap.specs.declared.builder.value_parser.ValueParser.TheVariants as parser;
 ghost use Rattle.chpw_invocation.specs.Options.{connections, flag, idle, optional, port, required, workers};
 
+use crate::invocation::LONGEST_IDLE;
 use clap::builder::ValueParser;
 use clap::{Arg, ArgAction, value_parser};
 use std::alloc::Global;
@@ -75,11 +76,11 @@ fn connection_count<'a>() -> ValueParser<'a>
     value_parser!(u32).range(1..)
 }
 
-// 1 to 3600.
+// 1 to an hour.
 fn idle_seconds<'a>() -> ValueParser<'a>
-    ensures { result ≡ parser.Signed (pos 1) (pos 3600) }
+    ensures { result ≡ parser.Signed (pos 1) (pos LONGEST_IDLE) }
 {
-    value_parser!(u16).range(1..=3600)
+    value_parser!(u16).range(1..=i64::from(LONGEST_IDLE))
 }
 
 /// `--port`, which has to be there.

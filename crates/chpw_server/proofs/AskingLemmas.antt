@@ -11,7 +11,7 @@ use Rattle.chpw_client.specs.declared.request.Sent.{Sent}
 use Rattle.chpw_invocation.specs.declared.invocation.ClientOptions.{ClientOptions}
 use Rattle.chpw_server.specs.Asking.{Asks, HasAsked, IsUnasked, Names, Tells}
 use Rattle.chpw_server.specs.declared.ending.Ending.{Ending}
-use Rattle.chpw_server.specs.declared.ending.Ending.TheVariants.{Good, Faulty, Early, Unread, Unserved, BadArgument, Unconnected, Unanswered, Refused, Misused}
+use Rattle.chpw_server.specs.declared.ending.Ending.TheVariants.{Good, Faulty, Early, Unread, Unserved, BadArgument, Unconnected, Unanswered, Refused, Misused, NotText}
 
 pub asks : (options : ClientOptions) (config : Config) (q : Question) (target : Option Name) (drawn : _)
     (sent : Sent) → config_fits config ≡ true → q.realm ≡ config.realm → IsFirstKey config.service q.service
@@ -45,6 +45,7 @@ unasked options BadArgument is = tt
 unasked options Unconnected is = tt
 unasked options Unanswered is = tt
 unasked options Misused is = tt
+unasked options NotText is = tt
 
 pub replied : (options : ClientOptions) (sent : Sent) (reply : List ℕ) (e : Ending) → Asks options sent → Tells sent reply e → HasAsked options e
 replied options sent reply Good asks tells = (sent, reply, asks, tells)
@@ -57,3 +58,4 @@ replied options sent reply BadArgument asks tells = tt
 replied options sent reply Unconnected asks tells = tt
 replied options sent reply Unanswered asks tells = tt
 replied options sent reply Misused asks tells = tt
+replied options sent reply NotText asks tells = tt

@@ -3,7 +3,7 @@ use Rattle.std.specs.Prelude.{ℕ, List, [], ◌++◌, codes, string_bytes}
 use Rattle.chpw_commands.specs.Drilled.{fault_text}
 use Rattle.chpw_service.specs.Faults.{line_of as service_line}
 use Rattle.chpw_server.specs.declared.ending.Ending.{Ending}
-use Rattle.chpw_server.specs.declared.ending.Ending.TheVariants.{Good, Faulty, Early, Unread, Unserved, BadArgument, Unconnected, Unanswered, Refused, Misused}
+use Rattle.chpw_server.specs.declared.ending.Ending.TheVariants.{Good, Faulty, Early, Unread, Unserved, BadArgument, Unconnected, Unanswered, Refused, Misused, NotText}
 
 abbrev pub status_of : Ending → ℕ
 status_of Good = 0
@@ -16,6 +16,7 @@ status_of Unconnected = 1
 status_of Unanswered = 1
 status_of Refused = 1
 status_of Misused = 2
+status_of NotText = 2
 
 -- the line on standard error
 abbrev pub line_of : Ending → List ℕ
@@ -29,3 +30,4 @@ line_of Unconnected = codes "cannot connect"
 line_of Unanswered = codes "connection ended"
 line_of Refused = []
 line_of Misused = []
+line_of NotText = codes "a word of the command line is not UTF-8"

@@ -50,12 +50,6 @@ const SEED_FILE: &str = "client-tests.seed";
 
 const JOURNAL_FILE: &str = "client-tests.journal";
 
-// What a client needs of the machine.
-trait Host: Files<File = File> + Net<Stream = TcpStream> + Clock + Print + AllocGlobal + Abort {}
-
-impl<R: Files<File = File> + Net<Stream = TcpStream> + Clock + Print + AllocGlobal + Abort> Host
-    for R {}
-
 // Alice's own password.
 fn own<'a>(port: u16, password: &'a str) -> ClientOptions<'a> {
     ClientOptions {
@@ -70,7 +64,10 @@ fn own<'a>(port: u16, password: &'a str) -> ClientOptions<'a> {
 }
 
 // How the first request ends that finds the service.
-fn ask_soon<'a, R: Host>(rt: &R, options: ClientOptions<'a>) -> Ending<'a> {
+fn ask_soon<'a, R>(rt: &R, options: ClientOptions<'a>) -> Ending<'a>
+where
+    R: Files<File = File> + Net<Stream = TcpStream> + Clock + Print + AllocGlobal,
+{
     for _ in 0..1000 {
         match ask(rt, options) {
             Ending::Unconnected => thread::sleep(rt, Duration::from_millis(10)),
@@ -81,7 +78,10 @@ fn ask_soon<'a, R: Host>(rt: &R, options: ClientOptions<'a>) -> Ending<'a> {
 }
 
 // A connection for each of these.
-fn ask_all<R: Host>(rt: &R, port: u16) {
+fn ask_all<R>(rt: &R, port: u16)
+where
+    R: Files<File = File> + Net<Stream = TcpStream> + Clock + Print + AllocGlobal + Abort,
+{
     let good = ask_soon(rt, own(port, "New-pass1"));
     assert!(rt; matches!(good, Ending::Good));
     let short = ask(rt, own(port, "New1"));
@@ -131,5 +131,8 @@ fn client_asks_a_service(rt: HostRuntime) -> Result<(), Fail> {
         ..own(port, "New-pass5")
     };
     assert!(rt; matches!(ask(&rt, unnamed), Ending::BadArgument));
+    for file in [CONFIG_FILE, SEED_FILE, JOURNAL_FILE] {
+        fs::remove_file(&rt, file)?;
+    }
     Ok(())
 }

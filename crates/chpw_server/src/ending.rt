@@ -29,10 +29,12 @@ pub enum Ending<'a> {
     Refused,
     /// The command line asks for no command, or for help.
     Misused,
+    /// A word of the command line isn't UTF-8.
+    NotText,
 }
 
 impl Ending<'_> {
-    /// The exit status: 0; 1 after a fault; 2 where the command line asks for no command,
+    /// The exit status: 0; 1 after a fault; 2 where the command line asks for no command or isn't UTF-8,
     /// or `client` for no request.
     pub fn status(&self) -> u8
         ensures value { result ≡ status_of self.now }
@@ -41,7 +43,7 @@ impl Ending<'_> {
             Ending::Good => 0,
             Ending::Faulty { .. } | Ending::Early(_) | Ending::Unread(_) | Ending::Unserved(_) => 1,
             Ending::Unconnected | Ending::Unanswered | Ending::Refused => 1,
-            Ending::BadArgument | Ending::Misused => 2,
+            Ending::BadArgument | Ending::Misused | Ending::NotText => 2,
         }
     }
 
@@ -66,6 +68,7 @@ impl fmt::Display for Ending<'_> {
             Ending::BadArgument => f.write_str("bad argument"),
             Ending::Unconnected => f.write_str("cannot connect"),
             Ending::Unanswered => f.write_str("connection ended"),
+            Ending::NotText => f.write_str("a word of the command line is not UTF-8"),
         }
     }
 }

@@ -6,6 +6,7 @@
 mod client;
 #[cfg(test)]
 mod client_tests;
+mod command_line;
 mod descriptors;
 mod ending;
 #[cfg(test)]
@@ -17,30 +18,27 @@ use chpw_service::serve;
 use clap::Error;
 use clap::error::ErrorKind;
 use client::ask;
+use command_line::words;
 use descriptors::{NOTHING, hold_standard};
 use ending::Ending;
 use std::alloc::AllocError;
 use std::fs::{File, Files};
 use std::net::{Net, TcpListener, TcpStream};
 use std::process::ExitCode;
-use std::rt::Env;
 use std::sync::Wait;
 use std::thread::Threads;
 use std::time::Clock;
-use std::{env, fs, io};
+use std::{fs, io};
 
 /// Ends with 0; with 1 after a fault, which is told in a line on standard error; with 2 where the
-/// command line asks for no command or for help, whose text stands on standard error.
+/// command line asks for no command or for help, whose text stands on standard error, or isn't UTF-8.
 fn main(rt: HostRuntime) -> ExitCode {
     if hold_standard(&rt).is_err() {
         return ExitCode::from(end(&rt, Ending::Unread(NOTHING)));
     }
     let status = match words(&rt) {
         Ok(words) => end(&rt, run(&rt, words.as_slice())),
-        Err(error) if error.kind() == io::ErrorKind::OutOfMemory => {
-            end(&rt, Ending::Early(DrillFault::Memory))
-        }
-        Err(_) => end(&rt, Ending::Misused),
+        Err(ending) => end(&rt, ending),
     };
     ExitCode::from(status)
 }
@@ -51,15 +49,6 @@ fn end<R: Eprint>(rt: &R, ending: Ending<'_>) -> u8 {
         let _ = eprintln!(rt; "{ending}");
     }
     ending.status()
-}
-
-// The words of the command line, the program's name first.
-fn words(rt: &(impl Env + AllocGlobal)) -> io::Result<Vec<String>> {
-    let mut words = Vec::new(rt.alloc());
-    for word in env::args(rt)? {
-        words.push(word)?;
-    }
-    Ok(words)
 }
 
 // Runs the command of these words.

@@ -1,9 +1,13 @@
 //! What isn't text: readers and writers that fail, bytes that are no UTF-8, and command lines.
+use crate::command_line::words as words_of;
+use crate::ending::Ending;
 use crate::{DrillFault, run_check, run_drill};
 use chpw_invocation::{Invocation, command_of};
 use std::alloc::{AllocError, Global};
+use std::env::FillError;
 use std::io;
 use std::io::{ErrorKind, Read, Write};
+use std::rt::Env;
 use std::test::Fail;
 
 const SCRIPT: &str =
@@ -51,6 +55,33 @@ impl Write for Closed {
 
     fn flush(&mut self) -> io::Result<()> {
         Ok(())
+    }
+}
+
+/// A machine on which the program is called with these words.
+#[derive(Drop)]
+struct Called<'a> {
+    words: &'a [&'a [u8]],
+}
+
+impl Env for Called<'_> {
+    fn arg(&self, i: usize, buf: &mut [u8]) -> Result<usize, FillError> {
+        let Some(word) = self.words.get(i) else {
+            return Err(FillError::NotPresent);
+        };
+        let Some(start) = buf.get_mut(..word.len()) else {
+            return Err(FillError::TooLong);
+        };
+        start.copy_from_slice(word);
+        Ok(word.len())
+    }
+
+    fn var(&self, _name: &str, _buf: &mut [u8]) -> Result<usize, FillError> {
+        Err(FillError::NotPresent)
+    }
+
+    fn var_at(&self, _i: usize, _buf: &mut [u8]) -> Result<usize, FillError> {
+        Err(FillError::NotPresent)
     }
 }
 
@@ -115,5 +146,22 @@ fn other_lines_are_refused(rt: HostRuntime) -> Result<(), Fail> {
             Ok(Invocation::Drill)
         )
     );
+    Ok(())
+}
+
+#[test]
+fn words_that_are_no_text(rt: HostRuntime) -> Result<(), Fail> {
+    let called = Called {
+        words: &[b"chpw_server", b"drill", b"\xff"],
+    };
+    let ended = words_of(&(called, rt.alloc()));
+    assert!(rt; matches!(ended, Err(Ending::NotText)));
+    let called = Called {
+        words: &[b"chpw_server", "Größe".as_bytes()],
+    };
+    let Ok(words) = words_of(&(called, rt.alloc())) else {
+        return Err(Fail::new("no words"));
+    };
+    assert!(rt; words.len() == 2 && words[1].as_str() == "Größe");
     Ok(())
 }

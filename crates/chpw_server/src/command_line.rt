@@ -1,0 +1,37 @@
+//! The words of the command line.
+ghost use Rattle.std.specs.Prelude.{◌≡◌, ◌≢◌};
+ghost use Rattle.std.specs.IoError.{error_kind};
+
+use crate::ending::Ending;
+use chpw_commands::DrillFault;
+use std::io::ErrorKind;
+use std::rt::Env;
+use std::{env, io};
+
+/// The words, the program's name first.
+pub fn words<'a>(rt: &(impl Env + AllocGlobal)) -> Result<Vec<String>, Ending<'a>> {
+    match copied(rt) {
+        Ok(words) => Ok(words),
+        Err(error) => Err(without_words(&error)),
+    }
+}
+
+fn copied(rt: &(impl Env + AllocGlobal)) -> io::Result<Vec<String>> {
+    let mut words = Vec::new(rt.alloc());
+    for word in env::args(rt)? {
+        words.push(word)?;
+    }
+    Ok(words)
+}
+
+// How the program ends where they can't be had. A word that isn't UTF-8 is the one fault besides memory.
+fn without_words<'a>(error: &io::Error) -> Ending<'a>
+    ensures memory { error_kind error.now ≡ ErrorKind.OutOfMemory
+        → result ≡ Ending.Early DrillFault.Memory }
+    ensures text { error_kind error.now ≢ ErrorKind.OutOfMemory → result ≡ Ending.NotText }
+{
+    match error.kind() {
+        ErrorKind::OutOfMemory => Ending::Early(DrillFault::Memory),
+        _ => Ending::NotText,
+    }
+}
