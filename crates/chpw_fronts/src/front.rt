@@ -82,6 +82,8 @@ impl<D: ListName> Front<D> {
             → len ≡ length (changes_in D.root seen.now.log ++ named (opening_state D.root) last ∷ [])
             → IsPrefix self.now (changes_in D.root seen.now.log ++ named (opening_state D.root) last ∷ []) }
         ensures none { IsTrue result → len ≡ 0 → self.now ≡ [] }
+        ensures shorter { length self.now < len → IsTrue result }
+        ensures start { self.now ≡ [] → IsTrue result }
     {
         let mut both = self.seen.again();
         both.learn(seen);

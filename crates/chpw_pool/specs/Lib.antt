@@ -1,3 +1,4 @@
 pub mod Accepting
 pub mod Clocks
+pub mod Lobbies
 pub mod Pools

@@ -3,7 +3,7 @@ ghost use Rattle.std.specs.Prelude.{◌≡◌, ◌+◌, ◌<◌, ◌^◌, OnOk, 
 ghost use Rattle.std.specs.IoError.{raw_os_error};
 ghost use Rattle.chpw_pool.specs.Accepting.{is_passing as passing};
 
-use crate::line::Connection;
+use crate::line::{Connection, Line};
 use std::io::Error;
 use std::net::{OpenListener, SocketAddr, TcpStream};
 use std::sync::Wait;
@@ -38,7 +38,7 @@ pub(crate) struct Entrance<'a, L: OpenListener<Stream = TcpStream>> {
     accepted: u32,
 }
 
-/// The listener can't go on.
+/// The listener can't go on, or the line is closed.
 #[derive(Clone, Copy, Drop)]
 pub(crate) struct Unaccepted;
 
@@ -53,13 +53,14 @@ impl<'a, L: OpenListener<Stream = TcpStream>> Entrance<'a, L> {
         }
     }
 
-    /// The next connection. A fault that may pass is waited out, for as long as it takes.
-    pub fn accept<R: Wait + Clock>(&mut self, rt: &R) -> Result<Connection, Unaccepted>
+    /// The next connection, once there is room for it in its line. A fault that may pass is waited out,
+    /// for as long as the line is open.
+    pub fn accept<R: Wait + Clock>(&mut self, rt: &R, line: &Line) -> Result<Connection, Unaccepted>
         requires few { self.old.accepted + 1 < 2 ^ 32 }
         ensures counted { OnOk result (self.new.accepted ≡ self.old.accepted + 1) }
         ensures same { OnErr result (self.new.accepted ≡ self.old.accepted) }
     {
-        let Some((stream, address)) = next_of(rt, self.listener) else {
+        let Some((stream, address)) = next_of(rt, self.listener, line) else {
             return Err(Unaccepted);
         };
         self.accepted += 1;
@@ -67,12 +68,16 @@ impl<'a, L: OpenListener<Stream = TcpStream>> Entrance<'a, L> {
     }
 }
 
-// The next connection of a listener; none where it can't go on.
+// The next connection of a listener; none where it can't go on, or the line is closed.
 fn next_of<R: Wait + Clock, L: OpenListener<Stream = TcpStream>>(
     rt: &R,
     listener: &L,
+    line: &Line,
 ) -> Option<(TcpStream, SocketAddr)> {
     for _ in rt.forever() {
+        if !line.has_room(rt) {
+            return None;
+        }
         match listener.accept() {
             Ok(accepted) => return Some(accepted),
             Err(error) if is_passing(&error) => thread::sleep(rt, Duration::from_millis(PAUSE)),

@@ -4,8 +4,13 @@
 mod clock;
 mod entrance;
 mod line;
+mod lobby;
 mod pool;
+mod watch;
 mod worker;
 
 pub use clock::{MachineClock, machine_moment};
-pub use pool::{Pool, PoolFault, Terms, run_pool, run_pool_by, run_pool_with};
+pub use lobby::Lobby;
+pub use pool::{
+    NotStarted, Pool, PoolFault, Terms, no_gates, run_pool, run_pool_by, run_pool_with, run_shift,
+};

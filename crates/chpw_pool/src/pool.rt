@@ -1,12 +1,13 @@
 //! Workers at one desk.
-ghost use Rattle.std.specs.Prelude.{◌≡◌, ◌%◌, ◌<◌, length, vec_len, IfOk, None};
+ghost use Rattle.std.specs.Prelude.{◌≡◌, ◌<◌, length, vec_len, IfOk, None, Some};
 ghost use Rattle.rand_chacha.specs.ChaCha.{key_of};
 ghost use Rattle.chpw_serve.specs.WordStreams.{GivesFromTheFirst, stream_start};
+ghost use Rattle.chpw_pool.specs.Lobbies.{posts_of};
 ghost use Rattle.chpw_pool.specs.Pools.{Ends};
 
 use crate::clock::MachineClock;
-use crate::entrance::Entrance;
-use crate::line::Line;
+use crate::lobby::Lobby;
+use crate::watch::Watch;
 use crate::worker::{Worker, work};
 use chpw_answer::{Gate, Messages, NoGate};
 use chpw_book::{AtDesk, Desk, DeskName, Pass};
@@ -14,7 +15,7 @@ use chpw_serve::WorkerWords;
 use chpw_table::JournalSink;
 use std::alloc::{AllocError, Global};
 use std::net::{OpenListener, TcpListener, TcpStream};
-use std::sync::{Mutex, Wait};
+use std::sync::Wait;
 use std::thread::Threads;
 use std::{thread, time};
 
@@ -57,13 +58,15 @@ struct Shared<'a, T: time::Clock, M, D: DeskName, S: JournalSink> {
     service: &'a M,
     desk: &'a Desk<D, S>,
     idle: Option<u16>,
+    // Whether another desk follows where the history is full.
+    is_followed: bool,
 }
 
 /// Serves so many connections at a desk, connection i (from 0) by worker i modulo their number,
 /// each worker one after the other; a worker draws its words from the stream of its own number, and
-/// its moments from the machine's clock. At most 32 connections wait for a worker; while its next one
-/// would be the 33rd, none is accepted. It returns when the connections are served, or, after a
-/// fault, those before it; each thread has ended then.
+/// its moments from the machine's clock. At most 32 connections wait for a worker; while its line is
+/// full none is accepted. It returns when the connections are served, or, after a fault, those before
+/// it; each thread has ended then.
 pub fn run_pool<
     R: Threads + Wait + time::Clock + Sync,
     M: Messages + Sync,
@@ -114,6 +117,7 @@ pub fn run_pool_with<
         service,
         desk,
         idle: None,
+        is_followed: false,
     };
     run_gated(
         rt,
@@ -153,12 +157,10 @@ pub fn run_pool_by<
         service,
         desk,
         idle: terms.idle,
+        is_followed: false,
     };
     match no_gates(alloc, passes.len()) {
-        Err(_) => Pool {
-            served: 0,
-            fault: Some(PoolFault::Memory),
-        },
+        Err(_) => unserved(PoolFault::Memory),
         Ok(gates) => run_gated(rt, &shared, listener, passes, terms, gates),
     }
 }
@@ -174,13 +176,24 @@ fn endless(seed: [u8; 32], connections: u32) -> Terms
     }
 }
 
-fn no_gates(alloc: Global, count: usize) -> Result<Vec<NoGate>, AllocError>
+// No connection was accepted.
+fn unserved(fault: PoolFault) -> Pool
+    ensures value { result ≡ record { served = 0; fault = Some fault } }
+{
+    Pool {
+        served: 0,
+        fault: Some(fault),
+    }
+}
+
+/// As many gates that hold nobody.
+pub fn no_gates(alloc: Global, count: usize) -> Result<Vec<NoGate>, AllocError>
     ensures { IfOk result (λ v. vec_len v ≡ count) }
 {
     Vec::from_elem(alloc, NoGate, count)
 }
 
-// A gate for each worker, which it takes to its post.
+// A gate for each worker; they stay where the history is full.
 fn run_gated<
     R: Threads + Wait + time::Clock + Sync,
     T: time::Clock + Sync,
@@ -201,33 +214,10 @@ fn run_gated<
     requires gates { length gates.items ≡ length passes.old }
     ensures ends { Ends terms.connections result }
 {
-    match posts(shared.alloc, gates) {
-        Err(_) => Pool {
-            served: 0,
-            fault: Some(PoolFault::Memory),
-        },
-        Ok(posts) => run_posts(rt, shared, listener, posts.as_slice(), passes, terms),
+    match Lobby::of(shared.alloc, terms.seed, gates) {
+        Err(_) => unserved(PoolFault::Memory),
+        Ok(lobby) => run_posts(rt, shared, listener, &lobby, passes, terms.connections),
     }
-}
-
-// A worker's post: its connections, and its gate, which the worker takes for good.
-#[derive(Drop)]
-struct Post<G> {
-    line: Line,
-    gate: Mutex<G>,
-}
-
-fn posts<G: Drop>(alloc: Global, gates: Vec<G>) -> Result<Vec<Post<G>>, AllocError>
-    ensures { IfOk result (λ v. vec_len v ≡ vec_len gates) }
-{
-    let mut posts = Vec::with_capacity(alloc, gates.len())?;
-    for gate in gates {
-        posts.push(Post {
-            line: Line::new(alloc)?,
-            gate: Mutex::new(gate),
-        })?;
-    }
-    Ok(posts)
 }
 
 // A thread for each worker, while this one accepts.
@@ -243,86 +233,110 @@ fn run_posts<
     rt: &R,
     shared: &Shared<'_, T, M, D, S>,
     listener: &L,
-    posts: &[Post<G>],
+    lobby: &Lobby<G>,
     passes: &mut [Pass<D>],
-    terms: Terms,
+    connections: u32,
 ) -> Pool
-    requires posts { 0 < length posts.now }
-    ensures ends { Ends terms.connections result }
+    ensures ends { Ends connections result }
 {
-    let Terms {
-        seed,
-        connections,
-        idle: _,
-    } = terms;
     thread::scope(
         thread::scope_env(),
         rt,
         move |scope| -> Pool
-            requires { 0 < length posts.now }
             ensures { Ends connections result }
         {
             let mut started = true;
-            for (post, pass) in posts.iter().zip(passes.iter_mut()) {
+            for (number, pass) in passes.iter_mut().enumerate() {
                 if scope
-                    .spawn(move || begin(rt, shared, post, pass, seed))
+                    .spawn(move || begin(rt, shared, lobby, number, pass))
                     .is_err()
                 {
                     started = false;
                     break;
                 }
             }
-            let pool = if started {
-                accept_all(rt, &mut Entrance::new(listener), posts, connections)
+            if started {
+                lobby.receive(rt, listener, connections)
             } else {
-                Pool {
-                    served: 0,
-                    fault: Some(PoolFault::Start),
-                }
-            };
-            for post in posts {
-                post.line.close(rt);
+                lobby.close(rt);
+                unserved(PoolFault::Start)
             }
-            pool
         },
     )
 }
 
-// Hands each connection to its worker. It served as many as came in.
-fn accept_all<R: Wait + time::Clock, L: OpenListener<Stream = TcpStream>, G>(
+/// A worker's thread could not be started.
+#[derive(Clone, Copy, PartialEq, Eq, Debug, Drop)]
+pub struct NotStarted;
+
+/// Serves the connections of a lobby at a desk, until no more come, or until the desk's history is full: a
+/// worker then takes no more connections. The one that it attends is told `history full` where it asks
+/// for something, and ended; the others wait for the next desk. After `NotStarted` none was served.
+pub fn run_shift<
+    R: Threads + Wait + time::Clock + Sync,
+    T: time::Clock + Sync,
+    M: Messages + Sync,
+    D: DeskName + Send + Sync,
+    S: JournalSink + Send,
+    G: Gate + Send + Drop,
+>(
     rt: &R,
-    entrance: &mut Entrance<'_, L>,
-    posts: &[Post<G>],
-    connections: u32,
-) -> Pool
-    requires posts { 0 < length posts.now }
-    requires start { entrance.old.accepted ≡ 0 }
-    ensures ends { Ends connections result }
-    ensures accepted { entrance.new.accepted ≡ result.served }
+    alloc: Global,
+    time: &T,
+    lobby: &Lobby<G>,
+    service: &M,
+    desk: &Desk<D, S>,
+    passes: &mut [Pass<D>],
+    idle: Option<u16>,
+) -> Result<(), NotStarted>
+    requires posts { posts_of lobby.now ≡ length passes.old }
 {
-    for served in 0..connections {
-        let Ok(connection) = entrance.accept(rt) else {
-            return Pool {
-                served,
-                fault: Some(PoolFault::Accept),
-            };
-        };
-        let post = &posts[worker_of(served, posts.len())];
-        post.line.put(rt, connection);
-    }
-    Pool {
-        served: connections,
-        fault: None,
-    }
+    let shared = Shared {
+        alloc,
+        time,
+        service,
+        desk,
+        idle,
+        is_followed: true,
+    };
+    lobby.start(rt);
+    run_until_full(rt, &shared, lobby, passes)
 }
 
-// The worker of a connection, both counted from 0.
-fn worker_of(connection: u32, workers: usize) -> usize
-    requires some { 0 < workers }
-    ensures value { result ≡ connection % workers }
-    ensures range { result < workers }
-{
-    connection as usize % workers
+// A thread for each worker, until no more connections come or the history is full.
+fn run_until_full<
+    R: Threads + Wait + time::Clock + Sync,
+    T: time::Clock + Sync,
+    M: Messages + Sync,
+    D: DeskName + Send + Sync,
+    S: JournalSink + Send,
+    G: Gate + Send + Drop,
+>(
+    rt: &R,
+    shared: &Shared<'_, T, M, D, S>,
+    lobby: &Lobby<G>,
+    passes: &mut [Pass<D>],
+) -> Result<(), NotStarted> {
+    thread::scope(
+        thread::scope_env(),
+        rt,
+        move |scope| -> Result<(), NotStarted> {
+            let mut started = Ok(());
+            for (number, pass) in passes.iter_mut().enumerate() {
+                if scope
+                    .spawn(move || begin(rt, shared, lobby, number, pass))
+                    .is_err()
+                {
+                    started = Err(NotStarted);
+                    break;
+                }
+            }
+            if started.is_err() {
+                lobby.stop(rt);
+            }
+            started
+        },
+    )
 }
 
 // The words of a pass's worker: the stream of its number.
@@ -333,28 +347,53 @@ fn words_of<D: DeskName>(seed: [u8; 32], pass: &Pass<D>) -> WorkerWords
     WorkerWords::new(seed, u64::from(pass.worker()))
 }
 
-// The worker of a pass, at its post.
-fn begin<R: Wait + time::Clock, T: time::Clock, M: Messages, D: DeskName, S: JournalSink, G: Gate>(
-    rt: &R,
-    shared: &Shared<'_, T, M, D, S>,
-    post: &Post<G>,
-    pass: &mut Pass<D>,
-    seed: [u8; 32],
+// The worker of a pass, at the post with this number. Where the history is full, all workers of the lobby
+// go home, or none does.
+fn begin<
+    'a,
+    R: Wait + time::Clock,
+    T: time::Clock,
+    M: Messages,
+    D: DeskName,
+    S: JournalSink,
+    G: Gate,
+>(
+    rt: &'a R,
+    shared: &'a Shared<'a, T, M, D, S>,
+    lobby: &'a Lobby<G>,
+    number: usize,
+    pass: &'a mut Pass<D>,
 ) {
+    let Some(post) = lobby.posts.get(number) else {
+        return;
+    };
     let mut gate = post.gate.lock(rt);
-    let words = words_of(seed, pass);
+    let words = match post.words.lock(rt).take() {
+        Some(words) => words,
+        None => words_of(lobby.seed, pass),
+    };
     let mut worker = Worker {
         alloc: shared.alloc,
         service: shared.service,
         idle: shared.idle,
-        decider: AtDesk {
+        decider: Watch {
+            decider: AtDesk {
+                rt,
+                desk: shared.desk,
+                pass,
+            },
             rt,
-            desk: shared.desk,
-            pass,
+            lobby: if shared.is_followed {
+                Some(lobby)
+            } else {
+                None
+            },
+            is_over: false,
         },
         gate: &mut *gate,
         clock: MachineClock::new(shared.time),
         words,
     };
     work(rt, &post.line, &mut worker);
+    *post.words.lock(rt) = Some(worker.words);
 }

@@ -39,23 +39,27 @@ pub(crate) fn work<R: Wait + time::Clock, M: Messages, K: Decider, G: Gate, C: C
         let Some(connection) = line.take(rt) else {
             return;
         };
-        attend(rt, connection, worker);
+        attend(rt, line, connection, worker);
     }
 }
 
 // Serves a connection to its end, and closes it.
-fn attend<R: time::Clock, M: Messages, K: Decider, G: Gate, C: Clock, X: Words>(
+fn attend<R: Wait + time::Clock, M: Messages, K: Decider, G: Gate, C: Clock, X: Words>(
     rt: &R,
+    line: &Line,
     connection: Connection,
     worker: &mut Worker<'_, M, K, G, C, X>,
 ) {
     let Connection { stream, address } = connection;
     let _ = stream.set_nodelay(true);
-    if is_limited(&stream, worker.idle) {
-        let ended = serve_peer(address, &mut &stream, &mut &stream, worker);
-        if is_open(ended) {
-            close_softly(rt, &stream);
-        }
+    if !is_limited(&stream, worker.idle) {
+        line.leave(rt);
+        return;
+    }
+    let ended = serve_peer(address, &mut &stream, &mut &stream, worker);
+    line.leave(rt);
+    if is_open(ended) {
+        close_softly(rt, &stream);
     }
 }
 

@@ -1,4 +1,5 @@
 pub mod Faults
+pub mod Following
 pub mod Opening
 pub mod Serving
 pub mod Tallies

@@ -1,7 +1,8 @@
 -- What a service's last line counts.
 use Rattle.std.specs.Prelude.{◌≡◌, ℕ, ◌<◌, List, length}
 use Rattle.chpw_table.specs.State.{State}
-use Rattle.chpw_table.specs.History.{IsLegal}
+use Rattle.chpw_table.specs.Agreement.{Held, Agrees}
+use Rattle.chpw_table.specs.History.{IsLegal, outcome}
 use Rattle.chpw_table.specs.declared.history.Entry.{Entry}
 use Rattle.chpw_book.specs.Receipts.{IsNumbered, changes_of}
 use Rattle.chpw_book.specs.Passes.{Carried}
@@ -10,11 +11,12 @@ use Rattle.chpw_book.specs.Closing.{HasCalls, IsRefusal, is_full}
 use Rattle.chpw_book.specs.declared.closing.CloseFault.{CloseFault}
 use Rattle.chpw_service.specs.declared.closing.Tally.{Tally}
 
--- the entries and changes of a history that the one-thread machine replays from the opening, in which each
--- worker's calls are the receipts that its pass has
-pub record IsTally (opening : State) (workers : ℕ) (passes : List Carried) (tally : Tally) : Type 0 where
+-- the entries and changes of a history that the one-thread machine replays from the opening to this table, in
+-- which each worker's calls are the receipts that its pass has
+pub record IsTally (opening : State) (workers : ℕ) (passes : List Carried) (tally : Tally) (table : Held) : Type 0 where
   pub history : List Entry
   pub legal : IsLegal opening history
+  pub state : Agrees table.state (outcome opening history)
   pub numbered : IsNumbered history
   pub calls : (w : ℕ) → w < workers → HasCalls history passes w
   pub entries : tally.entries ≡ length history

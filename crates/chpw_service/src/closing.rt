@@ -1,5 +1,5 @@
 //! The close of a service's desk.
-ghost use Rattle.std.specs.Prelude.{◌≡◌, IfOk, IfErr};
+ghost use Rattle.std.specs.Prelude.{◌≡◌, ◌<◌, ◌-◌, ◌^◌, IfOk, IfErr, false};
 ghost use Rattle.chpw_fronts.specs.Pens.{opening_state};
 ghost use Rattle.chpw_book.specs.Receipts.{changes_of};
 ghost use Rattle.chpw_service.specs.Tallies.{IsTally, IsMismatch};
@@ -7,7 +7,7 @@ ghost use Rattle.chpw_service.specs.declared.fault.ServeFault.TheVariants.{Canno
 
 use crate::fault::ServeFault;
 use chpw_book::{CloseRefused, Closed, Desk, DeskName, Pass};
-use chpw_table::{Entry, JournalSink};
+use chpw_table::{Entry, JournalSink, Table};
 use std::sync::Wait;
 
 /// What a service did: its entries, and how many of them are changes.
@@ -17,13 +17,23 @@ pub(crate) struct Tally {
     pub changes: usize,
 }
 
+/// What a desk leaves that is closed. The sink has room for one failure more, or the table is broken.
+#[derive(Drop)]
+pub(crate) struct Left<S: JournalSink> {
+    pub tally: Tally,
+    pub table: Table,
+    pub sink: S,
+    ghost room: { table.state.broken ≡ false → S.failed sink < 2 ^ 64 - 1 },
+}
+
 /// Closes a desk, and counts its history. A desk that can't be closed is given up.
 pub(crate) fn close_desk<'a, D: DeskName, S: JournalSink + Drop, R: Wait>(
     rt: &R,
     desk: Desk<D, S>,
     passes: Vec<Pass<D>>,
-) -> Result<Tally, ServeFault<'a>>
-    ensures tally { IfOk result (IsTally (opening_state D.root) D.workers passes.items) }
+) -> Result<Left<S>, ServeFault<'a>>
+    ensures tally { IfOk result (λ left.
+        IsTally (opening_state D.root) D.workers passes.items left.tally left.table) }
     ensures refusal { IfErr result (λ fault. (fault ≡ CannotClose)
         × IsMismatch (opening_state D.root) D.workers passes.items) }
 {
@@ -31,12 +41,16 @@ pub(crate) fn close_desk<'a, D: DeskName, S: JournalSink + Drop, R: Wait>(
         Ok(
             Closed {
                 history,
-                table: _,
-                sink: _,
+                table,
+                sink,
             },
-        ) => Ok(Tally {
-            entries: history.len(),
-            changes: changes(history.as_slice()),
+        ) => Ok(Left {
+            tally: Tally {
+                entries: history.len(),
+                changes: changes(history.as_slice()),
+            },
+            table,
+            sink,
         }),
         Err(refused) => {
             let CloseRefused {

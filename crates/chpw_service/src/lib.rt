@@ -4,6 +4,7 @@
 mod closing;
 mod fault;
 mod files;
+mod histories;
 mod serving;
 mod starting;
 

@@ -1,39 +1,30 @@
 //! The service on a port.
-ghost use Rattle.std.specs.Prelude.{◌≡◌, ◌≤◌, ◌⊎◌, IfOk, IfErr, OnOk, IfSome, None, length};
-ghost use Rattle.chpw_book.specs.Starting.{IsNamed, workers_of};
+ghost use Rattle.std.specs.Prelude.{◌≡◌, ◌≤◌, IfOk, IfErr, IfSome, None, OnOk};
+ghost use Rattle.chpw_book.specs.Starting.{workers_of};
 ghost use Rattle.chpw_service.specs.Faults.{IsLate, IsOfService, told_as};
 ghost use Rattle.chpw_service.specs.Serving.{IsAskedFor};
-ghost use Rattle.chpw_service.specs.declared.fault.ServeFault.TheVariants.{CannotListen, CannotPrint};
+ghost use Rattle.chpw_service.specs.declared.fault.ServeFault.TheVariants.{CannotListen, Memory};
 
-use crate::closing::{Tally, close_desk};
 use crate::fault::ServeFault;
 use crate::files::{read_seed, read_settings};
+use crate::histories::{Hall, Opening, first_opening, serve_histories};
 use crate::starting::open_table;
-use chpw_book::{Desk, DeskName, Pass, StartFault, UnnamedDesk};
 use chpw_invocation::ServeOptions;
-use chpw_journal::{FileSink, Journal};
+use chpw_journal::Journal;
 use chpw_messages::Service;
-use chpw_pool::{MachineClock, Pool, PoolFault, Terms, run_pool_by};
-use chpw_table::JournalSink;
+use chpw_pool::{Lobby, MachineClock, Pool, PoolFault, Terms, no_gates};
+use std::alloc::Global;
 use std::fs::{File, Files};
-use std::marker::Brand;
 use std::net::{Ipv4Addr, Net, TcpListener, TcpStream};
 use std::sync::Wait;
-use std::thread::Threads;
+use std::thread::{Threads, join};
 use std::time::Clock;
-
-// What the workers serve with.
-#[derive(Drop)]
-struct Ready {
-    service: Service,
-    listener: TcpListener,
-    seed: [u8; 32],
-}
 
 /// Serves so many connections on 127.0.0.1, connection i (from 0) by worker i modulo their number,
 /// each worker one after the other. The configuration is read first, then the seed, then the
 /// journal, and then the port is listened at. Printed are `listening on 127.0.0.1:N` before a
-/// connection is accepted, and at the end `entries N changes N`.
+/// connection is accepted, and `entries N changes N` for each history: where one is full, its desk is
+/// closed, and the next one opens with the table that was closed, its used ids kept.
 pub fn serve<
     'a,
     R: Files<File = File>
@@ -77,13 +68,13 @@ pub fn serve_by<
         found: _,
     } = open_table(rt, rt.alloc(), config, options.journal, &mut clock)?;
     let listener = listen(rt, options.port)?;
-    let ready = Ready {
-        service,
-        listener,
-        seed,
-    };
-    let unnamed = UnnamedDesk::of(table, options.workers);
-    serve_desk::<Brand, R, T>(rt, time, unnamed, sink, ready, options)
+    let terms = terms_of(&options, seed);
+    let hall = hall_of(rt.alloc(), service, &options, terms)?;
+    if println!(rt; "listening on 127.0.0.1:{}", options.port).is_err() {
+        return Err(ServeFault::CannotPrint);
+    }
+    let opening = first_opening(table, sink, options.workers);
+    serve_all(rt, time, &listener, &hall, opening, terms.connections)
 }
 
 fn listen<'a, R: Net<Listener = TcpListener, Stream = TcpStream>>(
@@ -98,46 +89,6 @@ fn listen<'a, R: Net<Listener = TcpListener, Stream = TcpStream>>(
     }
 }
 
-// Serves at a desk of this name, and closes it.
-fn serve_desk<
-    'a,
-    D: DeskName + Send + Sync,
-    R: Threads + Wait + Clock + Print + AllocGlobal + Sync,
-    T: Clock + Sync,
->(
-    rt: &R,
-    time: &T,
-    unnamed: UnnamedDesk,
-    sink: FileSink<File>,
-    ready: Ready,
-    options: ServeOptions<'a>,
-) -> Result<(), ServeFault<'a>>
-    requires workers { workers_of unnamed ≡ options.workers }
-    requires name { IsNamed unnamed D.name D.parts D.book D.root D.workers }
-    requires fresh { ⟦<FileSink<File> as JournalSink>⟧.failed sink ≡ 0 }
-    ensures fault { IfErr result IsLate }
-{
-    let Ok((desk, mut passes)) = start_desk::<D, R>(rt, unnamed, sink) else {
-        return Err(ServeFault::Memory);
-    };
-    if println!(rt; "listening on 127.0.0.1:{}", options.port).is_err() {
-        desk.abandon(rt);
-        return Err(ServeFault::CannotPrint);
-    }
-    let pool = run_pool_by(
-        rt,
-        rt.alloc(),
-        time,
-        &ready.listener,
-        &ready.service,
-        &desk,
-        &mut passes,
-        terms_of(&options, ready.seed),
-    );
-    let tally = close_desk(rt, desk, passes)?;
-    end(rt, tally, pool)
-}
-
 // What the pool is to do.
 fn terms_of(options: &ServeOptions<'_>, seed: [u8; 32]) -> Terms
     ensures value { IsAskedFor options.now seed result }
@@ -149,33 +100,94 @@ fn terms_of(options: &ServeOptions<'_>, seed: [u8; 32]) -> Terms
     }
 }
 
-fn start_desk<D: DeskName, R: Wait + AllocGlobal>(
-    rt: &R,
-    unnamed: UnnamedDesk,
-    sink: FileSink<File>,
-) -> Result<(Desk<D, FileSink<File>>, Vec<Pass<D>>), StartFault>
-    requires name { IsNamed unnamed D.name D.parts D.book D.root D.workers }
-    requires fresh { ⟦<FileSink<File> as JournalSink>⟧.failed sink ≡ 0 }
-    ensures passes { IfOk result (λ r. length r.1.items ≡ workers_of unnamed) }
+// What is served with, at all desks.
+fn hall_of<'a>(
+    alloc: Global,
+    service: Service,
+    options: &ServeOptions<'_>,
+    terms: Terms,
+) -> Result<Hall, ServeFault<'a>>
+    ensures workers { IfOk result (λ hall. hall.workers ≡ options.now.workers) }
+    ensures idle { IfOk result (λ hall. hall.idle ≡ terms.idle) }
+    ensures fault { IfErr result (λ fault. fault ≡ Memory) }
 {
-    Desk::start(rt, rt.alloc(), unnamed, sink)
+    let workers = options.workers;
+    let lobby = match no_gates(alloc, usize::from(workers)) {
+        Err(_) => return Err(ServeFault::Memory),
+        Ok(gates) => Lobby::of(alloc, terms.seed, gates),
+    };
+    match lobby {
+        Err(_) => Err(ServeFault::Memory),
+        Ok(lobby) => Ok(Hall {
+            service,
+            lobby,
+            workers,
+            idle: terms.idle,
+        }),
+    }
 }
 
-// Prints what was done, and tells why it ended early.
-fn end<'a, R: Print>(rt: &R, tally: Tally, pool: Pool) -> Result<(), ServeFault<'a>>
+// Accepts so many connections, while they are served at one desk after the other.
+fn serve_all<
+    'a,
+    R: Net<Stream = TcpStream> + Threads + Wait + Clock + Print + AllocGlobal + Sync,
+    T: Clock + Sync,
+>(
+    rt: &R,
+    time: &T,
+    listener: &TcpListener,
+    hall: &Hall,
+    opening: Opening,
+    connections: u32,
+) -> Result<(), ServeFault<'a>>
+    requires workers { workers_of opening.unnamed ≡ hall.now.workers }
+    ensures fault { IfErr result IsLate }
+{
+    let (pool, ended) = join(
+        rt,
+        || hall.lobby.receive(rt, listener, connections),
+        || -> Result<(), ServeFault>
+            requires { workers_of opening.unnamed ≡ hall.now.workers }
+            ensures { IfErr result IsLate }
+        { serve_or_desert(rt, time, listener, hall, opening) },
+    );
+    ended?;
+    end(pool)
+}
+
+// Tells why the pool ended early.
+fn end<'a>(pool: Pool) -> Result<(), ServeFault<'a>>
     ensures whole { OnOk result (pool.fault ≡ None) }
-    ensures fault { IfErr result (λ fault. (fault ≡ CannotPrint)
-        ⊎ IfSome pool.fault (λ why. fault ≡ told_as why)) }
+    ensures fault { IfErr result (λ fault.
+        IfSome pool.fault (λ why. fault ≡ told_as why)) }
     ensures late { IfErr result IsLate }
 {
-    let Tally { entries, changes } = tally;
-    if println!(rt; "entries {entries} changes {changes}").is_err() {
-        return Err(ServeFault::CannotPrint);
-    }
     match pool.fault {
         None => Ok(()),
         Some(fault) => Err(told(fault)),
     }
+}
+
+// Serves at one desk after the other. After a fault nothing more is accepted.
+fn serve_or_desert<
+    'a,
+    R: Net<Stream = TcpStream> + Threads + Wait + Clock + Print + AllocGlobal + Sync,
+    T: Clock + Sync,
+>(
+    rt: &R,
+    time: &T,
+    listener: &TcpListener,
+    hall: &Hall,
+    opening: Opening,
+) -> Result<(), ServeFault<'a>>
+    requires workers { workers_of opening.unnamed ≡ hall.now.workers }
+    ensures fault { IfErr result IsLate }
+{
+    let ended = serve_histories(rt, time, hall, opening);
+    if ended.is_err() {
+        hall.lobby.desert(rt, listener);
+    }
+    ended
 }
 
 // The fault of a pool that ended early, as it is told.

@@ -173,12 +173,12 @@ fn gated_pool<D: DeskName + Send + Sync, R: Machine>(
             run_pool_with(
                 rt,
                 alloc,
-                rt,
                 listener,
                 service,
                 shared,
                 &mut passes,
-                terms(2),
+                [7; 32],
+                2,
                 gates,
             )
         },

@@ -10,15 +10,15 @@ use chpw_service::serve_by;
 use chpw_table::Moment;
 use std::alloc::Global;
 use std::fs;
+use std::io::Read;
 use std::net::{Net, TcpListener, TcpStream};
 use std::process::Abort;
 use std::test::Fail;
 use std::thread::{self, join};
 use std::time::{Clock, Duration};
 
-/// Alice, and the key of the requests' tickets.
-const CONFIG: &str = "\
-[service]
+/// Alice, and the key of the requests' tickets, behind the line `[service]`.
+const SETTINGS: &str = "\
 realm = 'EXAMPLE.COM'
 [[service.key]]
 kvno = 3
@@ -46,6 +46,18 @@ const QUIET: &[u8] = b"code 3 error 37 clock skew too great";
 
 /// When the first run starts.
 const START: u64 = 1_000_100;
+
+/// How a request is refused that was decided before.
+const REPLAYED: &[u8] = b"code 3 error 34 request replayed";
+
+/// How a request is answered for which the history has no room.
+const FULL: &[u8] = b"code 2 error 60 history full";
+
+fn write_config(rt: &HostRuntime) -> Result<(), Fail> {
+    let config = format!(in rt.alloc(); "[service]\n{SETTINGS}")?;
+    fs::write(rt, CONFIG_FILE, config.as_bytes())?;
+    Ok(())
+}
 
 // A service of one worker for one connection.
 fn options<'a>(seed: &'a str, journal: &'a str, port: u16) -> ServeOptions<'a> {
@@ -101,7 +113,7 @@ fn ask_in_turn<R: Net<Stream = TcpStream> + Clock + Abort>(
 // The former run's message is refused, and a new one taken 301 seconds after the start.
 #[test]
 fn a_second_start(rt: HostRuntime) -> Result<(), Fail> {
-    fs::write(&rt, CONFIG_FILE, CONFIG.as_bytes())?;
+    write_config(&rt)?;
     fs::write(&rt, "restarts.seed", [1; 32].as_slice())?;
     let _ = fs::remove_file(&rt, "restarts.journal");
     let alloc = rt.alloc();
@@ -134,6 +146,62 @@ fn a_second_start(rt: HostRuntime) -> Result<(), Fail> {
     Ok(())
 }
 
+// Fills a history of two and asks once more, while another client waits; once its connection is ended, the
+// other one is served with the next history.
+fn ask_beyond_the_end<R: Net<Stream = TcpStream> + Clock + Abort>(
+    rt: &R,
+    alloc: Global,
+    port: u16,
+    [first, second, third]: [&Sent; 3],
+) {
+    let stream = connect_soon(rt, port);
+    let other = connect_soon(rt, port);
+    for (sent, line) in [(first, CHANGED), (second, CHANGED), (third, FULL)] {
+        send(rt, &stream, sent.message.as_slice());
+        expect_line(rt, alloc, sent, &stream, line);
+    }
+    let mut end = [0];
+    assert!(rt; matches!((&mut &stream).read(&mut end), Ok(0)));
+    for (sent, line) in [(first, REPLAYED), (third, CHANGED)] {
+        send(rt, &other, sent.message.as_slice());
+        expect_line(rt, alloc, sent, &other, line);
+    }
+}
+
+// A full history is followed by another one, which knows the requests of the former.
+#[test]
+fn a_full_history_and_the_next(rt: HostRuntime) -> Result<(), Fail> {
+    let alloc = rt.alloc();
+    let config = format!(in alloc; "[service]\nmax_entries = 2\n{SETTINGS}")?;
+    fs::write(&rt, "full.toml", config.as_bytes())?;
+    fs::write(&rt, "full.seed", [1; 32].as_slice())?;
+    let _ = fs::remove_file(&rt, "full.journal");
+    let first = request(&rt, alloc, "alice", moment(START), "New-pass2")?;
+    let second = request(&rt, alloc, "alice", moment(START + 1), "New-pass3")?;
+    let third = request(&rt, alloc, "alice", moment(START + 2), "New-pass4")?;
+    let listener = TcpListener::bind(&rt, ("127.0.0.1", 0u16))?;
+    let port = listener.local_addr()?.port();
+    drop(listener);
+    let options = ServeOptions {
+        config: "full.toml",
+        journal: "full.journal",
+        seed: "full.seed",
+        port,
+        workers: 1,
+        connections: 2,
+        idle: Some(10),
+    };
+    let clock = SetClock::new(START);
+    let (served, ()) = join(
+        &rt,
+        || serve_by(&rt, &clock, options).is_ok(),
+        || ask_beyond_the_end(&rt, alloc, port, [&first, &second, &third]),
+    );
+    assert!(rt; served);
+    assert_eq!(rt; fs::read(&rt, "full.journal")?.len(), 3 * 66);
+    Ok(())
+}
+
 // The reply of a service, which is at 127.0.0.1 alone.
 fn ask_once<R: Net<Stream = TcpStream> + Clock + Abort>(
     rt: &R,
@@ -150,7 +218,7 @@ fn ask_once<R: Net<Stream = TcpStream> + Clock + Abort>(
 // One seed gives one reply to a request, another seed another.
 #[test]
 fn words_of_the_seed(rt: HostRuntime) -> Result<(), Fail> {
-    fs::write(&rt, CONFIG_FILE, CONFIG.as_bytes())?;
+    write_config(&rt)?;
     fs::write(&rt, "one.seed", [1; 32].as_slice())?;
     fs::write(&rt, "other.seed", [2; 32].as_slice())?;
     let alloc = rt.alloc();

@@ -8,7 +8,7 @@ use chpw_client::Sent;
 use chpw_frame::{LONGEST_MESSAGE, Received, read_tcp, write_tcp};
 use chpw_journal::MemorySink;
 use chpw_messages::Service;
-use chpw_pool::{Pool, Terms, machine_moment, run_pool};
+use chpw_pool::{Pool, Terms, machine_moment, run_pool_by};
 use std::alloc::Global;
 use std::marker::Brand;
 use std::net::{Net, OpenListener, TcpListener, TcpStream};
@@ -104,7 +104,7 @@ fn run_at<
         rt,
         || {
             assert!(rt; !passes.is_empty());
-            run_pool(
+            run_pool_by(
                 rt,
                 alloc,
                 site.time,

@@ -1,0 +1,15 @@
+use Rattle.std.proofs.Common.{◌≡◌}
+use Rattle.chpw_book.specs.Starting.{ledger_name, ledger_parts, list_book, list_root, workers_of}
+use Rattle.chpw_service.proofs.histories.serve_histories.Given as goal
+
+abbrev pub ghosts-serve_history-D-DeskName : goal.ghosts-serve_history-D-DeskName
+ghosts-serve_history-D-DeskName g a = record { workers = workers_of a.opening.unnamed }
+
+abbrev pub ghosts-serve_history-D-Ledger : goal.ghosts-serve_history-D-Ledger
+ghosts-serve_history-D-Ledger g a = record { name = ledger_name a.opening.unnamed; parts = ledger_parts a.opening.unnamed }
+
+abbrev pub ghosts-serve_history-D-ListName : goal.ghosts-serve_history-D-ListName
+ghosts-serve_history-D-ListName g a = record { book = list_book a.opening.unnamed; root = list_root a.opening.unnamed }
+
+abbrev pub invariant-loop : goal.invariant-loop
+invariant-loop g l = workers_of l.opening.unnamed ≡ l.fn.hall.workers

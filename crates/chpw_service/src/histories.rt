@@ -1,0 +1,159 @@
+//! One history after the other.
+ghost use Rattle.std.specs.Prelude.{◌≡◌, ◌≤◌, ◌<◌, ◌-◌, ◌^◌, IfOk, IfErr, IfSome, false, length};
+ghost use Rattle.chpw_fronts.specs.Pens.{opening_state};
+ghost use Rattle.chpw_book.specs.Starting.{IsNamed, table_of, workers_of};
+ghost use Rattle.chpw_pool.specs.Lobbies.{posts_of};
+ghost use Rattle.chpw_service.specs.Faults.{IsLate};
+ghost use Rattle.chpw_service.specs.Following.{IsFollowed, reopened};
+ghost use Rattle.chpw_service.specs.declared.fault.ServeFault.TheVariants.{CannotPrint, Memory};
+
+use crate::closing::{Left, Tally, close_desk};
+use crate::fault::ServeFault;
+use chpw_answer::NoGate;
+use chpw_book::{Desk, DeskName, Pass, StartFault, UnnamedDesk};
+use chpw_journal::FileSink;
+use chpw_messages::Service;
+use chpw_pool::{Lobby, run_shift};
+use chpw_table::{JournalSink, Table};
+use std::fs::File;
+use std::marker::Brand;
+use std::sync::Wait;
+use std::thread::Threads;
+use std::time::Clock;
+
+/// What is served with, at all desks.
+#[derive(Drop)]
+pub(crate) struct Hall {
+    pub service: Service,
+    pub lobby: Lobby<NoGate>,
+    pub workers: u8,
+    pub idle: Option<u16>,
+    ghost some_workers: { (1 ≤ workers) × (workers ≤ 16) },
+    ghost posts: { posts_of lobby ≡ workers },
+}
+
+/// What a desk opens with. The sink has room for one failure more, or the table is broken.
+#[derive(Drop)]
+pub(crate) struct Opening {
+    pub unnamed: UnnamedDesk,
+    pub sink: FileSink<File>,
+    ghost room: { (table_of unnamed).state.broken ≡ false
+        → ⟦<FileSink<File> as JournalSink>⟧.failed sink < 2 ^ 64 - 1 },
+}
+
+/// What the first desk opens with: a table with no event yet, and a sink of which no append has failed.
+pub(crate) fn first_opening(table: Table, sink: FileSink<File>, workers: u8) -> Opening
+    requires workers { (1 ≤ workers) × (workers ≤ 16) }
+    requires fresh { ⟦<FileSink<File> as JournalSink>⟧.failed sink ≡ 0 }
+    ensures table { table_of result.unnamed ≡ table }
+    ensures workers { workers_of result.unnamed ≡ workers }
+{
+    Opening {
+        unnamed: UnnamedDesk::of(table, workers),
+        sink,
+    }
+}
+
+/// Serves the connections of the hall's lobby at one desk after the other, until no more come. Where a
+/// history is full, its desk is closed and the next one opens with the table that was closed.
+pub(crate) fn serve_histories<
+    'a,
+    R: Threads + Wait + Clock + Print + AllocGlobal + Sync,
+    T: Clock + Sync,
+>(rt: &R, time: &T, hall: &Hall, opening: Opening) -> Result<(), ServeFault<'a>>
+    requires workers { workers_of opening.unnamed ≡ hall.now.workers }
+    ensures fault { IfErr result IsLate }
+{
+    let mut opening = opening;
+    for _ in rt.forever() {
+        match serve_history::<Brand, R, T>(rt, time, hall, opening)? {
+            None => return Ok(()),
+            Some(next) => opening = next,
+        }
+    }
+    Ok(())
+}
+
+// Serves at a desk of this name, closes it and prints what it did. What the next desk opens with, where
+// connections are left to serve.
+fn serve_history<
+    'a,
+    D: DeskName + Send + Sync,
+    R: Threads + Wait + Clock + Print + AllocGlobal + Sync,
+    T: Clock + Sync,
+>(rt: &R, time: &T, hall: &Hall, opening: Opening) -> Result<Option<Opening>, ServeFault<'a>>
+    requires name { IsNamed opening.unnamed D.name D.parts D.book D.root D.workers }
+    requires workers { workers_of opening.unnamed ≡ hall.now.workers }
+    ensures workers { IfOk result (λ o. IfSome o (λ next.
+        workers_of next.unnamed ≡ hall.now.workers)) }
+    ensures next { IfOk result (λ o. IfSome o (λ next.
+        IsFollowed (opening_state D.root) (table_of next.unnamed))) }
+    ensures fault { IfErr result IsLate }
+{
+    let Ok((desk, mut passes)) = start_desk::<D, R>(rt, opening) else {
+        return Err(ServeFault::Memory);
+    };
+    let served = run_shift(
+        rt,
+        rt.alloc(),
+        time,
+        &hall.lobby,
+        &hall.service,
+        &desk,
+        &mut passes,
+        hall.idle,
+    );
+    let Left { tally, table, sink } = close_desk(rt, desk, passes)?;
+    print_tally(rt, tally)?;
+    if served.is_err() {
+        return Err(ServeFault::Memory);
+    }
+    if hall.lobby.is_over(rt) {
+        return Ok(None);
+    }
+    Ok(Some(next_opening(table, sink, hall.workers)?))
+}
+
+fn start_desk<D: DeskName, R: Wait + AllocGlobal>(
+    rt: &R,
+    opening: Opening,
+) -> Result<(Desk<D, FileSink<File>>, Vec<Pass<D>>), StartFault>
+    requires name { IsNamed opening.unnamed D.name D.parts D.book D.root D.workers }
+    ensures passes { IfOk result (λ r. length r.1.items ≡ workers_of opening.unnamed) }
+{
+    let Opening { unnamed, sink } = opening;
+    Desk::start(rt, rt.alloc(), unnamed, sink)
+}
+
+// What was done, as a line.
+fn print_tally<'a, R: Print>(rt: &R, tally: Tally) -> Result<(), ServeFault<'a>>
+    ensures fault { IfErr result (λ fault. fault ≡ CannotPrint) }
+{
+    let Tally { entries, changes } = tally;
+    match println!(rt; "entries {entries} changes {changes}") {
+        Ok(()) => Ok(()),
+        Err(_) => Err(ServeFault::CannotPrint),
+    }
+}
+
+// The table that was closed opens the next history, and its journal goes on.
+fn next_opening<'a>(
+    table: Table,
+    sink: FileSink<File>,
+    workers: u8,
+) -> Result<Opening, ServeFault<'a>>
+    requires workers { (1 ≤ workers) × (workers ≤ 16) }
+    requires room { table.state.broken ≡ false
+        → ⟦<FileSink<File> as JournalSink>⟧.failed sink < 2 ^ 64 - 1 }
+    ensures table { IfOk result (λ next. table_of next.unnamed ≡ reopened table) }
+    ensures workers { IfOk result (λ next. workers_of next.unnamed ≡ workers) }
+    ensures fault { IfErr result (λ fault. fault ≡ Memory) }
+{
+    match table.reopened() {
+        Err(_) => Err(ServeFault::Memory),
+        Ok(table) => Ok(Opening {
+            unnamed: UnnamedDesk::of(table, workers),
+            sink,
+        }),
+    }
+}
