@@ -1,6 +1,6 @@
 -- What opening a journal's file gives: the table handed in, with records that go on from it; where the
 -- file was made, the table as it was. What bytes the system gives of a file no contract tells.
-use Rattle.std.specs.Prelude.{◌≡◌, ℕ, List, false, Option}
+use Rattle.std.specs.Prelude.{◌≡◌, ℕ, List, true, false, Option}
 use Rattle.chpw_table.specs.State.{State}
 use Rattle.chpw_table.specs.Agreement.{Held, Agrees}
 use Rattle.chpw_journal.specs.declared.record.Record.{Record}
@@ -34,3 +34,10 @@ IsReadFrom before old r = (left : Option (List ℕ)) × IsRestored before old le
 -- refused for what was read of a file
 abbrev pub IsRefusedFrom : Held → Option (List ℕ) → RestoreFault → Type 0
 IsRefusedFrom before old fault = (left : Option (List ℕ)) × IsRefused before old left fault
+
+-- of a file that was there: what is wrong with what was read of it, or a torn record stood behind the
+-- records that were read
+abbrev pub IsUnrestored : Held → OpenFault → Type 0
+IsUnrestored before CannotRead = ⊥
+IsUnrestored before CannotWrite = (old : Option (List ℕ)) × (r : Restored) × IsReadFrom before old r × (r.torn ≡ true)
+IsUnrestored before (Restore fault) = (old : Option (List ℕ)) × IsRefusedFrom before old fault
