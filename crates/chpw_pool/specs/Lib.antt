@@ -2,3 +2,4 @@ pub mod Accepting
 pub mod Clocks
 pub mod Lobbies
 pub mod Pools
+pub mod Watching

@@ -1,5 +1,9 @@
 //! Who decides for a worker that goes home where the history is full.
-ghost use Rattle.std.specs.Prelude.{◌≡◌};
+ghost use Rattle.std.specs.Prelude.{◌≡◌, ◌&&◌, IfOk, IfErr, Err, true, false, is_some};
+ghost use Rattle.chpw_table.specs.Times.{IsMoment};
+ghost use Rattle.chpw_table.specs.Refusals.{AsksPositive};
+ghost use Rattle.chpw_decider.specs.Deciding.{AddsReceipt, AddsCompleted, IsCompletedFrom, MayBe, IsFinal};
+ghost use Rattle.chpw_pool.specs.Watching.{is_full};
 ghost use Rattle.chpw_table.specs.declared.outcome.DecideFault.TheVariants.{Memory};
 
 use crate::lobby::Lobby;
@@ -24,6 +28,8 @@ impl<'a, 'p, K: Decider, R: Wait, G> Watch<'a, 'p, K, R, G> {
     // Notes a `Full`: all workers take no more connections.
     fn note(&mut self, decided: &Result<Verdict, Refused>)
         ensures same { self.new.decider ≡ self.old.decider }
+        ensures over { self.old.is_over ≡ false
+            → self.new.is_over ≡ (is_full decided.now && is_some self.old.lobby) }
     {
         if let (true, Some(lobby)) = (is_full(decided), self.lobby) {
             self.is_over = true;
@@ -32,7 +38,9 @@ impl<'a, 'p, K: Decider, R: Wait, G> Watch<'a, 'p, K, R, G> {
     }
 }
 
-fn is_full(decided: &Result<Verdict, Refused>) -> bool {
+fn is_full(decided: &Result<Verdict, Refused>) -> bool
+    ensures value { result ≡ is_full decided.now }
+{
     match decided {
         Err(refused) => matches!(refused.fault, DecideFault::Full),
         Ok(_) => false,
@@ -67,7 +75,18 @@ impl<'a, 'p, K: Decider, R: Wait, G> Decider for Watch<'a, 'p, K, R, G> {
         self.decider.missing(now, opened)
     }
 
-    fn decide(&mut self, now: Moment, opened: Opened) -> Result<Verdict, Refused> {
+    fn decide(&mut self, now: Moment, opened: Opened) -> Result<Verdict, Refused>
+        requires moment { IsMoment now }
+        ensures adds { IfOk result (λ v. AddsReceipt (K.gathered self.old.decider) (K.gathered self.new.decider) now opened v) }
+        ensures refused { IfErr result (λ r. (K.gathered self.new.decider ≡ K.gathered self.old.decider) × (r.opened ≡ opened)) }
+        ensures fault { IfErr result (λ r. MayBe (K.may_be_full self.new.decider (K.gathered self.new.decider)) r.fault) }
+        ensures positive { IfErr result (λ r. AsksPositive r.fault) }
+        ensures follows { K.follows self.old.decider self.new.decider }
+        ensures notes { self.old.is_over ≡ false
+            → self.new.is_over ≡ (is_full result && is_some self.old.lobby) }
+        ensures over { self.old.is_over ≡ true → (self.new ≡ self.old)
+            × (result ≡ Err (record { fault = Memory; opened = opened })) }
+    {
         if self.is_over {
             return Err(unheard(opened));
         }
@@ -81,7 +100,17 @@ impl<'a, 'p, K: Decider, R: Wait, G> Decider for Watch<'a, 'p, K, R, G> {
         now: Moment,
         opened: Opened,
         password: &[u8],
-    ) -> Result<Verdict, Refused> {
+    ) -> Result<Verdict, Refused>
+        requires moment { IsMoment now }
+        ensures adds { IfOk result (λ v. AddsCompleted (K.gathered self.old.decider) (K.gathered self.new.decider) now password.now opened v) }
+        ensures refused { IfErr result (λ r. (K.gathered self.new.decider ≡ K.gathered self.old.decider) × IsCompletedFrom password.now opened r.opened) }
+        ensures fault { IfErr result (λ r. MayBe (K.may_be_full self.new.decider (K.gathered self.new.decider)) r.fault × IsFinal r.fault) }
+        ensures follows { K.follows self.old.decider self.new.decider }
+        ensures notes { self.old.is_over ≡ false
+            → self.new.is_over ≡ (is_full result && is_some self.old.lobby) }
+        ensures over { self.old.is_over ≡ true → (self.new ≡ self.old)
+            × (result ≡ Err (record { fault = Memory; opened = opened })) }
+    {
         if self.is_over {
             return Err(unheard(opened));
         }

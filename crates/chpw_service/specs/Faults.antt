@@ -1,11 +1,16 @@
 -- Why the service ends early: which faults its parts have, and the lines that tell them.
-use Rattle.std.specs.Prelude.{◌≡◌, ◌≢◌, ◌⊎◌, ℕ, List, ◌++◌, Result, Err, codes}
+use Rattle.std.specs.Prelude.{◌≡◌, ◌≢◌, ◌⊎◌, ℕ, List, ◌++◌, Option, Result, Err, codes}
 use Rattle.std.specs.Str.{IsUtf8}
 use Rattle.chpw_config.specs.Faults.{fault_text as config_text, no_toml}
 use Rattle.chpw_config.specs.Settings.{settings_of}
 use Rattle.chpw_rules.specs.declared.config.Config.{Config as Settings}
 use Rattle.chpw_config.specs.declared.fault.ConfigFault.{ConfigFault}
+use Rattle.chpw_table.specs.Agreement.{Held}
 use Rattle.chpw_journal.specs.Restoring.{fault_text as journal_text}
+use Rattle.chpw_journal.specs.JournalFile.{IsRefusedFrom}
+use Rattle.chpw_journal.specs.declared.fault.RestoreFault.{RestoreFault}
+use Rattle.chpw_journal.specs.declared.journal_file.OpenFault.{OpenFault}
+use Rattle.chpw_journal.specs.declared.journal_file.OpenFault.TheVariants as open_fault
 use Rattle.chpw_journal.specs.declared.fault.RestoreFault.TheVariants.{Memory as NoMemory}
 use Rattle.chpw_pool.specs.declared.pool.PoolFault.{PoolFault}
 use Rattle.chpw_pool.specs.declared.pool.PoolFault.TheVariants as pool
@@ -44,10 +49,20 @@ abbrev pub IsOfSettings : List ℕ → ServeFault → Type 0
 IsOfSettings path (Config fault) = (bytes : List ℕ) × Sets bytes (Err fault)
 IsOfSettings path fault = IsUnread path fault
 
--- of the journal: or it can't be made or cut, or has a fault
+-- some bytes of a journal have this first fault, over some table
+abbrev pub IsOfRecords : RestoreFault → Type 0
+IsOfRecords fault = (before : Held) × (bytes : Option (List ℕ)) × IsRefusedFrom before bytes fault
+
+-- as a journal's file is opened or restored: what is wrong with it is wrong with some bytes
+abbrev pub IsOfFile : OpenFault → Type 0
+IsOfFile open_fault.CannotRead = Unit {0}
+IsOfFile open_fault.CannotWrite = Unit {0}
+IsOfFile (open_fault.Restore fault) = IsOfRecords fault
+
+-- of the journal: or it can't be made or cut, or its bytes have this first fault
 abbrev pub IsOfJournal : List ℕ → ServeFault → Type 0
 IsOfJournal path (CannotWrite file) = file.now ≡ path
-IsOfJournal path (Journal fault) = fault ≢ NoMemory
+IsOfJournal path (Journal fault) = (fault ≢ NoMemory) × IsOfRecords fault
 IsOfJournal path fault = IsUnread path fault
 
 -- once the files are read

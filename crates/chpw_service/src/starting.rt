@@ -3,7 +3,7 @@ ghost use Rattle.std.specs.Prelude.{◌≡◌, IfOk, IfErr, true};
 ghost use Rattle.chpw_rules.specs.Fitting.{config_fits};
 ghost use Rattle.chpw_table.specs.Agreement.{Agrees};
 ghost use Rattle.chpw_table.specs.Times.{IsTime};
-ghost use Rattle.chpw_service.specs.Faults.{IsOfJournal};
+ghost use Rattle.chpw_service.specs.Faults.{IsOfFile, IsOfJournal};
 ghost use Rattle.chpw_service.specs.Opening.{IsOpening, opening_at};
 ghost use Rattle.chpw_service.specs.declared.fault.ServeFault.TheVariants.{Memory};
 
@@ -17,6 +17,7 @@ use std::fs::{File, Files};
 
 /// The journal at a path, and the table restored from it. The table is quiet for 300 seconds from its start
 /// on where there was a journal. The start is read from the clock once no other process has the journal.
+#[tactic(auto, using(crate::proofs::FaultLemmas::unopened, crate::proofs::FaultLemmas::unrestored))]
 pub(crate) fn open_table<'a, R: Files<File = File>, C: Clock>(
     rt: &R,
     alloc: Global,
@@ -63,6 +64,7 @@ fn opening_table<'a>(
 }
 
 fn journal_fault(path: &str, fault: OpenFault) -> ServeFault<'_>
+    requires fault { IsOfFile fault }
     ensures fault { IsOfJournal path.now result }
 {
     match fault {

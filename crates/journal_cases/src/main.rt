@@ -2,10 +2,11 @@
 //!
 //! A line is a journal, its pieces with commas between: it is restored onto a table of alice and
 //! bob/admin, who have a key of kvno 1 each. Before the pieces, and `: `, may stand what is done with
-//! them; a line that begins with `sink` has changes, decided over a journal in memory. README.md has the
-//! forms. A line that begins with `#`, or is empty, is passed on.
+//! them; a line that begins with `sink` has changes, decided over a journal in memory, and one that begins
+//! with `disk` a file that takes bytes so. README.md has the forms. A line that begins with `#`, or is empty, is passed on.
 #![tactic(auto)]
 
+mod disk;
 mod failing;
 mod filed;
 mod journal;
@@ -14,6 +15,7 @@ mod refusal;
 mod restoring;
 
 use case_lines::{Answers, print_answers};
+use disk::appended;
 use failing::decided;
 use filed::filed;
 use journal::journal_of;
@@ -34,6 +36,7 @@ fn answer<R: Files<File = File> + AllocGlobal>(
     };
     match what.split_once(' ') {
         Some(("sink", sink)) => decided(alloc, sink, pieces),
+        Some(("disk", way)) => appended(alloc, way, pieces),
         Some(("read", way)) => read(alloc, way, journal_of(alloc, pieces)?.as_slice()),
         _ => filed(rt, alloc, what, pieces),
     }

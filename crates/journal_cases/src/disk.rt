@@ -1,0 +1,71 @@
+//! A journal's sink over a file, whose disk may take nothing.
+use crate::refusal::Refusal;
+use chpw_journal::FileSink;
+use chpw_table::JournalSink;
+use fake_streams::{Course, Taker, Way};
+use std::alloc::Global;
+use std::fs::{Metadata, OpenFile};
+use std::io::{self, Error, ErrorKind, Write};
+
+/// The length of a record.
+const RECORD: usize = 66;
+
+/// What comes of a record that is appended to a file which takes bytes in this way, where they are put on the
+/// disk (`synced`), or can't be (`not synced`).
+pub fn appended(alloc: Global, way: &str, end: &str) -> Result<String, Refusal> {
+    let taker = Taker {
+        taken: Vec::new(alloc),
+        course: Course::start(Way::of(way)),
+    };
+    let mut sink = FileSink::new(Disk {
+        taker,
+        is_synced: end == "synced",
+    });
+    if sink.failures() == u64::MAX {
+        return Err(Refusal::NoSuchCase);
+    }
+    let told = match sink.append(&[7; RECORD]) {
+        Ok(()) => "appended",
+        Err(_) => "failed",
+    };
+    Ok(format!(in alloc; "{told}, failures {}", sink.failures())?)
+}
+
+/// A file, and whether what it takes is put on the disk.
+#[derive(Drop)]
+struct Disk {
+    taker: Taker,
+    is_synced: bool,
+}
+
+impl Write for Disk {
+    fn write(&mut self, bytes: &[u8]) -> io::Result<usize> {
+        self.taker.write(bytes)
+    }
+
+    fn flush(&mut self) -> io::Result<()> {
+        Ok(())
+    }
+}
+
+impl OpenFile for Disk {
+    fn metadata(&self) -> io::Result<Metadata> {
+        Err(Error::from(ErrorKind::Unsupported))
+    }
+
+    fn set_len(&self, _size: u64) -> io::Result<()> {
+        Err(Error::from(ErrorKind::Unsupported))
+    }
+
+    fn sync_all(&self) -> io::Result<()> {
+        if self.is_synced {
+            Ok(())
+        } else {
+            Err(Error::from(ErrorKind::Other))
+        }
+    }
+
+    fn sync_data(&self) -> io::Result<()> {
+        self.sync_all()
+    }
+}
