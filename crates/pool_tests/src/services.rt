@@ -1,7 +1,7 @@
 //! The service with its files: where it listens, its words, and a second start at one journal.
 ghost use Rattle.std.specs.Prelude.{◌<◌, ◌^◌};
 
-use crate::realm::{CHANGED, SetClock, request};
+use crate::realm::{CHANGED, SetClock, request, told};
 use crate::site::{expect_line, reply, send};
 use chpw_client::Sent;
 use chpw_frame::split_reply;
@@ -17,7 +17,7 @@ use std::test::Fail;
 use std::thread::{self, join};
 use std::time::{Clock, Duration};
 
-/// Alice, and the key of the requests' tickets, behind the line `[service]`.
+/// Alice and bob, and the key of the requests' tickets, behind the line `[service]`.
 const SETTINGS: &str = "\
 realm = 'EXAMPLE.COM'
 [[service.key]]
@@ -37,6 +37,13 @@ kvno = 1
 iterations = 4
 aes128 = 'a1a1a1a1a1a1a1a1a1a1a1a1a1a1a1a1'
 aes256 = 'a1a1a1a1a1a1a1a1a1a1a1a1a1a1a1a1a1a1a1a1a1a1a1a1a1a1a1a1a1a1a1a1'
+[[principal]]
+name = 'bob'
+[[principal.key]]
+kvno = 1
+iterations = 4
+aes128 = 'b1b1b1b1b1b1b1b1b1b1b1b1b1b1b1b1'
+aes256 = 'b1b1b1b1b1b1b1b1b1b1b1b1b1b1b1b1b1b1b1b1b1b1b1b1b1b1b1b1b1b1b1b1'
 ";
 
 const CONFIG_FILE: &str = "services.toml";
@@ -146,8 +153,23 @@ fn a_second_start(rt: HostRuntime) -> Result<(), Fail> {
     Ok(())
 }
 
-// Fills a history of two and asks once more, while another client waits; once its connection is ended, the
-// other one is served with the next history.
+// Asks, and is answered so; the reply.
+fn answered<R: Abort>(
+    rt: &R,
+    alloc: Global,
+    stream: &TcpStream,
+    sent: &Sent,
+    line: &[u8],
+) -> Vec<u8> {
+    send(rt, stream, sent.message.as_slice());
+    let reply = reply(rt, alloc, stream);
+    assert_eq!(rt; told(rt, alloc, sent, &reply).as_slice(), line);
+    reply
+}
+
+// Fills a history of two and asks once more, while another client waits. Once the first connection is ended,
+// the other one is served with the next history. The replies to the first request and to the third are
+// sealed under the same keys, and have the same moment in their AP-REPs: they differ where their words do.
 fn ask_beyond_the_end<R: Net<Stream = TcpStream> + Clock + Abort>(
     rt: &R,
     alloc: Global,
@@ -156,16 +178,16 @@ fn ask_beyond_the_end<R: Net<Stream = TcpStream> + Clock + Abort>(
 ) {
     let stream = connect_soon(rt, port);
     let other = connect_soon(rt, port);
-    for (sent, line) in [(first, CHANGED), (second, CHANGED), (third, FULL)] {
-        send(rt, &stream, sent.message.as_slice());
-        expect_line(rt, alloc, sent, &stream, line);
-    }
+    let one = answered(rt, alloc, &stream, first, CHANGED);
+    let _ = answered(rt, alloc, &stream, second, CHANGED);
+    let _ = answered(rt, alloc, &stream, third, FULL);
     let mut end = [0];
     assert!(rt; matches!((&mut &stream).read(&mut end), Ok(0)));
-    for (sent, line) in [(first, REPLAYED), (third, CHANGED)] {
-        send(rt, &other, sent.message.as_slice());
-        expect_line(rt, alloc, sent, &other, line);
-    }
+    let two = answered(rt, alloc, &other, third, CHANGED);
+    let _ = answered(rt, alloc, &other, first, REPLAYED);
+    let one = split_reply(&one).ok().expect(rt, "a reply");
+    let two = split_reply(&two).ok().expect(rt, "a reply");
+    assert!(rt; one.ap.len() == two.ap.len() && one.ap != two.ap);
 }
 
 // A full history is followed by another one, which knows the requests of the former.
@@ -178,7 +200,7 @@ fn a_full_history_and_the_next(rt: HostRuntime) -> Result<(), Fail> {
     let _ = fs::remove_file(&rt, "full.journal");
     let first = request(&rt, alloc, "alice", moment(START), "New-pass2")?;
     let second = request(&rt, alloc, "alice", moment(START + 1), "New-pass3")?;
-    let third = request(&rt, alloc, "alice", moment(START + 2), "New-pass4")?;
+    let third = request(&rt, alloc, "bob", moment(START), "New-pass4")?;
     let listener = TcpListener::bind(&rt, ("127.0.0.1", 0u16))?;
     let port = listener.local_addr()?.port();
     drop(listener);
@@ -198,7 +220,7 @@ fn a_full_history_and_the_next(rt: HostRuntime) -> Result<(), Fail> {
         || ask_beyond_the_end(&rt, alloc, port, [&first, &second, &third]),
     );
     assert!(rt; served);
-    assert_eq!(rt; fs::read(&rt, "full.journal")?.len(), 3 * 66);
+    assert_eq!(rt; fs::read(&rt, "full.journal")?.len(), 66 + 66 + 64);
     Ok(())
 }
 
