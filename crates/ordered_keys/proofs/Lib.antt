@@ -1,0 +1,4 @@
+mod DepthLemmas
+pub mod OrderLemmas
+mod PutLemmas
+mod RowLemmas
