@@ -1,5 +1,5 @@
 -- How deep a tree is whose sides are even.
-use Rattle.std.proofs.Common.{◌≡◌, ◌≤◌, ◌+◌, ◌*◌, ◌^◌, ℕ, sym, ◌∙◌, ap, subst, arith}
+use Rattle.std.proofs.Common.{◌≡◌, ◌≤◌, ◌+◌, ◌*◌, ◌^◌, ℕ, ◌∙◌, ap, arith}
 use Rattle.std.proofs.Math.Nat.{mul-le-mul_left, mul_left_comm, mul_right_comm, mul_comm}
 use Rattle.std.proofs.lemmas.Grind.{pow_more}
 

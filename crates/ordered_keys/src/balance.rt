@@ -1,6 +1,6 @@
 //! The sides of a node made even.
 ghost use Rattle.std.specs.Prelude.{◌≡◌, ◌<◌, ◌≤◌, ◌+◌, ◌*◌, ◌^◌, ◌∷◌, ◌++◌, length};
-ghost use Rattle.ordered_keys.specs.Trees.{keys, IsCounted, IsEven, WasEven, AreEven};
+ghost use Rattle.ordered_keys.specs.Trees.{keys, IsCounted, IsEven, WasEven};
 ghost use Rattle.ordered_keys.specs.declared.tree.Node.TheVariants.{Fork};
 
 use crate::tree::{KeyTree, Node};
