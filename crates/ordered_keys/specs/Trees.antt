@@ -1,19 +1,23 @@
 -- What a node of a search tree is seen as.
-use Rattle.std.specs.Prelude.{◌≡◌, ◌≤◌, ◌+◌, ◌*◌, ℕ, List, [], ◌∷◌, ◌++◌, length}
+use Rattle.std.specs.Prelude.{◌≡◌, ◌≤◌, ◌+◌, ◌*◌, ℕ, List, [], ◌∷◌, ◌++◌, length, Option, None, Some}
 use Rattle.std.specs.declared.cmp.Ordering.{Ordering}
 use Rattle.std.specs.BTreeSet.{insert_key}
-use Rattle.ordered_keys.specs.declared.tree.Node.{Node}
-use Rattle.ordered_keys.specs.declared.tree.Node.TheVariants.{Leaf, Fork}
+use Rattle.std.specs.Global.{Box}
+use Rattle.ordered_keys.specs.declared.tree.Fork.{Fork}
 
--- its keys, from the left to the right
-abbrev pub keys : {K : Type 0} → Node K → List K
-keys Leaf = []
-keys (Fork l k n r) = l.value ++ k ∷ r.value
+-- the keys of a node, from the left to the right
+abbrev pub fork_keys : {K : Type 0} → Fork K → List K
+fork_keys fork = fork.left ++ fork.key ∷ fork.right
+
+-- those of the node at the root, where there is one
+abbrev pub keys : {K : Type 0} → Option (Box (Fork K)) → List K
+keys None = []
+keys (Some fork) = fork_keys fork.value
 
 -- the number is that of its keys
-abbrev pub IsCounted : {K : Type 0} → Node K → Type 0
-IsCounted Leaf = Unit {0}
-IsCounted (Fork l k n r) = n ≡ length l.value + length r.value + 1
+abbrev pub IsCounted : {K : Type 0} → Option (Box (Fork K)) → Type 0
+IsCounted None = Unit {0}
+IsCounted (Some fork) = fork.value.count ≡ length fork.value.left + length fork.value.right + 1
 
 -- neither side, counted with one more, is more than three times the other, so counted
 abbrev pub AreEven : ℕ → ℕ → Type 0
@@ -23,14 +27,10 @@ AreEven l r = (l ≤ 3 * r + 2) × (r ≤ 3 * l + 2)
 abbrev pub WereEven : ℕ → ℕ → Type 0
 WereEven l r = (l ≤ 3 * r + 5) × (r ≤ 3 * l + 5)
 
--- the sides of a node are even, or were so before a change by one key
-abbrev pub IsEven : {K : Type 0} → Node K → Type 0
-IsEven Leaf = Unit {0}
-IsEven (Fork l k n r) = AreEven (length l.value) (length r.value)
-
-abbrev pub WasEven : {K : Type 0} → Node K → Type 0
-WasEven Leaf = Unit {0}
-WasEven (Fork l k n r) = WereEven (length l.value) (length r.value)
+-- the sides of the node at the root are even
+abbrev pub IsEven : {K : Type 0} → Option (Box (Fork K)) → Type 0
+IsEven None = Unit {0}
+IsEven (Some fork) = AreEven (length fork.value.left) (length fork.value.right)
 
 -- the keys, with the first of others in its place
 abbrev pub with_first : {K : Type 0} → (K → K → Ordering) → List K → List K → List K

@@ -1,98 +1,74 @@
 //! The sides of a node made even.
 ghost use Rattle.std.specs.Prelude.{◌≡◌, ◌<◌, ◌≤◌, ◌+◌, ◌*◌, ◌^◌, ◌∷◌, ◌++◌, length};
-ghost use Rattle.ordered_keys.specs.Trees.{keys, IsCounted, IsEven, WasEven};
-ghost use Rattle.ordered_keys.specs.declared.tree.Node.TheVariants.{Fork};
+ghost use Rattle.ordered_keys.specs.Trees.{fork_keys, WereEven};
 
-use crate::tree::{KeyTree, Node};
+use crate::tree::{Fork, KeyTree};
 use std::mem;
 
 // Evens the sides out after a change of one key in one of them. The count need not be right yet.
-pub(crate) fn rebalance<K: Drop>(node: &mut Node<K>)
-    requires few { length (keys node.old) < 2 ^ 32 }
-    requires was { WasEven node.old }
-    ensures keys { keys node.new ≡ keys node.old }
-    ensures counted { IsCounted node.new }
-    ensures even { IsEven node.new }
+pub(crate) fn rebalanced<K: Drop>(fork: Box<Fork<K>>) -> KeyTree<K>
+    requires few { length fork.value.left + length fork.value.right + 1 < 2 ^ 32 }
+    requires were { WereEven (length fork.value.left) (length fork.value.right) }
+    ensures keys { result ≡ fork_keys fork.value }
 {
-    *node = match mem::replace(node, Node::Leaf) {
-        Node::Leaf => Node::Leaf,
-        Node::Fork(left, key, _, right) => evened(left, key, right),
-    };
-}
-
-fn evened<K: Drop>(left: Box<KeyTree<K>>, key: K, right: Box<KeyTree<K>>) -> Node<K>
-    requires few { length left.value + length right.value + 1 < 2 ^ 32 }
-    requires from_left { length left.value ≤ 3 * length right.value + 5 }
-    requires from_right { length right.value ≤ 3 * length left.value + 5 }
-    ensures keys { keys result ≡ left.value ++ key ∷ right.value }
-    ensures counted { IsCounted result }
-    ensures even { IsEven result }
-{
-    let (on_left, on_right) = (left.len(), right.len());
+    let (on_left, on_right) = (fork.left.len(), fork.right.len());
     if on_left > 3 * on_right + 2 {
-        lean_left(left, key, right)
+        lean_left(fork)
     } else if on_right > 3 * on_left + 2 {
-        lean_right(left, key, right)
+        lean_right(fork)
     } else {
-        fork(left, key, right)
+        KeyTree::close(fork)
     }
 }
 
-fn fork<K: Drop>(left: Box<KeyTree<K>>, key: K, right: Box<KeyTree<K>>) -> Node<K>
-    requires few { length left.value + length right.value + 1 < 2 ^ 32 }
-    ensures value { result ≡ Fork left key (length left.value + length right.value + 1) right }
+// The left side is heavier, by what one key makes: its root comes to the top, or, where its inner side
+// would be too heavy there, the root of that side does. What is taken leaves an empty side behind, and a
+// swap moves the inner keys into it, so that each node keeps its box.
+fn lean_left<K: Drop>(mut fork: Box<Fork<K>>) -> KeyTree<K>
+    requires few { length fork.value.left + length fork.value.right + 1 < 2 ^ 32 }
+    requires heavier { 3 * length fork.value.right + 3 ≤ length fork.value.left }
+    requires from_left { length fork.value.left ≤ 3 * length fork.value.right + 5 }
+    ensures keys { result ≡ fork_keys fork.value }
 {
-    let count = left.len() + right.len() + 1;
-    Node::Fork(left, key, count, right)
+    let Some(mut up) = fork.left.take() else {
+        unreachable!()
+    };
+    if up.right.len() <= 2 * up.left.len() {
+        mem::swap(&mut fork.left, &mut up.right);
+        up.right = KeyTree::close(fork);
+        return KeyTree::close(up);
+    }
+    let Some(mut middle) = up.right.take() else {
+        unreachable!()
+    };
+    mem::swap(&mut up.right, &mut middle.left);
+    mem::swap(&mut fork.left, &mut middle.right);
+    middle.left = KeyTree::close(up);
+    middle.right = KeyTree::close(fork);
+    KeyTree::close(middle)
 }
 
-// The left side is heavier, by what one key makes.
-fn lean_left<K: Drop>(mut left: Box<KeyTree<K>>, key: K, right: Box<KeyTree<K>>) -> Node<K>
-    requires heavier { 3 * length right.value + 3 ≤ length left.value }
-    requires from_left { length left.value ≤ 3 * length right.value + 5 }
-    requires few { length left.value + length right.value + 1 < 2 ^ 32 }
-    ensures keys { keys result ≡ left.value ++ key ∷ right.value }
-    ensures counted { IsCounted result }
-    ensures even { IsEven result }
+// The right side is heavier, by what one key makes: the mirror image of `lean_left`.
+fn lean_right<K: Drop>(mut fork: Box<Fork<K>>) -> KeyTree<K>
+    requires few { length fork.value.left + length fork.value.right + 1 < 2 ^ 32 }
+    requires heavier { 3 * length fork.value.left + 3 ≤ length fork.value.right }
+    requires from_right { length fork.value.right ≤ 3 * length fork.value.left + 5 }
+    ensures keys { result ≡ fork_keys fork.value }
 {
-    let Node::Fork(outer, up, _, mut inner) = mem::replace(&mut *left, KeyTree::new()).open() else {
+    let Some(mut up) = fork.right.take() else {
         unreachable!()
     };
-    if inner.len() <= 2 * outer.len() {
-        *left = KeyTree::close(fork(inner, key, right));
-        return fork(outer, up, left);
+    if up.left.len() <= 2 * up.right.len() {
+        mem::swap(&mut fork.right, &mut up.left);
+        up.left = KeyTree::close(fork);
+        return KeyTree::close(up);
     }
-    let Node::Fork(before, middle, _, after) = mem::replace(&mut *inner, KeyTree::new()).open()
-    else {
+    let Some(mut middle) = up.left.take() else {
         unreachable!()
     };
-    *inner = KeyTree::close(fork(outer, up, before));
-    *left = KeyTree::close(fork(after, key, right));
-    fork(inner, middle, left)
-}
-
-// The right side is heavier, by what one key makes.
-fn lean_right<K: Drop>(left: Box<KeyTree<K>>, key: K, mut right: Box<KeyTree<K>>) -> Node<K>
-    requires heavier { 3 * length left.value + 3 ≤ length right.value }
-    requires from_right { length right.value ≤ 3 * length left.value + 5 }
-    requires few { length left.value + length right.value + 1 < 2 ^ 32 }
-    ensures keys { keys result ≡ left.value ++ key ∷ right.value }
-    ensures counted { IsCounted result }
-    ensures even { IsEven result }
-{
-    let Node::Fork(mut inner, up, _, outer) = mem::replace(&mut *right, KeyTree::new()).open()
-    else {
-        unreachable!()
-    };
-    if inner.len() <= 2 * outer.len() {
-        *right = KeyTree::close(fork(left, key, inner));
-        return fork(right, up, outer);
-    }
-    let Node::Fork(before, middle, _, after) = mem::replace(&mut *inner, KeyTree::new()).open()
-    else {
-        unreachable!()
-    };
-    *right = KeyTree::close(fork(left, key, before));
-    *inner = KeyTree::close(fork(after, up, outer));
-    fork(right, middle, inner)
+    mem::swap(&mut up.left, &mut middle.right);
+    mem::swap(&mut fork.right, &mut middle.left);
+    middle.left = KeyTree::close(fork);
+    middle.right = KeyTree::close(up);
+    KeyTree::close(middle)
 }

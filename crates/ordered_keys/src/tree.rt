@@ -4,13 +4,12 @@ ghost use Rattle.std.specs.List.{list_any};
 ghost use Rattle.std.specs.List.Sorted.{IsStrictlySortedBy};
 ghost use Rattle.std.specs.Ordering.{eq_by_cmp};
 ghost use Rattle.std.specs.Option.{option_to_list};
-ghost use Rattle.ordered_keys.specs.Trees.{keys, IsCounted, IsEven, with_first};
+ghost use Rattle.ordered_keys.specs.Trees.{keys, fork_keys, IsEven, AreEven, with_first};
 
-use crate::balance::rebalance;
+use crate::balance::rebalanced;
 use std::alloc::{AllocError, Global};
 use std::cmp::Ordering;
 use std::marker::Model;
-use std::mem;
 
 /// Stands for a key that it needn't own, in a search.
 pub trait Probe<K: Ord> {
@@ -24,21 +23,25 @@ pub trait Probe<K: Ord> {
 
 /// A search tree. A tree of one key is made with memory; putting it into another takes none.
 ///
+/// A key takes one box, and an empty tree none.
+///
 /// Contracts see the keys, from the left to the right. Neither side of a node, counted with one more,
 /// has more than three times the other's keys, so counted: a step down leaves three quarters at most,
 /// and a key is found in logarithmic time.
 #[cycle(tree)]
 #[derive(Drop)]
 pub struct KeyTree<K> {
-    pub(crate) node: Node<K>,
+    root: Option<Box<Fork<K>>>,
 }
 
 #[cycle(tree)]
 #[derive(Drop)]
-pub(crate) enum Node<K> {
-    Leaf,
-    // The number counts the keys.
-    Fork(Box<KeyTree<K>>, K, usize, Box<KeyTree<K>>),
+pub(crate) struct Fork<K> {
+    pub(crate) left: KeyTree<K>,
+    key: K,
+    // How many keys there are, on both sides and here.
+    count: usize,
+    pub(crate) right: KeyTree<K>,
 }
 
 impl<K> Model for KeyTree<K> {
@@ -48,9 +51,9 @@ impl<K> Model for KeyTree<K> {
 
     ghost use Rattle.ordered_keys.specs.Trees.{keys, IsCounted, IsEven};
 
-    ghost view = { λ a. keys a.node };
+    ghost view = { λ a. keys a.root };
 
-    ghost invariant = { λ a. IsCounted a.node × IsEven a.node };
+    ghost invariant = { λ a. IsCounted a.root × IsEven a.root };
 
     ghost size = { length };
 
@@ -64,17 +67,21 @@ impl<K: Drop> KeyTree<K> {
     pub fn new() -> KeyTree<K>
         ensures empty { result ≡ [] }
     {
-        KeyTree { node: Node::Leaf }
+        KeyTree { root: None }
     }
 
     /// A tree of one key, with all its memory.
     pub fn of(alloc: Global, key: K) -> Result<KeyTree<K>, AllocError>
         ensures value { IfOk result (λ tree. tree ≡ key ∷ []) }
     {
-        let left = Box::new(alloc, KeyTree::new())?;
-        let right = Box::new(alloc, KeyTree::new())?;
+        let fork = Fork {
+            left: KeyTree::new(),
+            key,
+            count: 1,
+            right: KeyTree::new(),
+        };
         Ok(KeyTree {
-            node: Node::Fork(left, key, 1, right),
+            root: Some(Box::new(alloc, fork)?),
         })
     }
 
@@ -82,26 +89,29 @@ impl<K: Drop> KeyTree<K> {
     pub fn len(&self) -> usize
         ensures value { result ≡ length self.now }
     {
-        match &self.node {
-            Node::Leaf => 0,
-            Node::Fork(_, _, count, _) => *count,
+        match &self.root {
+            None => 0,
+            Some(fork) => fork.count,
         }
     }
 
-    pub(crate) fn open(self) -> Node<K>
-        ensures keys { keys result ≡ self }
-        ensures counted { IsCounted result }
+    // Takes the node at the root out, with all its keys.
+    pub(crate) fn take(&mut self) -> Option<Box<Fork<K>>>
+        ensures keys { keys result ≡ self.old }
         ensures even { IsEven result }
+        ensures empty { self.new ≡ [] }
     {
-        self.node
+        self.root.take()
     }
 
-    pub(crate) fn close(node: Node<K>) -> KeyTree<K>
-        requires counted { IsCounted node }
-        requires even { IsEven node }
-        ensures keys { result ≡ keys node }
+    // The tree of a node whose sides are even. The count need not be right yet.
+    pub(crate) fn close(mut fork: Box<Fork<K>>) -> KeyTree<K>
+        requires few { length fork.value.left + length fork.value.right + 1 < 2 ^ 32 }
+        requires even { AreEven (length fork.value.left) (length fork.value.right) }
+        ensures keys { result ≡ fork_keys fork.value }
     {
-        KeyTree { node }
+        fork.count = fork.left.len() + fork.right.len() + 1;
+        KeyTree { root: Some(fork) }
     }
 
     /// How many keys stand on the longest way down, which a search compares at most: no more than the
@@ -111,10 +121,10 @@ impl<K: Drop> KeyTree<K> {
         ensures deep { 4 ^ result ≤ 3 ^ result * (length self.now + 1) }
         ensures few { result ≤ length self.now }
     {
-        let Node::Fork(left, _, _, right) = &self.node else {
+        let Some(fork) = &self.root else {
             return 0;
         };
-        let (on_left, on_right) = (left.depth(), right.depth());
+        let (on_left, on_right) = (fork.left.depth(), fork.right.depth());
         if on_left < on_right {
             on_right + 1
         } else {
@@ -126,10 +136,10 @@ impl<K: Drop> KeyTree<K> {
     pub fn first(&self) -> Option<&K>
         ensures value { option_copied result ≡ slice_get self.now 0 }
     {
-        match &self.node {
-            Node::Leaf => None,
-            Node::Fork(left, key, _, _) => match left.first() {
-                None => Some(key),
+        match &self.root {
+            None => None,
+            Some(fork) => match fork.left.first() {
+                None => Some(&fork.key),
                 found => found,
             },
         }
@@ -141,21 +151,17 @@ impl<K: Drop> KeyTree<K> {
         ensures value { self.old ≡ option_to_list result ++ self.new }
         ensures none { IfNone result (self.old ≡ []) }
     {
-        let node = mem::replace(self, KeyTree::new()).open();
-        match node {
-            Node::Leaf => None,
-            Node::Fork(mut left, key, count, right) => match left.pop_first() {
-                None => {
-                    *self = Box::into_inner(right);
-                    Some(key)
-                }
-                found => {
-                    let mut node = Node::Fork(left, key, count, right);
-                    rebalance(&mut node);
-                    *self = KeyTree::close(node);
-                    found
-                }
-            },
+        let mut fork = self.take()?;
+        match fork.left.pop_first() {
+            None => {
+                let Fork { key, right, .. } = Box::into_inner(fork);
+                *self = right;
+                Some(key)
+            }
+            found => {
+                *self = rebalanced(fork);
+                found
+            }
         }
     }
 }
@@ -166,12 +172,12 @@ impl<K: Ord + Drop> KeyTree<K> {
         requires sorted { IsStrictlySortedBy K.cmp self.now }
         ensures value { result ≡ list_any (eq_by_cmp K.cmp (P.key probe.now)) self.now }
     {
-        match &self.node {
-            Node::Leaf => false,
-            Node::Fork(left, key, _, right) => match probe.compare(key) {
-                Ordering::Less => left.has(probe),
+        match &self.root {
+            None => false,
+            Some(fork) => match probe.compare(&fork.key) {
+                Ordering::Less => fork.left.has(probe),
                 Ordering::Equal => true,
-                Ordering::Greater => right.has(probe),
+                Ordering::Greater => fork.right.has(probe),
             },
         }
     }
@@ -184,20 +190,19 @@ impl<K: Ord + Drop> KeyTree<K> {
         requires few { length self.old + 1 < 2 ^ 32 }
         ensures value { self.new ≡ with_first K.cmp self.old other }
     {
-        let Node::Fork(_, key, _, _) = &other.node else {
+        let Some(single) = &other.root else {
             return;
         };
-        match &mut self.node {
-            Node::Leaf => {
-                *self = other;
-                return;
-            }
-            Node::Fork(left, at, _, right) => match key.cmp(at) {
-                Ordering::Less => left.put(other),
-                Ordering::Equal => {}
-                Ordering::Greater => right.put(other),
-            },
+        // The other tree's box comes to stand where the empty tree stood.
+        let Some(mut fork) = self.take() else {
+            *self = other;
+            return;
+        };
+        match single.key.cmp(&fork.key) {
+            Ordering::Less => fork.left.put(other),
+            Ordering::Equal => {}
+            Ordering::Greater => fork.right.put(other),
         }
-        rebalance(&mut self.node);
+        *self = rebalanced(fork);
     }
 }

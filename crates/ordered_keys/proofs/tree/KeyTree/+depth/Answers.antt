@@ -6,16 +6,18 @@ use Rattle.ordered_keys.proofs.tree.KeyTree.+depth.Goals as goal
 
 pub returns-then-on_left-on_right-clause-deep : goal.returns-then-on_left-on_right-clause-deep
 returns-then-on_left-on_right-clause-deep g t c =
-    let all = ap length (sym c.self.view_is ∙ ap keys c.in-Fork.is) in
-    let parts = length-append c.in-Fork.left.value (c.in-Fork.field-1 ∷ c.in-Fork.right.value) in
-    let even : AreEven (length c.in-Fork.left.value) (length c.in-Fork.right.value) = subst IsEven c.in-Fork.is c.self.invariant.1 in
-    let side = ap length c.deref-2.ensures in
-    one_deeper c.depth-on_right.result (length c.deref-2.result.now) (length c.in-Fork.left.value) (length c.args.self.now) c.depth-on_right.ensures.deep (omega (arith, even.1, side)) (omega (arith, all, parts, side))
+    let fork = c.in-Some.fork.value in
+    let all = ap length (sym c.self.view_is ∙ ap keys c.in-Some.is) in
+    let parts = length-append fork.left (fork.key ∷ fork.right) in
+    let even : AreEven (length fork.left) (length fork.right) = subst IsEven c.in-Some.is c.self.invariant.1 in
+    let side = ap (λ f. length f.right) c.deref-2.ensures in
+    one_deeper c.depth-on_right.result (length c.deref-2.result.now.right) (length fork.left) (length c.args.self.now) c.depth-on_right.ensures.deep (omega (arith, even.1, side)) (omega (arith, all, parts, side))
 
 pub returns-else-on_left-on_right-clause-deep : goal.returns-else-on_left-on_right-clause-deep
 returns-else-on_left-on_right-clause-deep g t c =
-    let all = ap length (sym c.self.view_is ∙ ap keys c.in-Fork.is) in
-    let parts = length-append c.in-Fork.left.value (c.in-Fork.field-1 ∷ c.in-Fork.right.value) in
-    let even : AreEven (length c.in-Fork.left.value) (length c.in-Fork.right.value) = subst IsEven c.in-Fork.is c.self.invariant.1 in
-    let side = ap length c.deref.ensures in
-    one_deeper c.depth-on_left.result (length c.deref.result.now) (length c.in-Fork.right.value) (length c.args.self.now) c.depth-on_left.ensures.deep (omega (arith, even.0, side)) (omega (arith, all, parts, side))
+    let fork = c.in-Some.fork.value in
+    let all = ap length (sym c.self.view_is ∙ ap keys c.in-Some.is) in
+    let parts = length-append fork.left (fork.key ∷ fork.right) in
+    let even : AreEven (length fork.left) (length fork.right) = subst IsEven c.in-Some.is c.self.invariant.1 in
+    let side = ap (λ f. length f.left) c.deref.ensures in
+    one_deeper c.depth-on_left.result (length c.deref.result.now.left) (length fork.right) (length c.args.self.now) c.depth-on_left.ensures.deep (omega (arith, even.0, side)) (omega (arith, all, parts, side))
