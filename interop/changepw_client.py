@@ -229,12 +229,16 @@ def ap_req(client, ctime, cusec, initial, service, subkey, starts):
     )
 
 
-def krb_priv(password, target, forged):
-    data = sequence(
+def change_data(password, target):
+    """A ChangePasswdData (RFC 3244 section 2)."""
+    return sequence(
         (0, octets(password)),
         (1, name(1, target) if target else None),
         (2, string(REALM) if target else None),
     )
+
+
+def krb_priv(data, forged):
     part = sequence((0, octets(data)), (3, integer(5)), (4, address(1)))
     enc_part = sealed(SUBKEY, 13, application(28, part))
     if forged:
@@ -259,12 +263,14 @@ def request(
     ap_first=0x6E,
     forged=False,
     starts=1_000_000,
+    old=False,
 ):
-    """A request: length, version 0xff80, the AP-REQ's length, the AP-REQ, the KRB-PRIV."""
+    """A request: length, version, the AP-REQ's length, the AP-REQ, the KRB-PRIV. In the earlier
+    protocol, version 0x0001, the user-data is the password itself."""
     ap = ap_req(client, ctime, cusec, initial, service, subkey, starts)
     ap = bytes([ap_first]) + ap[1:]
-    tail = krb_priv(password, target, forged)
-    return framed(0xFF80, ap, tail)
+    tail = krb_priv(password if old else change_data(password, target), forged)
+    return framed(1 if old else 0xFF80, ap, tail)
 
 
 def reply(code, text, ctime, cusec, words):
@@ -319,10 +325,23 @@ def cases():
         ("names_herself", b"alice", b"New-pass2", {"target": b"alice", "initial": False}),
         ("empty_password", b"alice", b"", {}),
         ("later", b"alice", b"New-pass2", {"ctime": 1_000_401}),
+        ("old", b"alice", b"New-pass2", {"old": True}),
+        ("old_without_initial", b"alice", b"New-pass2", {"old": True, "initial": False}),
+        ("old_looks_like_data", b"alice", change_data(b"abc", None), {"old": True}),
+        ("abc", b"alice", b"abc", {}),
+        ("old_abc", b"alice", b"abc", {"old": True}),
+        ("old_empty", b"alice", b"", {"old": True}),
+        ("old_no_utf8", b"alice", b"\xff\xfeNo-utf8", {"old": True}),
+        ("old_names_bob", b"alice", change_data(b"New-pass2", b"bob"), {"old": True}),
+        ("old_by_admin", b"admin", b"New-pass2", {"old": True}),
+        ("old_forged_private", b"alice", b"New-pass2", {"old": True, "forged": True}),
+        ("old_no_ap_req", b"alice", b"New-pass2", {"old": True, "ap_first": 0x6F}),
     ]
     for cusec, (what, client, password, changes) in enumerate(table, 1):
         ctime = changes.get("ctime", 1_000_100)
         yield what, f"{ctime}.{cusec}", request(client, password, cusec, **changes)
+    # the authenticator of `first` once more
+    yield "old_first", "1000100.1", request(b"alice", b"New-pass2", 1, old=True)
 
 
 if __name__ == "__main__":

@@ -101,6 +101,7 @@ def command_lines(program):
         (serve, "--seed s", ""),
         (client, "--port 1", "--port 0"),
         (client, "--client alice", ""),
+        (client, "--client alice", "--client alice --old --target bob"),
     ]:
         words = line.replace(old, new).split()
         program.tell(f"{words[0]}, {old} now '{new}'", text, *words)
@@ -247,20 +248,23 @@ def client_answered(program):
     server = program.server("alice", "bob")
     text = server.configuration.read_text()
     (program.folder / "other-key").write_text(text.replace("5a" * 32, "5b" * 32))
-    server.start(connections=7)
+    server.start(connections=9)
     client = Client(program, server)
     client.tell("a change", ("code 0 password changed", "", 0))
     client.tell("the same password", ("code 4 password used before", "", 1))
     client.tell("an empty password", ("code 4 password too short", "", 1), password="")
     client.tell("no rule", ("code 5 access denied", "", 1), "--target=bob")
-    client.tell("no flag", ("code 7 initial ticket needed", "", 1), "--no-initial")
+    unflagged = ("code 7 initial ticket needed", "", 1)
+    client.tell("no flag", unflagged, "--no-initial")
+    client.tell("earlier", ("code 0 password changed", "", 0), "--old", password="New-pass3")
+    client.tell("earlier, no flag", unflagged, "--old", "--no-initial")
     refused = ("code 3 error 31 authentication failed", "", 1)
     client.tell("another service key", refused, config="other-key")
     with open("/dev/full", "w") as full:
         words = [f"{name}={value}" for name, value in client.options.items()]
         wanted = ("", "cannot write", 1)
         program.tell("client: a full disk", wanted, "client", *words, stdout=full)
-    program.report.tell("serve: its last line", server.last_words(), "entries 6 changes 1")
+    program.report.tell("serve: its last line", server.last_words(), "entries 8 changes 2")
 
 
 def closed_descriptors(program):

@@ -202,15 +202,20 @@ class Realm:
         return path.read_bytes()
 
     def client(self):
-        """The client over MIT's library, compiled."""
-        program = self.folder / "set_password"
+        """The client over MIT's library."""
+        return self.compiled("set_password", "krb5")
+
+    def compiled(self, name, *libraries):
+        """The program of NAME.c, over these libraries of MIT's."""
+        program = self.folder / name
         include = self.mit.folder / "usr/include"
-        libraries = self.mit.libraries.split(":")
+        places = self.mit.libraries.split(":")
         subprocess.run(
-            ["gcc", "-std=c11", "-D_POSIX_C_SOURCE=200809L", "-Wall", "-Wextra", "-O1"]
-            + [f"-I{include}", f"-I{include}/mit-krb5", "-o", program, HERE / "set_password.c"]
-            + [f"-L{place}/mit-krb5" for place in libraries]
-            + ["-lkrb5", *(f"-Wl,-rpath-link,{place}" for place in libraries)],
+            ["gcc", "-std=c11", "-D_DEFAULT_SOURCE", "-Wall", "-Wextra", "-O1"]
+            + [f"-I{include}", f"-I{include}/mit-krb5", "-o", program, HERE / f"{name}.c"]
+            + [f"-L{place}/mit-krb5" for place in places]
+            + [f"-l{library}" for library in libraries]
+            + [f"-Wl,-rpath-link,{place}" for place in places],
             check=True,
         )
         return str(program)

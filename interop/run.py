@@ -58,6 +58,13 @@ def mit(what, client, target, new, wanted, options=(), entries=1, variant=""):
     return Case("MIT: " + what, "mit", arguments, new, wanted, changed, entries, variant)
 
 
+def earlier(what, new, wanted, options=()):
+    """A change of alice's in the earlier protocol, version 1."""
+    arguments = [*options, "--change", "alice", PASSWORDS["alice"], new]
+    changed = "alice" if wanted == DONE else None
+    return Case("MIT, version 1: " + what, "mit", arguments, new, wanted, changed)
+
+
 DONE = "0 password changed"
 AES128 = "-aes128"
 CASES = [
@@ -80,14 +87,9 @@ CASES = [
     mit("nobody of this name", "admin", "zoe", "Mit-pass6", "2 no such principal"),
     mit("not initial", "alice", "alice", "Mit-pass6", "7 initial ticket needed", ["--tgt"]),
     mit("not initial, to set", "admin", "bob", "Mit-pass4", DONE, ["--tgt"]),
-    Case(
-        "MIT: the earlier protocol, version 1",
-        "mit",
-        ["--change", "alice", PASSWORDS["alice"], "Mit-pass6"],
-        "Mit-pass6",
-        "6 bad version",
-        entries=0,
-    ),
+    earlier("too short", "Abc1", "4 password too short"),
+    earlier("not initial", "Mit-pass6", "7 initial ticket needed", ["--tgt"]),
+    earlier("alice changes hers", "Mit-pass6", DONE),
 ]
 # after the KDC has a new key for the service
 STALE = mit(

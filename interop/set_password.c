@@ -2,8 +2,8 @@
  * A client of the password service over MIT's library.
  *
  *   set_password CLIENT PASSWORD NEW TARGET           krb5_set_password, version 0xff80
- *   set_password --tgt CLIENT PASSWORD NEW TARGET     the same with a ticket that isn't initial
  *   set_password --change CLIENT PASSWORD NEW         krb5_change_password, version 1
+ *   set_password --tgt ..                             either with a ticket that isn't initial
  *   set_password --many N CLIENT PASSWORD NEW TARGET  N times, to NEW-1, NEW-2, .. with one ticket
  *
  * Prints the result code and the server's text, such as `0 password changed`; of --many the seconds
@@ -94,12 +94,12 @@ int main(int argc, char **argv)
     argv++, argc--;
     if (argc > 0 && strcmp(argv[0], "--tgt") == 0)
         tgt = 1, argv++, argc--;
-    else if (argc > 0 && strcmp(argv[0], "--change") == 0)
+    if (argc > 0 && strcmp(argv[0], "--change") == 0)
         change = 1, argv++, argc--;
     else if (argc > 1 && strcmp(argv[0], "--many") == 0)
         count = atoi(argv[1]), argv += 2, argc -= 2;
     if (argc != (change ? 3 : 4)) {
-        fprintf(stderr, "usage: set_password [--tgt | --change | --many N] "
+        fprintf(stderr, "usage: set_password [--tgt] [--change | --many N] "
                         "CLIENT PASSWORD NEW [TARGET]\n");
         return 2;
     }

@@ -24,7 +24,7 @@ use Rattle.chpw_rules.specs.Limits.{component_counts, is_in}
 use Rattle.chpw_rules.specs.Names.{is_component, is_name}
 use Rattle.chpw_rules.specs.declared.name.Name.{Name}
 use Rattle.chpw_client.specs.Questions.{IsAskable, Question}
-use Rattle.chpw_client.specs.Requests.{ap_req_text, authenticator, bit, change, longest_ap_req, longest_krb_priv, principal, priv_text, private_part, ticket, ticket_part, ticket_text}
+use Rattle.chpw_client.specs.Requests.{ap_req_text, authenticator, bit, change, longest_ap_req, longest_krb_priv, principal, priv_text, private_part, ticket, ticket_part, ticket_text, user_data}
 use Rattle.chpw_client.specs.Words.{drawn_key}
 use Rattle.chpw_client.specs.declared.drawing.Drawing.{Drawing}
 use Rattle.chpw_client.proofs.LengthLemmas.{close_fits, closest, texts_are_close}
@@ -218,16 +218,25 @@ change_short q ask =
     let short = texts_are_close types.change_passwd_data (change_passwd_data_value (change q)) (omega (arith, close)) in
     omega (arith, close, short)
 
+chosen_short : (old : Bool) (password change : List ℕ) → length password ≤ 60000 → length change ≤ 61400
+    → length (if old then password else change) ≤ 61400
+chosen_short true password change few short = omega (arith, few)
+chosen_short false password change few short = short
+
+user_data_short : (q : Question) → IsAskable q → length (user_data q) ≤ 61400
+user_data_short q ask =
+    chosen_short q.old q.password (text types.change_passwd_data (change_passwd_data_value (change q))) ask.password (change_short q ask)
+
 pub private_part_fits : (q : Question) → IsAskable q
     → fits types.enc_krb_priv_part (enc_krb_priv_part_value (private_part q)) ≡ true
 private_part_fits q ask =
-    let short = change_short q ask in
+    let short = user_data_short q ask in
     (priv_parts_fit _ 0 (omega arith) (omega (arith, short))).0
 
 private_part_short : (q : Question) → IsAskable q
     → length (text types.enc_krb_priv_part (enc_krb_priv_part_value (private_part q))) ≤ 61490
 private_part_short q ask =
-    let short = change_short q ask in
+    let short = user_data_short q ask in
     let part = texts_are_close types.enc_krb_priv_part (enc_krb_priv_part_value (private_part q)) (omega (arith, short)) in
     omega (arith, short, part)
 

@@ -1,5 +1,5 @@
 -- What a client asks, and which questions have a request.
-use Rattle.std.specs.Prelude.{◌≡◌, ◌≤◌, ◌<◌, ◌^◌, ℕ, ◌≤ℤ◌, pos, Bool, true, List, length, Option, IfSome, option_map}
+use Rattle.std.specs.Prelude.{◌≡◌, ◌≤◌, ◌<◌, ◌^◌, ℕ, ◌≤ℤ◌, pos, Bool, true, List, length, Option, None, IfSome, option_map}
 use Rattle.krb_msgs.specs.declared.service_keys.ServiceKey.{ServiceKey}
 use Rattle.chpw_rules.specs.Names.{is_name}
 use Rattle.chpw_rules.specs.declared.name.Name.{Name}
@@ -18,6 +18,8 @@ pub record Question : Type 0 where
   pub target : Option Name
   -- whether the ticket is flagged initial
   pub initial : Bool
+  -- whether it is asked in the earlier protocol
+  pub old : Bool
 
 abbrev pub question_of : Asked → Question
 question_of a = record {
@@ -28,6 +30,7 @@ question_of a = record {
   password = a.password.now;
   target = option_map (λ n. n.now) a.target;
   initial = a.initial;
+  old = a.old;
 }
 
 -- a ticket's endtime is an hour later, within the year 9999
@@ -39,6 +42,8 @@ pub record IsAskable (q : Question) : Type 0 where
   pub kvno : q.service.kvno < 2 ^ 32
   pub client : is_name q.client ≡ true
   pub target : IfSome q.target (λ n. is_name n ≡ true)
+  -- which has no target
+  pub own : q.old ≡ true → q.target ≡ None
   pub password : length q.password ≤ 60000
   pub start : pos 0 ≤ℤ q.now.seconds
   pub end : q.now.seconds ≤ℤ pos latest_second

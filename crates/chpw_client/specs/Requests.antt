@@ -1,5 +1,6 @@
 -- The request that a client sends (RFC 3244 section 2): an AP-REQ with a ticket of its own making,
--- and a KRB-PRIV with the new password.
+-- and a KRB-PRIV with the new password. In the earlier protocol the new password is user-data itself
+-- (draft-ietf-cat-kerb-chg-password-02 section 3).
 use Rattle.std.specs.Prelude.{◌≡◌, ◌^◌, ◌-◌, ℕ, ◌+ℤ◌, pos, List, [], Some, None, option_map, if◌then◌else◌}
 use Rattle.krb_elements.specs.Texts.{text}
 use Rattle.krb_protocol.specs.Numbers as protocol
@@ -13,7 +14,7 @@ use Rattle.krb_der.specs.declared.krb_priv.EncKrbPrivPart.{EncKrbPrivPart}
 use Rattle.krb_der.specs.declared.principal_name.PrincipalName.{PrincipalName}
 use Rattle.krb_der.specs.declared.ticket.Ticket.{Ticket}
 use Rattle.krb_msgs.specs.Making.{SpellsTicket, ap_req_of, priv_of, priv_part_of, ticket_of, word_bytes}
-use Rattle.chpw_frame.specs.Framing.{framed, request_version}
+use Rattle.chpw_frame.specs.Framing.{framed, old_request_version, request_version}
 use Rattle.chpw_rules.specs.declared.name.Name.{Name}
 use Rattle.chpw_client.specs.Questions.{Question}
 use Rattle.chpw_client.specs.Words.{drawn_key}
@@ -74,8 +75,14 @@ change q = record {
 
 -- ---- the messages
 
+abbrev pub version : Question → ℕ
+version q = if q.old then old_request_version else request_version
+
+abbrev pub user_data : Question → List ℕ
+user_data q = if q.old then q.password else text types.change_passwd_data (change_passwd_data_value (change q))
+
 abbrev pub private_part : Question → EncKrbPrivPart
-private_part q = priv_part_of (text types.change_passwd_data (change_passwd_data_value (change q))) 0
+private_part q = priv_part_of (user_data q) 0
 
 abbrev pub ticket : Question → Drawing → Ticket
 ticket q w = ticket_of q.realm (ticket_part q w) q.service (word_bytes w.ticket)
@@ -103,7 +110,7 @@ longest_krb_priv = 61800
 -- the message with a ticket that the ticket's text spells, and what its reply is read with
 pub record IsRequest (q : Question) (w : Drawing) (sent : Sent) : Type 0 where
   pub message : (t : Ticket) × SpellsTicket (ticket_text q w) t
-      × (sent.message ≡ framed request_version (ap_req_text t q w) (priv_text q w))
+      × (sent.message ≡ framed (version q) (ap_req_text t q w) (priv_text q w))
   pub session : sent.session ≡ drawn_key w.session
   pub subkey : sent.subkey ≡ drawn_key w.subkey
   pub ctime : sent.ctime.0 ≡ q.now.seconds

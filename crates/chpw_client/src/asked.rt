@@ -19,4 +19,6 @@ pub(crate) struct Asked<'a> {
     pub target: Option<&'a Name>,
     /// Whether the ticket is flagged initial.
     pub initial: bool,
+    /// Whether it asks in the earlier protocol, which has no target.
+    pub old: bool,
 }

@@ -3,7 +3,7 @@ ghost use Rattle.std.specs.Prelude.{◌≡◌, IfOk};
 ghost use Rattle.krb_elements.specs.Texts.{text};
 ghost use Rattle.krb_der.specs.Types.{change_passwd_data};
 ghost use Rattle.krb_der.specs.Values.{change_passwd_data_value};
-ghost use Rattle.chpw_client.specs.Requests.{authenticator as authenticator_of, change, principal as principal_of, private_part as private_part_of, sent_key as sent_key_of, ticket_part as ticket_part_of};
+ghost use Rattle.chpw_client.specs.Requests.{authenticator as authenticator_of, change, principal as principal_of, private_part as private_part_of, sent_key as sent_key_of, ticket_part as ticket_part_of, user_data as user_data_of};
 ghost use Rattle.chpw_client.specs.Questions.{IsAskable, question_of};
 
 use crate::asked::Asked;
@@ -11,8 +11,8 @@ use crate::drawing::{Drawing, key_bytes};
 use chpw_rules::{Items, Name};
 use krb_der::{
     Authenticator, Bytes, ChangePasswdData, EncKrbPrivPart, EncTicketPart, EncryptionKey,
-    GeneralString, KerberosFlags, KerberosTime, Microseconds, PrincipalName, SeqNumber, SequenceOf,
-    TransitedEncoding, write_change_passwd_data,
+    GeneralString, KerberosFlags, KerberosTime, Microseconds, OctetString, PrincipalName,
+    SeqNumber, SequenceOf, TransitedEncoding, write_change_passwd_data,
 };
 use krb_keys::AES256_CTS_HMAC_SHA1_96;
 use krb_msgs::{copied, priv_part};
@@ -120,7 +120,7 @@ fn change_data(alloc: Global, asked: &Asked<'_>) -> Result<ChangePasswdData, All
     }
 }
 
-fn user_data(alloc: Global, asked: &Asked<'_>) -> Result<Vec<u8>, AllocError>
+fn change_text(alloc: Global, asked: &Asked<'_>) -> Result<Vec<u8>, AllocError>
     requires askable { IsAskable (question_of asked.now) }
     ensures text { IfOk result (λ bytes. bytes.items ≡ text change_passwd_data
         (change_passwd_data_value (change (question_of asked.entry.now)))) }
@@ -129,11 +129,22 @@ fn user_data(alloc: Global, asked: &Asked<'_>) -> Result<Vec<u8>, AllocError>
     write_change_passwd_data(alloc, &data)
 }
 
+/// The new password itself, or a ChangePasswdData.
+fn user_data(alloc: Global, asked: &Asked<'_>) -> Result<OctetString, AllocError>
+    requires askable { IsAskable (question_of asked.now) }
+    ensures value { IfOk result (λ bytes. bytes ≡ user_data_of (question_of asked.entry.now)) }
+{
+    if asked.old {
+        copied(alloc, asked.password)
+    } else {
+        Ok(Bytes::of(change_text(alloc, asked)?))
+    }
+}
+
 /// The sealed part of the KRB-PRIV (RFC 4120 section 5.7.1).
 pub(crate) fn private_part(alloc: Global, asked: &Asked<'_>) -> Result<EncKrbPrivPart, AllocError>
     requires askable { IsAskable (question_of asked.now) }
     ensures value { IfOk result (λ part. part ≡ private_part_of (question_of asked.entry.now)) }
 {
-    let user_data = Bytes::of(user_data(alloc, asked)?);
-    priv_part(alloc, user_data, 0)
+    priv_part(alloc, user_data(alloc, asked)?, 0)
 }

@@ -1,5 +1,5 @@
 //! The request that a client sends.
-ghost use Rattle.std.specs.Prelude.{◌≡◌, ◌≤◌, ◌<◌, ◌≤ℤ◌, pos, true, length, option_map, IfOk, IfSome};
+ghost use Rattle.std.specs.Prelude.{◌≡◌, ◌≤◌, ◌<◌, ◌≤ℤ◌, pos, true, None, length, option_map, IfOk, IfSome};
 ghost use Rattle.std.specs.List.{list_all};
 ghost use Rattle.chpw_rules.specs.Fitting.{config_fits, service_key_fits};
 ghost use Rattle.chpw_rules.specs.Names.{is_name};
@@ -14,7 +14,7 @@ ghost use Rattle.krb_msgs.specs.declared.service_keys.ServiceKey.{ServiceKey};
 use crate::asked::Asked;
 use crate::drawing::{Drawing, draw};
 use crate::messages::{ap_req, drawn_key, krb_priv};
-use chpw_frame::join_request;
+use chpw_frame::{join_old_request, join_request};
 use chpw_rules::{Config, Items, Name, ServiceRow};
 use chpw_serve::Words;
 use chpw_table::Moment;
@@ -41,7 +41,9 @@ pub struct Sent {
     pub cusec: Microseconds,
 }
 
-/// The request of a client to change its own password, or to set a target's (RFC 3244 section 2).
+/// The request of a client to change its own password, or to set a target's (RFC 3244 section 2);
+/// where it is `old`, in the earlier protocol, which has no target
+/// (draft-ietf-cat-kerb-chg-password-02 section 3).
 ///
 /// The ticket is sealed under the configuration's first service key. Session key and subkey (etype
 /// 18), then the confounders of ticket, authenticator and KRB-PRIV, are words drawn in this order,
@@ -58,12 +60,14 @@ pub fn client_request<X: Words>(
     password: &[u8],
     target: Option<&Name>,
     initial: bool,
+    old: bool,
     words: &mut X,
 ) -> Result<Sent, AllocError>
     requires fits { config_fits config.now ≡ true }
     requires keys { 0 < length config.now.service }
     requires client { is_name client.now ≡ true }
     requires target { IfSome target (λ n. is_name n.now ≡ true) }
+    requires own { old ≡ true → target ≡ None }
     requires password { length password.now ≤ 60000 }
     requires start { pos 0 ≤ℤ now.seconds }
     requires end { now.seconds ≤ℤ pos latest_second }
@@ -79,6 +83,7 @@ pub fn client_request<X: Words>(
           password = password.now;
           target = option_map (λ n. n.now) target.entry;
           initial = initial;
+          old = old;
         }) drawn sent) }
 {
     let realm = config.realm.as_slice();
@@ -92,6 +97,7 @@ pub fn client_request<X: Words>(
         password,
         target,
         initial,
+        old,
     };
     let drawn = draw(words);
     request_of(alloc, &asked, &drawn)
@@ -122,8 +128,13 @@ fn request_of(alloc: Global, asked: &Asked<'_>, words: &Drawing) -> Result<Sent,
 {
     let ap = ap_req(alloc, asked, words)?;
     let tail = krb_priv(alloc, asked, words)?;
+    let message = if asked.old {
+        join_old_request(alloc, &ap, &tail)?
+    } else {
+        join_request(alloc, &ap, &tail)?
+    };
     Ok(Sent {
-        message: Items::of(join_request(alloc, &ap, &tail)?),
+        message: Items::of(message),
         session: drawn_key(words.session),
         subkey: drawn_key(words.subkey),
         ctime: KerberosTime(asked.now.seconds),

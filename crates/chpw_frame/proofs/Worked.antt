@@ -3,4 +3,4 @@ use Rattle.std.proofs.Common.{refl}
 use Rattle.chpw_frame.specs.Laws.{WorkedRows}
 
 pub worked_rows : WorkedRows
-worked_rows = (refl, refl, refl, refl, refl, refl, refl, refl, refl, refl, refl, refl, refl, refl)
+worked_rows = (refl, refl, refl, refl, refl, refl, refl, refl, refl, refl, refl, refl, refl, refl, refl, refl)

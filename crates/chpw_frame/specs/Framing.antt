@@ -6,12 +6,17 @@ use Rattle.std.specs.Int.{from_be_bytes, to_be_bytes, w16}
 use Rattle.chpw_frame.specs.declared.fault.FrameFault.{FrameFault}
 use Rattle.chpw_frame.specs.declared.fault.FrameFault.TheVariants.{BadLength, BadVersion, BadParts}
 
--- the version of a request, and those that are taken
+-- the version of a request
 abbrev pub request_version : ℕ
 request_version = 0xff80
 
+-- and in the earlier protocol (draft-ietf-cat-kerb-chg-password-02 section 3)
+abbrev pub old_request_version : ℕ
+old_request_version = 0x0001
+
+-- those that are taken
 abbrev pub request_versions : List ℕ
-request_versions = request_version ∷ []
+request_versions = request_version ∷ old_request_version ∷ []
 
 -- the version of a reply
 abbrev pub reply_version : ℕ

@@ -38,7 +38,9 @@ abbrev pub WorkedRows : Type 0
 WorkedRows =
     (first_fault request_versions false (0 ∷ 6 ∷ 0xff ∷ 0x80 ∷ 0 ∷ 0 ∷ []) ≡ Some BadParts)
     × (first_fault request_versions false (0 ∷ 6 ∷ 0 ∷ 2 ∷ 0 ∷ 0 ∷ []) ≡ Some BadVersion)
-    × (first_fault request_versions false (0 ∷ 6 ∷ 0 ∷ 1 ∷ 0 ∷ 0 ∷ []) ≡ Some BadVersion)
+    × (first_fault request_versions false (0 ∷ 6 ∷ 0 ∷ 1 ∷ 0 ∷ 0 ∷ []) ≡ Some BadParts)
+    × (first_fault request_versions false (0 ∷ 6 ∷ 0 ∷ 0 ∷ 0 ∷ 0 ∷ []) ≡ Some BadVersion)
+    × (first_fault request_versions false (0 ∷ 7 ∷ 0 ∷ 1 ∷ 0 ∷ 1 ∷ 0x6e ∷ []) ≡ None)
     × (first_fault request_versions false (0 ∷ 5 ∷ 0xff ∷ 0x80 ∷ 0 ∷ []) ≡ Some BadLength)
     × (first_fault request_versions false (0 ∷ 7 ∷ 0xff ∷ 0x80 ∷ 0 ∷ 1 ∷ 0x6e ∷ []) ≡ None)
     × (first_fault request_versions false (0 ∷ 7 ∷ 0xff ∷ 0x80 ∷ 0 ∷ 2 ∷ 0x6e ∷ []) ≡ Some BadParts)

@@ -13,5 +13,8 @@ pub use change_data::{ChangeData, ChangeFault, ChangeTarget, read_change_data};
 pub use fault::FrameFault;
 pub use parts::Parts;
 pub use reply::{REPLY_VERSION, join_reply, split_reply};
-pub use request::{REQUEST_VERSION, REQUEST_VERSIONS, join_request, split_request};
+pub use request::{
+    OLD_REQUEST_VERSION, REQUEST_VERSION, REQUEST_VERSIONS, join_old_request, join_request,
+    split_request,
+};
 pub use stream::{LONGEST_MESSAGE, MAX_READS, Received, WriteFault, read_tcp, write_tcp};

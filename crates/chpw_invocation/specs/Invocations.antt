@@ -1,12 +1,12 @@
 -- What a user asks for, of what clap matched: the command's name, and each option's value by its name.
 -- The words are matched by clap's own rules.
-use Rattle.std.specs.Prelude.{◌≡◌, ◌⊎◌, ◌≤◌, ℕ, Bool, true, false, List, [], Option, Some, None, option_map, codes}
+use Rattle.std.specs.Prelude.{◌≡◌, ◌≢◌, ◌⊎◌, ◌≤◌, ℕ, Bool, true, false, List, [], Option, Some, None, option_map, codes}
 use Rattle.std.specs.Str.Parse.{digits_value, without_leading_plus}
 use Rattle.clap.specs.Kinds.{HasKind, Kinds}
 use Rattle.clap.specs.Values.{kind_of}
 use Rattle.clap.specs.Walk.{Row, Text, first_of, one_of}
 use Rattle.clap.specs.declared.error.Error.{Error}
-use Rattle.clap.specs.declared.error.kind.ErrorKind.TheVariants.{MissingSubcommand}
+use Rattle.clap.specs.declared.error.kind.ErrorKind.TheVariants.{ArgumentConflict, MissingSubcommand}
 use Rattle.chpw_invocation.specs.declared.invocation.ClientOptions.{ClientOptions}
 use Rattle.chpw_invocation.specs.declared.invocation.ServeOptions.{ServeOptions}
 use Rattle.chpw_invocation.specs.declared.invocation.Invocation.{Invocation}
@@ -51,6 +51,9 @@ pub record AsksClient (options : List Row) (asked : ClientOptions) : Type 0 wher
   pub target : option_map (λ name. name.now) asked.target
       ≡ first_of (codes "target") options
   pub no_initial : IsGiven options (codes "no-initial") asked.no_initial
+  pub old : IsGiven options (codes "old") asked.old
+  -- the earlier protocol has no target
+  pub own : asked.old ≡ true → asked.target ≡ None
 
 -- the command that is named, with its options
 abbrev pub AsksFor : Option (Text × List Row) → Invocation → Type 0
@@ -60,7 +63,15 @@ AsksFor (Some p) (Check config) = (p.0 ≡ codes "check") × HasText p.1 (codes 
 AsksFor (Some p) (Serve asked) = (p.0 ≡ codes "serve") × AsksServe p.1 asked
 AsksFor (Some p) (Client asked) = (p.0 ≡ codes "client") × AsksClient p.1 asked
 
+-- a request of the earlier protocol with a target, which it has none of
+abbrev pub AimsOld : Option (Text × List Row) → Type 0
+AimsOld None = ⊥
+AimsOld (Some p) = (p.0 ≡ codes "client") × IsGiven p.1 (codes "old") true × (first_of (codes "target") p.1 ≢ None)
+
 -- Why words are refused, of the kinds of fault that clap may find in them: one of these, or memory
--- ran out. Words without a fault ask for a command, so the last case doesn't come; that isn't proved.
-abbrev pub IsRefusal : Kinds → Error → Type 0
-IsRefusal kinds e = HasKind kinds e ⊎ ((kinds ≡ []) × (kind_of e ≡ MissingSubcommand))
+-- ran out; or for want of those a target in the earlier protocol. Words without a fault ask for a command,
+-- so the last case doesn't come; that isn't proved.
+abbrev pub IsRefusal : Kinds → Option (Text × List Row) → Error → Type 0
+IsRefusal kinds asked e =
+    HasKind kinds e
+    ⊎ ((kinds ≡ []) × (((kind_of e ≡ ArgumentConflict) × AimsOld asked) ⊎ (kind_of e ≡ MissingSubcommand)))

@@ -38,7 +38,7 @@ serve = command (codes "serve")
     ∷ [])
 
 -- client --config FILE --seed FILE --port N --client NAME --password TEXT [--target NAME]
--- [--no-initial]
+-- [--no-initial] [--old]
 abbrev pub client : Shape
 client = command (codes "client")
     (required (codes "config")
@@ -48,6 +48,7 @@ client = command (codes "client")
     ∷ required (codes "password")
     ∷ optional (codes "target")
     ∷ flag (codes "no-initial")
+    ∷ flag (codes "old")
     ∷ [])
 
 -- with a version, and one of the commands below it has to be named

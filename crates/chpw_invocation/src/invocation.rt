@@ -1,5 +1,5 @@
 //! What a user asks the program for.
-ghost use Rattle.std.specs.Prelude.{◌≤◌};
+ghost use Rattle.std.specs.Prelude.{◌≡◌, ◌≤◌, true, None};
 
 /// The greatest `--idle`, in seconds: an hour.
 pub const LONGEST_IDLE: u16 = 3600;
@@ -21,6 +21,9 @@ pub struct ClientOptions<'a> {
     pub target: Option<&'a str>,
     /// Whether the ticket is made without the flag initial.
     pub no_initial: bool,
+    /// Whether it asks in the earlier protocol, which has no target.
+    pub old: bool,
+    ghost own: { old ≡ true → target ≡ None },
 }
 
 /// What `serve` starts from, where it listens, and how it works.

@@ -1,15 +1,18 @@
 //! The command line matched: what its words ask for.
-ghost use Rattle.std.specs.Prelude.{◌≡◌, [], IfErr, IfOk, IfSome, OnOk, codes, map, option_map, string_bytes};
+ghost use Rattle.std.specs.Prelude.{◌≡◌, [], true, IfErr, IfOk, IfSome, OnOk, codes, map, option_map, string_bytes};
 ghost use Rattle.clap.specs.Faults.{fault_of};
 ghost use Rattle.clap.specs.Words.{first_of, found_of, rows_of, subcommand_of, subcommand_rows_of};
 ghost use Rattle.chpw_invocation.specs.Program.{program};
-ghost use Rattle.chpw_invocation.specs.Invocations.{AsksClient, AsksFor, AsksServe, HasNumber, IsGiven, IsRefusal, MayHaveNumber};
+ghost use Rattle.chpw_invocation.specs.Invocations.{AimsOld, AsksClient, AsksFor, AsksServe, HasNumber, IsGiven, IsRefusal, MayHaveNumber};
 
 use crate::invocation::{ClientOptions, Invocation, LONGEST_IDLE, ServeOptions};
 use crate::program::program as new_program;
 use clap::error::ErrorKind;
 use clap::{ArgMatches, Error};
 use std::alloc::Global;
+
+// In clap's own words for two options that exclude one another.
+const OLD_TARGET: &str = "the argument '--old' cannot be used with '--target <NAME>'";
 
 /// The command that the words ask for, the first of them the program's name.
 ///
@@ -19,18 +22,20 @@ pub fn command_of<'a>(alloc: Global, words: &'a [String]) -> Result<Invocation<'
     ensures asked { IfOk result (AsksFor (subcommand_of program (map string_bytes words.entry.now))) }
     ensures taken { OnOk result (fault_of program (map string_bytes words.entry.now) ≡ []) }
     ensures refused { IfErr result
-        (IsRefusal (fault_of program (map string_bytes words.entry.now))) }
+        (IsRefusal (fault_of program (map string_bytes words.entry.now))
+        (subcommand_of program (map string_bytes words.entry.now))) }
 {
     let mut program = new_program(alloc)?;
     let matches = program.try_get_matches_from_mut(words)?;
     match asked_of(&matches) {
         Some(invocation) => Ok(invocation),
+        None if aims_old(&matches) => Err(program.error(ErrorKind::ArgumentConflict, OLD_TARGET)?),
         None => Err(program.error(ErrorKind::MissingSubcommand, "no command")?),
     }
 }
 
 // The command that was matched; always one after a parse, since the program wants one and each
-// command its options.
+// command its options, but where a request of the earlier protocol has a target.
 fn asked_of<'a>(matches: &ArgMatches<'a>) -> Option<Invocation<'a>>
     ensures asked { IfSome result (AsksFor (subcommand_rows_of matches.now)) }
 {
@@ -69,17 +74,35 @@ fn serve_of<'a>(options: &ArgMatches<'a>) -> Option<ServeOptions<'a>>
     })
 }
 
+// Whether `client` is to ask in the earlier protocol, and has a target.
+fn aims_old(matches: &ArgMatches<'_>) -> bool
+    ensures aims { result ≡ true → AimsOld (subcommand_rows_of matches.now) }
+{
+    match matches.subcommand() {
+        None => false,
+        Some((name, options)) => {
+            name == "client" && is_given(options, "old") && text_of(options, "target").is_some()
+        }
+    }
+}
+
 fn client_of<'a>(options: &ArgMatches<'a>) -> Option<ClientOptions<'a>>
     ensures asked { IfSome result (AsksClient (rows_of (found_of options.now))) }
 {
+    let target = text_of(options, "target");
+    let old = is_given(options, "old");
+    if old && target.is_some() {
+        return None;
+    }
     Some(ClientOptions {
         config: text_of(options, "config")?,
         seed: text_of(options, "seed")?,
         port: port_of(options)?,
         client: text_of(options, "client")?,
         password: text_of(options, "password")?,
-        target: text_of(options, "target"),
+        target,
         no_initial: is_given(options, "no-initial"),
+        old,
     })
 }
 

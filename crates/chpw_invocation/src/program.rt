@@ -91,6 +91,9 @@ const TARGET_HELP: &str = "Whose password is set, a name as for --client [defaul
 
 const NO_INITIAL_HELP: &str = "Makes a ticket without the flag initial, as one from a TGT would be";
 
+const OLD_HELP: &str =
+    "Asks in the earlier protocol, version 0x0001, for the client's own password: without --target";
+
 // A command with this name and these texts: in a line, and below its options.
 fn described<'a>(alloc: Global, name: &'a str, about: &'a str, more: &'a str) -> Command<'a>
     ensures shape { app_of result ≡ specs_of.alone (specs_of.command name.entry.now []) }
@@ -198,6 +201,7 @@ fn client<'a>(alloc: Global) -> Result<Command<'a>, AllocError>
         optional_option(alloc, "target", "NAME", TARGET_HELP),
     )?;
     let command = with_option(command, flag_option(alloc, "no-initial", NO_INITIAL_HELP))?;
+    let command = with_option(command, flag_option(alloc, "old", OLD_HELP))?;
     Ok(command)
 }
 

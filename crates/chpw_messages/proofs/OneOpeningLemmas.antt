@@ -1,6 +1,6 @@
 -- A message opens to one answer.
-use Rattle.std.proofs.Common.{◌≡◌, ℕ, List, Option, Some, None, option_map, Result, Ok, Err, refl, sym, ◌∙◌, ap, subst, false}
-use Rattle.std.specs.Prelude.{option_and_then}
+use Rattle.std.proofs.Common.{◌≡◌, ℕ, List, Bool, true, Option, Some, None, option_map, Result, Ok, Err, refl, sym, ◌∙◌, ap, subst, false}
+use Rattle.std.specs.Prelude.{◌==◌, option_and_then}
 use Rattle.krb_keys.specs.Keys.{IsProtocolKey}
 use Rattle.krb_elements.proofs.CompleteLemmas.{one_value}
 use Rattle.krb_der.specs.Types.{change_passwd_data}
@@ -20,10 +20,10 @@ use Rattle.chpw_frame.specs.declared.change_data.ChangeTarget.{ChangeTarget}
 use Rattle.chpw_frame.specs.declared.fault.FrameFault.{FrameFault}
 use Rattle.chpw_frame.specs.Asked.{asks}
 use Rattle.chpw_frame.specs.ChangeData.{change_value, Finds}
-use Rattle.chpw_frame.specs.Framing.{ap_of, first_fault, request_versions, tail_of, version_of}
+use Rattle.chpw_frame.specs.Framing.{ap_of, first_fault, old_request_version, request_versions, tail_of, version_of}
 use Rattle.chpw_frame.proofs.ChangeLemmas.{asks_complete}
 use Rattle.chpw_answer.specs.Requests.{Content, new_password, bad_private, bad_data, opened}
-use Rattle.chpw_messages.specs.Opening.{Asks, IsAsked, IsContent, OpensAs, OpensFramed, OpensParts, request_of, stamp_in, target_in}
+use Rattle.chpw_messages.specs.Opening.{Asks, IsContent, IsUserData, OpensAs, OpensFramed, OpensParts, request_of, stamp_in, target_in}
 use Rattle.chpw_messages.specs.OneOpening.{MessagesOpenOnce}
 
 -- ---- what is asked
@@ -74,11 +74,12 @@ one_change realm bytes bad_data bad_data h k = refl
 one_change realm bytes bad_data bad_private h k = absurd k
 one_change realm bytes bad_private other h k = absurd h
 
-one_asked : (realm : List ℕ) (version : ℕ) (bytes : List ℕ) → IsOne (IsAsked realm version bytes)
-one_asked realm version bytes one other h k = one_change realm bytes one other h.1 k.1
+one_said : (is_old : Bool) (realm bytes : List ℕ) → IsOne (IsUserData is_old realm bytes)
+one_said true realm bytes one other h k = h ∙ sym k
+one_said false realm bytes one other h k = one_change realm bytes one other h k
 
 one_content : (realm : List ℕ) (version : ℕ) (private : Result Private PrivFault) → IsOne (IsContent realm version private)
-one_content realm version (Ok p) one other h k = one_asked realm version p.user_bytes one other h k
+one_content realm version (Ok p) one other h k = one_said (version == old_request_version) realm p.user_bytes one other h k
 one_content realm version (Err fault) one other h k = h ∙ sym k
 
 -- ---- the message

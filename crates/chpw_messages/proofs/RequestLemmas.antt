@@ -1,40 +1,51 @@
 -- What is made of a request opens to it.
-use Rattle.std.proofs.Common.{ℕ, List, Option, Ok, false, refl, sym, subst, lit<}
+use Rattle.std.proofs.Common.{ℕ, List, Bool, true, false, Option, None, Ok, refl, sym, ◌∙◌, ap, subst}
 use Rattle.krb_elements.proofs.TextLemmas.{text_spells}
 use Rattle.krb_der.specs.Types.{change_passwd_data}
 use Rattle.krb_msgs.specs.Accepted.{opened_of}
 use Rattle.krb_msgs.specs.PrivateMessages.{private_of}
 use Rattle.krb_msgs.proofs.OpeningLemmas.{ap_reqs_open, privs_open}
 use Rattle.chpw_frame.specs.declared.fault.FrameFault.{FrameFault}
-use Rattle.chpw_frame.specs.Framing.{ap_of, framed, request_version, request_versions, tail_of}
+use Rattle.chpw_frame.specs.Framing.{ap_of, framed, old_request_version, request_versions, tail_of}
+use Rattle.chpw_frame.specs.declared.change_data.ChangeData.{ChangeData}
+use Rattle.chpw_frame.specs.declared.change_data.ChangeTarget.{ChangeTarget}
 use Rattle.chpw_frame.specs.ChangeData.{IsChange, change_value}
 use Rattle.chpw_frame.proofs.FramingLemmas.{framed_is_whole}
 use Rattle.chpw_answer.specs.Requests.{new_password}
-use Rattle.chpw_messages.specs.Opening.{OpensFramed, OpensParts, target_in}
-use Rattle.std.specs.Prelude.{option_map}
-use Rattle.chpw_messages.specs.Laws.{FramesOpen, PartsOpen}
+use Rattle.chpw_messages.specs.Opening.{IsUserData, OpensFramed, OpensParts, target_in}
+use Rattle.std.specs.Prelude.{option_map, ◌==◌}
+use Rattle.chpw_messages.specs.Laws.{FramesOpen, PartsOpen, SaysChange}
+
+-- user-data that asks for a change is read as that change
+change_said : (realm : List ℕ) (is_old : Bool) (bytes : List ℕ) (change : ChangeData) → SaysChange is_old bytes change
+    → IsUserData is_old realm bytes (new_password (option_map (target_in realm) change.target) change.password)
+change_said realm true bytes change says =
+    ap (λ (t : Option ChangeTarget). new_password (option_map (target_in realm) t) change.password) says.0
+    ∙ ap (λ (p : List ℕ). new_password None p) (sym says.1)
+change_said realm false bytes change says =
+    let spelled = text_spells change_passwd_data refl (change_value change) says.0 in
+    (change, subst (λ (b : List ℕ). IsChange b change) (sym says.1) spelled, refl, refl)
 
 pub parts_open : PartsOpen
-parts_open realm keys peer request ticket a session subkey m part change first second =
-    let spelled = text_spells change_passwd_data refl (change_value change) second.change_fit in (
-      Ok (opened_of ticket session a subkey),
-      ap_reqs_open realm keys peer request ticket a session subkey first,
-      (
-        Ok (private_of part),
-        privs_open subkey a.seq_number m part second.private second.follows,
-        (
-          new_password (option_map (target_in realm) change.target) change.password,
-          (refl, (change, subst (λ (b : List ℕ). IsChange b change) (sym second.user_data) spelled, refl, refl)),
-          refl,
-        ),
-      ),
-    )
+parts_open version realm keys peer request ticket a session subkey m part change first second = (
+  Ok (opened_of ticket session a subkey),
+  ap_reqs_open realm keys peer request ticket a session subkey first,
+  (
+    Ok (private_of part),
+    privs_open subkey a.seq_number m part second.private second.follows,
+    (
+      new_password (option_map (target_in realm) change.target) change.password,
+      change_said realm (version == old_request_version) part.user_data change second.user_data,
+      refl,
+    ),
+  ),
+)
 
 pub frames_open : FramesOpen
-frames_open realm keys peer front tail o some le h =
-    let bytes : List ℕ = framed request_version front tail in
-    let whole = framed_is_whole request_versions false request_version front tail refl (lit< tt) (λ _. some) le in
+frames_open version realm keys peer front tail o taken below some le h =
+    let bytes : List ℕ = framed version front tail in
+    let whole = framed_is_whole request_versions false version front tail taken below (λ _. some) le in
     subst (λ (f : Option FrameFault). OpensFramed realm keys peer bytes f o) (sym whole.0)
     (subst (λ (v : ℕ). OpensParts realm keys peer v (ap_of bytes) (tail_of bytes) o) (sym whole.1)
-    (subst (λ (b : List ℕ). OpensParts realm keys peer request_version b (tail_of bytes) o) (sym whole.2)
-    (subst (λ (b : List ℕ). OpensParts realm keys peer request_version front b o) (sym whole.3) h)))
+    (subst (λ (b : List ℕ). OpensParts realm keys peer version b (tail_of bytes) o) (sym whole.2)
+    (subst (λ (b : List ℕ). OpensParts realm keys peer version front b o) (sym whole.3) h)))

@@ -1,6 +1,7 @@
 -- What is made of a request opens to it, whatever is left open: confounders, the kvnos of
 -- authenticator and KRB-PRIV, name-types.
-use Rattle.std.specs.Prelude.{◌≡◌, ◌≤◌, ◌<◌, ℕ, ◌+◌, true, List, length, option_map}
+use Rattle.std.specs.Prelude.{◌≡◌, ◌≤◌, ◌<◌, ◌^◌, ℕ, ◌+◌, ◌==◌, Bool, true, false, List, length, None, option_map}
+use Rattle.std.specs.List.{list_any}
 use Rattle.krb_keys.specs.declared.key.Key.{Key}
 use Rattle.krb_elements.specs.Texts.{text, fits}
 use Rattle.krb_der.specs.Types.{ap_req, krb_priv, change_passwd_data}
@@ -15,20 +16,25 @@ use Rattle.krb_msgs.specs.Accepted.{opened_of}
 use Rattle.krb_msgs.specs.PrivateMessages.{MayFollow, private_of}
 use Rattle.krb_msgs.specs.declared.service_keys.ServiceKey.{ServiceKey}
 use Rattle.chpw_frame.specs.declared.change_data.ChangeData.{ChangeData}
-use Rattle.chpw_frame.specs.Framing.{framed, header_length, request_version}
+use Rattle.chpw_frame.specs.Framing.{framed, header_length, old_request_version, request_versions}
 use Rattle.chpw_frame.specs.Stream.{longest}
 use Rattle.chpw_frame.specs.ChangeData.{change_value}
 use Rattle.chpw_answer.specs.Requests.{Opens, Request, opened, new_password}
 use Rattle.chpw_messages.specs.Opening.{OpensParts, OpensTo, request_of, target_in}
 
--- a KRB-PRIV behind this authenticator that asks for a change: user-data is its ChangePasswdData
--- (RFC 3244 section 2)
-pub record AsksChange (subkey : Key) (a : Authenticator) (m : KrbPriv) (part : EncKrbPrivPart)
+-- User-data that asks for a change: in the earlier protocol the new password itself, with no target;
+-- in the other its ChangePasswdData (RFC 3244 section 2).
+abbrev pub SaysChange : Bool → List ℕ → ChangeData → Type 0
+SaysChange true bytes change = (change.target ≡ None) × (bytes ≡ change.password)
+SaysChange false bytes change =
+    (fits change_passwd_data (change_value change) ≡ true) × (bytes ≡ text change_passwd_data (change_value change))
+
+-- a KRB-PRIV behind this authenticator that asks for a change, in a request of this version
+pub record AsksChange (version : ℕ) (subkey : Key) (a : Authenticator) (m : KrbPriv) (part : EncKrbPrivPart)
     (change : ChangeData) : Type 0 where
   pub private : IsKrbPriv subkey m part
   pub follows : MayFollow a.seq_number part.seq_number
-  pub change_fit : fits change_passwd_data (change_value change) ≡ true
-  pub user_data : part.user_data ≡ text change_passwd_data (change_value change)
+  pub user_data : SaysChange (version == old_request_version) part.user_data change
 
 -- what they ask for
 abbrev pub asked_of : List ℕ → EncTicketPart → Key → Authenticator → Key → EncKrbPrivPart → ChangeData → Request
@@ -38,18 +44,19 @@ asked_of realm ticket session a subkey part change =
 
 -- the two open to that
 abbrev pub PartsOpen : Type 0
-PartsOpen = (realm : List ℕ) (keys : List ServiceKey) (peer : List ℕ) (request : ApReq)
+PartsOpen = (version : ℕ) (realm : List ℕ) (keys : List ServiceKey) (peer : List ℕ) (request : ApReq)
     (ticket : EncTicketPart) (a : Authenticator) (session subkey : Key)
     (m : KrbPriv) (part : EncKrbPrivPart) (change : ChangeData)
     → IsApReq realm keys peer request ticket a session subkey
-    → AsksChange subkey a m part change
-    → OpensParts realm keys peer request_version
+    → AsksChange version subkey a m part change
+    → OpensParts realm keys peer version
     (text ap_req (ap_req_value request)) (text krb_priv (krb_priv_value m))
     (opened (asked_of realm ticket session a subkey part change))
 
--- parts in a frame, as long as a frame may be, open as they do
+-- parts in a frame of a version that is taken, as long as a frame may be, open as they do
 abbrev pub FramesOpen : Type 0
-FramesOpen = (realm : List ℕ) (keys : List ServiceKey) (peer ap tail : List ℕ) (o : Opens)
+FramesOpen = (version : ℕ) (realm : List ℕ) (keys : List ServiceKey) (peer ap tail : List ℕ) (o : Opens)
+    → list_any (λ v. v == version) request_versions ≡ true → version < 2 ^ 16
     → 0 < length ap → header_length + length ap + length tail ≤ longest
-    → OpensParts realm keys peer request_version ap tail o
-    → OpensTo realm keys peer (framed request_version ap tail) o
+    → OpensParts realm keys peer version ap tail o
+    → OpensTo realm keys peer (framed version ap tail) o

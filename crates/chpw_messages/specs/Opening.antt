@@ -1,6 +1,7 @@
 -- What a message to the service opens to (RFC 3244 section 2, RFC 4120 sections 3.2.3 and 3.5.2): the
--- frame, the AP-REQ, the KRB-PRIV and its ChangePasswdData in turn.
-use Rattle.std.specs.Prelude.{◌≡◌, ℕ, ℤ, List, false, Option, Some, None, Result, Ok, Err, option_map, unwrap_or}
+-- frame, the AP-REQ, the KRB-PRIV and its user-data in turn. The version of the frame says how user-data
+-- is read, and nothing else.
+use Rattle.std.specs.Prelude.{◌≡◌, ℕ, ℤ, List, Bool, true, false, ◌==◌, Option, Some, None, Result, Ok, Err, option_map, unwrap_or}
 use Rattle.krb_elements.specs.BitStrings.{is_set}
 use Rattle.krb_protocol.specs.Numbers as protocol
 use Rattle.krb_protocol.specs.Refusals.{Refusal}
@@ -17,7 +18,7 @@ use Rattle.krb_msgs.specs.Codes as ap
 use Rattle.chpw_frame.specs.declared.change_data.ChangeData.{ChangeData}
 use Rattle.chpw_frame.specs.declared.change_data.ChangeTarget.{ChangeTarget}
 use Rattle.chpw_frame.specs.declared.fault.FrameFault.{FrameFault}
-use Rattle.chpw_frame.specs.Framing.{request_version, request_versions, first_fault, version_of, ap_of, tail_of}
+use Rattle.chpw_frame.specs.Framing.{old_request_version, request_versions, first_fault, version_of, ap_of, tail_of}
 use Rattle.chpw_frame.specs.ChangeData.{IsChange}
 use Rattle.chpw_frame.specs.Faults as frame
 use Rattle.chpw_rules.specs.declared.name.Name.{Name}
@@ -43,9 +44,15 @@ Asks realm bytes (new_password target password) =
 Asks realm bytes bad_data = (change : ChangeData) → IsChange bytes change → ⊥
 Asks realm bytes bad_private = ⊥
 
--- The user-data of a request of this version: the version says how it is read. There is one so far.
+-- The user-data of the earlier protocol is the new password itself, the client's own
+-- (draft-ietf-cat-kerb-chg-password-02 section 3); that of the other is a ChangePasswdData.
+abbrev pub IsUserData : Bool → List ℕ → List ℕ → Content → Type 0
+IsUserData true realm bytes content = content ≡ new_password None bytes
+IsUserData false realm bytes content = Asks realm bytes content
+
+-- the user-data of a request of this version
 abbrev pub IsAsked : List ℕ → ℕ → List ℕ → Content → Type 0
-IsAsked realm version bytes content = (version ≡ request_version) × Asks realm bytes content
+IsAsked realm version bytes content = IsUserData (version == old_request_version) realm bytes content
 
 -- ---- the KRB-PRIV
 

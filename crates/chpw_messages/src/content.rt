@@ -1,16 +1,16 @@
 //! What a KRB-PRIV asks (RFC 4120 section 3.5.2, RFC 3244 section 2).
 ghost use Rattle.std.specs.Prelude.{◌≡◌, [], IfOk, option_map};
 ghost use Rattle.chpw_table.specs.declared.request.Target.{Target};
-ghost use Rattle.chpw_frame.specs.Framing.{request_version};
 ghost use Rattle.chpw_answer.specs.Requests as requests;
 ghost use Rattle.chpw_answer.specs.Requests.{body_under, new_password};
-ghost use Rattle.chpw_messages.specs.Opening.{IsAsked, content_despite, target_in};
+ghost use Rattle.chpw_messages.specs.Opening.{Asks, IsAsked, content_despite, target_in};
 ghost use Rattle.chpw_messages.specs.Holds.{HoldsContent, IsHeld};
 
 use crate::names::target_of;
-use chpw_frame::{ChangeData, ChangeFault, read_change_data};
+use chpw_frame::{ChangeData, ChangeFault, OLD_REQUEST_VERSION, read_change_data};
 use chpw_rules::Items;
 use chpw_table::{Body, Counts, Digest};
+use krb_der::OctetString;
 use krb_msgs::{ApOpened, OpenError, PrivFault, Private, open_priv};
 use std::alloc::{AllocError, Global};
 
@@ -24,17 +24,19 @@ pub(crate) struct Content {
     pub stamp: Option<i64>,
 }
 
-/// What the KRB-PRIV behind an AP-REQ holds. A target without a realm is in this realm.
+/// What the KRB-PRIV behind an AP-REQ holds, in a message of this version. A target without a realm is
+/// in this realm.
 pub(crate) fn open_content(
     alloc: Global,
     realm: &[u8],
+    version: u16,
     opened: &ApOpened,
     tail: &[u8],
 ) -> Result<Content, AllocError>
-    ensures content { IfOk result (HoldsContent realm.now request_version opened.now tail.now) }
+    ensures content { IfOk result (HoldsContent realm.now version opened.now tail.now) }
 {
     match open_priv(alloc, opened, tail) {
-        Ok(private) => read_content(alloc, realm, private),
+        Ok(private) => read_content(alloc, realm, version, private),
         Err(OpenError::Memory) => Err(AllocError),
         Err(OpenError::Fault(fault)) => Ok(bare(alloc, body_despite(fault), None)),
     }
@@ -63,12 +65,38 @@ fn body_despite(fault: PrivFault) -> Body
     }
 }
 
-/// What one that opened holds.
-fn read_content(alloc: Global, realm: &[u8], private: Private) -> Result<Content, AllocError>
+/// What one that opened holds: in the earlier protocol the new password itself, else a ChangePasswdData.
+fn read_content(
+    alloc: Global,
+    realm: &[u8],
+    version: u16,
+    private: Private,
+) -> Result<Content, AllocError>
     ensures content { IfOk result (λ h. (c : requests.Content)
-        × IsAsked realm.now request_version private.user_bytes c × IsHeld c private.stamp h) }
+        × IsAsked realm.now version private.user_bytes c × IsHeld c private.stamp h) }
 {
     let Private { user_bytes, stamp } = private;
+    if version == OLD_REQUEST_VERSION {
+        let change = ChangeData {
+            password: user_bytes,
+            target: None,
+        };
+        change_content(alloc, realm, change, stamp)
+    } else {
+        read_change(alloc, realm, user_bytes, stamp)
+    }
+}
+
+/// What a ChangePasswdData holds, or what is none.
+fn read_change(
+    alloc: Global,
+    realm: &[u8],
+    user_bytes: OctetString,
+    stamp: Option<i64>,
+) -> Result<Content, AllocError>
+    ensures content { IfOk result (λ h. (c : requests.Content)
+        × Asks realm.now user_bytes c × IsHeld c stamp h) }
+{
     match read_change_data(alloc, user_bytes.as_slice()) {
         Ok(change) => change_content(alloc, realm, change, stamp),
         Err(ChangeFault::NotChangeData) => Ok(bare(alloc, Body::BadData, stamp)),

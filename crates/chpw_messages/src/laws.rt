@@ -6,7 +6,7 @@ ghost use Rattle.chpw_messages.specs.RepliesOpen.{ErrorFramesOpen, PrivateFrames
 ghost use Rattle.chpw_messages.specs.WorkedReplies.{MalformedReply, VersionReply, TooLongReply};
 
 /// The two parts of a request for a change of password, made of their records, open to that
-/// request; and parts in a frame open as they do.
+/// request, in either version; and parts in a frame open as they do.
 pub fn openings()
     ensures parts { PartsOpen }
     ensures frames { FramesOpen }

@@ -1,6 +1,5 @@
 //! A message is opened (RFC 3244 section 2): its frame, then its AP-REQ, then its KRB-PRIV.
-ghost use Rattle.std.specs.Prelude.{◌≡◌, IfOk};
-ghost use Rattle.chpw_frame.specs.Framing.{request_version};
+ghost use Rattle.std.specs.Prelude.{IfOk};
 ghost use Rattle.chpw_answer.specs.Holding.{IsInTime};
 ghost use Rattle.chpw_messages.specs.Holds.{HoldsMessage, HoldsParts};
 
@@ -28,7 +27,7 @@ pub(crate) fn open_message(
     }
 }
 
-/// The same of the parts of a message of a version that is taken.
+/// The same of the parts of a message.
 fn open_parts(
     alloc: Global,
     realm: &[u8],
@@ -36,7 +35,6 @@ fn open_parts(
     peer: [u8; 4],
     parts: Parts<'_>,
 ) -> Result<OpenResult, AllocError>
-    requires version { parts.version ≡ request_version }
     ensures opening { IfOk result (HoldsParts realm.now keys.now peer
         parts.entry.version parts.entry.ap.now parts.entry.tail.now) }
     ensures times { IfOk result IsInTime }
@@ -45,7 +43,7 @@ fn open_parts(
         Err(OpenError::Memory) => Err(AllocError),
         Err(OpenError::Fault(fault)) => Ok(OpenResult::Refused(fault.refusal())),
         Ok(opened) => {
-            let content = open_content(alloc, realm, &opened, parts.tail)?;
+            let content = open_content(alloc, realm, parts.version, &opened, parts.tail)?;
             Ok(OpenResult::Opened(incoming_of(alloc, opened, content)?))
         }
     }

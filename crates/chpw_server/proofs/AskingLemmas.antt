@@ -17,8 +17,8 @@ pub asks : (options : ClientOptions) (config : Config) (q : Question) (target : 
     (sent : Sent) → config_fits config ≡ true → q.realm ≡ config.realm → IsFirstKey config.service q.service
     → name_of options.client.now ≡ Some q.client → q.password ≡ options.password.now
     → Names (option_map (λ t. t.now) options.target) target → q.target ≡ target
-    → q.initial ≡ not options.no_initial → IsRequest q drawn sent → Asks options sent
-asks options config q target drawn sent fits realm first named password aimed is initial request = (
+    → q.initial ≡ not options.no_initial → q.old ≡ options.old → IsRequest q drawn sent → Asks options sent
+asks options config q target drawn sent fits realm first named password aimed is initial old request = (
   q,
   record {
     config = config;
@@ -29,6 +29,7 @@ asks options config q target drawn sent fits realm first named password aimed is
     password = password;
     target = rw is aimed;
     initial = initial;
+    old = old;
   },
   drawn,
   request,

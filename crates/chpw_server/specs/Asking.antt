@@ -30,6 +30,7 @@ pub record IsAsked (options : ClientOptions) (q : Question) : Type 0 where
   pub password : q.password ≡ options.password.now
   pub target : Names (option_map (λ t. t.now) options.target) q.target
   pub initial : q.initial ≡ not options.no_initial
+  pub old : q.old ≡ options.old
 
 -- a request for that, of some words
 abbrev pub Asks : ClientOptions → Sent → Type 0

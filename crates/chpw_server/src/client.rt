@@ -1,5 +1,5 @@
 //! `client`: one request to a service on this machine, and what its reply says.
-ghost use Rattle.std.specs.Prelude.{◌≡◌, ◌<◌, ◌≤ℤ◌, pos, true, Some, IfErr, IfOk, IfSome, option_map};
+ghost use Rattle.std.specs.Prelude.{◌≡◌, ◌<◌, ◌≤ℤ◌, pos, true, None, Some, IfErr, IfOk, IfSome, option_map};
 ghost use Rattle.chpw_rules.specs.Fitting.{config_fits};
 ghost use Rattle.chpw_rules.specs.Names.{is_name, name_of as name_in};
 ghost use Rattle.chpw_client.specs.Questions.{latest_second};
@@ -67,6 +67,7 @@ where
         options.password.as_bytes(),
         lent(&target),
         !options.no_initial,
+        options.old,
         &mut words,
     );
     match sent {
@@ -111,6 +112,7 @@ fn name_of<'a>(alloc: Global, text: &str) -> Result<Name, Ending<'a>>
 fn target_of<'a>(alloc: Global, text: Option<&str>) -> Result<Option<Name>, Ending<'a>>
     ensures fits { IfOk result (λ found. IfSome found (λ name. is_name name ≡ true)) }
     ensures value { IfOk result (Names (option_map (λ t. t.now) text.entry)) }
+    ensures none { text.entry ≡ None → IfOk result (λ found. found ≡ None) }
     ensures early { IfErr result IsUnasked }
 {
     match text {
@@ -124,6 +126,7 @@ fn lent(target: &Option<Name>) -> Option<&Name>
     requires fits { IfSome target.now (λ name. is_name name ≡ true) }
     ensures fits { IfSome result (λ name. is_name name.now ≡ true) }
     ensures value { option_map (λ name. name.now) result ≡ target.now }
+    ensures none { target.now ≡ None → result ≡ None }
 {
     match target {
         Some(name) => Some(name),

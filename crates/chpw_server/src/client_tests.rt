@@ -50,16 +50,50 @@ const SEED_FILE: &str = "client-tests.seed";
 
 const JOURNAL_FILE: &str = "client-tests.journal";
 
+/// What a request is made of beside its files.
+#[derive(Clone, Copy, Drop)]
+struct Wish<'a> {
+    client: &'a str,
+    password: &'a str,
+    target: Option<&'a str>,
+    no_initial: bool,
+}
+
 // Alice's own password.
-fn own<'a>(port: u16, password: &'a str) -> ClientOptions<'a> {
-    ClientOptions {
-        config: CONFIG_FILE,
-        seed: SEED_FILE,
-        port,
+fn own<'a>(password: &'a str) -> Wish<'a> {
+    Wish {
         client: "alice",
         password,
         target: None,
         no_initial: false,
+    }
+}
+
+// The options for that.
+fn options<'a>(port: u16, wish: Wish<'a>) -> ClientOptions<'a> {
+    ClientOptions {
+        config: CONFIG_FILE,
+        seed: SEED_FILE,
+        port,
+        client: wish.client,
+        password: wish.password,
+        target: wish.target,
+        no_initial: wish.no_initial,
+        old: false,
+    }
+}
+
+// The options for the same in the earlier protocol, which has no target.
+fn old_options<'a>(port: u16, wish: Wish<'a>) -> ClientOptions<'a> {
+    ClientOptions {
+        config: CONFIG_FILE,
+        seed: SEED_FILE,
+        port,
+        client: wish.client,
+        password: wish.password,
+        target: None,
+        no_initial: wish.no_initial,
+        old: true,
     }
 }
 
@@ -82,26 +116,30 @@ fn ask_all<R>(rt: &R, port: u16)
 where
     R: Files<File = File> + Net<Stream = TcpStream> + Clock + Print + AllocGlobal + Abort,
 {
-    let good = ask_soon(rt, own(port, "New-pass1"));
+    let good = ask_soon(rt, options(port, own("New-pass1")));
     assert!(rt; matches!(good, Ending::Good));
-    let short = ask(rt, own(port, "New1"));
+    let short = ask(rt, options(port, own("New1")));
     assert!(rt; matches!(short, Ending::Refused));
-    let not_initial = ClientOptions {
+    let not_initial = Wish {
         no_initial: true,
-        ..own(port, "New-pass2")
+        ..own("New-pass2")
     };
-    assert!(rt; matches!(ask(rt, not_initial), Ending::Refused));
-    let of_bob = ClientOptions {
+    assert!(rt; matches!(ask(rt, options(port, not_initial)), Ending::Refused));
+    let of_bob = Wish {
         target: Some("bob"),
-        ..own(port, "New-pass3")
+        ..own("New-pass3")
     };
-    assert!(rt; matches!(ask(rt, of_bob), Ending::Good));
-    let by_bob = ClientOptions {
+    assert!(rt; matches!(ask(rt, options(port, of_bob)), Ending::Good));
+    let by_bob = Wish {
         client: "bob",
         target: Some("alice"),
-        ..own(port, "New-pass4")
+        ..own("New-pass4")
     };
-    assert!(rt; matches!(ask(rt, by_bob), Ending::Refused));
+    assert!(rt; matches!(ask(rt, options(port, by_bob)), Ending::Refused));
+    let old = old_options(port, own("New-pass5"));
+    assert!(rt; matches!(ask(rt, old), Ending::Good));
+    let old_not_initial = old_options(port, not_initial);
+    assert!(rt; matches!(ask(rt, old_not_initial), Ending::Refused));
 }
 
 #[test]
@@ -112,25 +150,26 @@ fn client_asks_a_service(rt: HostRuntime) -> Result<(), Fail> {
     let port = TcpListener::bind(&rt, ("127.0.0.1", 0u16))?
         .local_addr()?
         .port();
-    let options = ServeOptions {
+    let serving = ServeOptions {
         config: CONFIG_FILE,
         journal: JOURNAL_FILE,
         seed: SEED_FILE,
         port,
         workers: 2,
-        connections: 5,
+        connections: 7,
         idle: None,
     };
-    let (served, ()) = join(&rt, || serve(&rt, options).is_ok(), || ask_all(&rt, port));
+    let (served, ()) = join(&rt, || serve(&rt, serving).is_ok(), || ask_all(&rt, port));
     assert!(rt; served);
-    // A record of alice's, and one of bob's, whose name is shorter by two bytes.
-    assert_eq!(rt; fs::read(&rt, JOURNAL_FILE)?.len(), 66 + 64);
-    assert!(rt; matches!(ask(&rt, own(port, "New-pass5")), Ending::Unconnected));
-    let unnamed = ClientOptions {
+    // Two records of alice's, and one of bob's, whose name is shorter by two bytes.
+    assert_eq!(rt; fs::read(&rt, JOURNAL_FILE)?.len(), 66 + 64 + 66);
+    let late = options(port, own("New-pass6"));
+    assert!(rt; matches!(ask(&rt, late), Ending::Unconnected));
+    let unnamed = Wish {
         client: "",
-        ..own(port, "New-pass5")
+        ..own("New-pass6")
     };
-    assert!(rt; matches!(ask(&rt, unnamed), Ending::BadArgument));
+    assert!(rt; matches!(ask(&rt, options(port, unnamed)), Ending::BadArgument));
     for file in [CONFIG_FILE, SEED_FILE, JOURNAL_FILE] {
         fs::remove_file(&rt, file)?;
     }

@@ -16,12 +16,13 @@ const SCRIPT: &str =
 const CLIENT_LINE: &str = "chpw_server client --config realm.toml --seed seed --port 464 \
     --client alice/admin --password=-New-pass2- --target bob --no-initial";
 
-/// A client's line without --seed, and with ports out of range; a command that there isn't; none;
-/// two calls for help and one for the version.
-const REFUSED: [&str; 8] = [
+/// A client's line without --seed, with ports out of range, and with a target in the earlier protocol; a
+/// command that there isn't; none; two calls for help and one for the version.
+const REFUSED: [&str; 9] = [
     "chpw_server client --config realm.toml --port 464 --client alice --password New-pass2",
     "chpw_server client --config c --seed s --port 0 --client alice --password New-pass2",
     "chpw_server client --config c --seed s --port 65536 --client alice --password New-pass2",
+    "chpw_server client --config c --seed s --port 1 --client alice --password p --target bob --old",
     "chpw_server change",
     "chpw_server",
     "chpw_server --help",
@@ -129,7 +130,7 @@ fn client_line_is_read(rt: HostRuntime) -> Result<(), Fail> {
     };
     assert!(rt; asked.config == "realm.toml" && asked.seed == "seed" && asked.port == 464);
     assert!(rt; asked.client == "alice/admin" && asked.password == "-New-pass2-");
-    assert!(rt; asked.target == Some("bob") && asked.no_initial);
+    assert!(rt; asked.target == Some("bob") && asked.no_initial && !asked.old);
     Ok(())
 }
 

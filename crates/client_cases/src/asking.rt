@@ -16,14 +16,17 @@ pub struct Question<'a> {
     client: &'a str,
     target: Option<&'a str>,
     initial: bool,
+    old: bool,
     password: String,
 }
 
 impl<'a> Question<'a> {
     /// `NAME: PASSWORD` or `NAME for TARGET: PASSWORD`, perhaps with `, not initial` behind the
-    /// names.
+    /// names, and then `, old`, which goes without a target.
     pub fn of(alloc: Global, text: &'a str) -> io::Result<Question<'a>> {
         let (who, password) = text.split_once(": ").ok_or(no_case())?;
+        let earlier = who.strip_suffix(", old");
+        let who = earlier.unwrap_or(who);
         let flagless = who.strip_suffix(", not initial");
         let names = flagless.unwrap_or(who);
         let (client, target) = match names.split_once(" for ") {
@@ -34,6 +37,7 @@ impl<'a> Question<'a> {
             client,
             target,
             initial: flagless.is_none(),
+            old: earlier.is_some(),
             password: expanded(alloc, password)?,
         })
     }
@@ -53,6 +57,7 @@ impl<'a> Question<'a> {
         if password.len() > LONGEST_PASSWORD
             || !config.fits()
             || config.service.as_slice().is_empty()
+            || (self.old && target.is_some())
         {
             return Err(no_case());
         }
@@ -64,6 +69,7 @@ impl<'a> Question<'a> {
             password,
             lent(&target),
             self.initial,
+            self.old,
             words,
         )?;
         Ok(sent)

@@ -8,8 +8,9 @@
 //! - `client OLD -> NEW`: the client has the base with these edits from here on.
 //! - `clocks N M`: the seconds at which the client asks and the service answers.
 //! - `ask NAME: PASSWORD`: a request for a change, `ask NAME for TARGET: PASSWORD` for another's.
-//!   With `, not initial` before the colon its ticket isn't flagged initial. A password `N * TEXT`
-//!   is that text N times. `again` is the same bytes once more.
+//!   With `, not initial` before the colon its ticket isn't flagged initial, and with `, old` behind
+//!   that it is asked in the earlier protocol, which has no target. A password `N * TEXT` is that
+//!   text N times. `again` is the same bytes once more.
 //! - `sent`: the bytes of the last request.
 //! - `kvno NAME`: that of its newest key, 0 where there is no such principal.
 //! - `reply HEX`: what is made of this reply to the last request. `reply`: of the last reply again;

@@ -1,6 +1,8 @@
 //! Requests and replies, cut into their parts and joined of them.
 
-use chpw_frame::{FrameFault, Parts, join_reply, join_request, split_reply, split_request};
+use chpw_frame::{
+    FrameFault, Parts, join_old_request, join_reply, join_request, split_reply, split_request,
+};
 use hex::{decode, encode};
 use krb_protocol::Refusal;
 use std::alloc::Global;
@@ -57,6 +59,15 @@ pub fn joined_request(alloc: Global, text: &str) -> io::Result<String> {
         return Ok(String::from_str(alloc, "no request")?);
     }
     shown(alloc, &join_request(alloc, &ap, &tail)?)
+}
+
+/// The request of the earlier protocol with two parts.
+pub fn joined_old_request(alloc: Global, text: &str) -> io::Result<String> {
+    let (ap, tail) = two(alloc, text)?;
+    if ap.is_empty() || ap.len() > 1_000 || tail.len() > 1_000 {
+        return Ok(String::from_str(alloc, "no request")?);
+    }
+    shown(alloc, &join_old_request(alloc, &ap, &tail)?)
 }
 
 /// The reply with two parts.

@@ -1,7 +1,8 @@
 //! Cases of chpw_frame, a line each on standard input, with the answer of each on standard output.
 //!
 //! - `request HEX` and `reply HEX`: the parts of that message, or its fault and what its reply says.
-//! - `join-request AP TAIL` and `join-reply AP TAIL`: the message with these parts, `-` for no bytes.
+//! - `join-request AP TAIL`, `join-old-request AP TAIL` and `join-reply AP TAIL`: the message with these
+//!   parts, `-` for no bytes.
 //! - `change HEX`: what that user-data asks for.
 //! - `read HOW: HEX`: what is read of a stream with these bytes, and the bytes that are left of it.
 //! - `reads HOW: HEX`: the same, and in how many reads.
@@ -30,6 +31,7 @@ impl Answers for Cases {
             "request" => framing::request(alloc, text),
             "reply" => framing::reply(alloc, text),
             "join-request" => framing::joined_request(alloc, text),
+            "join-old-request" => framing::joined_old_request(alloc, text),
             "join-reply" => framing::joined_reply(alloc, text),
             "change" => change::answer(alloc, text),
             _ => streams::answer(alloc, kind, text),

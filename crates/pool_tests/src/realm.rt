@@ -38,7 +38,7 @@ pub fn request<R: Abort>(
     assert!(rt; !config.service.as_slice().is_empty() && password.len() <= LONGEST_PASSWORD);
     assert!(rt; 0 <= now.seconds && now.seconds <= LAST_START && now.micros < 1_000_000);
     Ok(client_request(
-        alloc, &config, now, &client, password, None, true, &mut words,
+        alloc, &config, now, &client, password, None, true, false, &mut words,
     )?)
 }
 

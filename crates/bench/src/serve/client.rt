@@ -98,5 +98,7 @@ fn request(
         return Err(no_such());
     }
     let password = password.as_bytes();
-    Ok(client_request(alloc, config, now, &client, password, None, true, words)?)
+    Ok(client_request(
+        alloc, config, now, &client, password, None, true, false, words,
+    )?)
 }

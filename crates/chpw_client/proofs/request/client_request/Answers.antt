@@ -20,6 +20,7 @@ returns g c =
       password = c.args.password.now;
       target = option_map (λ (n : Bor Name). n.now) c.args.target;
       initial = c.args.initial;
+      old = c.args.old;
     } in
     record {
       sent = IfOk-weaker c.request_of.result _ _ (λ (sent : Sent) h. (

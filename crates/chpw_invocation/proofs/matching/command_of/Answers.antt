@@ -4,7 +4,7 @@ use Rattle.clap.specs.Words.{App, Row, Text, app_of, is_simple, subcommand_of}
 use Rattle.clap.specs.Faults.{fault_of, is_simple_and_free}
 use Rattle.clap.specs.Kinds.{HasKind}
 use Rattle.chpw_invocation.specs.Program.{program}
-use Rattle.chpw_invocation.specs.Invocations.{AsksFor, IsRefusal}
+use Rattle.chpw_invocation.specs.Invocations.{AimsOld, AsksFor, IsRefusal}
 use Rattle.chpw_invocation.proofs.matching.command_of.Goals as goal
 
 pub returns-in-Some-clause-asked : goal.returns-in-Some-clause-asked
@@ -25,11 +25,20 @@ returns-in_err-matches-clause-refused c =
     subst (λ (a : App). HasKind (fault_of a (map string_bytes c.args.words.now)) c.in_err-matches.field-0.0) is
     (c.in_err-matches.ensures.kinds (ap is_simple_and_free is)) in
     let p = err_from_is_err_and c.from_residual-in_err-matches.result c.from_residual-in_err-matches.ensures.1 in
-    rw p.1 (subst (IsRefusal (fault_of program (map string_bytes c.args.words.now))) (sym p.2) (inl kinds))
+    rw p.1 (subst (IsRefusal (fault_of program (map string_bytes c.args.words.now)) (subcommand_of program (map string_bytes c.args.words.now))) (sym p.2) (inl kinds))
+
+pub returns-in-None-clause-refused : goal.returns-in-None-clause-refused
+returns-in-None-clause-refused c =
+    let is : app_of c.in_ok-program.program ≡ program = c.in_ok-program.ensures.shape in
+    let none : fault_of program (map string_bytes c.args.words.now) ≡ [] =
+    ap (λ (a : App). fault_of a (map string_bytes c.args.words.now)) (sym is) ∙ c.in_ok-matches.ensures.kinds (ap is_simple_and_free is) in
+    let matched = (c.in_ok-matches.ensures.ok.2 (ap is_simple is)).1 ∙ ap (λ (a : App). subcommand_of a (map string_bytes c.args.words.now)) is in
+    let aims : AimsOld (subcommand_of program (map string_bytes c.args.words.now)) = subst AimsOld matched (c.aims_old.ensures.aims c.if-aims_old.true) in
+    inr (none, inl (c.in_ok-error-in-None.ensures.kind, aims))
 
 pub returns-clause-refused : goal.returns-clause-refused
 returns-clause-refused c =
     let is : app_of c.in_ok-program.program ≡ program = c.in_ok-program.ensures.shape in
     let none : fault_of program (map string_bytes c.args.words.now) ≡ [] =
     ap (λ (a : App). fault_of a (map string_bytes c.args.words.now)) (sym is) ∙ c.in_ok-matches.ensures.kinds (ap is_simple_and_free is) in
-    inr (none, c.in_ok-error-in-None.ensures.kind)
+    inr (none, inr c.in_ok-error-in-None-2.ensures.kind)

@@ -1,42 +1,11 @@
-use Rattle.std.proofs.Common.{ℕ, List, refl, sym, ap, subst}
-use Rattle.std.specs.Prelude.{option_map}
+use Rattle.std.proofs.Common.{None, refl}
 use Rattle.std.proofs.lemmas.Result.{IfOk-weaker}
-use Rattle.chpw_frame.specs.ChangeData.{IsChange}
-use Rattle.chpw_answer.specs.Requests.{new_password, bad_data}
-use Rattle.chpw_messages.specs.declared.content.Content.{Content}
-use Rattle.chpw_messages.specs.Opening.{target_in}
+use Rattle.chpw_answer.specs.Requests.{new_password}
 use Rattle.chpw_messages.proofs.content.read_content.Goals as goal
 
-pub returns-in-Ok : goal.returns-in-Ok
-returns-in-Ok c =
-    let change = c.in-Ok.change in
-    let is : IsChange c.args.private.user_bytes change = subst (λ (b : List ℕ). IsChange b change) c.as_slice.ensures.value c.in-Ok.ensures.sound in
-    record {
-      content = IfOk-weaker c.change_content.result _ _
-          (λ h held. (new_password (option_map (target_in c.args.realm.now) change.target) change.password, (refl, (change, is, refl, refl)), held))
-          c.change_content.ensures.held;
-    }
-
-pub returns-in-Err-NotChangeData : goal.returns-in-Err-NotChangeData
-returns-in-Err-NotChangeData c =
-    let none = rw c.in-Err-NotChangeData.field-0-is at c.in-Err-NotChangeData.ensures.complete in
-    let is = c.bare.ensures.value in
-    record {
-      content = (
-        bad_data,
-        (refl, λ change h. none change (subst (λ (b : List ℕ). IsChange b change) (sym c.as_slice.ensures.value) h)),
-        (λ client. ap (λ (h : Content). h.body) is, ap (λ (h : Content). h.password) is, ap (λ (h : Content). h.stamp) is),
-      );
-    }
-
-pub returns-in-Err-RealmWithoutName : goal.returns-in-Err-RealmWithoutName
-returns-in-Err-RealmWithoutName c =
-    let none = rw c.in-Err-RealmWithoutName.field-0-is at c.in-Err-RealmWithoutName.ensures.complete in
-    let is = c.bare-in-Err-RealmWithoutName.ensures.value in
-    record {
-      content = (
-        bad_data,
-        (refl, λ change h. none change (subst (λ (b : List ℕ). IsChange b change) (sym c.as_slice.ensures.value) h)),
-        (λ client. ap (λ (h : Content). h.body) is, ap (λ (h : Content). h.password) is, ap (λ (h : Content). h.stamp) is),
-      );
-    }
+pub returns-then-version-eq-OLD_REQUEST_VERSION : goal.returns-then-version-eq-OLD_REQUEST_VERSION
+returns-then-version-eq-OLD_REQUEST_VERSION c = record {
+  content = IfOk-weaker c.change_content.result _ _
+      (λ h held. (new_password None c.args.private.user_bytes, rw c.if-version-eq-OLD_REQUEST_VERSION.true refl, held))
+      c.change_content.ensures.held;
+}

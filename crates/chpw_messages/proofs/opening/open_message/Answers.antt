@@ -1,14 +1,10 @@
-use Rattle.std.proofs.Common.{Option, refl, sym, ap, ◌∙◌, subst}
+use Rattle.std.proofs.Common.{Option, refl, sym, ap, subst}
 use Rattle.krb_protocol.specs.Refusals.{Refusal}
 use Rattle.chpw_frame.specs.declared.fault.FrameFault.{FrameFault}
 use Rattle.chpw_frame.specs.Faults as frame
 use Rattle.chpw_table.specs.Replies.{by_error}
 use Rattle.chpw_messages.specs.Opening.{OpensFramed, refused_by}
-use Rattle.chpw_messages.proofs.VersionLemmas.{version_taken}
 use Rattle.chpw_messages.proofs.opening.open_message.Goals as goal
-
-pub open_parts-requires : goal.open_parts-requires
-open_parts-requires c = record { version = c.in-Ok.ensures.version ∙ version_taken c.args.message.now c.in-Ok.ensures.none }
 
 pub returns-in-Err-clause-opening : goal.returns-in-Err-clause-opening
 returns-in-Err-clause-opening c = (

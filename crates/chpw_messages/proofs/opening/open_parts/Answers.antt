@@ -1,4 +1,4 @@
-use Rattle.std.proofs.Common.{◌≡◌, ℕ, Ok, Err, refl, sym, ap, subst}
+use Rattle.std.proofs.Common.{◌≡◌, Ok, Err, refl, sym, ap, subst}
 use Rattle.krb_protocol.specs.Refusals.{Refusal}
 use Rattle.krb_msgs.specs.declared.fault.ApFault.{ApFault}
 use Rattle.krb_msgs.specs.Codes as fault
@@ -6,7 +6,7 @@ use Rattle.chpw_table.specs.Replies.{by_error}
 use Rattle.chpw_answer.specs.declared.messages.Seal.{Seal}
 use Rattle.chpw_answer.specs.Requests.{opened}
 use Rattle.chpw_answer.specs.Holding.{IsReplyTime, answer_in}
-use Rattle.chpw_messages.specs.Opening.{IsContent, refused_by, request_of, stamp_in}
+use Rattle.chpw_messages.specs.Opening.{refused_by, request_of, stamp_in}
 use Rattle.chpw_messages.proofs.OpenedLemmas.{reply_times}
 use Rattle.chpw_messages.proofs.opening.open_parts.Goals as goal
 
@@ -28,7 +28,7 @@ returns-in_ok-incoming_of-in-Ok-clause-opening c =
       (
         Ok a,
         c.in-Ok.ensures.opens,
-        (h.0, h.1, (content, subst (λ (v : ℕ). IsContent c.args.realm.now v h.0 content) (sym c.requires.version) h.2.1, refl)),
+        (h.0, h.1, (content, h.2.1, refl)),
       ),
       c.in_ok-incoming_of-in-Ok.ensures.value content (stamp_in h.0) h.2.2,
     )

@@ -5,7 +5,7 @@ use Rattle.krb_der.specs.Values.{change_passwd_data_value}
 use Rattle.krb_der.specs.declared.change_passwd_data.ChangePasswdData.{ChangePasswdData}
 use Rattle.chpw_client.proofs.FittingLemmas.{change_fits}
 use Rattle.chpw_client.specs.Questions.{question_of}
-use Rattle.chpw_client.proofs.records.user_data.Goals as goal
+use Rattle.chpw_client.proofs.records.change_text.Goals as goal
 
 pub write_change_passwd_data-requires : goal.write_change_passwd_data-requires
 write_change_passwd_data-requires c = record {
