@@ -57,17 +57,18 @@ impl<'a> Question<'a> {
         if password.len() > LONGEST_PASSWORD
             || !config.fits()
             || config.service.as_slice().is_empty()
-            || (self.old && target.is_some())
+            || (self.old && self.target.is_some())
         {
             return Err(no_case());
         }
+        let target = if self.old { None } else { lent(&target) };
         let sent = client_request(
             alloc,
             config,
             moment_at(second, micros),
             &client,
             password,
-            lent(&target),
+            target,
             self.initial,
             self.old,
             words,
