@@ -30,15 +30,11 @@ struct Wanted {
 }
 
 impl Wanted {
-    /// The lookups of a pass: fewer in a larger realm, since each takes longer.
+    /// The lookups of a pass.
     fn times(self) -> u32
         ensures positive { 1 ≤ result }
     {
-        if self.counts {
-            1_000
-        } else {
-            (16_000_000 / u32::from(self.principals.max(16))).max(1)
-        }
+        if self.counts { 1_000 } else { 1_000_000 }
     }
 
     /// How long an append sleeps at a time.

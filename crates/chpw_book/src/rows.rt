@@ -1,6 +1,8 @@
 //! The rows that lookups show at first.
 ghost use Rattle.std.specs.Prelude.{◌≡◌, ◌≤◌, ◌<◌, ◌^◌, All, IfOk, OnOk, map, max};
-ghost use Rattle.chpw_versions.specs.Rows.{HasPositive, IsPositive};
+ghost use Rattle.std.specs.List.Sorted.{IsStrictlySortedBy};
+ghost use Rattle.chpw_rules.specs.Names.{name_cmp};
+ghost use Rattle.chpw_versions.specs.Rows.{names_of_rows, HasPositive, IsPositive};
 ghost use Rattle.chpw_book.specs.Publishing.{row_showing, row_under, table_rows};
 
 use chpw_rules::Name;
@@ -23,6 +25,7 @@ pub(crate) fn rows_of(alloc: Global, table: &Table) -> Result<Rows, AllocError>
 fn all_rows(alloc: Global, table: &Table) -> Result<Vec<Row>, AllocError>
     ensures value { IfOk result (λ rows. rows.items
         ≡ map (λ p. row_under table.now.state p.name) table.now.state.principals) }
+    ensures order { IfOk result (λ rows. IsStrictlySortedBy name_cmp (names_of_rows rows.items)) }
     ensures positive { IfOk result (λ rows. All HasPositive rows.items) }
 {
     let mut rows = Vec::new(alloc);

@@ -1,12 +1,18 @@
 -- Principal names (RFC 4120 section 6.2): two names are equal where their components are.
 use Rattle.std.specs.Prelude.{ℕ, Bool, ◌&&◌, ◌==◌, List, length, Option, Some, None, if◌then◌else◌, bytes_eq}
-use Rattle.std.specs.Cmp.Lexicographic.{pointwise}
+use Rattle.std.specs.Cmp.Lexicographic.{pointwise, slice_cmp}
+use Rattle.std.specs.declared.cmp.Ordering.{Ordering}
+use Rattle.std.specs.Ordering.{nat_cmp}
 use Rattle.std.specs.List.{list_all, slice_split}
 use Rattle.chpw_rules.specs.declared.name.Name.{Name}
 use Rattle.chpw_rules.specs.Limits.{is_in, component_counts, component_lengths}
 
 abbrev pub is_same_name : Name → Name → Bool
 is_same_name a b = pointwise bytes_eq a.parts b.parts
+
+-- the order of names: that of their components, each compared as bytes, a prefix first
+abbrev pub name_cmp : Name → Name → Ordering
+name_cmp a b = slice_cmp (slice_cmp nat_cmp) a.parts b.parts
 
 -- a component as long as a configuration takes it
 abbrev pub is_component : List ℕ → Bool

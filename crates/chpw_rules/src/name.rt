@@ -7,8 +7,9 @@ use crate::items::Items;
 use crate::limits::{COMPONENT_COUNTS, COMPONENT_LENGTHS, Limited, all_fit};
 use std::alloc::{AllocError, Global};
 
-/// A principal's name: its components (RFC 4120 section 6.2); the name-type is no part of it.
-#[derive(PartialEq, Drop)]
+/// A principal's name: its components (RFC 4120 section 6.2); the name-type is no part of it. Names
+/// are in the order of their components, each compared as bytes, a prefix first.
+#[derive(PartialEq, Eq, PartialOrd, Ord, Drop)]
 pub struct Name {
     pub parts: Items<Items<u8>>,
 }

@@ -98,6 +98,16 @@ same_missing t s now o a =
     ap (λ (v : Verdict). if reads_keys v then lacking (digest_of o).derived (wanted t (target_of o).name) else []) (same_verdict t s now o false a)
     ∙ ap (λ (ns : List ℕ). if reads_keys (verdict s now o false) then lacking (digest_of o).derived ns else []) (simp (a.principals (target_of o).name, a.fixed, c))
 
+-- what agrees with a state that agrees with another
+pub agrees_onward : (a b c : State) → Agrees a b → Agrees b c → Agrees a c
+agrees_onward a b c p q = record {
+  fixed = p.fixed ∙ q.fixed;
+  principals = λ name. p.principals name ∙ q.principals name;
+  clock = p.clock ∙ q.clock;
+  broken = p.broken ∙ q.broken;
+  ids = λ id h. p.ids id (ap (λ (k : ℤ). is_later k id.ctime) q.clock ∙ h) ∙ q.ids id h;
+}
+
 -- a state agrees with itself
 pub agrees_itself : (s : State) → Agrees s s
 agrees_itself s = record { fixed = refl; principals = λ name. refl; clock = refl; broken = refl; ids = λ id h. refl }
@@ -116,7 +126,8 @@ young_used clock x xs id h ih true e true f =
     apart : (b : Bool) → b ≡ false → b ≡ true → ⊥
     apart b u v = cc
 
-used_swept : (clock : ℤ) (xs : List RequestId) (id : RequestId) → is_later clock id.ctime ≡ false
+-- an id not too old is found alike without those that are
+pub used_swept : (clock : ℤ) (xs : List RequestId) (id : RequestId) → is_later clock id.ctime ≡ false
     → list_any (λ (y : RequestId). is_same_id y id) (filter (λ (y : RequestId). not (is_later clock y.ctime)) xs) ≡ list_any (λ (y : RequestId). is_same_id y id) xs
 used_swept clock [] id h = refl
 used_swept clock (x ∷ xs) id h = young_used clock x xs id h (used_swept clock xs id h) (is_later clock x.ctime) refl (is_same_id x id) refl

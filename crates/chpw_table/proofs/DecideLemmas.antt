@@ -14,7 +14,7 @@ use Rattle.chpw_table.specs.History.{IsDecided, missing}
 use Rattle.chpw_table.specs.Journal.{appended, record_bytes}
 use Rattle.chpw_table.specs.Agreement.{Held, Agrees}
 use Rattle.chpw_table.specs.Refusals.{IsFirst, AsksPositive, IsRefused}
-use Rattle.chpw_table.proofs.AgreementLemmas.{same_verdict, same_missing, same_new_key, agrees_step}
+use Rattle.chpw_table.proofs.AgreementLemmas.{same_verdict, same_missing, same_new_key, agrees_step, agrees_onward}
 
 -- the verdict
 pub decided_for_all : (t s : State) (now : Moment) (o : Opened) (io : Bool) (v : Verdict) → IsDecided t now o io v → Agrees t s → IsDecided s now o io v
@@ -25,8 +25,8 @@ decided_for_all t s now o io v d a = record {
 }
 
 -- the state after
-pub stepped_for_all : (t u s : State) (now : Moment) (o : Opened) (io : Bool) → u ≡ step t now o io → Agrees t s → Agrees u (step s now o io)
-stepped_for_all t u s now o io e a = subst (λ (w : State). Agrees w (step s now o io)) (sym e) (agrees_step t s now o io a)
+pub stepped_for_all : (t u s : State) (now : Moment) (o : Opened) (io : Bool) → Agrees u (step t now o io) → Agrees t s → Agrees u (step s now o io)
+stepped_for_all t u s now o io e a = agrees_onward u (step t now o io) (step s now o io) e (agrees_step t s now o io a)
 
 -- what is appended
 pub same_appended : (t s : State) (o : Opened) (v : Verdict) → Agrees t s → appended t o v ≡ appended s o v

@@ -8,7 +8,7 @@ use Rattle.chpw_rules.specs.declared.policy.Policy.{Policy}
 use Rattle.chpw_rules.specs.declared.config.Config.{Config}
 use Rattle.chpw_rules.specs.declared.config.KeyBytes.{KeyBytes}
 use Rattle.chpw_rules.specs.declared.config.PrincipalRow.{PrincipalRow}
-use Rattle.chpw_rules.specs.Limits.{is_in, depths, entry_counts, key_counts, iteration_counts}
+use Rattle.chpw_rules.specs.Limits.{is_in, depths, entry_counts, key_counts, iteration_counts, principal_counts}
 use Rattle.chpw_rules.specs.Names.{is_same_name}
 use Rattle.chpw_rules.specs.Fitting.{config_fits, principal_fits, principals_fit, policy_fits, key_fits, are_distinct, none_again}
 use Rattle.chpw_rules.specs.Fitting as rules
@@ -19,7 +19,7 @@ use Rattle.chpw_table.specs.declared.key.KeyRow.{KeyRow}
 use Rattle.chpw_table.specs.declared.table.Principal.{Principal}
 use Rattle.chpw_table.specs.State.{State, key_row_of, opening_principal, keys_held, kept_count}
 use Rattle.chpw_table.specs.Step.{with_key, new_key}
-use Rattle.chpw_table.specs.Holding.{is_count_in_range, is_holder, is_same_principal, are_holders}
+use Rattle.chpw_table.specs.Holding.{is_count_in_range, is_holder, is_same_principal, hold_keys, are_in_order, names, are_holders}
 use Rattle.chpw_table.proofs.BoolLemmas.{and_left, and_right, both}
 
 -- ---- lists whose elements all pass
@@ -103,10 +103,14 @@ opening_holder kept a b row h =
     (all-map key_fits is_count_in_range key_row_of count_in_range (take kept row.keys) (all-take key_fits kept row.keys keys)))
 
 -- the principals of an opening
-pub opening_holders : (kept : ℕ) → 1 ≤ kept → kept ≤ 16 → (rows : List PrincipalRow) → principals_fit rows ≡ true → are_holders (map (opening_principal kept) rows) ≡ true
-opening_holders kept a b rows h =
+pub opening_hold : (kept : ℕ) → 1 ≤ kept → kept ≤ 16 → (rows : List PrincipalRow) → principals_fit rows ≡ true → hold_keys (map (opening_principal kept) rows) ≡ true
+opening_hold kept a b rows h =
     both (all-map principal_fits is_holder (opening_principal kept) (opening_holder kept a b) rows (and_right _ _ (and_left _ _ h)))
     (are_distinct-map rules.is_same_principal is_same_principal (opening_principal kept) (λ x y. refl) rows ∙ and_right _ _ h)
+
+-- are as many as the configuration's
+pub opening_few : (kept : ℕ) (rows : List PrincipalRow) → principals_fit rows ≡ true → is_in principal_counts (length (map (opening_principal kept) rows)) ≡ true
+opening_few kept rows h = ap (λ n. is_in principal_counts n) (length-map (opening_principal kept) rows) ∙ and_left _ _ (and_left _ _ h)
 
 -- ---- what is held
 
@@ -120,7 +124,7 @@ keys_of_holder (Some p) h = (and_left _ _ (and_right _ _ h), and_right _ _ (and_
 
 -- the keys of a name
 pub held : (s : State) (name : Name) → are_holders s.principals ≡ true → IfSome (keys_held s name) AreHeld
-held s name h = keys_of_holder (find (λ (p : Principal). is_same_name p.name name) s.principals) (find-all is_holder (λ (p : Principal). is_same_name p.name name) s.principals (and_left _ _ h))
+held s name h = keys_of_holder (find (λ (p : Principal). is_same_name p.name name) s.principals) (find-all is_holder (λ (p : Principal). is_same_name p.name name) s.principals (and_left _ _ (and_left _ _ h)))
 
 -- a weaker fact of what is there
 pub IfSome-weaker : {A : Type 0} (P Q : A → Type 0) → ((x : A) → P x → Q x) → (o : Option A) → IfSome o P → IfSome o Q
@@ -150,11 +154,18 @@ same_name kept name key p = at (is_same_name p.name name)
 same_principal : (kept : ℕ) (name : Name) (key : KeyRow) (x y : Principal) → is_same_principal (with_key kept name key x) (with_key kept name key y) ≡ is_same_principal x y
 same_principal kept name key x y = ap (λ n. is_same_name n (with_key kept name key y).name) (same_name kept name key x) ∙ ap (λ n. is_same_name x.name n) (same_name kept name key y)
 
+same_names : (kept : ℕ) (name : Name) (key : KeyRow) (ps : List Principal) → names (map (with_key kept name key) ps) ≡ names ps
+same_names kept name key [] = refl
+same_names kept name key (p ∷ ps) = ap (λ n. n ∷ names (map (with_key kept name key) ps)) (same_name kept name key p) ∙ ap (λ ns. p.name ∷ ns) (same_names kept name key ps)
+
 -- the principals after a change
 pub new_holders : (kept : ℕ) (name : Name) (key : KeyRow) → 1 ≤ kept → kept ≤ 16 → is_count_in_range key ≡ true → (ps : List Principal) → are_holders ps ≡ true → are_holders (map (with_key kept name key) ps) ≡ true
 new_holders kept name key a b k ps h =
-    both (all-map is_holder is_holder (with_key kept name key) (new_holder kept name key a b k) ps (and_left _ _ h))
-    (are_distinct-map is_same_principal is_same_principal (with_key kept name key) (same_principal kept name key) ps ∙ and_right _ _ h)
+    let hold = and_left _ _ h in
+    both (both (all-map is_holder is_holder (with_key kept name key) (new_holder kept name key a b k) ps (and_left _ _ hold))
+    (are_distinct-map is_same_principal is_same_principal (with_key kept name key) (same_principal kept name key) ps ∙ and_right _ _ hold))
+    (both (ap are_in_order (same_names kept name key ps) ∙ and_left _ _ (and_right _ _ h))
+    (ap (λ n. is_in principal_counts n) (length-map (with_key kept name key) ps) ∙ and_right _ _ (and_right _ _ h)))
 
 -- ---- for answers
 

@@ -21,3 +21,7 @@ pub mod AppendLemmas
 pub mod DecideLemmas
 pub mod WorkedEdges
 pub mod RestoringLemmas
+pub mod OrderLemmas
+pub mod SortingLemmas
+pub mod HeldIdLemmas
+pub mod SendLemmas

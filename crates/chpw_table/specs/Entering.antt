@@ -1,5 +1,6 @@
 -- For the proofs of a step: what a table becomes at an event, part by part.
-use Rattle.std.specs.Prelude.{◌≡◌, ℕ, zero, suc, ◌+◌, List, [], ◌∷◌, ◌++◌, ◌<◌, length, map, take, Some, Bool, true, ◌&&◌, if◌then◌else◌}
+use Rattle.std.specs.Prelude.{◌≡◌, ℕ, zero, suc, ◌+◌, ℤ, List, [], ◌∷◌, ◌<◌, length, map, take, Some, Bool, true, ◌&&◌, if◌then◌else◌}
+use Rattle.ordered_keys.specs.Trees.{with_first}
 use Rattle.chpw_rules.specs.declared.name.Name.{Name}
 use Rattle.chpw_rules.specs.Names.{is_name}
 use Rattle.chpw_table.specs.declared.times.Moment.{Moment}
@@ -10,10 +11,12 @@ use Rattle.chpw_table.specs.declared.verdict.Verdict.TheVariants.{Broken, Done}
 use Rattle.chpw_table.specs.declared.key.KeyRow.{KeyRow}
 use Rattle.chpw_table.specs.declared.table.Principal.{Principal}
 use Rattle.chpw_table.specs.State.{State, keys_held}
-use Rattle.chpw_table.specs.Verdicts.{is_done}
+use Rattle.chpw_table.specs.Requests.{id_of}
+use Rattle.chpw_table.specs.Verdicts.{adds_id, is_done}
 use Rattle.chpw_table.specs.Times.{clock_at}
 use Rattle.chpw_table.specs.Step.{after, with_key}
 use Rattle.chpw_table.specs.Agreement.{Held}
+use Rattle.chpw_table.specs.Holding.{id_cmp, young_ids}
 
 -- Done becomes Broken where the append failed
 abbrev pub with_append : Bool → Verdict → Verdict
@@ -36,19 +39,27 @@ pub record IsAt (s : State) (name : Name) (n : ℕ) (p : Principal) : Type 0 whe
   pub fits : is_name name ≡ true
   pub change : (kept : ℕ) (key : KeyRow) → map (with_key kept name key) s.principals ≡ with_keys_at n (take kept (key ∷ p.keys)) s.principals
 
+-- the ids held at a clock, once one more is used
+abbrev pub held_after : ℤ → List RequestId → List RequestId → List RequestId
+held_after clock used ids = young_ids clock (with_first id_cmp used ids)
+
 -- one event more, which uses these ids, and the clock moved on
 abbrev pub with_event : Moment → List RequestId → Held → Held
-with_event now ids t = record t { state = record t.state { used = t.state.used ++ ids; clock = clock_at t.state now }; events = t.events + 1 }
+with_event now ids t = record t { state = record t.state { used = held_after (clock_at t.state now) t.state.used ids; clock = clock_at t.state now }; events = t.events + 1 }
 
 -- the journal is broken
 abbrev pub with_broken : Held → Held
 with_broken t = record t { state = record t.state { broken = true } }
 
+-- what a verdict leaves of what a table holds: the same as of a state, but for ids too old to be judged
+abbrev pub held_state : Verdict → State → Moment → Opened → Bool → State
+held_state v s now o io = record (after v s now o io) { used = held_after (clock_at s now) s.used (if adds_id v then id_of o ∷ [] else []) }
+
 -- what a row does, whose append may fail
 pub record IsEntered (before later : Held) (now : Moment) (o : Opened) (row v : Verdict) (io : Bool) : Type 0 where
   pub verdict_is : v ≡ with_append io row
   pub append : io ≡ true → row ≡ Done
-  pub state : later.state ≡ after v before.state now o io
+  pub state : later.state ≡ held_state v before.state now o io
   pub events : later.events ≡ before.events + 1
   pub seen : later.seen ≡ (if is_done v then before.seen + 1 else before.seen)
   pub max_entries : later.max_entries ≡ before.max_entries

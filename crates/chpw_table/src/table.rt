@@ -1,11 +1,17 @@
 //! The table: the principals with their keys, and the ids used.
-ghost use Rattle.std.specs.Prelude.{◌≡◌, ◌≤◌, ◌<◌, length, All, MatchBool, IfOk, IfSome, Some, true, find, max, map, option_copied, option_map, slice_get};
+ghost use Rattle.std.specs.Prelude.{◌≡◌, ◌≤◌, ◌<◌, ◌&&◌, not, length, All, MatchBool, IfOk, IfSome, Some, true, find, max, map, position, option_copied, option_map, slice_get};
+ghost use Rattle.std.specs.List.{IsDistinct};
+ghost use Rattle.std.specs.List.Sorted.{IsStrictlySortedBy};
+ghost use Rattle.chpw_rules.specs.Names.{is_same_name, name_cmp};
 ghost use Rattle.chpw_rules.specs.Limits.{entry_counts};
 ghost use Rattle.chpw_rules.specs.Fitting.{config_fits};
 ghost use Rattle.chpw_table.specs.Agreement.{Agrees};
-ghost use Rattle.chpw_table.specs.State.{opening_of, keys_held};
+ghost use Rattle.chpw_table.specs.State.{State, opening_of, keys_held, is_used};
+ghost use Rattle.chpw_table.specs.Requests.{is_same_id};
+ghost use Rattle.chpw_table.specs.Times.{is_later};
 ghost use Rattle.chpw_table.specs.Holding.{StandsAt};
 ghost use Rattle.chpw_table.specs.Lookups.{lookup_of, lookup_with, StandsOnce};
+ghost use Rattle.chpw_table.specs.declared.request.RequestId.{RequestId};
 
 mod changing;
 mod decision;
@@ -20,11 +26,11 @@ use crate::counts::Counts;
 use crate::key::{KeyRow, counts_of, kvno_of};
 use crate::request::RequestId;
 use chpw_rules::{Config, Items, Name, Policy, Rules};
-use opening::opening_principals;
+use opening::opening_table;
+use ordered_keys::{KeyTree, Keyed};
 pub use preparing::{Prepared, RowChange};
 pub use restoring::KeyFault;
 use std::alloc::{AllocError, Global};
-use std::collections::LinkedList;
 use std::marker::Model;
 
 /// A principal and its keys, newest first.
@@ -47,10 +53,19 @@ pub struct Lookup {
     pub seen: u32,
 }
 
-/// The principals in the order of the configuration, and the used ids in the order of use.
+// Principals stand in the order of their names.
+impl Keyed<Name> for Principal {
+    ghost key_of = { λ p. p.name };
+
+    fn key(&self) -> &Name {
+        &self.name
+    }
+}
+
+/// The principals in the order of their names, and the used ids in the order of their times.
 ///
 /// Contracts see a table as a `Held`: a state, how many events were decided, how many changes
-/// accepted, and how many events there may be. A table may forget ids that are too old to be judged
+/// accepted, and how many events there may be. A table forgets ids that are too old to be judged
 /// again; so its contracts speak of each state that it agrees with (`Agrees`), in which all used
 /// ids may stand.
 #[derive(Drop)]
@@ -60,9 +75,8 @@ pub struct Table {
     rules: Rules,
     quiet_until: i64,
     principals: Vec<Principal>,
-    used: Vec<RequestId>,
-    // The newest used ids, in memory that came with them; a later growth puts them behind the others.
-    fresh: LinkedList<RequestId>,
+    // In memory that came with each of them.
+    used: KeyTree<RequestId>,
     clock: i64,
     broken: bool,
     events: u32,
@@ -71,12 +85,13 @@ pub struct Table {
 }
 
 impl Model for Table {
-    ghost use Rattle.std.specs.Prelude.{◌≤◌, ◌++◌, length, IsTrue};
+    ghost use Rattle.std.specs.Prelude.{◌≡◌, ◌≤◌, ◌+◌, length, IsTrue};
+    ghost use Rattle.std.specs.List.Sorted.{IsStrictlySortedBy};
     ghost use Rattle.chpw_rules.specs.Limits.{is_in, entry_counts};
     ghost use Rattle.chpw_rules.specs.Fitting.{policy_fits};
     ghost use Rattle.chpw_table.specs.Times.{IsTime};
     ghost use Rattle.chpw_table.specs.Agreement.{Held};
-    ghost use Rattle.chpw_table.specs.Holding.{are_holders};
+    ghost use Rattle.chpw_table.specs.Holding.{are_holders, id_cmp, young_ids};
 
     ghost Value = { Held };
 
@@ -89,7 +104,7 @@ impl Model for Table {
           quiet_until = t.quiet_until;
         };
         principals = t.principals.items;
-        used = t.used.items ++ t.fresh;
+        used = t.used;
         clock = t.clock;
         broken = t.broken;
       };
@@ -101,7 +116,8 @@ impl Model for Table {
     ghost invariant = { λ t. (t.seen ≤ t.events) × (t.events ≤ t.max_entries)
         × IsTrue (is_in entry_counts t.max_entries) × IsTime t.clock
         × IsTrue (policy_fits t.policy) × IsTrue (are_holders t.principals.items)
-        × (length t.fresh ≤ t.events) };
+        × (length t.used ≤ t.events + 2147483648) × IsStrictlySortedBy id_cmp t.used
+        × (young_ids t.clock t.used ≡ t.used) };
 }
 
 impl Table {
@@ -116,15 +132,14 @@ impl Table {
             × (t.max_entries ≡ config.max_entries)) }
     {
         let kept = kept_by(config.policy);
-        let principals = opening_principals(alloc, config.principals.into_vec(), kept)?;
+        let principals = opening_table(alloc, config.principals.into_vec(), kept)?;
         Ok(Table {
             realm: config.realm,
             policy: config.policy,
             rules: config.rules,
             quiet_until,
             principals,
-            used: Vec::new(alloc),
-            fresh: LinkedList::new(alloc),
+            used: KeyTree::new(),
             clock: 0,
             broken: false,
             events: 0,
@@ -151,12 +166,13 @@ impl Table {
         self.seen
     }
 
-    /// The name of the principal at this place, from 0 in the table's order; none from their number
-    /// on. No name stands at two places.
+    /// The name of the principal at this place, from 0 in the order of the names; none from their
+    /// number on. No name stands at two places.
     pub fn name_at(&self, place: u32) -> Option<&Name>
         ensures value { option_copied result
             ≡ slice_get (map (λ p. p.name) self.now.state.principals) place }
         ensures once { IfSome result (λ name. StandsOnce self.now.state name.now place) }
+        ensures order { IsStrictlySortedBy name_cmp (map (λ p. p.name) self.now.state.principals) }
     {
         self.principal_at(place).map(|p| &p.name)
     }
@@ -167,6 +183,7 @@ impl Table {
             ≡ slice_get (map (λ p. p.name) self.now.state.principals) place }
         ensures value { IfSome result (λ row. lookup_of self.now row.0.now ≡ Some row.1) }
         ensures positive { IfSome result (λ row. (1 ≤ row.1.policy) × All (λ n. 1 ≤ n) row.1.held) }
+        ensures order { IsStrictlySortedBy name_cmp (map (λ p. p.name) self.now.state.principals) }
     {
         match self.principal_at(place) {
             None => None,
@@ -177,6 +194,7 @@ impl Table {
     fn principal_at(&self, place: u32) -> Option<&Principal>
         ensures value { option_copied result ≡ slice_get self.now.state.principals place }
         ensures stands { IfSome result (λ p. StandsAt self.now.state place p.now) }
+        ensures order { IsStrictlySortedBy name_cmp (map (λ p. p.name) self.now.state.principals) }
     {
         // A field is read, so that the type's invariant is known here.
         let _ = &self.principals;
@@ -187,6 +205,32 @@ impl Table {
         ensures value { option_copied result ≡ slice_get self.now.state.principals place }
     {
         self.principals.get(place as usize)
+    }
+
+    /// The place of a name among the principals, which are in the order of their names, from 0; none
+    /// for an unknown one. `name_at` gives the name back.
+    pub fn number_of(&self, name: &Name) -> Option<u32>
+        ensures value { result
+            ≡ position (λ p. is_same_name p.name name.now) self.now.state.principals }
+        ensures named { IfSome result (λ number.
+            slice_get (map (λ p. p.name) self.now.state.principals) number ≡ Some name.now) }
+    {
+        // A field is read, so that the type's invariant is known here.
+        let _ = &self.principals;
+        match self.place_of(name) {
+            None => None,
+            Some(place) => Some(place as u32),
+        }
+    }
+
+    /// How many ids are held: the used ones that are not too old to be judged, each once.
+    pub fn ids_held(&self) -> u32
+        ensures value { result ≡ length self.now.state.used }
+        ensures once { IsDistinct is_same_id self.now.state.used }
+        ensures held { (s : State) → Agrees self.now.state s → (id : RequestId)
+            → is_used self.now.state id ≡ (is_used s id && not (is_later s.clock id.ctime)) }
+    {
+        self.used.len() as u32
     }
 
     /// Its policy. The depth is at most 16, and the iteration count of new keys at least 1.
@@ -240,10 +284,12 @@ impl Table {
     fn find_keys(&self, name: &Name) -> Option<&[KeyRow]>
         ensures value { option_copied result ≡ keys_held self.now.state name.now }
     {
-        self.principals
-            .iter()
-            .find(|p| p.name.is_same(name))
-            .map(|p| p.keys.as_slice())
+        // A field is read, so that the type's invariant is known here.
+        let _ = &self.principals;
+        match self.find(name) {
+            None => None,
+            Some((_, principal)) => Some(principal.keys.as_slice()),
+        }
     }
 }
 

@@ -5,5 +5,7 @@ mod copies;
 mod counts;
 mod decisions;
 mod digests;
+mod ids;
+mod order;
 pub(crate) mod realm;
 mod records;

@@ -1,6 +1,6 @@
 -- What a change does to the rows, and what they show.
 use Rattle.std.proofs.Common.{◌≡◌, ℕ, zero, suc, ◌<◌, ◌≤◌, List, [], ◌∷◌, ◌++◌, map, length, get_or, set, Bool, true, false, cond, if◌then◌else◌, Option, Some, None, find, nat_lt, refl, sym, ◌∙◌, ap, subst, arith}
-use Rattle.std.specs.Prelude.{option_map, position, IfSome, All}
+use Rattle.std.specs.Prelude.{option_map, position, slice_get, IfSome, All}
 use Rattle.std.specs.List.{position_or_len}
 use Rattle.std.proofs.lemmas.Bool.Decides.{nat_tests}
 use Rattle.std.proofs.lemmas.Option.{none-some, slice_get_past}
@@ -37,6 +37,12 @@ pub names_changed : (kept : ℕ) (c : NumberedChange) (n : ℕ) (rows : List Row
 names_changed kept c n [] = refl
 names_changed kept c zero (r ∷ rs) = refl
 names_changed kept c (suc n) (r ∷ rs) = ap (λ ns. r.name ∷ ns) (names_changed kept c n rs)
+
+-- and so does their number
+pub length_changed : (kept : ℕ) (c : NumberedChange) (n : ℕ) (rows : List Row) → length (changed_at kept c n rows) ≡ length rows
+length_changed kept c n [] = refl
+length_changed kept c zero (r ∷ rs) = refl
+length_changed kept c (suc n) (r ∷ rs) = ap suc (length_changed kept c n rs)
 
 -- a change of this name
 abbrev pub change_for : Name → NumberedChange → KeyChange
@@ -111,16 +117,28 @@ named_change opening rows name c e found =
     let is : name_at opening.principals c.number ≡ name = at_number opening.principals name c.number number in
     (subst (λ m. IsNumberOf (names_of opening) m c.number) (sym is) number, ap (λ m. change_for m c) is)
 
+-- what is found stands at the first place, if there is one
+pub find_placed : (is_it : Row → Bool) (rows : List Row) (n : ℕ) → position is_it rows ≡ Some n → find is_it rows ≡ slice_get rows n
+find_placed is_it rows n = at (nat_lt (position_or_len is_it rows) (length rows))
+  where
+    at : (b : Bool) → cond b (Some (position_or_len is_it rows)) None ≡ Some n → find is_it rows ≡ slice_get rows n
+    at true e = let same : position_or_len is_it rows ≡ n = cc in find_at is_it rows ∙ ap (slice_get rows) same
+    at false e = absurd (cc)
+
+pub find_unplaced : (is_it : Row → Bool) (rows : List Row) → position is_it rows ≡ None → find is_it rows ≡ None
+find_unplaced is_it rows = at (nat_lt (position_or_len is_it rows) (length rows)) refl
+  where
+    at : (b : Bool) → nat_lt (position_or_len is_it rows) (length rows) ≡ b → cond b (Some (position_or_len is_it rows)) None ≡ None → find is_it rows ≡ None
+    at true e k = absurd (cc)
+    at false e k =
+        let past : length rows ≤ position_or_len is_it rows = grind (arith, nat_tests) in
+        find_at is_it rows ∙ slice_get_past rows (position_or_len is_it rows) past
+
 -- a name that the rows show has a number
 pub has_number : (rows : List Row) (name : Name) (row : Shown) → shown_in rows name ≡ Some row → position (λ (r : Row). is_same_name r.name name) rows ≡ None → ⊥
-has_number rows name row h none = at (nat_lt (position_or_len (λ (r : Row). is_same_name r.name name) rows) (length rows)) refl none
-  where
-    at : (b : Bool) → nat_lt (position_or_len (λ (r : Row). is_same_name r.name name) rows) (length rows) ≡ b → cond b (Some (position_or_len (λ (r : Row). is_same_name r.name name) rows)) None ≡ None → ⊥
-    at true e k = cc
-    at false e k =
-        let past : length rows ≤ position_or_len (λ (r : Row). is_same_name r.name name) rows = grind (arith, nat_tests) in
-        let missing : find (λ (r : Row). is_same_name r.name name) rows ≡ None = find_at (λ (r : Row). is_same_name r.name name) rows ∙ slice_get_past rows (position_or_len (λ (r : Row). is_same_name r.name name) rows) past in
-        none-some row (sym (ap (λ (o : Option Row). option_map row_shown o) missing) ∙ h)
+has_number rows name row h none =
+    let missing = find_unplaced (λ (r : Row). is_same_name r.name name) rows none in
+    none-some row (sym (ap (λ (o : Option Row). option_map row_shown o) missing) ∙ h)
 
 -- one change more
 pub shown_more : (opening : State) (list : List KeyChange) (c : KeyChange) (name : Name) → shown opening (list ++ c ∷ []) name ≡ (if is_same_name c.name name then option_map (with_change (kept_count opening) c) (shown opening list name) else shown opening list name)

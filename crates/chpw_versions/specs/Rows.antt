@@ -1,4 +1,4 @@
--- The published rows, a row for each principal in the opening's order, and what they show.
+-- The published rows, a row for each principal in the order of their names, and what they show.
 use Rattle.std.specs.Prelude.{◌≡◌, ℕ, ◌+◌, ◌%◌, ◌<◌, ◌≤◌, zero, suc, List, [], ◌∷◌, Option, option_map, find, map, take, length, All}
 use Rattle.chpw_rules.specs.declared.name.Name.{Name}
 use Rattle.chpw_rules.specs.Names.{is_same_name}

@@ -1,11 +1,13 @@
 //! The published rows.
-ghost use Rattle.std.specs.Prelude.{◌≡◌, ◌≤◌, ◌∷◌, All, IfSome, take, find, position, option_map, option_copied};
-ghost use Rattle.chpw_rules.specs.Names.{is_same_name};
-ghost use Rattle.chpw_versions.specs.Rows.{changed_at, changed_row, rows_after, row_shown, shown_in, lookup_with, IsPositive};
+ghost use Rattle.std.specs.Prelude.{◌≡◌, ◌≤◌, ◌∷◌, All, IfSome, take, find, position, option_map, option_copied, slice_get};
+ghost use Rattle.std.specs.List.Sorted.{IsStrictlySortedBy};
+ghost use Rattle.chpw_rules.specs.Names.{is_same_name, name_cmp};
+ghost use Rattle.chpw_versions.specs.Rows.{changed_at, changed_row, rows_after, row_shown, shown_in, lookup_with, names_of_rows, IsPositive};
 
 use chpw_fronts::NumberedChange;
 use chpw_rules::Name;
 use chpw_table::{Counts, Lookup, newest};
+use ordered_keys::{Keyed, place_of};
 use std::marker::Model;
 
 /// What is published of a principal. Its size is fixed, so that a change takes no memory.
@@ -18,7 +20,16 @@ pub struct Row {
     pub counts: Counts,
 }
 
-/// A row for each principal, in the opening's order. Contracts see the rows, how many counts of a
+// Rows stand in the order of their names.
+impl Keyed<Name> for Row {
+    ghost key_of = { λ r. r.name };
+
+    fn key(&self) -> &Name {
+        &self.name
+    }
+}
+
+/// A row for each principal, in the order of their names. Contracts see the rows, how many counts of a
 /// principal are kept, the count of new keys, and how many changes were accepted so far.
 #[derive(Drop)]
 pub struct Rows {
@@ -30,7 +41,9 @@ pub struct Rows {
 
 impl Model for Rows {
     ghost use Rattle.std.specs.Prelude.{◌≤◌};
-    ghost use Rattle.chpw_versions.specs.Rows.{Rowed};
+    ghost use Rattle.std.specs.List.Sorted.{IsStrictlySortedBy};
+    ghost use Rattle.chpw_rules.specs.Names.{name_cmp};
+    ghost use Rattle.chpw_versions.specs.Rows.{Rowed, names_of_rows};
 
     ghost Value = { Rowed };
 
@@ -41,13 +54,15 @@ impl Model for Rows {
       seen = r.seen;
     } };
 
-    ghost invariant = { λ r. (1 ≤ r.kept) × (r.kept ≤ 16) };
+    ghost invariant = { λ r. (1 ≤ r.kept) × (r.kept ≤ 16)
+        × IsStrictlySortedBy name_cmp (names_of_rows r.rows.items) };
 }
 
 impl Rows {
-    /// These rows. Of each principal the newest counts are kept, 1 to 16 of them; `policy` is the count
+    /// These rows, which stand in the order of their names. Of each principal the newest counts are kept, 1 to 16 of them; `policy` is the count
     /// of new keys, and `seen` how many changes were accepted so far.
     pub fn of(rows: Vec<Row>, kept: u8, policy: u32, seen: u32) -> Rows
+        requires order { IsStrictlySortedBy name_cmp (names_of_rows rows.items) }
         requires kept { (1 ≤ kept) × (kept ≤ 16) }
         ensures value { result
             ≡ record { rows = rows.items; kept = kept; policy = policy; seen = seen } }
@@ -74,7 +89,9 @@ impl Rows {
     pub(crate) fn number_of(&self, name: &Name) -> Option<usize>
         ensures value { result ≡ position (λ r. is_same_name r.name name.now) self.now.rows }
     {
-        self.rows.iter().position(|r| r.name.is_same(name))
+        // A field is read, so that the type's invariant is known here.
+        let _ = &self.rows;
+        place_of(self.rows.as_slice(), name)
     }
 
     /// What the rows show of a name; none for an unknown one.
@@ -94,7 +111,16 @@ impl Rows {
         ensures value { option_copied result
             ≡ find (λ r. is_same_name r.name name.now) self.now.rows }
     {
-        self.rows.iter().find(|r| r.name.is_same(name))
+        match self.number_of(name) {
+            None => None,
+            Some(place) => self.row_at(place),
+        }
+    }
+
+    fn row_at(&self, place: usize) -> Option<&Row>
+        ensures value { option_copied result ≡ slice_get self.now.rows place }
+    {
+        self.rows.get(place)
     }
 }
 

@@ -2,3 +2,4 @@ mod DepthLemmas
 pub mod OrderLemmas
 mod PutLemmas
 mod RowLemmas
+pub mod SendLemmas

@@ -99,7 +99,7 @@ fn run_at<
 {
     let sink = MemorySink::new(alloc, ROOM)?;
     let (desk, mut passes) = Desk::<D, MemorySink>::start(rt, alloc, unnamed, sink)?;
-    let shared = &desk;
+    let (time, listener, terms, shared) = (site.time, site.listener, site.terms, &desk);
     let (pool, ()) = join(
         rt,
         || {
@@ -107,12 +107,12 @@ fn run_at<
             run_pool_by(
                 rt,
                 alloc,
-                site.time,
-                site.listener,
+                time,
+                listener,
                 service,
                 shared,
                 &mut passes,
-                site.terms,
+                terms,
             )
         },
         || clients.ask(rt, alloc, site.port),

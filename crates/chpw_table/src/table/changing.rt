@@ -16,6 +16,7 @@ use crate::journal::record_bytes;
 use crate::key::{KeyRow, kvno_of, newest};
 use crate::request::Opened;
 use chpw_rules::{Items, Name};
+use ordered_keys::place_of;
 use std::alloc::{AllocError, Global};
 
 // A change with all its memory at hand.
@@ -102,11 +103,14 @@ impl Table {
         }
     }
 
-    fn place_of(&self, name: &Name) -> Option<usize>
+    // Names are in order, so it is found by halves.
+    pub(super) fn place_of(&self, name: &Name) -> Option<usize>
         ensures value { result
             ≡ position (λ p. is_same_name p.name name.now) self.now.state.principals }
     {
-        self.principals.iter().position(|p| p.name.is_same(name))
+        // A field is read, so that the type's invariant is known here.
+        let _ = &self.principals;
+        place_of(self.principals.as_slice(), name)
     }
 }
 

@@ -1,59 +1,28 @@
 //! The table that the next history opens with.
-ghost use Rattle.std.specs.Prelude.{◌≡◌, ◌++◌, IfOk};
+ghost use Rattle.std.specs.Prelude.{◌≡◌, ◌<◌, ◌^◌, IfOk, OnErr, length};
 
 use super::Table;
-use crate::request::RequestId;
 use std::alloc::AllocError;
-use std::collections::LinkedList;
+
+// So many ids may be carried on, some 400 GB of them: their number, with those of a whole history, is to
+// be a `u32`.
+const MOST_CARRIED: usize = 0x8000_0000;
 
 impl Table {
     /// The table as a further history opens with it: all that it holds stays, its used ids and its
-    /// clock too, and its events and changes are counted from 0 again.
+    /// clock too, and its events and changes are counted from 0 again. Refused where more than 2^31 ids
+    /// are held, as memory is that they would take.
     pub fn reopened(self) -> Result<Table, AllocError>
         ensures value { IfOk result (λ t. t ≡ record self { events = 0; seen = 0 }) }
+        ensures refused { OnErr result (2 ^ 31 < length self.state.used) }
     {
-        let Table {
-            realm,
-            policy,
-            rules,
-            quiet_until,
-            principals,
-            used,
-            fresh,
-            clock,
-            broken,
-            events: _,
-            seen: _,
-            max_entries,
-        } = self;
-        let alloc = *principals.allocator();
+        if self.used.len() > MOST_CARRIED {
+            return Err(AllocError);
+        }
         Ok(Table {
-            realm,
-            policy,
-            rules,
-            quiet_until,
-            principals,
-            used: gathered(used, fresh)?,
-            fresh: LinkedList::new(alloc),
-            clock,
-            broken,
             events: 0,
             seen: 0,
-            max_entries,
+            ..self
         })
     }
-}
-
-// The fresh ids behind the others that are used.
-fn gathered(
-    used: Vec<RequestId>,
-    fresh: LinkedList<RequestId>,
-) -> Result<Vec<RequestId>, AllocError>
-    ensures value { IfOk result (λ ids. ids.items ≡ used.items ++ fresh) }
-{
-    let mut ids = used;
-    for id in fresh {
-        ids.push(id)?;
-    }
-    Ok(ids)
 }

@@ -1,24 +1,26 @@
 //! One step of the machine.
-ghost use Rattle.std.specs.Prelude.{[], ◌≡◌, ◌||◌, ◌&&◌, ◌+◌, ◌-◌, ◌^◌, ◌<◌, ◌≤◌, ◌++◌, IfOk, IfErr, OnOk, OnErr, if◌then◌else◌, true, false, option_map, length};
+ghost use Rattle.std.specs.Prelude.{[], ◌≡◌, ◌≢◌, ◌||◌, ◌&&◌, ◌+◌, ◌-◌, ◌^◌, ◌<◌, ◌≤◌, ◌++◌, IfOk, IfErr, OnOk, OnErr, if◌then◌else◌, true, false, option_map, length};
 ghost use Rattle.chpw_rules.specs.Limits.{entry_counts};
 ghost use Rattle.chpw_table.specs.declared.verdict.Verdict.TheVariants.{Broken, Done};
 ghost use Rattle.chpw_table.specs.Verdicts.{is_done};
 ghost use Rattle.chpw_table.specs.Times.{IsMoment};
 ghost use Rattle.chpw_table.specs.Journal.{appended};
+ghost use Rattle.chpw_table.specs.Agreement.{Agrees};
 ghost use Rattle.chpw_table.specs.Outcomes.{Steps, Writes};
 ghost use Rattle.chpw_table.specs.Refusals.{IsRefused};
-ghost use Rattle.chpw_table.specs.Holding.{are_holders};
+ghost use Rattle.std.specs.List.Sorted.{IsStrictlySortedBy};
+ghost use Rattle.chpw_table.specs.Holding.{are_holders, id_cmp, young_ids, is_first_old};
 ghost use Rattle.chpw_table.specs.Preparing.{IsReady};
-ghost use Rattle.chpw_table.specs.Entering.{IsEntered, with_append, with_event, with_broken, with_keys_at, with_change_at};
+ghost use Rattle.chpw_table.specs.Entering.{IsEntered, with_append, with_event, with_broken, with_keys_at, with_change_at, held_after};
 
 use super::changing::{Change, put_keys};
 use super::{Prepared, Table};
 use crate::outcome::{Outcome, Refused};
 use crate::request::{Opened, RequestId};
 use crate::sink::JournalSink;
-use crate::times::Moment;
+use crate::times::{Moment, is_later};
 use crate::verdict::Verdict;
-use std::collections::LinkedList;
+use ordered_keys::KeyTree;
 
 impl Table {
     /// One step of the machine: the verdict on this request at this moment, and what it does.
@@ -103,7 +105,7 @@ impl Table {
     }
 
     // One event more, at this moment, which uses these ids.
-    fn tick(&mut self, now: Moment, ids: LinkedList<RequestId>)
+    fn tick(&mut self, now: Moment, ids: KeyTree<RequestId>)
         requires moment { IsMoment now }
         requires room { self.old.events < self.old.max_entries }
         requires one { length ids ≤ 1 }
@@ -112,7 +114,7 @@ impl Table {
     {
         self.clock = self.clock_at(now);
         self.events += 1;
-        put_ids(&mut self.fresh, ids);
+        put_ids(&mut self.used, ids, self.clock);
     }
 
     // The append decides: after a failed one the journal is broken, else the new keys are put in.
@@ -153,14 +155,36 @@ impl Table {
     }
 }
 
-// Puts ids behind others, in the memory that they are in.
-fn put_ids(fresh: &mut LinkedList<RequestId>, ids: LinkedList<RequestId>)
-    requires few { length fresh.old + length ids < 2 ^ 63 }
-    ensures value { fresh.new ≡ fresh.old ++ ids }
+// Puts an id in its place, in the memory that it is in, and forgets those too old to be judged.
+fn put_ids(used: &mut KeyTree<RequestId>, ids: KeyTree<RequestId>, clock: i64)
+    requires sorted { IsStrictlySortedBy id_cmp used.old }
+    requires one { length ids ≤ 1 }
+    requires few { length used.old + 1 < 2 ^ 32 }
+    ensures value { used.new ≡ held_after clock used.old ids }
+    ensures young { young_ids clock used.new ≡ used.new }
 {
-    let mut ids = ids;
-    match fresh.append(&mut ids) {
-        Ok(()) => {}
-        Err(_) => unreachable!(),
+    used.put(ids);
+    forget(used, clock);
+}
+
+// Forgets the ids that are too old to be judged: those at the front.
+fn forget(used: &mut KeyTree<RequestId>, clock: i64)
+    requires sorted { IsStrictlySortedBy id_cmp used.old }
+    requires few { length used.old < 2 ^ 32 }
+    ensures value { used.new ≡ young_ids clock used.old }
+    ensures young { young_ids clock used.new ≡ used.new }
+{
+    while is_old(used, clock) {
+        let _ = used.pop_first();
+    }
+}
+
+// Whether the first id is too old to be judged.
+fn is_old(used: &KeyTree<RequestId>, clock: i64) -> bool
+    ensures value { result ≡ is_first_old clock used.now }
+{
+    match used.first() {
+        None => false,
+        Some(id) => is_later(clock, id.ctime),
     }
 }

@@ -2,9 +2,12 @@ use Rattle.std.proofs.Common.{◌≡◌, ◌+◌, ◌++◌, ◌∷◌, [], ℕ, 
 use Rattle.std.specs.Prelude.{if◌then◌else◌}
 use Rattle.chpw_table.specs.declared.history.Receipt.{Receipt}
 use Rattle.chpw_table.specs.Verdicts.{is_done}
+use Rattle.chpw_table.specs.declared.outcome.DecideFault.TheVariants.{Memory}
 use Rattle.chpw_table.specs.Agreement.{Held}
+use Rattle.chpw_table.specs.History.{missing}
 use Rattle.chpw_table.specs.Outcomes.{Steps, Writes}
 use Rattle.chpw_table.proofs.AgreementLemmas.{agrees_itself}
+use Rattle.chpw_table.proofs.DecideLemmas.{refused_for_all}
 use Rattle.chpw_decider.specs.Keeping.{Kept, IsKept, basis_after}
 use Rattle.chpw_decider.specs.Entered.{receipt_behind}
 use Rattle.chpw_decider.proofs.KeepingLemmas.{kept_next, may_be_full, basis_next, basis_few}
@@ -16,6 +19,15 @@ returns-in_err-prepared-clause-fault g c =
     let first = c.in_err-prepared.ensures.refused.first k.table.state (agrees_itself k.table.state) in
     let may = may_be_full k _ c.in_err-prepared.field-0.0.fault c.self.invariant.0 first in
     search (rules, may)
+
+pub returns-then-is_err-clause-first : goal.returns-then-is_err-clause-first
+returns-then-is_err-clause-first g c =
+    let table : Held = c.self.inside.journaled.table in
+    let ready = c.in_ok-prepared.ensures.ready in
+    let parts = c.in_ok-prepared.ensures.parts in
+    let derived : missing table.state c.args.now c.args.opened ≡ [] = rw (← parts.0, ← parts.1) ready.derived in
+    rw (← c.self.view_is) (refused_for_all table c.args.now c.args.opened (record { fault = Memory; opened = c.abandon.result })
+    (ready.room, derived) tt (c.abandon.ensures.value ∙ parts.1))
 
 pub note-requires-clause-fewer : goal.note-requires-clause-fewer
 note-requires-clause-fewer g c =
