@@ -75,7 +75,8 @@ def full_disk(report, server):
     report.tell("in the journal", ([r.kvno for r in records], len(torn)), ([2, 3, 4], 20))
     server.start(connections=1)
     server.connect()
-    report.tell("started again", server.last_words(), "entries 0 changes 0")
+    told = f"{server.journal}: a torn tail was cut off behind {3 * RECORD} bytes"
+    report.tell("started again", server.last_words(), f"entries 0 changes 0\n{told}")
     size = server.journal.stat().st_size
     report.tell("the journal's bytes, its torn tail cut off", size, 3 * RECORD)
 

@@ -122,10 +122,15 @@ def killed(server, clients):
 
 def restarted(server):
     """Starts the server once more, and ends it; what is wrong."""
+    left = server.journal.read_bytes()
+    _, torn = read_journal(left)
+    wanted = "entries 0 changes 0"
+    if torn:
+        wanted += f"\n{server.journal}: a torn tail was cut off behind {len(left) - len(torn)} bytes"
     server.start(connections=1)
     server.connect()
     words = server.last_words()
-    if words != "entries 0 changes 0":
+    if words != wanted:
         yield f"after the restart: {words}"
     _, torn = read_journal(server.journal.read_bytes())
     if torn:

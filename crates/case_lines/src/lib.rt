@@ -1,31 +1,11 @@
-//! Programs that answer cases: each is a line on standard input, and its answer stands on standard output.
+//! What programs share that answer cases: each case is a line on standard input, and its answer stands on
+//! standard output.
 #![tactic(auto)]
 
-use std::alloc::Global;
-use std::io::{self, BufRead, BufReader, BufWriter, Write};
+mod census;
+mod change;
+mod printing;
 
-/// Who answers cases.
-pub trait Answers {
-    /// The answer to a case. An error ends the program.
-    fn answer(&mut self, alloc: Global, case: &str) -> io::Result<String>;
-}
-
-/// Prints the answer to each line. One that is empty, or begins with `#`, is printed as it is.
-pub fn print_answers<R, A>(rt: &R, cases: &mut A) -> io::Result<()>
-where
-    R: Input + Print + AllocGlobal,
-    A: Answers,
-{
-    let alloc = rt.alloc();
-    let mut out = BufWriter::new(alloc, io::writer(rt))?;
-    for line in BufReader::new(alloc, rt.reader())?.lines(alloc) {
-        let line = line?;
-        if line.is_empty() || line.starts_with('#') {
-            writeln!(out, "{line}")?;
-        } else {
-            let answer = cases.answer(alloc, line.as_str())?;
-            writeln!(out, "{answer}")?;
-        }
-    }
-    out.flush()
-}
+pub use census::Census;
+pub use change::Change;
+pub use printing::{Answers, print_answers};

@@ -16,8 +16,8 @@ pub unread : {T A : Type 0} (remaining : T → Option (List ℕ)) (r : BufReader
 unread remaining r file inner empty capacity = rw (capacity, empty, inner) (nothing_before (remaining file))
 
 -- a table as it was is opened, with no record
-pub begun : (before : Held) (j : Journal) → j.table ≡ before → IsOpened before j
-begun before j same = record {
+pub begun : (before : Held) (j : Journal) → j.table ≡ before → j.cut_at ≡ None → IsOpened before j
+begun before j same whole = record {
   records = [];
   next = λ s a. tt;
   table = λ s a. subst (λ (t : Held). Agrees t.state s) (sym same) a;
@@ -25,4 +25,5 @@ begun before j same = record {
   seen = ap (λ (t : Held). t.seen) same;
   max_entries = ap (λ (t : Held). t.max_entries) same;
   made = λ made. same;
+  cut = ([], whole);
 }

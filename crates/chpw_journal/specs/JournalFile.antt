@@ -1,6 +1,6 @@
--- What opening a journal's file gives: the table handed in, with records that go on from it; where the
--- file was made, the table as it was. What bytes the system gives of a file no contract tells.
-use Rattle.std.specs.Prelude.{◌≡◌, ℕ, List, true, false, Option}
+-- What opening a journal's file gives: the table handed in, with records that go on from it, and where a
+-- torn tail behind them was cut off; where the file was made, the table as it was. What bytes the system gives of a file no contract tells.
+use Rattle.std.specs.Prelude.{◌≡◌, ℕ, List, length, true, false, Option, Some, None, if◌then◌else◌}
 use Rattle.chpw_table.specs.State.{State}
 use Rattle.chpw_table.specs.Agreement.{Held, Agrees}
 use Rattle.chpw_journal.specs.declared.record.Record.{Record}
@@ -9,14 +9,19 @@ use Rattle.chpw_journal.specs.declared.restoring.Restored.{Restored}
 use Rattle.chpw_journal.specs.declared.journal_file.Journal.{Journal}
 use Rattle.chpw_journal.specs.declared.journal_file.OpenFault.{OpenFault}
 use Rattle.chpw_journal.specs.declared.journal_file.OpenFault.TheVariants.{CannotRead, CannotWrite, Restore}
+use Rattle.chpw_journal.specs.Records.{records_text}
 use Rattle.chpw_journal.specs.JournalText.{restored, AreNext}
-use Rattle.chpw_journal.specs.Restoring.{IsRestored, IsRefused}
+use Rattle.chpw_journal.specs.Restoring.{is_there, IsRestored, IsRefused}
 
 -- of a file that isn't read yet
 abbrev pub IsUnopened : OpenFault → Type 0
 IsUnopened CannotRead = Unit {0}
 IsUnopened CannotWrite = Unit {0}
 IsUnopened (Restore fault) = ⊥
+
+-- where a torn tail is cut off
+abbrev pub cut_of : Restored → Option ℕ
+cut_of r = if r.torn then Some r.kept else None
 
 pub record IsOpened (before : Held) (j : Journal) : Type 0 where
   pub records : List Record
@@ -26,6 +31,7 @@ pub record IsOpened (before : Held) (j : Journal) : Type 0 where
   pub seen : j.table.seen ≡ before.seen
   pub max_entries : j.table.max_entries ≡ before.max_entries
   pub made : j.found ≡ false → j.table ≡ before
+  pub cut : (rest : List ℕ) × (j.cut_at ≡ if is_there rest then Some (length (records_text records)) else None)
 
 -- restored from all that was left of a file
 abbrev pub IsReadFrom : Held → Option (List ℕ) → Restored → Type 0

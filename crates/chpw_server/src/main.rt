@@ -92,6 +92,7 @@ where
         + Wait
         + Clock
         + Print
+        + Eprint
         + AllocGlobal
         + Sync,
 {

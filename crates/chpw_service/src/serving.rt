@@ -22,7 +22,8 @@ use std::time::Clock;
 
 /// Serves so many connections on 127.0.0.1, connection i (from 0) by worker i modulo their number,
 /// each worker one after the other. The configuration is read first, then the seed, then the
-/// journal, and then the port is listened at. Printed are `listening on 127.0.0.1:N` before a
+/// journal, and then the port is listened at. A torn tail that was cut off the journal is told in a line
+/// on standard error. Printed are `listening on 127.0.0.1:N` before a
 /// connection is accepted, and `entries N changes N` for each history: where one is full, its desk is
 /// closed, and the next one opens with the table that was closed, its used ids kept.
 pub fn serve<
@@ -33,6 +34,7 @@ pub fn serve<
         + Wait
         + Clock
         + Print
+        + Eprint
         + AllocGlobal
         + Sync,
 >(rt: &R, options: ServeOptions<'a>) -> Result<(), ServeFault<'a>>
@@ -50,6 +52,7 @@ pub fn serve_by<
         + Wait
         + Clock
         + Print
+        + Eprint
         + AllocGlobal
         + Sync,
     T: Clock + Sync,
@@ -66,7 +69,9 @@ pub fn serve_by<
         table,
         sink,
         found: _,
+        cut_at,
     } = open_table(rt, rt.alloc(), config, options.journal, &mut clock)?;
+    tell_cut(rt, options.journal, cut_at);
     let listener = listen(rt, options.port)?;
     let terms = terms_of(&options, seed);
     let hall = hall_of(rt.alloc(), service, &options, terms)?;
@@ -75,6 +80,13 @@ pub fn serve_by<
     }
     let opening = first_opening(table, sink, options.workers);
     serve_all(rt, time, &listener, &hall, opening, terms.connections)
+}
+
+// Tells of a torn tail that was cut off. Where that can't be written the service goes on.
+fn tell_cut<R: Eprint>(rt: &R, journal: &str, cut_at: Option<u64>) {
+    if let Some(kept) = cut_at {
+        let _ = eprintln!(rt; "{journal}: a torn tail was cut off behind {kept} bytes");
+    }
 }
 
 fn listen<'a, R: Net<Listener = TcpListener, Stream = TcpStream>>(

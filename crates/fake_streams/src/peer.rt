@@ -55,6 +55,11 @@ impl Way {
             ..self
         }
     }
+
+    /// The same, but that a call gives or takes so many bytes at the most.
+    pub fn by(self, most: usize) -> Way {
+        Way { most, ..self }
+    }
 }
 
 /// How far a peer is.

@@ -2,15 +2,22 @@
 use crate::realm::{table, versions};
 use crate::refusal::Refusal;
 use crate::restoring::restored;
+use case_lines::Census;
 use chpw_journal::MemorySink;
 use chpw_table::{Digest, JournalSink, Opened, Outcome, Table};
 use krb_keys::Key;
 use std::alloc::Global;
 use test_realm::{NOW, name};
 
+/// The length of a record of alice.
+const RECORD: usize = 66;
+
 /// What is answered to the changes of a case, `NAME PASSWORD, ..`, and restored after them.
 pub fn decided(alloc: Global, sink: &str, changes: &str) -> Result<String, Refusal> {
-    let mut sink = sink_of(alloc, sink)?;
+    decided_over(alloc, sink_of(alloc, sink)?, changes)
+}
+
+fn decided_over(alloc: Global, mut sink: MemorySink, changes: &str) -> Result<String, Refusal> {
     let mut table = table(alloc)?;
     let mut answers = String::new(alloc);
     let mut number = 0_u32;
@@ -22,6 +29,26 @@ pub fn decided(alloc: Global, sink: &str, changes: &str) -> Result<String, Refus
     let held = versions(alloc, &table)?;
     let bytes = restored(alloc, sink.bytes())?;
     Ok(format!(in alloc; "{answers}failures {}, {held}; {bytes}", sink.failures())?)
+}
+
+/// The same of changes of alice, where an append fails before each byte of their journal in turn.
+pub fn each_failed(alloc: Global, changes: &str) -> Result<String, Refusal> {
+    let size = changes.split(", ").count().saturating_mul(RECORD);
+    let mut census = Census::new(alloc);
+    for place in 0..size {
+        let sink = failing_before(alloc, size, place)?;
+        let answer = decided_over(alloc, sink, changes)?;
+        census.add(alloc, place, answer.as_str())?;
+    }
+    Ok(census.shown(alloc)?)
+}
+
+/// A journal with room for so many bytes, whose append fails that would write the byte at this place.
+fn failing_before(alloc: Global, size: usize, place: usize) -> Result<MemorySink, Refusal> {
+    let mut sink = MemorySink::new(alloc, size)?;
+    let before = u32::try_from(place / RECORD).map_err(|_| Refusal::NoSuchCase)?;
+    sink.fail_at(before.saturating_add(1), place % RECORD);
+    Ok(sink)
 }
 
 /// `of N bytes`, and `, append N fails and keeps N` behind it where one does.

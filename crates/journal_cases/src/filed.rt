@@ -45,13 +45,17 @@ fn opened<R: Files<File = File>>(rt: &R, alloc: Global) -> Result<String, Refusa
     Ok(format!(in alloc; "{told}, {left} bytes")?)
 }
 
-/// Whether the file was there, the mode of one that wasn't, and the versions in the table.
+/// Whether the file was there, the mode of one that wasn't, the versions in the table, and where a torn tail
+/// was cut off.
 fn told<R: Files<File = File>>(
     rt: &R,
     alloc: Global,
     journal: &Journal,
 ) -> Result<String, Refusal> {
     let held = versions(alloc, &journal.table)?;
+    if let Some(kept) = journal.cut_at {
+        return Ok(format!(in alloc; "found, {held}, cut off behind {kept}")?);
+    }
     if journal.found {
         return Ok(format!(in alloc; "found, {held}")?);
     }

@@ -6,6 +6,7 @@
 //! with `disk` a file that takes bytes so. README.md has the forms. A line that begins with `#`, or is empty, is passed on.
 #![tactic(auto)]
 
+mod changed;
 mod disk;
 mod failing;
 mod filed;
@@ -14,13 +15,14 @@ mod realm;
 mod refusal;
 mod restoring;
 
-use case_lines::{Answers, print_answers};
+use case_lines::{Answers, Change, print_answers};
+use changed::changed;
 use disk::appended;
-use failing::decided;
+use failing::{decided, each_failed};
 use filed::filed;
 use journal::journal_of;
 use refusal::Refusal;
-use restoring::{read, restored};
+use restoring::{failing, read, restored};
 use std::alloc::Global;
 use std::fs::{File, Files};
 use std::io::{self, Error, ErrorKind};
@@ -34,7 +36,12 @@ fn answer<R: Files<File = File> + AllocGlobal>(
     let Some((what, pieces)) = line.split_once(": ") else {
         return restored(alloc, journal_of(alloc, line)?.as_slice());
     };
+    if let Some(change) = Change::of(what) {
+        return changed(alloc, change, journal_of(alloc, pieces)?.as_slice());
+    }
     match what.split_once(' ') {
+        Some(("appends", "fail")) => each_failed(alloc, pieces),
+        Some(("failing", way)) => failing(alloc, way, journal_of(alloc, pieces)?.as_slice()),
         Some(("sink", sink)) => decided(alloc, sink, pieces),
         Some(("disk", way)) => appended(alloc, way, pieces),
         Some(("read", way)) => read(alloc, way, journal_of(alloc, pieces)?.as_slice()),

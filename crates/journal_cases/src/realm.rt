@@ -1,5 +1,6 @@
 //! The realm of the cases: alice and bob/admin, with a key of kvno 1 each.
 use crate::refusal::Refusal;
+use chpw_rules::Name;
 use chpw_table::Table;
 use std::alloc::Global;
 use test_realm::name;
@@ -18,6 +19,19 @@ fn kvno(alloc: Global, table: &Table, text: &str) -> Result<u32, Refusal> {
 
 /// A table of it, before any change.
 pub fn table(alloc: Global) -> Result<Table, Refusal> {
-    let principals = vec![in alloc; name(alloc, "alice")?, name(alloc, "bob/admin")?]?;
-    Ok(test_realm::table(alloc, principals, 4096, 100)?)
+    Ok(test_realm::table(alloc, principals(alloc)?, 4096, 100)?)
+}
+
+/// The same, with a policy by which the four newest keys of a name are kept.
+pub fn deep_table(alloc: Global) -> Result<Table, Refusal> {
+    let mut config = test_realm::config(alloc, principals(alloc)?, 4096, 100)?;
+    config.policy.depth = 4;
+    if !config.fits() {
+        return Err(Refusal::NoSuchCase);
+    }
+    Ok(Table::start(alloc, config, -1)?)
+}
+
+fn principals(alloc: Global) -> Result<Vec<Name>, Refusal> {
+    Ok(vec![in alloc; name(alloc, "alice")?, name(alloc, "bob/admin")?]?)
 }

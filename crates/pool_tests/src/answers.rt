@@ -18,17 +18,17 @@ use std::test::Fail;
 use std::thread::{Threads, join};
 use test_realm::name;
 
-const NOW: Moment = Moment {
+pub const NOW: Moment = Moment {
     seconds: 1_000_100,
     micros: 1,
 };
 
 const WORDS: [u32; 9] = [1, 2, 3, 4, 5, 6, 7, 8, 9];
 
-const ROOM: usize = 1000;
+pub const ROOM: usize = 1000;
 
 // What a client of this machine prints of a worker's answer to its request.
-fn answered<D: DeskName, G: Gate, R: Wait + Abort>(
+pub fn answered<D: DeskName, G: Gate, R: Wait + Abort>(
     rt: &R,
     alloc: Global,
     service: &Service,
@@ -53,7 +53,7 @@ fn answered<D: DeskName, G: Gate, R: Wait + Abort>(
 }
 
 // The history of a desk that can be closed, and its journal.
-fn closed<D: DeskName, R: Wait>(
+pub fn closed<D: DeskName, R: Wait>(
     rt: &R,
     desk: Desk<D, MemorySink>,
     passes: Vec<Pass<D>>,
@@ -136,7 +136,7 @@ fn two_at<D: DeskName + Send + Sync, R: Threads + Wait + Abort + Sync>(
     Ok(())
 }
 
-const REPLAYED: &[u8] = b"code 3 error 34 request replayed";
+pub const REPLAYED: &[u8] = b"code 3 error 34 request replayed";
 
 // The change is shown to the worker that made it, and to the other once that has learnt of it.
 fn show_both<D: DeskName, R: Abort>(

@@ -18,3 +18,5 @@ mod realm;
 mod services;
 #[cfg(test)]
 mod site;
+#[cfg(test)]
+mod sixteen;

@@ -4,10 +4,11 @@ use crate::gated::gated;
 use crate::messages::{Message, bytes_of, no_case, read_message};
 use crate::repeating::repeated;
 use crate::serving::{How, ended_text, serve, served, stream_of};
+use crate::varied::{ending, failing, taking, varied};
 use crate::wanting::wanting;
-use crate::world::{World, shown, start};
+use crate::world::{Setting, World, shown};
 use crate::{deciding, words};
-use case_lines::Answers;
+use case_lines::{Answers, Change};
 use hex::encode;
 use std::alloc::Global;
 use std::io;
@@ -16,8 +17,7 @@ use std::io;
 #[derive(Drop)]
 pub struct Cases {
     base: String,
-    config: String,
-    quiet_until: i64,
+    setting: Setting,
     messages: Vec<Message>,
 }
 
@@ -47,33 +47,40 @@ impl Cases {
     pub fn new(alloc: Global) -> Cases {
         Cases {
             base: String::new(alloc),
-            config: String::new(alloc),
-            quiet_until: -1,
+            setting: Setting {
+                config: String::new(alloc),
+                quiet_until: -1,
+            },
             messages: Vec::new(alloc),
         }
     }
 
     /// `quiet N`, and `OLD -> NEW`.
     fn set_world(&mut self, alloc: Global, text: &str) -> io::Result<()> {
-        self.quiet_until = -1;
-        self.config = String::from_str(alloc, self.base.as_str())?;
+        self.setting.quiet_until = -1;
+        self.setting.config = String::from_str(alloc, self.base.as_str())?;
         if let Some((old, new)) = text.split_once(" -> ") {
-            self.config = self.base.as_str().replace(alloc, old, new)?;
+            self.setting.config = self.base.as_str().replace(alloc, old, new)?;
         }
         if let Some(second) = text.strip_prefix("quiet ") {
-            self.quiet_until = second.parse().unwrap_or(-1);
+            self.setting.quiet_until = second.parse().unwrap_or(-1);
         }
         Ok(())
     }
 
     fn start(&self, alloc: Global) -> io::Result<World> {
-        start(alloc, self.config.as_str(), self.quiet_until)
+        self.setting.start(alloc)
     }
 
     /// The answer to a case of streams.
     fn of_stream(&self, alloc: Global, line: &str) -> io::Result<String> {
-        let (kind, text) = line.split_once(": ").ok_or(no_case())?;
-        let (kind, how) = kind.split_once(' ').unwrap_or((kind, ""));
+        let (head, text) = line.split_once(": ").ok_or(no_case())?;
+        let (change, how) = head.split_once(", ").unwrap_or((head, ""));
+        if let Some(change) = Change::of(change) {
+            let messages = self.named(alloc, text)?;
+            return varied(alloc, &self.setting, change, How::of(how), &messages);
+        }
+        let (kind, how) = head.split_once(' ').unwrap_or((head, ""));
         match kind {
             "written" => return self.written(alloc, How::of(how), &bytes_of(alloc, text)?),
             "repeated" => return repeated(alloc, self.start(alloc)?, how, &bytes_of(alloc, text)?),
@@ -83,12 +90,28 @@ impl Cases {
         match kind {
             "served" => served(alloc, &mut self.start(alloc)?, How::of(how), &messages),
             "replied" => self.written(alloc, How::of(how), &stream_of(alloc, &messages)?),
-            "broken" => self.broken(alloc, How::of(how), &messages),
             "wanting" => wanting(alloc, self.start(alloc)?, how, &messages),
             "gated" => gated(alloc, self.start(alloc)?, How::of(how), &messages),
             "answered" => deciding::answered(alloc, self.start(alloc)?, how, &messages),
             "looks" => deciding::looked_up(alloc, self.start(alloc)?, &messages),
             "alone" => deciding::alone(alloc, self.start(alloc)?, self.start(alloc)?, &messages),
+            _ => self.of_peers(alloc, kind, How::of(how), &messages),
+        }
+    }
+
+    /// The answer to a case of streams whose reader or writer does worse from case to case.
+    fn of_peers(
+        &self,
+        alloc: Global,
+        kind: &str,
+        how: How,
+        messages: &[&Message],
+    ) -> io::Result<String> {
+        match kind {
+            "broken" => self.broken(alloc, how, messages),
+            "ending" => ending(alloc, &self.setting, how, messages),
+            "failing" => failing(alloc, &self.setting, how, messages),
+            "taking" => taking(alloc, &self.setting, how, messages),
             _ => Err(no_case()),
         }
     }

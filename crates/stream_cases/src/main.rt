@@ -9,8 +9,8 @@
 //! - `served HOW: NAME NAME ..`: these messages are served as one stream by a table that one thread
 //!   has alone. The answer is each reply, how the stream ended, how many events there were, and the
 //!   kvno of each principal.
-//! - `written HOW: HEX`: the same of a stream with these bytes, `-` for none; the answer has what
-//!   was written. `replied HOW: NAME ..` is that of messages.
+//! - `written HOW: HEX`: the same of a stream with these bytes, `-` for none, and ` zeros N` behind them
+//!   for so many more; the answer has what was written. `replied HOW: NAME ..` is that of messages.
 //! - `repeated N HOW: HEX`: those bytes N times are served as one stream. The answer has the first
 //!   reply and how often it was written, where nothing else was, how the stream ended and what was
 //!   left unread.
@@ -18,6 +18,15 @@
 //!   WHAT being `to decide` or `to reply`.
 //! - `broken HOW: NAME ..`: the same with a write that fails behind each byte of the replies in
 //!   turn.
+//! - `CHANGE, HOW: NAME`: that message is served with a change at each of its places in turn, each time
+//!   in a world of its own; CHANGE is `prefixes` (it ends before that byte), `prefixes with their length`
+//!   (its length field says so too), `changed by 01` (these bits of that byte are turned) or `changed to
+//!   00`. The answer has each of the answers that `served` gives, behind how often and at which
+//!   places it came. Left out is a change that changes nothing, and a prefix without its length field.
+//! - `ending HOW: NAME ..` and `failing HOW: NAME ..`: these messages are served as one stream that ends,
+//!   or whose reads fail, before each of its bytes in turn, in a world of its own. The answer is likewise.
+//! - `taking HOW: NAME ..`: the same where each write takes N bytes at the most, N from 1 to as many as the
+//!   replies have.
 //! - `gated HOW: NAME ..`: the same past a gate, and the answer is where the worker passed it; HOW
 //!   says how the writer does.
 //! - `answered WHO: NAME ..`: these messages are answered one by one by a decider that watches.
@@ -39,6 +48,7 @@ mod messages;
 mod repeating;
 mod serving;
 mod sparing;
+mod varied;
 mod wanting;
 mod watched;
 mod words;

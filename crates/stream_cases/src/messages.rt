@@ -27,10 +27,15 @@ pub fn no_case() -> Error {
     Error::from(ErrorKind::InvalidInput)
 }
 
-/// The bytes of a text in hexadecimal, `-` for none.
+/// The bytes of a text in hexadecimal, `-` for none, and so many zeros behind them as in `00 zeros 4`.
 pub fn bytes_of(alloc: Global, text: &str) -> io::Result<Vec<u8>> {
+    let (text, zeros) = text.split_once(" zeros ").unwrap_or((text, "0"));
     let text = if text == "-" { "" } else { text };
-    decode(alloc, text).map_err(|_| no_case())
+    let mut bytes = decode(alloc, text).map_err(|_| no_case())?;
+    for _ in 0..zeros.parse().unwrap_or(0) {
+        bytes.push(0)?;
+    }
+    Ok(bytes)
 }
 
 /// `NAME CTIME.CUSEC HEX`.

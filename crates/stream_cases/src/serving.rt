@@ -120,19 +120,32 @@ pub fn serve_by<M: Messages, D: Decider, G: Gate>(
 
 /// The stream of these messages.
 pub fn stream_of(alloc: Global, messages: &[&Message]) -> io::Result<Vec<u8>> {
-    let mut stream = Taker {
-        taken: Vec::new(alloc),
-        course: Course::start(Way::of("")),
-    };
+    let mut stream = no_stream(alloc);
     for message in messages {
-        if message.bytes.len() > chpw_frame::LONGEST_MESSAGE {
-            return Err(no_case());
-        }
-        if write_tcp(&mut stream, &message.bytes).is_err() {
-            return Err(no_case());
-        }
+        send(&mut stream, &message.bytes)?;
     }
     Ok(stream.taken)
+}
+
+/// The stream of these bytes as one message.
+pub fn stream_of_one(alloc: Global, bytes: &[u8]) -> io::Result<Vec<u8>> {
+    let mut stream = no_stream(alloc);
+    send(&mut stream, bytes)?;
+    Ok(stream.taken)
+}
+
+fn no_stream(alloc: Global) -> Taker {
+    Taker {
+        taken: Vec::new(alloc),
+        course: Course::start(Way::of("")),
+    }
+}
+
+fn send(stream: &mut Taker, message: &[u8]) -> io::Result<()> {
+    if message.len() > chpw_frame::LONGEST_MESSAGE {
+        return Err(no_case());
+    }
+    write_tcp(stream, message).map_err(|_| no_case())
 }
 
 /// Each reply, how the stream ended, and what the table is then.
@@ -142,8 +155,18 @@ pub fn served(
     how: How,
     messages: &[&Message],
 ) -> io::Result<String> {
-    let stream = stream_of(alloc, messages)?;
-    let outcome = serve(alloc, world, how, &stream);
+    served_as(alloc, world, how, messages, &stream_of(alloc, messages)?)
+}
+
+/// The same where these bytes are the stream.
+pub fn served_as(
+    alloc: Global,
+    world: &mut World,
+    how: How,
+    messages: &[&Message],
+    stream: &[u8],
+) -> io::Result<String> {
+    let outcome = serve(alloc, world, how, stream);
     let mut shown = shown_replies(alloc, messages, &outcome.written)?;
     shown.push_str(ended_text(outcome.ended))?;
     shown.push_str(", ")?;

@@ -20,18 +20,28 @@ pub struct World {
     pub alone: Alone<MemorySink>,
 }
 
-/// A configuration's service, and its table with no event yet.
-pub fn start(alloc: Global, text: &str, quiet_until: i64) -> io::Result<World> {
-    let Ok(config) = read_config(alloc, text) else {
-        return Err(Error::from(ErrorKind::InvalidData));
-    };
-    let service = Service::of(alloc, &config)?;
-    let table = Table::start(alloc, config, quiet_until)?;
-    let sink = MemorySink::new(alloc, JOURNAL)?;
-    Ok(World {
-        service,
-        alone: Alone::new(alloc, table, sink),
-    })
+/// What worlds are started with: the text of a configuration, and the second until which its service
+/// refuses requests.
+#[derive(Drop)]
+pub struct Setting {
+    pub config: String,
+    pub quiet_until: i64,
+}
+
+impl Setting {
+    /// The configuration's service, and its table with no event yet.
+    pub fn start(&self, alloc: Global) -> io::Result<World> {
+        let Ok(config) = read_config(alloc, self.config.as_str()) else {
+            return Err(Error::from(ErrorKind::InvalidData));
+        };
+        let service = Service::of(alloc, &config)?;
+        let table = Table::start(alloc, config, self.quiet_until)?;
+        let sink = MemorySink::new(alloc, JOURNAL)?;
+        Ok(World {
+            service,
+            alone: Alone::new(alloc, table, sink),
+        })
+    }
 }
 
 /// How many events there were, and the kvno of alice and of bob.

@@ -1,0 +1,91 @@
+//! One message of sixteen workers.
+ghost use Rattle.std.specs.Prelude.{◌≡◌, ◌<◌};
+ghost use Rattle.chpw_book.specs.Starting.{IsNamed, workers_of};
+
+use crate::answers::{NOW, REPLAYED, ROOM, answered, closed};
+use crate::gates::Together;
+use crate::realm::{CHANGED, opening, request};
+use chpw_book::{Desk, DeskName, UnnamedDesk};
+use chpw_client::Sent;
+use chpw_journal::MemorySink;
+use chpw_messages::Service;
+use std::alloc::Global;
+use std::marker::Brand;
+use std::process::Abort;
+use std::sync::atomic::{AtomicU32, Ordering};
+use std::sync::{Barrier, Wait};
+use std::test::Fail;
+use std::thread;
+use std::thread::Threads;
+
+#[test]
+fn one_message_of_sixteen_workers(rt: HostRuntime) -> Result<(), Fail> {
+    let (service, table) = opening(rt.alloc(), 100)?;
+    let sent = request(&rt, rt.alloc(), "alice", NOW, "New-pass2")?;
+    all_at::<Brand, _>(&rt, rt.alloc(), UnnamedDesk::of(table, 16), &service, &sent)
+}
+
+// All are held until each has opened it: one changes the password, and the others tell a replay.
+fn all_at<D: DeskName + Send + Sync, R: Threads + Wait + Abort + Sync>(
+    rt: &R,
+    alloc: Global,
+    unnamed: UnnamedDesk,
+    service: &Service,
+    sent: &Sent,
+) -> Result<(), Fail>
+    requires name { IsNamed unnamed D.name D.parts D.book D.root D.workers }
+    requires workers { workers_of unnamed ≡ 16 }
+{
+    let sink = MemorySink::new(alloc, ROOM)?;
+    let (desk, mut passes) = Desk::<D, MemorySink>::start(rt, alloc, unnamed, sink)?;
+    let told = Told::new();
+    let barrier = Barrier::new(16);
+    let (shared, told_ref, barrier_ref) = (&desk, &told, &barrier);
+    thread::for_each_mut(
+        rt,
+        &mut passes,
+        16,
+        &|_, pass| {
+            let mut gate = Together {
+                rt,
+                barrier: barrier_ref,
+            };
+            told_ref.note(&answered(rt, alloc, service, shared, pass, &mut gate, sent));
+        },
+    );
+    assert!(rt; told.counts() == (1, 15));
+    let (history, journal) = closed(rt, desk, passes).expect(rt, "all agree");
+    assert!(rt; history.len() == 16 && journal.bytes().len() == 66);
+    Ok(())
+}
+
+// How many workers told a change, and how many a replay.
+#[derive(Drop)]
+struct Told {
+    changed: AtomicU32,
+    replayed: AtomicU32,
+}
+
+impl Told {
+    fn new() -> Told {
+        Told {
+            changed: AtomicU32::new(0),
+            replayed: AtomicU32::new(0),
+        }
+    }
+
+    fn note(&self, line: &[u8]) {
+        if line == CHANGED {
+            self.changed.fetch_add(1, Ordering::SeqCst);
+        } else if line == REPLAYED {
+            self.replayed.fetch_add(1, Ordering::SeqCst);
+        }
+    }
+
+    fn counts(&self) -> (u32, u32) {
+        (
+            self.changed.load(Ordering::SeqCst),
+            self.replayed.load(Ordering::SeqCst),
+        )
+    }
+}
