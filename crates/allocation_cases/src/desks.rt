@@ -1,0 +1,161 @@
+//! Calls of a desk with two workers.
+ghost use Rattle.std.specs.Prelude.{◌≡◌};
+ghost use Rattle.chpw_book.specs.Starting.{IsNamed, workers_of};
+
+use crate::deciding::{change_often, decided, decided_once};
+use crate::seen::{history_text, lookup_text, pass_text, receipts_text, table_text};
+use crate::stop::{Fell, Stop, Told};
+use crate::streams::served;
+use crate::world::{JOURNAL, table};
+use chpw_book::{AtDesk, CloseRefused, Closed, Desk, DeskName, Pass, UnnamedDesk};
+use chpw_journal::MemorySink;
+use hex::encode;
+use std::alloc::Global;
+use std::marker::Brand;
+use std::sync::Wait;
+use test_realm::name;
+
+/// The length of a record of alice's.
+const RECORD: usize = 66;
+
+/// What is asked of a desk: a call, after so many changes.
+#[derive(Clone, Copy, Drop)]
+struct Asked<'a> {
+    call: &'a str,
+    before: u32,
+}
+
+/// `start`, `decide N`, `derive N`, `serve N`, `lookup N`: the call after N changes. `leave N`: the desk is
+/// closed after a decision, which is not made again where it was refused.
+pub fn told<R: Wait>(rt: &R, alloc: Global, line: &str) -> Result<Told, Stop> {
+    let (call, number) = line.split_once(' ').unwrap_or((line, "0"));
+    let before = number.parse().unwrap_or(0);
+    let asked = Asked { call, before };
+    let table = table(alloc)?;
+    at::<Brand, R>(rt, alloc, UnnamedDesk::of(table, 2), asked)
+}
+
+/// The call, and what the desk leaves at its close.
+fn at<D: DeskName, R: Wait>(
+    rt: &R,
+    alloc: Global,
+    unnamed: UnnamedDesk,
+    asked: Asked<'_>,
+) -> Result<Told, Stop>
+    requires name { IsNamed unnamed D.name D.parts D.book D.root D.workers }
+{
+    let sink = MemorySink::new(alloc, JOURNAL)?;
+    let Ok((desk, mut passes)) = Desk::<D, MemorySink>::start(rt, alloc, unnamed, sink) else {
+        return Err(if asked.call == "start" {
+            Stop::Call
+        } else {
+            Stop::Beside
+        });
+    };
+    let told = match passes.as_mut_slice() {
+        [pass, ..] => with_pass(rt, alloc, &desk, pass, asked),
+        [] => Err(Stop::Wrong("no pass")),
+    };
+    let closed = closed(rt, desk, passes);
+    let (Told { fell, text }, closed) = (told?, closed?);
+    let left = match asked.call {
+        "leave" => counted(alloc, &closed, asked.before, fell)?,
+        _ => left(alloc, &closed)?,
+    };
+    let text = format!(in alloc; "{text}; {left}")?;
+    Ok(Told { fell, text })
+}
+
+fn with_pass<D: DeskName, R: Wait>(
+    rt: &R,
+    alloc: Global,
+    desk: &Desk<D, MemorySink>,
+    pass: &mut Pass<D>,
+    asked: Asked<'_>,
+) -> Result<Told, Stop> {
+    let before = asked.before;
+    let mut worker = AtDesk { rt, desk, pass };
+    match asked.call {
+        "start" => Ok(Told::of(pass_text(alloc, desk, worker.pass)?)),
+        "decide" => decided(alloc, &mut worker, before, false),
+        "derive" => decided(alloc, &mut worker, before, true),
+        "leave" => decided_once(alloc, &mut worker, before),
+        "serve" => served(alloc, &mut worker, before),
+        "lookup" => {
+            change_often(alloc, &mut worker, before)?;
+            looked_up(alloc, desk, worker.pass)
+        }
+        _ => Err(Stop::Wrong("no such call")),
+    }
+}
+
+/// What is shown of alice.
+fn looked_up<D: DeskName>(
+    alloc: Global,
+    desk: &Desk<D, MemorySink>,
+    pass: &mut Pass<D>,
+) -> Result<Told, Stop> {
+    let alice = name(alloc, "alice")?;
+    let was = receipts_text(alloc, pass.receipts())?;
+    let mut fell = Fell::Nowhere;
+    let found = match desk.lookup(pass, &alice) {
+        Ok(found) => found,
+        Err(_) => {
+            if receipts_text(alloc, pass.receipts())?.as_str() != was.as_str() {
+                return Err(Stop::Wrong("the pass isn't as it was"));
+            }
+            fell = Fell::Call;
+            desk.lookup(pass, &alice)
+                .map_err(|_| Stop::Wrong("not entered again"))?
+        }
+    };
+    let text = lookup_text(alloc, found)?;
+    Ok(Told { fell, text })
+}
+
+/// A desk that can be closed.
+pub fn closed<D: DeskName, R: Wait>(
+    rt: &R,
+    desk: Desk<D, MemorySink>,
+    passes: Vec<Pass<D>>,
+) -> Result<Closed<MemorySink>, Stop> {
+    match desk.close(rt, passes) {
+        Ok(closed) => Ok(closed),
+        Err(
+            CloseRefused {
+                fault: _,
+                desk,
+                passes: _,
+            },
+        ) => {
+            desk.abandon(rt);
+            Err(Stop::Wrong("a close that is refused"))
+        }
+    }
+}
+
+/// What a desk leaves: its history, table and journal.
+fn left(alloc: Global, closed: &Closed<MemorySink>) -> Result<String, Stop> {
+    let history = history_text(alloc, &closed.history)?;
+    let table = table_text(alloc, &closed.table)?;
+    let journal = encode(alloc, closed.sink.bytes())?;
+    Ok(format!(in alloc; "{history} {table} journal {journal}")?)
+}
+
+/// That a desk leaves so many changes, and one more unless the last was refused.
+fn counted(
+    alloc: Global,
+    closed: &Closed<MemorySink>,
+    before: u32,
+    fell: Fell,
+) -> Result<String, Stop> {
+    let changes = before.saturating_add(if fell == Fell::Call { 0 } else { 1 });
+    let count = changes as usize;
+    let is_so = closed.table.seen() == changes
+        && closed.history.len() == count
+        && closed.sink.bytes().len() == count.saturating_mul(RECORD);
+    if !is_so {
+        return Err(Stop::Wrong("the desk isn't left as it was"));
+    }
+    Ok(String::from_str(alloc, "as many entries, changes and records")?)
+}

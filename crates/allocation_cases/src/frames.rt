@@ -1,0 +1,54 @@
+//! Calls of chpw_frame.
+
+use crate::records::bytes_of;
+use crate::stop::{Stop, called};
+use chpw_frame::{
+    ChangeFault, Received, join_old_request, join_reply, join_request, read_change_data, read_tcp,
+};
+use hex::encode;
+use std::alloc::Global;
+
+/// The longest part of a message here.
+const SHORT: usize = 10_000;
+
+/// `join_.. HEX HEX`, a message of these parts; `read_.. HEX`.
+pub fn told(alloc: Global, line: &str) -> Result<String, Stop> {
+    let (call, text) = line.split_once(' ').unwrap_or((line, ""));
+    let (first, second) = text.split_once(' ').unwrap_or((text, ""));
+    let (first, second) = (bytes_of(alloc, first)?, bytes_of(alloc, second)?);
+    let answer = match call {
+        "read_change_data" => changed(alloc, &first),
+        "read_tcp" => received(alloc, &first),
+        _ => joined(alloc, call, &first, &second),
+    };
+    Ok(encode(alloc, &answer?)?)
+}
+
+fn joined(alloc: Global, call: &str, ap: &[u8], tail: &[u8]) -> Result<Vec<u8>, Stop> {
+    if ap.is_empty() || ap.len() > SHORT || tail.len() > SHORT {
+        return Err(Stop::Wrong("parts of another length"));
+    }
+    match call {
+        "join_request" => called(join_request(alloc, ap, tail)),
+        "join_old_request" => called(join_old_request(alloc, ap, tail)),
+        "join_reply" => called(join_reply(alloc, ap, tail)),
+        _ => Err(Stop::Wrong("no such call")),
+    }
+}
+
+/// The password that is asked for.
+fn changed(alloc: Global, text: &[u8]) -> Result<Vec<u8>, Stop> {
+    match read_change_data(alloc, text) {
+        Ok(change) => Ok(change.password.into_vec()),
+        Err(ChangeFault::Memory) => Err(Stop::Call),
+        Err(_) => Err(Stop::Wrong("a fault of the data")),
+    }
+}
+
+fn received(alloc: Global, stream: &[u8]) -> Result<Vec<u8>, Stop> {
+    let mut stream = stream;
+    match called(read_tcp(alloc, &mut stream))? {
+        Received::Message(message) => Ok(message),
+        _ => Err(Stop::Wrong("no message")),
+    }
+}

@@ -1,0 +1,102 @@
+//! Calls that take memory, one a line on standard input, with what each gives on standard output.
+//!
+//! The program is run with one of its allocations refused (`hostile/allocations`). A call that answers
+//! want of memory then is made again, after a look at what the refusal left; where memory was wanting
+//! beside the call, all is set up again. So a line prints the same whichever allocation was refused,
+//! unless a call answers something else, or leaves something behind: that prints `wrong` and what it
+//! was.
+//!
+//! `where` before a call prints in front of its line where the refused allocation fell, in brackets.
+//! `refused` means that the call answered so, `refused behind its entry` that its entry stands; after
+//! `beside` the call was not asked, and `nowhere` says that nothing was noticed. README.md has the
+//! calls. A line that begins with `#`, or is empty, is passed on. Neither reading nor printing takes
+//! memory.
+#![tactic(auto)]
+
+mod calls;
+mod client;
+mod clock;
+mod commands;
+mod deciding;
+mod desks;
+mod frames;
+mod keys;
+mod making;
+mod messages;
+mod pools;
+mod records;
+mod seen;
+mod stop;
+mod streams;
+mod tables;
+mod world;
+
+use calls::told;
+use pools::Machine;
+use read_fully::{Filled, fill};
+use std::io::{self, Error, ErrorKind, Write};
+use std::net::{Net, TcpListener, TcpStream};
+use std::sync::Wait;
+use std::thread::Threads;
+use std::time::Clock;
+use stop::{Fell, Stop, Told};
+
+/// The longest input.
+const INPUT: usize = 32_768;
+
+fn main(rt: HostRuntime) -> io::Result<()> {
+    print_lines(&rt)
+}
+
+// The bounds of `Machine` are written out, since a caller of one type has to name what they speak of.
+fn print_lines<R>(rt: &R) -> io::Result<()>
+where
+    R: Threads
+        + Wait
+        + Clock
+        + Sync
+        + AllocGlobal
+        + Net<Listener = TcpListener, Stream = TcpStream>
+        + Input
+        + Print,
+{
+    let mut input = [0; INPUT];
+    let mut reads = u64::MAX;
+    let count = match fill(&mut rt.reader(), &mut input, &mut reads) {
+        Filled::Short(count) => count,
+        _ => return Err(Error::from(ErrorKind::InvalidInput)),
+    };
+    let (input, _) = input.split_at(count.min(INPUT));
+    for line in str::from_utf8(input).unwrap_or("no UTF-8").lines() {
+        print_line(rt, line)?;
+    }
+    Ok(())
+}
+
+fn print_line<R: Machine + Print>(rt: &R, line: &str) -> io::Result<()> {
+    let mut out = io::writer(rt);
+    if line.is_empty() || line.starts_with('#') {
+        return writeln!(out, "{line}");
+    }
+    let call = line.strip_prefix("where ");
+    let said = twice(rt, call.unwrap_or(line));
+    if let (Some(_), Ok(told)) = (call, &said) {
+        write!(out, "[{}] ", told.fell.text())?;
+    }
+    match said {
+        Ok(told) => writeln!(out, "{}", told.text.as_str()),
+        Err(Stop::Wrong(what)) => writeln!(out, "wrong: {what}"),
+        Err(_) => writeln!(out, "wrong: memory wanting twice"),
+    }
+}
+
+/// What a line gives; where memory was wanting it is set up again.
+fn twice<R: Machine>(rt: &R, line: &str) -> Result<Told, Stop> {
+    let fell = match told(rt, line) {
+        Err(Stop::Call) => Fell::Call,
+        Err(Stop::Beside) => Fell::Beside,
+        said => return said,
+    };
+    let Told { text, fell: _ } = told(rt, line)?;
+    Ok(Told { fell, text })
+}

@@ -1,0 +1,186 @@
+//! A pool of two workers at a desk, beside its client.
+ghost use Rattle.std.specs.Prelude.{◌≡◌};
+ghost use Rattle.chpw_book.specs.Starting.{IsNamed};
+
+use crate::desks::closed;
+use crate::seen::table_text;
+use crate::stop::{Fell, Stop, Told, beside};
+use crate::streams::{service, stream_of};
+use crate::world::{JOURNAL, sent_at, table};
+use chpw_book::{Closed, Desk, DeskName, Pass, UnnamedDesk};
+use chpw_journal::MemorySink;
+use chpw_messages::Service;
+use chpw_pool::{machine_moment, run_pool};
+use chpw_table::{Entry, Event, Verdict};
+use hex::encode;
+use std::alloc::Global;
+use std::io::{self, Read, Write};
+use std::marker::Brand;
+use std::net::{Net, Shutdown, TcpListener, TcpStream};
+use std::sync::Wait;
+use std::thread::{Threads, join};
+use std::time::{Clock, Duration};
+
+/// How often the client connects, each time with the same request.
+const CONNECTIONS: u32 = 3;
+
+/// How often a pool is run at the most.
+const POOLS: u32 = 3;
+
+/// How long the client waits for a reply, in seconds.
+const PATIENCE: u64 = 2;
+
+/// What a pool needs of the machine.
+pub trait Machine: Threads
+    + Wait
+    + Clock
+    + Sync
+    + AllocGlobal
+    + Net<Listener = TcpListener, Stream = TcpStream> {}
+
+impl<
+    R: Threads
+        + Wait
+        + Clock
+        + Sync
+        + AllocGlobal
+        + Net<Listener = TcpListener, Stream = TcpStream>,
+> Machine for R {}
+
+/// Where the pool serves, and what it is asked.
+#[derive(Clone, Copy, Drop)]
+struct Site<'a> {
+    listener: &'a TcpListener,
+    port: u16,
+    service: &'a Service,
+    stream: &'a [u8],
+}
+
+/// Alice's request, sent three times to a pool that is run until it has served as many connections:
+/// whether the pool was refused, or a connection.
+pub fn told<R: Machine>(rt: &R, alloc: Global) -> Result<Told, Stop> {
+    let now = machine_moment(rt).ok_or(Stop::Wrong("no clock"))?;
+    let sent = beside(sent_at(alloc, now, 0))?;
+    let (stream, service) = (stream_of(alloc, &sent)?, service(alloc)?);
+    let listener = TcpListener::bind(rt, ("127.0.0.1", 0u16))?;
+    let site = Site {
+        listener: &listener,
+        port: listener.local_addr()?.port(),
+        service: &service,
+        stream: &stream,
+    };
+    at::<Brand, R>(rt, alloc, UnnamedDesk::of(table(alloc)?, 2), site)
+}
+
+fn at<D: DeskName + Send + Sync, R: Machine>(
+    rt: &R,
+    alloc: Global,
+    unnamed: UnnamedDesk,
+    site: Site<'_>,
+) -> Result<Told, Stop>
+    requires name { IsNamed unnamed D.name D.parts D.book D.root D.workers }
+{
+    let sink = MemorySink::new(alloc, JOURNAL)?;
+    let Ok((desk, mut passes)) = Desk::<D, MemorySink>::start(rt, alloc, unnamed, sink) else {
+        return Err(Stop::Beside);
+    };
+    let (listener, service, shared) = (site.listener, site.service, &desk);
+    let (fell, answered) = join(
+        rt,
+        || pooled(rt, alloc, listener, service, shared, &mut passes),
+        || asked(rt, site),
+    );
+    let closed = closed(rt, desk, passes)?;
+    let fell = match fell {
+        Fell::Nowhere if answered < CONNECTIONS => Fell::Connection,
+        fell => fell,
+    };
+    let text = left(alloc, &closed)?;
+    Ok(Told { fell, text })
+}
+
+/// Runs the pool until it has served so many connections: whether it was refused.
+fn pooled<D: DeskName + Send + Sync, R: Machine>(
+    rt: &R,
+    alloc: Global,
+    listener: &TcpListener,
+    service: &Service,
+    desk: &Desk<D, MemorySink>,
+    passes: &mut [Pass<D>],
+) -> Fell {
+    let mut fell = Fell::Nowhere;
+    let mut connections = CONNECTIONS;
+    for _ in 0..POOLS {
+        if connections == 0 || passes.is_empty() {
+            return fell;
+        }
+        let pool = run_pool(
+            rt,
+            alloc,
+            listener,
+            service,
+            desk,
+            passes,
+            [7; 32],
+            connections,
+        );
+        connections = connections.saturating_sub(pool.served);
+        if pool.fault.is_some() {
+            fell = Fell::Call;
+        }
+    }
+    fell
+}
+
+/// The client: how often it has a reply.
+fn asked<R: Machine>(rt: &R, site: Site<'_>) -> u32 {
+    let mut answered = 0u32;
+    for _ in 0..CONNECTIONS {
+        if exchange(rt, site).unwrap_or(0) > 0 {
+            answered = answered.saturating_add(1);
+        }
+    }
+    answered
+}
+
+/// Sends the request, and reads what comes: how many bytes.
+fn exchange<R: Machine>(rt: &R, site: Site<'_>) -> io::Result<usize> {
+    let stream = connect(rt, site.port)?;
+    stream.set_read_timeout(Some(Duration::from_secs(PATIENCE)))?;
+    (&stream).write_all(site.stream)?;
+    stream.shutdown(Shutdown::Write)?;
+    let mut reply = [0; 1024];
+    (&stream).read(&mut reply)
+}
+
+/// A connection, tried again where the first try fails.
+fn connect<R: Machine>(rt: &R, port: u16) -> io::Result<TcpStream> {
+    match TcpStream::connect(rt, ("127.0.0.1", port)) {
+        Ok(stream) => Ok(stream),
+        Err(_) => TcpStream::connect(rt, ("127.0.0.1", port)),
+    }
+}
+
+/// What the desk leaves: one change, and then replays of it.
+fn left(alloc: Global, closed: &Closed<MemorySink>) -> Result<String, Stop> {
+    let is_so = match closed.history.as_slice() {
+        [first, others @ ..] => {
+            first.event.is_accepted() && others.iter().all(|entry| is_replay(entry))
+        }
+        [] => false,
+    };
+    if !is_so {
+        return Err(Stop::Wrong("not one change and its replays"));
+    }
+    let (table, journal) = (
+        table_text(alloc, &closed.table)?,
+        encode(alloc, closed.sink.bytes())?,
+    );
+    Ok(format!(in alloc; "one change, then replays; {table} journal {journal}")?)
+}
+
+fn is_replay(entry: &Entry) -> bool {
+    match &entry.event {
+        Event::Ask { opened: _, verdict } => *verdict == Verdict::Replay,
+    }
+}
