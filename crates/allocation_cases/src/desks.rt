@@ -2,12 +2,13 @@
 ghost use Rattle.std.specs.Prelude.{◌≡◌};
 ghost use Rattle.chpw_book.specs.Starting.{IsNamed, workers_of};
 
+use crate::clock::NOW;
 use crate::deciding::{change_often, decided, decided_once};
 use crate::seen::{history_text, lookup_text, pass_text, receipts_text, table_text};
 use crate::stop::{Fell, Stop, Told};
 use crate::streams::served;
 use crate::world::{JOURNAL, table};
-use chpw_book::{AtDesk, CloseRefused, Closed, Desk, DeskName, Pass, UnnamedDesk};
+use chpw_book::{AtDesk, CloseRefused, Closed, Desk, DeskName, Pass, RaiseFault, UnnamedDesk};
 use chpw_journal::MemorySink;
 use hex::encode;
 use std::alloc::Global;
@@ -85,6 +86,10 @@ fn with_pass<D: DeskName, R: Wait>(
             change_often(alloc, &mut worker, before)?;
             looked_up(alloc, desk, worker.pass)
         }
+        "raise" => {
+            change_often(alloc, &mut worker, before)?;
+            raised(rt, alloc, desk, worker.pass)
+        }
         _ => Err(Stop::Wrong("no such call")),
     }
 }
@@ -110,6 +115,31 @@ fn looked_up<D: DeskName>(
         }
     };
     let text = lookup_text(alloc, found)?;
+    Ok(Told { fell, text })
+}
+
+/// What comes of a raise from 4 to 8.
+fn raised<D: DeskName, R: Wait>(
+    rt: &R,
+    alloc: Global,
+    desk: &Desk<D, MemorySink>,
+    pass: &mut Pass<D>,
+) -> Result<Told, Stop> {
+    let was = pass_text(alloc, desk, pass)?;
+    let (fell, raised) = match desk.raise(rt, pass, NOW, 8) {
+        Err(RaiseFault::Memory) => {
+            if pass_text(alloc, desk, pass)?.as_str() != was.as_str() {
+                return Err(Stop::Wrong("the pass isn't as it was"));
+            }
+            (Fell::Call, desk.raise(rt, pass, NOW, 8))
+        }
+        raised => (Fell::Nowhere, raised),
+    };
+    let Ok(verdict) = raised else {
+        return Err(Stop::Wrong("another refusal"));
+    };
+    let seen = pass_text(alloc, desk, pass)?;
+    let text = format!(in alloc; "{}; {seen}", verdict.text())?;
     Ok(Told { fell, text })
 }
 

@@ -182,5 +182,6 @@ fn left(alloc: Global, closed: &Closed<MemorySink>) -> Result<String, Stop> {
 fn is_replay(entry: &Entry) -> bool {
     match &entry.event {
         Event::Ask { opened: _, verdict } => *verdict == Verdict::Replay,
+        Event::Raise { .. } => false,
     }
 }

@@ -33,9 +33,16 @@ fn keys_text(alloc: Global, table: &Table, principal: &str) -> Result<String, St
 }
 
 fn entry_text(alloc: Global, entry: &Entry) -> Result<String, Stop> {
-    let Event::Ask { opened, verdict } = &entry.event;
-    let (worker, number, cusec) = (entry.worker, entry.number, opened.cusec);
-    Ok(format!(in alloc; " {worker}.{number} of {cusec}: {},", verdict.text())?)
+    let (worker, number) = (entry.worker, entry.number);
+    match &entry.event {
+        Event::Ask { opened, verdict } => {
+            let (cusec, text) = (opened.cusec, verdict.text());
+            Ok(format!(in alloc; " {worker}.{number} of {cusec}: {text},")?)
+        }
+        Event::Raise { count, verdict } => {
+            Ok(format!(in alloc; " {worker}.{number} to {count}: {},", verdict.text())?)
+        }
+    }
 }
 
 /// The entries of a history.

@@ -1,5 +1,6 @@
 -- What a call under the lock tells its caller.
-use Rattle.std.proofs.Common.{◌≡◌, ◌≢◌, ℕ, List, refl, ◌∙◌}
+use Rattle.std.proofs.Common.{◌≡◌, ◌≢◌, ℕ, List, Result, Ok, Err, refl, ◌∙◌}
+use Rattle.std.specs.Prelude.{OnErr}
 use Rattle.chpw_table.specs.declared.times.Moment.{Moment}
 use Rattle.chpw_table.specs.declared.request.Opened.{Opened}
 use Rattle.chpw_table.specs.declared.outcome.DecideFault.{DecideFault}
@@ -47,3 +48,8 @@ lacks_after opening workers b now o k = record {
   legal = k.legal;
   lacks = same_missing b.table.state (outcome opening b.history) now o k.agrees;
 }
+
+-- what is said of an error, where the result is one
+pub err_of : {A E : Type 0} (r : Result A E) (P : Type 0) → ((x : A) → r ≡ Ok x → ⊥) → OnErr r P → P
+err_of (Ok x) P other h = absurd (other x refl)
+err_of (Err e) P other h = h

@@ -11,10 +11,11 @@ use Rattle.std.proofs.lemmas.List.Sums.{sum_by-append, length-filter, count_by-l
 use Rattle.chpw_table.specs.declared.times.Moment.{Moment}
 use Rattle.chpw_table.specs.declared.request.Opened.{Opened}
 use Rattle.chpw_table.specs.declared.outcome.Outcome.{Outcome}
+use Rattle.chpw_table.specs.declared.history.Event.{Event}
 use Rattle.chpw_table.specs.declared.history.Event.TheVariants.{Ask}
 use Rattle.chpw_table.specs.declared.history.Entry.{Entry}
 use Rattle.chpw_table.specs.State.{State}
-use Rattle.chpw_table.specs.History.{IsJudged, is_accepted, step_entry, outcome}
+use Rattle.chpw_table.specs.History.{IsJudged, is_accepted, step_event, step_entry, outcome}
 use Rattle.chpw_table.specs.Verdicts.{is_done}
 use Rattle.chpw_table.specs.Outcomes.{Steps}
 use Rattle.chpw_table.specs.Journal.{journal, appended, event_appended}
@@ -121,6 +122,16 @@ kept_more opening workers b e t n told k decided agrees tells below number event
   room = let a = one_longer b.history e in let r = k.room in omega (arith, a, r, events);
 }
 
+-- an event that the machine judges so, and its entry
+pub kept_event : (opening : State) (workers : ℕ) (b : Stored) (w : ℕ) (now : Moment) (io : Bool) (event : Event) (t : Held) (es : List Entry) (counts : List ℕ) (changes n : ℕ) (told : Option (List ℕ))
+    → Replays opening workers b → IsJudged (outcome opening b.history) now io event → Agrees t.state (step_event (outcome opening b.history) now io event)
+    → told ≡ option_map (λ xs. xs ++ event_appended (outcome opening b.history) event) b.told → t.events ≡ b.table.events + 1
+    → w < length b.counts → es ≡ b.history ++ next_entry b.history w now io event ∷ []
+    → counts ≡ slice_set b.counts w (slice_index b.counts w + 1) → changes ≡ (if is_accepted event then b.changes + 1 else b.changes) → n ≡ b.total + 1
+    → Replays opening workers (record { table = t; history = es; counts = counts; changes = changes; total = n; told = told })
+kept_event opening workers b w now io event t es counts changes n told k judged agrees tells events below h c d total =
+    rw (h, c, d) (kept_more opening workers b (next_entry b.history w now io event) t n told k judged agrees tells below refl events total)
+
 -- a step of the table, and its entry
 pub kept_step : (opening : State) (workers : ℕ) (b : Stored) (w : ℕ) (now : Moment) (o : Opened) (r : Outcome) (t : Held) (es : List Entry) (counts : List ℕ) (changes n : ℕ) (told : Option (List ℕ))
     → Replays opening workers b → Steps b.table t now o r → ((s : State) → Agrees b.table.state s → told ≡ option_map (λ xs. xs ++ appended s o r.verdict) b.told)
@@ -129,4 +140,4 @@ pub kept_step : (opening : State) (workers : ℕ) (b : Stored) (w : ℕ) (now : 
     → Replays opening workers (record { table = t; history = es; counts = counts; changes = changes; total = n; told = told })
 kept_step opening workers b w now o r t es counts changes n told k steps tells below h c d total =
     let s : State = outcome opening b.history in
-    rw (h, c, d) (kept_more opening workers b (next_entry b.history w now r.io_failed (Ask o r.verdict)) t n told k (steps.legal s k.agrees) (steps.agrees s k.agrees) (tells s k.agrees) below refl steps.events total)
+    kept_event opening workers b w now r.io_failed (Ask o r.verdict) t es counts changes n told k (steps.legal s k.agrees) (steps.agrees s k.agrees) (tells s k.agrees) steps.events below h c d total

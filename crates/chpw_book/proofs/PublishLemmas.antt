@@ -8,13 +8,16 @@ use Rattle.chpw_table.specs.declared.request.Opened.{Opened}
 use Rattle.chpw_table.specs.declared.history.Entry.{Entry}
 use Rattle.chpw_table.specs.declared.verdict.Verdict.{Verdict}
 use Rattle.chpw_table.specs.declared.verdict.Verdict.TheVariants.{Broken, Done}
+use Rattle.chpw_table.specs.declared.change.KeyChange.{KeyChange}
+use Rattle.chpw_table.specs.declared.change.Accepted.{Accepted}
+use Rattle.chpw_table.specs.declared.change.Accepted.TheVariants.{Key}
 use Rattle.chpw_table.specs.declared.history.Event.{Event}
 use Rattle.chpw_table.specs.declared.history.Event.TheVariants.{Ask}
 use Rattle.chpw_table.specs.State.{State, new_count}
 use Rattle.chpw_table.specs.Verdicts.{is_done}
 use Rattle.chpw_table.specs.Step.{new_key}
 use Rattle.chpw_table.specs.History.{IsLegal, is_accepted, outcome}
-use Rattle.chpw_table.specs.Versions.{KeyChange, Shown, change_by, accepted}
+use Rattle.chpw_table.specs.Versions.{Shown, change_by, accepted}
 use Rattle.chpw_table.specs.Agreement.{Agrees}
 use Rattle.chpw_table.specs.Preparing.{IsNextRow}
 use Rattle.chpw_table.proofs.DoneLemmas.{done_key_row, done_whole}
@@ -33,9 +36,9 @@ use Rattle.chpw_book.proofs.GrowsLemmas.{one_longer}
 pub whole_at : (s : State) (now : Moment) (o : Opened) (name : Name) (row : Shown) → IsNextRow s now o name row → s.broken ≡ false
 whole_at s now o name row n = done_whole s o (done_key_row s now o n.done)
 
--- with the policy's count
+-- with the count of new keys
 pub change_at : (s : State) (now : Moment) (o : Opened) (name : Name) (row : Shown) (count : ℕ) → IsNextRow s now o name row → count ≡ new_count s
-    → record { name = name; kvno = row.kvno; count = count } ≡ change_by s (Ask o Done)
+    → Key (record { name = name; kvno = row.kvno; count = count }) ≡ change_by s (Ask o Done)
 change_at s now o name row count n c =
     let kvno : (new_key s o).kvno ≡ row.kvno = ap (λ (x : KeyChange). x.kvno) n.change in
     rw (n.target, c, ← kvno) refl
@@ -52,7 +55,7 @@ published_at opening before e b broken event s t p a is h done accepts =
   where
     at : (done : Bool) → is_accepted event ≡ done → s.list ++ (if done then change_by b event ∷ [] else []) ≡ accepted opening (before ++ e ∷ []) → Publishes opening (before ++ e ∷ []) broken (published done t)
     at true y list = record {
-      list = ap (λ (w : Option KeyChange). joined w t.list) (h.waits y) ∙ (ap (λ (xs : List KeyChange). xs ++ change_by b event ∷ []) h.list ∙ list);
+      list = ap (λ (w : Option Accepted). joined w t.list) (h.waits y) ∙ (ap (λ (xs : List Accepted). xs ++ change_by b event ∷ []) h.list ∙ list);
       free = λ w. refl;
     }
     at false y list = record { list = h.list ∙ (sym (append-nil s.list) ∙ list); free = h.free y }
@@ -68,7 +71,7 @@ published_next opening workers b later mine mid s t now event p h =
 pub list_room : (opening : State) (workers : ℕ) (b later : Stored) (mine mid : Carried) (s t : Shelved) (now : Moment) (event : Event)
     → Publishes opening b.history b.table.state.broken s → IsStored opening workers b later mine mid s t now event → length t.list + 1 < 2 ^ 31
 list_room opening workers b later mine mid s t now event p h =
-    let long : length t.list ≡ length (accepted opening b.history) = ap (λ (xs : List KeyChange). length xs) (h.shelves.list ∙ p.list) in
+    let long : length t.list ≡ length (accepted opening b.history) = ap (λ (xs : List Accepted). length xs) (h.shelves.list ∙ p.list) in
     let counted = changes_counted opening b.history in
     let some = count_by-le-length (λ (e : Entry). is_accepted e.event) b.history in
     let grown : length later.history ≡ length b.history + 1 = ap (λ (es : List Entry). length es) h.adds.history ∙ one_longer b.history h.adds.entry in
@@ -82,7 +85,7 @@ pub notes_next : (opening : State) (workers : ℕ) (b later : Stored) (mine mid 
 notes_next opening workers b later mine mid more s t u now event p h q begins is =
     let place : more.place ≡ told_list (is_accepted event) (accepted opening (b.history ++ h.adds.entry ∷ [])) mine.place =
     ap (λ (c : Carried). c.place) is
-    ∙ (ap (λ (xs : List KeyChange). told_list (is_accepted event) xs mid.place) (q.list ∙ ap (λ (es : List Entry). accepted opening es) h.adds.history)
+    ∙ (ap (λ (xs : List Accepted). told_list (is_accepted event) xs mid.place) (q.list ∙ ap (λ (es : List Entry). accepted opening es) h.adds.history)
     ∙ ap (λ (k : Known). told_list (is_accepted event) (accepted opening (b.history ++ h.adds.entry ∷ [])) k) h.place) in
     record {
       before = b.history;
@@ -90,7 +93,7 @@ notes_next opening workers b later mine mid more s t u now event p h q begins is
       entry_is = h.adds.entry_is;
       legal = subst (λ (es : List Entry). IsLegal opening es) h.adds.history h.replays.1.legal;
       gains = rw is (record { receipts = h.adds.gains.receipts; share = h.adds.gains.share; same = h.adds.gains.same });
-      tells = record { begins = subst (λ (xs : List KeyChange). IsPrefix mine.place.told xs) p.list begins; tells = place };
+      tells = record { begins = subst (λ (xs : List Accepted). IsPrefix mine.place.told xs) p.list begins; tells = place };
     }
 
 -- ---- the shelf after a decision

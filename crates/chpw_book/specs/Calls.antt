@@ -1,13 +1,16 @@
 -- What one call at a desk answers, as far as its caller can know: other workers may have called before.
-use Rattle.std.specs.Prelude.{◌≡◌, ℕ, List, [], ◌∷◌, ◌++◌}
+use Rattle.std.specs.Prelude.{◌≡◌, ◌<◌, ℕ, List, [], ◌∷◌, ◌++◌}
 use Rattle.chpw_table.specs.declared.times.Moment.{Moment}
 use Rattle.chpw_table.specs.declared.request.Opened.{Opened}
 use Rattle.chpw_table.specs.declared.history.Event.{Event}
 use Rattle.chpw_table.specs.declared.history.Entry.{Entry}
 use Rattle.chpw_table.specs.declared.outcome.DecideFault.{DecideFault}
 use Rattle.chpw_table.specs.State.{State}
+use Rattle.chpw_table.specs.Agreement.{Held}
 use Rattle.chpw_table.specs.History.{IsLegal, is_accepted, outcome, missing}
 use Rattle.chpw_decider.specs.Entered.{AsksFor}
+use Rattle.chpw_book.specs.declared.raising.RaiseFault.{RaiseFault}
+use Rattle.chpw_book.specs.declared.raising.RaiseFault.TheVariants.{Full, Memory}
 use Rattle.chpw_book.specs.Receipts.{next_entry}
 use Rattle.chpw_book.specs.Stored.{Gains}
 use Rattle.chpw_book.specs.Passes.{Carried}
@@ -35,3 +38,8 @@ pub record LacksAfter (opening : State) (now : Moment) (o : Opened) (counts : Li
   pub before : List Entry
   pub legal : IsLegal opening before
   pub lacks : counts ≡ missing (outcome opening before) now o
+
+-- a raise is refused for a full table, or, where it has room, for want of memory
+abbrev pub IsFirstFault : Held → RaiseFault → Type 0
+IsFirstFault t Full = t.events ≡ t.max_entries
+IsFirstFault t Memory = t.events < t.max_entries

@@ -12,7 +12,8 @@ use Rattle.chpw_table.specs.State.{State, keys_held, kept_count, new_count}
 use Rattle.chpw_table.specs.Agreement.{Held}
 use Rattle.chpw_table.specs.Decision.{newest_kvno}
 use Rattle.chpw_table.specs.History.{is_accepted}
-use Rattle.chpw_table.specs.Versions.{KeyChange, change_by, accepted}
+use Rattle.chpw_table.specs.declared.change.Accepted.{Accepted}
+use Rattle.chpw_table.specs.Versions.{change_by, accepted}
 use Rattle.chpw_versions.specs.declared.rows.Row.{Row}
 use Rattle.chpw_versions.specs.Known.{Known, Shelved}
 use Rattle.chpw_versions.specs.Rows.{Rowed}
@@ -23,7 +24,7 @@ use Rattle.chpw_book.specs.Stored.{Stored, Replays, Adds, new_store}
 -- what lies under the lock: the table with its history, and the published list
 pub record Booked : Type 0 where
   pub kept : Stored
-  pub list : List KeyChange
+  pub list : List Accepted
 
 -- over this table, with no entry yet, for so many workers
 abbrev pub new_book : Held → ℕ → Option (List ℕ) → Booked
@@ -35,7 +36,7 @@ pub record Publishes (opening : State) (history : List Entry) (broken : Bool) (s
   pub free : broken ≡ false → s.waiting ≡ None
 
 -- the change waits, where one is made
-abbrev pub with_waiting : Bool → KeyChange → Shelved → Shelved
+abbrev pub with_waiting : Bool → Accepted → Shelved → Shelved
 with_waiting made c s = if made then record s { waiting = Some c } else s
 
 -- an event leaves the published list, and has its change wait where it was accepted; where not, none
@@ -54,7 +55,7 @@ pub record IsStored (opening : State) (workers : ℕ) (before later : Stored) (m
   pub few : length later.history < 2 ^ 31
 
 -- the change that waited has joined the list
-abbrev pub joined : Option KeyChange → List KeyChange → List KeyChange
+abbrev pub joined : Option Accepted → List Accepted → List Accepted
 joined None list = list
 joined (Some c) list = list ++ c ∷ []
 
@@ -62,7 +63,7 @@ abbrev pub published : Bool → Shelved → Shelved
 published done s = if done then record { list = joined s.waiting s.list; waiting = None } else s
 
 -- the pass was told this list after a change of its own
-abbrev pub told_list : Bool → List KeyChange → Known → Known
+abbrev pub told_list : Bool → List Accepted → Known → Known
 told_list done list k = if done then record k { told = list; own = Some list } else k
 
 -- A call whose event was accepted or not, before it that history and after it this one: what the pass

@@ -4,17 +4,19 @@ ghost use Rattle.std.specs.List.{range_with_len};
 ghost use mathlib.Core.List.{IsPrefix};
 ghost use Rattle.chpw_fronts.specs.Pens.{opening_state};
 ghost use Rattle.chpw_table.specs.declared.outcome.DecideFault.TheVariants.{Full};
-ghost use Rattle.chpw_table.specs.declared.history.Event.TheVariants.{Ask};
+ghost use Rattle.chpw_rules.specs.Limits.{is_in, iteration_counts};
+ghost use Rattle.chpw_table.specs.declared.history.Event.TheVariants.{Ask, Raise};
 ghost use Rattle.chpw_table.specs.Times.{IsMoment};
 ghost use Rattle.chpw_table.specs.Requests.{target_of};
 ghost use Rattle.chpw_table.specs.Completing.{salt_of, completed};
 ghost use Rattle.chpw_table.specs.Refusals.{IsRefused};
 ghost use Rattle.chpw_table.specs.Verdicts.{is_done};
+ghost use Rattle.chpw_table.specs.Raising.{is_raised};
 ghost use Rattle.chpw_table.specs.Versions.{accepted};
 ghost use Rattle.chpw_decider.specs.Deciding.{IsCompletedFrom, IsFinal};
 ghost use Rattle.chpw_book.specs.Closing.{IsRefusal, IsWhole, is_full};
 ghost use Rattle.chpw_book.specs.Stored.{Replays, Adds};
-ghost use Rattle.chpw_book.specs.Calls.{Notes, AsksAfter, LacksAfter};
+ghost use Rattle.chpw_book.specs.Calls.{Notes, AsksAfter, LacksAfter, IsFirstFault};
 ghost use Rattle.chpw_table.specs.History.{missing};
 ghost use Rattle.chpw_book.specs.Passes.{new_pass};
 ghost use Rattle.chpw_book.specs.Starting.{IsNamed, table_of, workers_of};
@@ -23,11 +25,12 @@ ghost use Rattle.chpw_book.specs.Publishing.{new_book, published, told_list};
 use crate::closing::{CloseFault, Closed};
 use crate::naming::DeskName;
 use crate::pass::Pass;
+use crate::raising::RaiseFault;
 use crate::rows::rows_of;
 use crate::store::Store;
 use crate::unnamed::{StartFault, UnnamedDesk};
 use chpw_decider::JournaledTable;
-use chpw_table::{Counts, Entry, JournalSink, Moment, Opened, Refused, Verdict};
+use chpw_table::{Counts, Entry, JournalSink, Moment, Opened, RaiseVerdict, Refused, Verdict};
 use chpw_versions::Shelf;
 use std::alloc::Global;
 use std::marker::Model;
@@ -191,6 +194,36 @@ impl<D: DeskName, S: JournalSink> Book<D, S> {
         Ok(verdict)
     }
 
+    /// Raises the iteration count of new keys to this one, 1 to 16,777,216: an entry of the pass's
+    /// worker at the end, and its receipt in the pass. Where the count is raised, lookups show it then,
+    /// and the pass is told of it; this waits for lookups that still read what it changes.
+    ///
+    /// `now` has seconds from 0 to `chpw_table::LAST_SECOND`. Two faults, after which nothing has
+    /// changed: `Full` just where the table is, and `Memory` where it has room and a growth is refused.
+    pub fn raise<R: Wait>(
+        &mut self,
+        rt: &R,
+        pass: &mut Pass<D>,
+        now: Moment,
+        count: u32,
+    ) -> Result<RaiseVerdict, RaiseFault>
+        requires moment { IsMoment now }
+        requires count { is_in iteration_counts count ≡ true }
+        ensures adds { IfOk result (λ v.
+            Adds self.old.kept self.new.kept pass.old pass.new now (Raise count v)) }
+        ensures first { IfErr result (λ fault. IsFirstFault self.old.kept.table fault) }
+        ensures unchanged { OnErr result ((self.new ≡ self.old) × (pass.new ≡ pass.old)) }
+        ensures notes { IfOk result (λ v.
+            Notes (opening_state D.root) pass.old pass.new now (Raise count v)) }
+        ensures told { IsPrefix pass.old.place.told
+            (accepted (opening_state D.root) self.old.kept.history) }
+    {
+        self.shelf.has(pass.told());
+        let verdict = self.store.raise(&mut self.shelf, pass, now, count)?;
+        tell_raise(rt, &mut self.shelf, pass, verdict);
+        Ok(verdict)
+    }
+
     /// Why these passes leave the book open; none where it may be closed.
     pub(crate) fn close_fault(&self, passes: &[Pass<D>]) -> Option<CloseFault>
         ensures whole { IfNone result (IsWhole self.now.kept.history
@@ -236,6 +269,27 @@ fn tell<D: DeskName, R: Wait>(rt: &R, shelf: &mut Shelf<D>, pass: &mut Pass<D>, 
     } }
 {
     if verdict == Verdict::Done {
+        let front = shelf.publish(rt);
+        pass.tell(front);
+    }
+}
+
+// The same after this verdict on a raise.
+fn tell_raise<D: DeskName, R: Wait>(
+    rt: &R,
+    shelf: &mut Shelf<D>,
+    pass: &mut Pass<D>,
+    verdict: RaiseVerdict,
+)
+    requires waits { is_raised verdict ≡ true → IsSome shelf.old.waiting }
+    requires room { length shelf.old.list + 1 < 2 ^ 31 }
+    requires told { IsPrefix pass.old.place.told shelf.old.list }
+    ensures shelf { shelf.new ≡ published (is_raised verdict) shelf.old }
+    ensures pass { pass.new ≡ record pass.old {
+      place = told_list (is_raised verdict) shelf.new.list pass.old.place;
+    } }
+{
+    if verdict.is_raised() {
         let front = shelf.publish(rt);
         pass.tell(front);
     }

@@ -147,7 +147,7 @@ fn make_room<D: DeskName>(
     receipts.reserve(1)?;
     let copy = prepared.opened().clone()?;
     if let Some(row) = prepared.change() {
-        shelf.prepare(row.name, row.kvno, table.policy().iterations)?;
+        shelf.prepare(row.name, row.kvno, table.count())?;
     }
     Ok(copy)
 }

@@ -1,14 +1,15 @@
 //! The lock round the book.
-ghost use Rattle.std.specs.Prelude.{◌≡◌, ◌-◌, ◌^◌, ◌<◌, ◌≤◌, [], All, IfOk, IfErr, IfSome, OnErr, map, false};
+ghost use Rattle.std.specs.Prelude.{◌≡◌, ◌-◌, ◌^◌, ◌<◌, ◌≤◌, [], All, IfOk, IfErr, IfSome, OnOk, OnErr, map, false, true};
 ghost use mathlib.Core.List.{IsPrefix};
 ghost use Rattle.std.specs.List.{range_with_len};
 ghost use Rattle.chpw_fronts.specs.Pens.{opening_state, opening_table};
-ghost use Rattle.chpw_table.specs.declared.history.Event.TheVariants.{Ask};
+ghost use Rattle.chpw_rules.specs.Limits.{is_in, iteration_counts};
+ghost use Rattle.chpw_table.specs.declared.history.Event.TheVariants.{Ask, Raise};
 ghost use Rattle.chpw_table.specs.Times.{IsMoment};
 ghost use Rattle.chpw_table.specs.Completing.{completed};
 ghost use Rattle.chpw_table.specs.Refusals.{AsksPositive};
 ghost use Rattle.chpw_decider.specs.Deciding.{IsCompletedFrom, IsFinal};
-ghost use Rattle.chpw_book.specs.Passes.{refused_with, new_pass};
+ghost use Rattle.chpw_book.specs.Passes.{refused_with, raise_refused_with, new_pass};
 ghost use Rattle.chpw_book.specs.Calls.{Notes, AsksAfter, LacksAfter};
 ghost use Rattle.chpw_book.specs.Starting.{IsNamed, table_of, workers_of};
 ghost use Rattle.chpw_versions.specs.Looking.{LooksUp};
@@ -16,9 +17,12 @@ ghost use Rattle.chpw_versions.specs.Looking.{LooksUp};
 use crate::book::Book;
 use crate::naming::DeskName;
 use crate::pass::Pass;
+use crate::raising::RaiseFault;
 use crate::unnamed::{StartFault, UnnamedDesk};
 use chpw_rules::Name;
-use chpw_table::{Counts, DecideFault, JournalSink, Lookup, Moment, Opened, Refused, Verdict};
+use chpw_table::{
+    Counts, DecideFault, JournalSink, Lookup, Moment, Opened, RaiseVerdict, Refused, Verdict,
+};
 use chpw_versions::NotEntered;
 use std::alloc::Global;
 use std::sync::{Mutex, MutexGuard, Wait};
@@ -123,6 +127,31 @@ impl<D: DeskName, S: JournalSink> Desk<D, S> {
         noted(pass, decided)
     }
 
+    /// Raises the iteration count of new keys to this one, 1 to 16,777,216, under the lock; the receipt
+    /// joins the pass. Where the count is raised, lookups show it before the lock is given back, and the
+    /// pass is told of it.
+    ///
+    /// `now` has seconds from 0 to `chpw_table::LAST_SECOND`. After a fault the pass is as before, but
+    /// that it notes `Full`.
+    pub fn raise<R: Wait>(
+        &self,
+        rt: &R,
+        pass: &mut Pass<D>,
+        now: Moment,
+        count: u32,
+    ) -> Result<RaiseVerdict, RaiseFault>
+        requires moment { IsMoment now }
+        requires count { is_in iteration_counts count ≡ true }
+        ensures receipt { IfOk result (λ v.
+            Notes (opening_state D.root) pass.old pass.new now (Raise count v)) }
+        ensures refused { IfErr result (λ fault. pass.new ≡ raise_refused_with fault pass.old) }
+    {
+        let mut book = self.book.lock(rt);
+        let raised = book.raise(rt, pass, now, count);
+        MutexGuard::unlock(book);
+        raise_noted(pass, raised)
+    }
+
     /// What a table shows of a name after some list of accepted changes that begins with all that the
     /// pass has seen and was told; none for an unknown name. It takes no lock and waits for nobody. The
     /// counts are at least 1. After `NotEntered` the pass is as before.
@@ -164,4 +193,19 @@ fn noted<D: DeskName>(
         pass.note_full();
     }
     decided
+}
+
+// The same of a raise.
+fn raise_noted<D: DeskName>(
+    pass: &mut Pass<D>,
+    raised: Result<RaiseVerdict, RaiseFault>,
+) -> Result<RaiseVerdict, RaiseFault>
+    ensures same { result ≡ raised }
+    ensures ok { OnOk raised (pass.new ≡ pass.old) }
+    ensures err { IfErr raised (λ fault. pass.new ≡ raise_refused_with fault pass.old) }
+{
+    if let Err(RaiseFault::Full) = raised {
+        pass.note_full();
+    }
+    raised
 }

@@ -53,17 +53,17 @@ only_broken s now o =
     (only s.broken _ BadBody _ refl (only s.broken _ Denied _ refl (only s.broken _ NeedInitial _ refl (only s.broken _ Unknown _ refl (only s.broken _ Short _ refl
     (only s.broken _ Classes _ refl (only s.broken _ Reused _ refl (only s.broken _ LastVersion _ refl (only_end s.broken)))))))))))))
 
-abbrev nothing : List ℕ
+abbrev pub nothing : List ℕ
 nothing = []
 
 -- a sink that takes all: no append failed
-io_taken : (b : Bool) (n : ℕ) (io : Bool) → (if b then Some nothing else None) ≡ None → (if b then n else 0) ≡ (if io then 0 + 1 else 0) → io ≡ false
+pub io_taken : (b : Bool) (n : ℕ) (io : Bool) → (if b then Some nothing else None) ≡ None → (if b then n else 0) ≡ (if io then 0 + 1 else 0) → io ≡ false
 io_taken true n io e h = cc
 io_taken false n true e h = absurd (omega arith)
 io_taken false n false e h = refl
 
 -- a sink that fails: nothing was taken
-io_failing : (b : Bool) (xs : List ℕ) → (if b then Some nothing else None) ≡ Some xs → [] ≡ xs
+pub io_failing : (b : Bool) (xs : List ℕ) → (if b then Some nothing else None) ≡ Some xs → [] ≡ xs
 io_failing true xs e = cc
 io_failing false xs e = cc
 

@@ -4,5 +4,6 @@ pub mod TextLemmas
 pub mod SetupLemmas
 pub mod AppendLemmas
 pub mod RespondLemmas
+pub mod RaiseLemmas
 pub mod RunLemmas
 pub mod StageLemmas

@@ -23,10 +23,10 @@ use Rattle.chpw_commands.specs.Stages.{Machine, append_fails, response_at, respo
 use Rattle.chpw_commands.specs.Following.{Runs, refusal_of}
 use Rattle.chpw_commands.proofs.AppendLemmas.{failed_of, told_of, io_is}
 
-is_below : (m n : ℕ) → m < n → (m == n) ≡ false
+pub is_below : (m n : ℕ) → m < n → (m == n) ≡ false
 is_below m n h = grind (arith, nat_tests)
 
-is_full : (m n : ℕ) → m ≡ n → (m == n) ≡ true
+pub is_full : (m n : ℕ) → m ≡ n → (m == n) ≡ true
 is_full m n h = grind (arith, nat_tests)
 
 module _ (d : Drill) (a : Asked) (x : Outcome) (k : RequestSink) (t : Held) (c : Steps d.table t a.now a.opened x)

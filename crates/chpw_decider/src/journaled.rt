@@ -1,16 +1,23 @@
 //! A table with the sink of its journal.
-ghost use Rattle.std.specs.Prelude.{◌≡◌, ◌≤◌, ◌-◌, ◌^◌, ◌<◌, ◌&&◌, if◌then◌else◌, false, All, IfOk, IfErr, IfSome};
+ghost use Rattle.std.specs.Prelude.{◌≡◌, ◌≤◌, ◌+◌, ◌-◌, ◌^◌, ◌<◌, ◌++◌, ◌&&◌, ◌||◌, if◌then◌else◌, true, false, All, IfOk, IfErr, IfSome, OnOk, OnErr, option_map};
+ghost use Rattle.chpw_rules.specs.Limits.{is_in, entry_counts, iteration_counts};
 ghost use Rattle.chpw_table.specs.declared.verdict.Verdict.TheVariants.{Broken};
 ghost use Rattle.chpw_table.specs.Verdicts.{is_done};
 ghost use Rattle.chpw_table.specs.Preparing.{IsReady};
+ghost use Rattle.chpw_table.specs.State.{State};
+ghost use Rattle.chpw_table.specs.Agreement.{Agrees};
+ghost use Rattle.chpw_table.specs.Raising.{step_raise, is_raised, IsRaise};
 ghost use Rattle.chpw_table.specs.Times.{IsMoment};
+ghost use Rattle.chpw_table.specs.Journal.{raise_appended};
 ghost use Rattle.chpw_table.specs.Outcomes.{Steps, Writes};
 ghost use Rattle.chpw_table.specs.Refusals.{IsRefused};
 ghost use Rattle.chpw_table.specs.Lookups.{lookup_of};
 ghost use Rattle.chpw_table.specs.History.{missing};
 
 use chpw_rules::Name;
-use chpw_table::{Counts, JournalSink, Lookup, Moment, Opened, Outcome, Prepared, Refused, Table};
+use chpw_table::{
+    Counts, Full, JournalSink, Lookup, Moment, Opened, Outcome, Prepared, Raise, Refused, Table,
+};
 
 /// A table and the sink that its changes go to. The sink's count of failures has room for one more, or
 /// the table is broken.
@@ -53,6 +60,34 @@ impl<S: JournalSink> JournaledTable<S> {
     {
         let JournaledTable { table, sink } = self;
         table.finish(prepared, sink)
+    }
+
+    /// One raise of the iteration count of new keys (`Table::raise`). It takes no memory.
+    pub fn raise(&mut self, now: Moment, count: u32) -> Result<Raise, Full>
+        requires moment { IsMoment now }
+        requires count { is_in iteration_counts count ≡ true }
+        ensures legal { IfOk result (λ r. (s : State) → Agrees self.old.table.state s
+            → IsRaise s count r.io_failed r.verdict) }
+        ensures step { IfOk result (λ r. (s : State) → Agrees self.old.table.state s
+            → Agrees self.new.table.state (step_raise s now count r.io_failed)) }
+        ensures io { IfOk result (λ r. S.failed self.new.sink
+            ≡ (if r.io_failed then S.failed self.old.sink + 1 else S.failed self.old.sink)) }
+        ensures told { IfOk result (λ r. S.told self.new.sink
+            ≡ option_map (λ xs. xs ++ raise_appended count r.verdict) (S.told self.old.sink)) }
+        ensures counts { IfOk result (λ r. (self.new.table.events ≡ self.old.table.events + 1)
+            × (self.new.table.seen
+            ≡ (if is_raised r.verdict then self.old.table.seen + 1 else self.old.table.seen))
+            × (self.new.table.max_entries ≡ self.old.table.max_entries)) }
+        ensures room { OnOk result (self.old.table.events < self.old.table.max_entries) }
+        ensures few { OnOk result (self.new.table.events ≤ entry_counts.high) }
+        ensures broken { IfOk result (λ r. self.new.table.state.broken
+            ≡ (self.old.table.state.broken || r.io_failed)) }
+        ensures full { OnErr result (self.old.table.events ≡ self.old.table.max_entries) }
+        ensures unchanged { OnErr result ((self.new.table ≡ self.old.table)
+            × (self.new.sink ≡ self.old.sink)) }
+    {
+        let JournaledTable { table, sink } = self;
+        table.raise(now, count, sink)
     }
 
     /// What the table shows of a name.

@@ -2,11 +2,12 @@
 use Rattle.std.specs.Prelude.{◌≡◌, ℕ, ◌==◌, List, [], ◌∷◌, if◌then◌else◌, false, pos}
 use Rattle.chpw_table.specs.State.{State}
 use Rattle.chpw_table.specs.Agreement.{Held}
-use Rattle.chpw_table.specs.Versions.{KeyChange}
+use Rattle.chpw_table.specs.declared.change.Accepted.{Accepted}
+use Rattle.chpw_table.specs.declared.change.Accepted.TheVariants.{Count}
 use Rattle.chpw_fronts.specs.declared.entry.LogEntry.{LogEntry}
 
 -- the changes that this pen, and the pens that took over from it, have written
-abbrev pub written_by : ℕ → List LogEntry → List KeyChange
+abbrev pub written_by : ℕ → List LogEntry → List Accepted
 written_by pen [] = []
 written_by pen (e ∷ es) = if e.by == pen then e.change ∷ written_by e.next es else written_by pen es
 
@@ -27,10 +28,11 @@ no_state = record {
   used = [];
   clock = pos 0;
   broken = false;
+  count = 0;
 }
 
 abbrev pub no_entry : LogEntry
-no_entry = record { opening = record { state = no_state; events = 0; seen = 0; max_entries = 0 }; change = record { name = record { parts = [] }; kvno = 0; count = 0 }; by = 0; next = 0 }
+no_entry = record { opening = record { state = no_state; events = 0; seen = 0; max_entries = 0 }; change = Count 0; by = 0; next = 0 }
 
 abbrev pub newest_or : LogEntry → List LogEntry → LogEntry
 newest_or d [] = d
@@ -48,5 +50,5 @@ abbrev pub opening_state : List LogEntry → State
 opening_state root = (opening_table root).state
 
 -- the accepted changes of that list in a log
-abbrev pub changes_in : List LogEntry → List LogEntry → List KeyChange
+abbrev pub changes_in : List LogEntry → List LogEntry → List Accepted
 changes_in root log = written_by (first_pen root) log

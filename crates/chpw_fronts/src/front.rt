@@ -20,11 +20,11 @@ pub struct Front<D: ListName> {
 
 impl<D: ListName> Model for Front<D> {
     ghost use Rattle.std.specs.Prelude.{◌≡◌, List, length};
-    ghost use Rattle.chpw_table.specs.Versions.{KeyChange};
+    ghost use Rattle.chpw_table.specs.declared.change.Accepted.{Accepted};
     ghost use Rattle.chpw_fronts.specs.Changes.{EndsWith};
     ghost use Rattle.chpw_fronts.specs.Pens.{opening_state, changes_in};
 
-    ghost Value = { List KeyChange };
+    ghost Value = { List Accepted };
 
     ghost view = { λ f. changes_in D.root f.seen.log };
 

@@ -29,12 +29,12 @@ pub struct Keeper<D: ListName> {
 impl<D: ListName> Model for Keeper<D> {
     ghost use Rattle.std.specs.Prelude.{◌≡◌, List, length};
     ghost use Rattle.logbook.specs.Pages.{may_write};
-    ghost use Rattle.chpw_table.specs.Versions.{KeyChange};
+    ghost use Rattle.chpw_table.specs.declared.change.Accepted.{Accepted};
     ghost use Rattle.chpw_fronts.specs.Changes.{EndsWith};
     ghost use Rattle.chpw_fronts.specs.Pens.{first_pen, opening_state, changes_in, pen_after};
     ghost use Rattle.chpw_fronts.specs.Rules.{head_of};
 
-    ghost Value = { List KeyChange };
+    ghost Value = { List Accepted };
 
     ghost view = { λ k. changes_in D.root k.seen.log };
 

@@ -41,6 +41,7 @@ pub record AsksServe (options : List Row) (asked : ServeOptions) : Type 0 where
   pub workers : HasNumber 1 16 options (codes "workers") asked.workers
   pub connections : HasNumber 1 4294967295 options (codes "connections") asked.connections
   pub idle : MayHaveNumber 1 LONGEST_IDLE options (codes "idle") asked.idle
+  pub raise : MayHaveNumber 1 16777216 options (codes "raise") asked.raise
 
 pub record AsksClient (options : List Row) (asked : ClientOptions) : Type 0 where
   pub config : HasText options (codes "config") asked.config.now

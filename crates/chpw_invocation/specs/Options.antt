@@ -37,3 +37,6 @@ connections = numbered (codes "connections") 4294967295
 
 abbrev pub idle : Rule
 idle = may_be_numbered (codes "idle") LONGEST_IDLE
+
+abbrev pub raise : Rule
+raise = may_be_numbered (codes "raise") 16777216

@@ -4,7 +4,7 @@ use Rattle.clap.specs.Walk.{Rule, Text}
 use Rattle.clap.specs.Simple.{App, Shape, new_shape}
 use Rattle.clap.specs.declared.builder.command.Command.{Command}
 use Rattle.clap.specs.declared.builder.command.Command.TheViews.{out-Command}
-use Rattle.chpw_invocation.specs.Options.{required, optional, flag, port, workers, connections, idle}
+use Rattle.chpw_invocation.specs.Options.{required, optional, flag, port, workers, connections, idle, raise}
 
 abbrev pub command : Text → List Rule → Shape
 command name options = record (new_shape name) { rules = options }
@@ -26,6 +26,7 @@ abbrev pub check : Shape
 check = command (codes "check") (required (codes "config") ∷ [])
 
 -- serve --config FILE --journal FILE --seed FILE --port N --workers N --connections N [--idle SECONDS]
+-- [--raise COUNT]
 abbrev pub serve : Shape
 serve = command (codes "serve")
     (required (codes "config")
@@ -35,6 +36,7 @@ serve = command (codes "serve")
     ∷ workers
     ∷ connections
     ∷ idle
+    ∷ raise
     ∷ [])
 
 -- client --config FILE --seed FILE --port N --client NAME --password TEXT [--target NAME]

@@ -1,5 +1,5 @@
 //! What a user asks the program for.
-ghost use Rattle.std.specs.Prelude.{◌≡◌, ◌≤◌, true, None};
+ghost use Rattle.std.specs.Prelude.{◌≡◌, ◌≤◌, ℕ, Some, true, None};
 
 /// The greatest `--idle`, in seconds: an hour.
 pub const LONGEST_IDLE: u16 = 3600;
@@ -44,7 +44,11 @@ pub struct ServeOptions<'a> {
     /// After how many seconds of waiting for its client a connection is ended, 1 to
     /// [`LONGEST_IDLE`]; there is no limit where this is none.
     pub idle: Option<u16>,
+    /// The iteration count that new keys are raised to before it listens, 1 to 16,777,216; none where
+    /// it stays as it is.
+    pub raise: Option<u32>,
     ghost some_workers: { (1 ≤ workers) × (workers ≤ 16) },
+    ghost some_count: { (count : ℕ) → raise ≡ Some count → (1 ≤ count) × (count ≤ 16777216) },
 }
 
 /// A command, with its options.

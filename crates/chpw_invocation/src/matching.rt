@@ -71,6 +71,7 @@ fn serve_of<'a>(options: &ArgMatches<'a>) -> Option<ServeOptions<'a>>
         workers: workers_of(options)?,
         connections: connections_of(options)?,
         idle: idle_of(options)?,
+        raise: raise_of(options)?,
     })
 }
 
@@ -159,6 +160,19 @@ fn idle_of(options: &ArgMatches<'_>) -> Option<Option<u16>>
     }
     match options.get_one::<u16>("idle") {
         Some(idle) if 1 <= idle && idle <= LONGEST_IDLE => Some(Some(idle)),
+        _ => None,
+    }
+}
+
+// The iteration count to raise to, where one is given.
+fn raise_of(options: &ArgMatches<'_>) -> Option<Option<u32>>
+    ensures raise { IfSome result (MayHaveNumber 1 16777216 (rows_of (found_of options.now)) (codes "raise")) }
+{
+    if text_of(options, "raise").is_none() {
+        return Some(None);
+    }
+    match options.get_one::<u32>("raise") {
+        Some(count) if 1 <= count && count <= 16_777_216 => Some(Some(count)),
         _ => None,
     }
 }

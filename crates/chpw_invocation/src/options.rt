@@ -2,7 +2,7 @@
 ghost use Rattle.std.specs.Prelude.{◌≡◌, false, pos};
 ghost use Rattle.clap.specs.Walk.{rule_of};
 ghost use Rattle.clap.specs.declared.builder.value_parser.ValueParser.TheVariants as parser;
-ghost use Rattle.chpw_invocation.specs.Options.{connections, flag, idle, optional, port, required, workers};
+ghost use Rattle.chpw_invocation.specs.Options.{connections, flag, idle, optional, port, raise, required, workers};
 
 use crate::invocation::LONGEST_IDLE;
 use clap::builder::ValueParser;
@@ -83,6 +83,13 @@ fn idle_seconds<'a>() -> ValueParser<'a>
     value_parser!(u16).range(1..=i64::from(LONGEST_IDLE))
 }
 
+// 1 to 16,777,216.
+fn iteration_count<'a>() -> ValueParser<'a>
+    ensures { result ≡ parser.Signed (pos 1) (pos 16777216) }
+{
+    value_parser!(u32).range(1..=16_777_216)
+}
+
 /// `--port`, which has to be there.
 pub(crate) fn port_option<'a>(alloc: Global, help: &'a str) -> Arg<'a>
     ensures rule { rule_of result ≡ port }
@@ -113,4 +120,12 @@ pub(crate) fn idle_option<'a>(alloc: Global, help: &'a str) -> Arg<'a>
     ensures local { result.global ≡ false }
 {
     optional_option(alloc, "idle", "SECONDS", help).value_parser(idle_seconds())
+}
+
+/// `--raise`, which may be left out.
+pub(crate) fn raise_option<'a>(alloc: Global, help: &'a str) -> Arg<'a>
+    ensures rule { rule_of result ≡ raise }
+    ensures local { result.global ≡ false }
+{
+    optional_option(alloc, "raise", "COUNT", help).value_parser(iteration_count())
 }

@@ -6,8 +6,8 @@ ghost use Rattle.clap.specs.Words.{app_of};
 ghost use Rattle.chpw_invocation.specs.Program as specs_of;
 
 use crate::options::{
-    connections_option, flag_option, idle_option, optional_option, port_option, required_option,
-    workers_option,
+    connections_option, flag_option, idle_option, optional_option, port_option, raise_option,
+    required_option, workers_option,
 };
 use clap::{Arg, Command};
 use std::alloc::{AllocError, Global};
@@ -52,6 +52,9 @@ Prints 'listening on 127.0.0.1:N' before the first connection is accepted, and a
 Connections go to the workers in turn; a client that is slow or silent holds up its own worker, for
 as long as --idle says.
 
+With --raise COUNT it first prints what came of it: 'raised COUNT', 'count not higher', 'journal failed'
+or 'history full'. It serves after each of them.
+
 Example:
   chpw_server serve --config samples/realm.toml --journal realm.journal --seed /dev/urandom \\
       --port 464 --workers 4 --connections 1000000";
@@ -65,6 +68,9 @@ const CONNECTIONS_HELP: &str = "After how many connections the service ends, 1 t
 
 const IDLE_HELP: &str =
     "A connection whose client is waited for longer is ended, after 1 to 3600 seconds [default: none is]";
+
+const RAISE_HELP: &str =
+    "Raises the iteration count of new keys first, to 1 to 16777216; keys that are held stay";
 
 const CLIENT: &str = "Sends one request to a service on this machine, with a ticket of its own.";
 
@@ -174,6 +180,7 @@ fn serve<'a>(alloc: Global) -> Result<Command<'a>, AllocError>
     let command = with_option(command, workers_option(alloc, WORKERS_HELP))?;
     let command = with_option(command, connections_option(alloc, CONNECTIONS_HELP))?;
     let command = with_option(command, idle_option(alloc, IDLE_HELP))?;
+    let command = with_option(command, raise_option(alloc, RAISE_HELP))?;
     Ok(command)
 }
 

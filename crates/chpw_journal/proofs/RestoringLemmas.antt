@@ -3,21 +3,24 @@ use Rattle.std.proofs.Common.{◌≡◌, ◌≢◌, ℕ, ◌+◌, ◌^◌, ◌<�
 use Rattle.std.specs.Int.{from_be_bytes, to_be_bytes, w16}
 use Rattle.std.specs.Io.KnownBytes.{Consumes, IsAtEnd}
 use Rattle.std.proofs.lemmas.List.{take-append-le}
-use Rattle.chpw_rules.specs.Limits.{is_in}
+use Rattle.chpw_table.specs.declared.table.restoring.KeyFault.{KeyFault}
 use Rattle.chpw_table.specs.State.{State}
 use Rattle.chpw_table.specs.Agreement.{Held, Agrees}
+use Rattle.chpw_table.specs.Restoring.{IsKeyRefused}
+use Rattle.chpw_journal.specs.declared.change.Change.{Change}
 use Rattle.chpw_journal.specs.declared.record.Record.{Record}
+use Rattle.chpw_journal.specs.declared.record.Record.TheVariants as record_of
 use Rattle.chpw_journal.specs.declared.fault.RestoreFault.{RestoreFault}
 use Rattle.chpw_journal.specs.declared.fault.RestoreFault.TheVariants.{BadRecord, WrongVersion, UnknownPrincipal, CannotRead, Memory}
 use Rattle.chpw_journal.specs.declared.restoring.Restored.{Restored}
-use Rattle.chpw_journal.specs.Records.{RecordFits, body_text, record_text, records_text, stated_length, record_lengths}
+use Rattle.chpw_journal.specs.Records.{ChangeFits, RecordFits, body_text, record_text, records_text, stated_length, is_record_length}
 use Rattle.chpw_journal.specs.JournalText.{restored, is_cut_off, HasBadLength, HasBadBody, Begins}
 use Rattle.chpw_journal.specs.NextRecord.{framed}
 use Rattle.chpw_journal.specs.Restoring.{is_there, IsRestored, IsRefused}
-use Rattle.chpw_journal.specs.Taking.{TakesRecord, IsRecordFault, IsSoFar}
+use Rattle.chpw_journal.specs.Taking.{IsRecordRefused, TakesRecord, IsRecordFault, IsSoFar}
 use Rattle.chpw_journal.proofs.CutLemmas.{header_states, length_short}
 use Rattle.read_fully.proofs.FillingLemmas.{consumes_none, consumes_more}
-use Rattle.chpw_journal.proofs.RecordsLemmas.{records_more, restored_joined, next_more, text_short, framed_same}
+use Rattle.chpw_journal.proofs.RecordsLemmas.{records_more, restored_joined, next_more, text_short, framed_is, framed_same}
 
 abbrev pub start_of : Held → Restored
 start_of before = record { table = before; records = 0; kept = 0; torn = false }
@@ -37,7 +40,7 @@ so_far_start before old = record {
 
 pub so_far_next : (before : Held) (old now new : Option (List ℕ)) (r later : Restored) (body : List ℕ) → IsSoFar before old now r → Consumes now new (framed body) → TakesRecord r later body → IsSoFar before old new later
 so_far_next before old now new r later body h d t =
-    let text : framed body ≡ record_text t.taken = ap framed t.text in
+    let text : framed body ≡ record_text t.taken = ap framed t.text ∙ framed_is t.taken in
     let more : records_text (h.whole_records ++ t.taken ∷ []) ≡ records_text h.whole_records ++ framed body = records_more h.whole_records t.taken ∙ ap (λ (xs : List ℕ). records_text h.whole_records ++ xs) (sym text) in
     let size : length (framed body) ≡ 2 + length body = length-append (to_be_bytes w16 (length body)) body in
     record {
@@ -89,7 +92,7 @@ length_stays : (header more : List ℕ) → HasBadLength header → HasBadLength
 length_stays header more h =
     let same : stated_length (header ++ more) ≡ stated_length header = ap (from_be_bytes w16) (take-append-le 2 header more h.0) in
     let size = length-append header more in
-    (omega (arith, size, h.0), ap (is_in record_lengths) same ∙ h.1)
+    (omega (arith, size, h.0), ap is_record_length same ∙ h.1)
 
 pub bad_length : (before : Held) (old now new : Option (List ℕ)) (r : Restored) (header : List ℕ) → IsSoFar before old now r → Consumes now new header → HasBadLength header → IsRefused before old new (BadRecord (r.records + 1))
 bad_length before old now new r header h d bad = (
@@ -98,11 +101,11 @@ bad_length before old now new r header h d bad = (
   λ s more a. (h.whole_records, header ++ more, begins before old now r h s a header more, inl (length_stays header more bad), ap (λ n. n + 1) h.records),
 )
 
-bad_body : (body more : List ℕ) → is_in record_lengths (length body) ≡ true → ((c : Record) → RecordFits c → body ≢ body_text c) → HasBadBody (framed body ++ more)
+bad_body : (body more : List ℕ) → is_record_length (length body) ≡ true → ((c : Record) → RecordFits c → body ≢ body_text c) → HasBadBody (framed body ++ more)
 bad_body body more range none =
     let st : stated_length (framed body ++ more) ≡ length body = header_states (to_be_bytes w16 (length body)) (length body) (body ++ more) (refl, range) in
     let size : length (framed body ++ more) ≡ (2 + length body) + length more = length-append (framed body) more ∙ ap (λ n. n + length more) (length-append (to_be_bytes w16 (length body)) body) in
-    (omega (arith, st, size), λ c left f e. none c f (framed_same body more (body_text c) left (length_short (length body) range) (small c f) e).0)
+    (omega (arith, st, size), λ c left f e. none c f (framed_same body more (body_text c) left (length_short (length body) range) (small c f) (e ∙ ap (λ (xs : List ℕ). xs ++ left) (sym (framed_is c)))).0)
   where
     small : (c : Record) → RecordFits c → length (body_text c) < 2 ^ 16
     small c f = omega (arith, text_short c f)
@@ -111,10 +114,16 @@ bad_body body more range none =
 of_record : (before : Held) (old now : Option (List ℕ)) (r : Restored) (h : IsSoFar before old now r) (s : State) (a : Agrees before.state s) (body more : List ℕ) (c : Record) → body ≡ body_text c
     → Begins s ((records_text h.whole_records ++ framed body) ++ more) h.whole_records (record_text c ++ more)
 of_record before old now r h s a body more c e =
-    subst (λ (xs : List ℕ). Begins s ((records_text h.whole_records ++ framed body) ++ more) h.whole_records (xs ++ more)) (ap framed e) (begins before old now r h s a (framed body) more)
+    subst (λ (xs : List ℕ). Begins s ((records_text h.whole_records ++ framed body) ++ more) h.whole_records (xs ++ more)) (ap framed e ∙ framed_is c) (begins before old now r h s a (framed body) more)
+
+-- a record that isn't put back is a change
+pub refused_change : (t : Held) (r : Record) (body : List ℕ) (fault : KeyFault) → RecordFits r → body ≡ body_text r → IsRecordRefused t r fault
+    → (c : Change) × ChangeFits c × (body ≡ body_text (record_of.Change c)) × ((s : State) → Agrees t.state s → IsKeyRefused s c.name c.key fault)
+refused_change t (record_of.Change c) body fault f e h = (c, f, e, h)
+refused_change t (record_of.Raise count) body fault f e h = absurd h
 
 -- a record's fault
-pub record_fault : (before : Held) (old now new : Option (List ℕ)) (r : Restored) (body : List ℕ) (fault : RestoreFault) → IsSoFar before old now r → Consumes now new (framed body) → is_in record_lengths (length body) ≡ true → IsRecordFault r body fault → IsRefused before old new fault
+pub record_fault : (before : Held) (old now new : Option (List ℕ)) (r : Restored) (body : List ℕ) (fault : RestoreFault) → IsSoFar before old now r → Consumes now new (framed body) → is_record_length (length body) ≡ true → IsRecordFault r body fault → IsRefused before old new fault
 record_fault before old now new r body (BadRecord n) h d range f = (
   records_text h.whole_records ++ framed body,
   consumes_more old now new (records_text h.whole_records) (framed body) h.read d,
@@ -123,14 +132,14 @@ record_fault before old now new r body (BadRecord n) h d range f = (
 record_fault before old now new r body (UnknownPrincipal n) h d range f = (
   records_text h.whole_records ++ framed body,
   consumes_more old now new (records_text h.whole_records) (framed body) h.read d,
-  λ s more a. (h.whole_records, f.1, record { left = more; begins = of_record before old now r h s a body more f.1 f.3; fits = f.2 }, f.4 (restored s h.whole_records) (h.table s a).1, f.0 ∙ ap (λ k. k + 1) h.records),
+  λ s more a. (h.whole_records, f.1, record { left = more; begins = of_record before old now r h s a body more (record_of.Change f.1) f.3; fits = f.2 }, f.4 (restored s h.whole_records) (h.table s a).1, f.0 ∙ ap (λ k. k + 1) h.records),
 )
 record_fault before old now new r body (WrongVersion n) h d range f = (
   records_text h.whole_records ++ framed body,
   consumes_more old now new (records_text h.whole_records) (framed body) h.read d,
   λ s more a.
       let k = f.4 (restored s h.whole_records) (h.table s a).1 in
-      (h.whole_records, f.1, k.0, record { left = more; begins = of_record before old now r h s a body more f.1 f.3; fits = f.2 }, k.1, k.2, f.0 ∙ ap (λ m. m + 1) h.records),
+      (h.whole_records, f.1, k.0, record { left = more; begins = of_record before old now r h s a body more (record_of.Change f.1) f.3; fits = f.2 }, k.1, k.2, f.0 ∙ ap (λ m. m + 1) h.records),
 )
 record_fault before old now new r body CannotRead h d range f = absurd f
 record_fault before old now new r body Memory h d range f = tt

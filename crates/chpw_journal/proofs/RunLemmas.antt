@@ -4,24 +4,25 @@ use Rattle.std.specs.Prelude.{option_map, IsSome, IfSome}
 use Rattle.std.proofs.lemmas.Bool.Decides.{nat_tests}
 use Rattle.chpw_rules.specs.declared.name.Name.{Name}
 use Rattle.chpw_rules.specs.Names.{is_same_name}
-use Rattle.chpw_rules.specs.Limits.{is_in, kvnos}
+use Rattle.chpw_rules.specs.Limits.{is_in, kvnos, iteration_counts}
 use Rattle.chpw_table.specs.declared.verdict.Verdict.{Verdict}
 use Rattle.chpw_table.specs.declared.verdict.Verdict.TheVariants.{Broken, Done}
 use Rattle.chpw_table.specs.declared.times.Moment.{Moment}
 use Rattle.chpw_table.specs.declared.request.Opened.{Opened}
 use Rattle.chpw_table.specs.declared.history.Event.{Event}
-use Rattle.chpw_table.specs.declared.history.Event.TheVariants.{Ask}
+use Rattle.chpw_table.specs.declared.history.Event.TheVariants.{Ask, Raise}
 use Rattle.chpw_table.specs.declared.history.Entry.{Entry}
 use Rattle.chpw_table.specs.declared.key.KeyRow.{KeyRow}
 use Rattle.chpw_table.specs.Requests.{target_of}
-use Rattle.chpw_table.specs.State.{State, keys_held, kept_count}
+use Rattle.chpw_table.specs.State.{State, keys_held, kept_count, new_count}
 use Rattle.chpw_table.specs.Verdicts.{is_done}
 use Rattle.chpw_table.specs.Decision.{verdict, key_row, newest_kvno}
 use Rattle.chpw_table.specs.Step.{step, new_key}
+use Rattle.chpw_table.specs.Raising.{raise_verdict, is_raised, step_raise}
 use Rattle.chpw_table.specs.History.{step_event, step_entry, outcome, is_accepted, IsLegal, IsJudged, IsDecided}
 use Rattle.chpw_table.specs.Journal.{journal, event_record}
 use Rattle.chpw_table.specs.Entering.{with_append}
-use Rattle.chpw_table.specs.Restoring.{with_kept_key, IsNextKey}
+use Rattle.chpw_table.specs.Restoring.{with_kept_key, with_kept_count, IsNextKey}
 use Rattle.chpw_table.proofs.AppendLemmas.{verdict_written}
 use Rattle.chpw_table.proofs.DoneLemmas.{done_key_row, done_held, done_version}
 use Rattle.chpw_table.proofs.KeyLemmas.{keys_after, keys_put, put, kept_some, newest_put}
@@ -130,6 +131,13 @@ same_after_other t s now o io v d h same = record {
       ∙ sym (after_decision s now o io v d name));
 }
 
+-- a raise leaves all keys, and so does its record
+same_after_raise : (t s : State) (now : Moment) (count : ℕ) (io : Bool) → SameKeys t s → SameKeys (with_kept_count count t) (step_raise s now count io)
+same_after_raise t s now count io same = record { kept = same.kept; keys = same.keys }
+
+same_without_raise : (t s : State) (now : Moment) (count : ℕ) (io : Bool) → SameKeys t s → SameKeys t (step_raise s now count io)
+same_without_raise t s now count io same = record { kept = same.kept; keys = same.keys }
+
 put_some : (b : Bool) (kept : ℕ) (key : KeyRow) (o : Option (List KeyRow)) → IsSome (if b then option_map (put kept key) o else o) → IsSome o
 put_some true kept key None h = h
 put_some true kept key (Some keys) h = search rules
@@ -157,8 +165,17 @@ sound_after s now o io v sound d = record {
     low name true h false = sound.versions name
     low name false h c = sound.versions name
 
-sound_event : (s : State) (now : Moment) (io : Bool) (event : Event) → IsSound s → IsJudged s now io event → IsSound (step_event s now io event)
-sound_event s now io (Ask o v) sound d = sound_after s now o io v sound d
+count_fits : (m n : ℕ) (b : Bool) → is_in iteration_counts n ≡ true → (b ≡ true → is_in iteration_counts m ≡ true) → is_in iteration_counts (if b then m else n) ≡ true
+count_fits m n true h w = w refl
+count_fits m n false h w = h
+
+sound_event : (s : State) (now : Moment) (io : Bool) (event : Event) → IsSound s → IsJudged s now io event → (is_accepted event ≡ true → BringsWhole s event) → IsSound (step_event s now io event)
+sound_event s now io (Ask o v) sound d w = sound_after s now o io v sound d
+sound_event s now io (Raise count v) sound d w = record {
+  count = count_fits count (new_count s) (is_raised (raise_verdict s count io)) sound.count (λ h. w (ap is_raised d.verdict_is ∙ h));
+  names = sound.names;
+  versions = sound.versions;
+}
 
 -- ---- histories and runs
 
@@ -173,12 +190,16 @@ event_next t s last now io (Ask o v) rs same sound d w ih true h =
     let n = ih (with_kept_key (target_of o).name (new_key s o) t) (same_after_done t s now o io v d h same) in
     ((fits s now o io v sound d h (w h), next_key s now o io v sound d h t same, n.0), n.1)
 event_next t s last now io (Ask o v) rs same sound d w ih false h = ih t (same_after_other t s now o io v d h same)
+event_next t s last now io (Raise count v) rs same sound d w ih true h =
+    let n = ih (with_kept_count count t) (same_after_raise t s now count io same) in
+    ((w h, tt, n.0), n.1)
+event_next t s last now io (Raise count v) rs same sound d w ih false h = ih t (same_without_raise t s now count io same)
 
 history_next : (t s : State) (es : List Entry) → SameKeys t s → IsSound s → IsLegal s es → AreWhole s es → Follows t (records_of s es) (outcome s es)
 history_next t s [] same sound legal w = (tt, same)
 history_next t s (e ∷ es) same sound legal w =
     event_next t s (outcome (step_entry s e) es) e.now e.io_failed e.event (records_of (step_entry s e) es) same sound legal.0 w.0
-    (λ u same2. history_next u (step_entry s e) es same2 (sound_event s e.now e.io_failed e.event sound legal.0) legal.1 w.1)
+    (λ u same2. history_next u (step_entry s e) es same2 (sound_event s e.now e.io_failed e.event sound legal.0 w.0) legal.1 w.1)
     (is_accepted e.event) refl
 
 same_next : (t s u : State) → SameKeys t s → SameKeys s u → SameKeys t u
@@ -199,6 +220,7 @@ same_itself s = record { kept = refl; keys = λ name. refl }
 event_text : (s : State) (event : Event) (rs : List Record) (more : List ℕ) → records_text rs ≡ more → (b : Bool)
     → records_text ((if b then record_by s event ∷ [] else []) ++ rs) ≡ (if b then event_record s event else []) ++ more
 event_text s (Ask o v) rs more h true = ap (λ (xs : List ℕ). record_text (record_by s (Ask o v)) ++ xs) h
+event_text s (Raise count v) rs more h true = ap (λ (xs : List ℕ). record_text (record_by s (Raise count v)) ++ xs) h
 event_text s event rs more h false = h
 
 history_records : (s : State) (es : List Entry) → records_text (records_of s es) ≡ journal s es

@@ -1,34 +1,40 @@
 -- Where the records of a journal stop: a text comes to one thing.
 use Rattle.std.proofs.Common.{◌≡◌, ◌≢◌, ℕ, zero, suc, ◌+◌, ◌^◌, ◌≤◌, ◌<◌, List, [], ◌∷◌, ◌++◌, length, take, Bool, true, false, ◌&&◌, ⊎_elim, Some, None, refl, sym, ◌∙◌, ap, subst, arith, lit<, length-append, length-take, append_assoc}
 use Rattle.std.specs.Prelude.{◌⊎◌, nat_lt}
-use Rattle.std.specs.Int.{to_be_bytes, w16}
+use Rattle.std.specs.Int.{from_be_bytes, to_be_bytes, w16, w32}
+use Rattle.std.proofs.lemmas.Nat.{from_be_bytes-to_be_bytes_4}
 use Rattle.std.specs.List.{flat_map, list_all}
 use Rattle.std.proofs.Math.Bool.{and-false}
 use Rattle.std.proofs.lemmas.Bool.Decides.{nat_tests}
 use Rattle.std.proofs.lemmas.Option.{none-some}
 use Rattle.chpw_rules.specs.Names.{is_component}
-use Rattle.chpw_rules.specs.Limits.{is_in, component_counts, component_lengths}
+use Rattle.chpw_rules.specs.Limits.{is_in, component_counts, component_lengths, iteration_counts}
 use Rattle.chpw_table.specs.declared.key.KeyRow.{KeyRow}
 use Rattle.chpw_table.specs.State.{State, keys_held}
 use Rattle.chpw_table.specs.Journal.{part_bytes, name_bytes, version_bytes}
-use Rattle.chpw_table.specs.Restoring.{with_kept_key, IsNextKey}
 use Rattle.chpw_table.specs.Decision.{newest_kvno}
 use Rattle.chpw_table.proofs.BoolLemmas.{and_left, and_right}
+use Rattle.chpw_journal.specs.declared.change.Change.{Change}
 use Rattle.chpw_journal.specs.declared.record.Record.{Record}
+use Rattle.chpw_journal.specs.declared.record.Record.TheVariants as record_of
 use Rattle.chpw_journal.specs.RecordKeys.{key_at}
-use Rattle.chpw_journal.specs.Records.{RecordFits, body_text, record_text, records_text, stated_length, record_lengths}
-use Rattle.chpw_journal.specs.JournalText.{restored, AreNext, is_cut_off, HasBadLength, HasBadBody, Begins, Reading, whole, bad_record, unknown_principal, wrong_version, IsReading}
+use Rattle.chpw_journal.specs.Records.{ChangeFits, RecordFits, change_text, body_text, record_text, records_text, stated_length, change_lengths, is_record_length}
+use Rattle.chpw_journal.specs.JournalText.{restored, AreNext, IsNextRecord, with_record, is_cut_off, HasBadLength, HasBadBody, Begins, Reading, whole, bad_record, unknown_principal, wrong_version, IsReading}
+use Rattle.chpw_journal.specs.NextRecord.{framed}
 use Rattle.chpw_journal.specs.Laws.{FrontsAreCutOff}
 use Rattle.chpw_journal.proofs.ListLemmas.{front_same}
 use Rattle.chpw_journal.proofs.PartsLemmas.{same_parts}
 use Rattle.chpw_journal.proofs.VersionLemmas.{version_length, key_back, kvno_short, count_short}
-use Rattle.chpw_journal.proofs.CutLemmas.{header_states, cut_off_body, cut_off_header}
-use Rattle.chpw_journal.proofs.RecordsLemmas.{text_short, framed_same}
+use Rattle.chpw_journal.proofs.CutLemmas.{of_change, header_states, cut_off_body, cut_off_header}
+use Rattle.chpw_journal.proofs.RecordsLemmas.{text_short, framed_is, framed_same}
 
--- ---- a record's text is that of no other
+-- ---- a change's text is that of no other
 
-same_body : (c d : Record) → RecordFits c → RecordFits d → body_text c ≡ body_text d → c ≡ d
-same_body c d f g e =
+tails : (m n : ℕ) (xs ys : List ℕ) → m ∷ xs ≡ n ∷ ys → xs ≡ ys
+tails m n xs ys h = cc
+
+same_change : (c d : Change) → ChangeFits c → ChangeFits d → change_text c ≡ change_text d → c ≡ d
+same_change c d f g e =
     let l : length (version_bytes c.key) ≡ length (version_bytes d.key) = version_length c.key f.aes128 f.aes256 ∙ sym (version_length d.key g.aes128 g.aes256) in
     let r = front_same (version_bytes c.key) (name_bytes c.name) (version_bytes d.key) (name_bytes d.name) l e in
     let k : c.key ≡ d.key =
@@ -36,17 +42,6 @@ same_body c d f g e =
     ∙ (ap key_at r.0 ∙ key_back d.key (kvno_short d.key.kvno g.kvno) (count_short d.key.count g.count) g.aes128 g.aes256) in
     let p = same_parts c.name.parts d.name.parts (tails (length c.name.parts) (length d.name.parts) _ _ r.1) in
     λ i. record { name = record { parts = p i }; key = k i }
-  where
-    tails : (m n : ℕ) (xs ys : List ℕ) → m ∷ xs ≡ n ∷ ys → xs ≡ ys
-    tails m n xs ys h = cc
-
-small : (c : Record) → RecordFits c → length (body_text c) < 2 ^ 16
-small c f = omega (arith, text_short c f)
-
-same_record : (c d : Record) (x y : List ℕ) → RecordFits c → RecordFits d → record_text c ++ x ≡ record_text d ++ y → (c ≡ d) × (x ≡ y)
-same_record c d x y f g e =
-    let r = framed_same (body_text c) x (body_text d) y (small c f) (small d g) e in
-    (same_body c d f g r.0, r.1)
 
 -- ---- the length of a record
 
@@ -59,18 +54,46 @@ low_parts (p ∷ ps) h =
     let one : 1 ≤ length p = low_component (length p) (and_left (is_component p) (list_all is_component ps) (and_right (is_in component_counts (length (p ∷ ps))) (list_all is_component (p ∷ ps)) h)) in
     omega (arith, length-append p (flat_map part_bytes ps), one)
 
-in_range : (n : ℕ) → 60 ≤ n → n ≤ 1090 → is_in record_lengths n ≡ true
+in_range : (n : ℕ) → 60 ≤ n → n ≤ 1090 → is_in change_lengths n ≡ true
 in_range n h g = grind (arith, nat_tests)
 
-pub text_range : (c : Record) → RecordFits c → is_in record_lengths (length (body_text c)) ≡ true
-text_range c f =
+low_change : (c : Change) → ChangeFits c → 60 ≤ length (change_text c)
+low_change c f =
     let v = version_length c.key f.aes128 f.aes256 in
     let n = low_parts c.name.parts f.name in
-    let s : length (body_text c) ≡ length (version_bytes c.key) + length (name_bytes c.name) = length-append (version_bytes c.key) (name_bytes c.name) in
-    in_range (length (body_text c)) (omega (arith, s, v, n)) (text_short c f)
+    let s : length (change_text c) ≡ length (version_bytes c.key) + length (name_bytes c.name) = length-append (version_bytes c.key) (name_bytes c.name) in
+    omega (arith, s, v, n)
+
+pub text_range : (r : Record) → RecordFits r → is_record_length (length (body_text r)) ≡ true
+text_range (record_of.Change c) f = of_change (length (change_text c)) (in_range (length (change_text c)) (low_change c f) (text_short (record_of.Change c) f))
+text_range (record_of.Raise count) f = refl
+
+-- ---- a record's text is that of no other
+
+same_count : (m n : ℕ) → is_in iteration_counts m ≡ true → is_in iteration_counts n ≡ true → to_be_bytes w32 m ≡ to_be_bytes w32 n → m ≡ n
+same_count m n f g e = sym (from_be_bytes-to_be_bytes_4 m (count_short m f)) ∙ (ap (from_be_bytes w32) e ∙ from_be_bytes-to_be_bytes_4 n (count_short n g))
+
+apart_lengths : (c : Change) (count : ℕ) → ChangeFits c → change_text c ≡ body_text (record_of.Raise count) → ⊥
+apart_lengths c count f e = let low = low_change c f in let five : length (change_text c) ≡ 5 = ap length e in omega (arith, low, five)
+
+same_body : (r q : Record) → RecordFits r → RecordFits q → body_text r ≡ body_text q → r ≡ q
+same_body (record_of.Change c) (record_of.Change d) f g e = ap record_of.Change (same_change c d f g e)
+same_body (record_of.Change c) (record_of.Raise n) f g e = absurd (apart_lengths c n f e)
+same_body (record_of.Raise m) (record_of.Change d) f g e = absurd (apart_lengths d m g (sym e))
+same_body (record_of.Raise m) (record_of.Raise n) f g e = ap record_of.Raise (same_count m n f g (tails 2 2 _ _ e))
+
+small : (r : Record) → RecordFits r → length (body_text r) < 2 ^ 16
+small r f = omega (arith, text_short r f)
+
+same_record : (r q : Record) (x y : List ℕ) → RecordFits r → RecordFits q → record_text r ++ x ≡ record_text q ++ y → (r ≡ q) × (x ≡ y)
+same_record r q x y f g e =
+    let t = framed_same (body_text r) x (body_text q) y (small r f) (small q g) (ap (λ (xs : List ℕ). xs ++ x) (framed_is r) ∙ (e ∙ ap (λ (xs : List ℕ). xs ++ y) (sym (framed_is q)))) in
+    (same_body r q f g t.0, t.1)
 
 states : (c : Record) (left : List ℕ) → RecordFits c → stated_length (record_text c ++ left) ≡ length (body_text c)
-states c left f = header_states (to_be_bytes w16 (length (body_text c))) (length (body_text c)) (body_text c ++ left) (refl, text_range c f)
+states c left f =
+    ap (λ (xs : List ℕ). stated_length (xs ++ left)) (sym (framed_is c))
+    ∙ header_states (to_be_bytes w16 (length (body_text c))) (length (body_text c)) (body_text c ++ left) (refl, text_range c f)
 
 -- ---- what is cut off, and what is not
 
@@ -78,13 +101,13 @@ not_below : (m n : ℕ) → n ≤ m → nat_lt m n ≡ false
 not_below m n h = grind (arith, nat_tests)
 
 there : (rest : List ℕ) → 2 + stated_length rest ≤ length rest → is_cut_off rest ≡ false
-there rest h = rw (not_below (length rest) 2 (omega (arith, h)), not_below (length rest) (2 + stated_length rest) h) (and-false (is_in record_lengths (stated_length rest)))
+there rest h = rw (not_below (length rest) 2 (omega (arith, h)), not_below (length rest) (2 + stated_length rest) h) (and-false (is_record_length (stated_length rest)))
 
 not_cut : (c : Record) (left : List ℕ) → RecordFits c → is_cut_off (record_text c ++ left) ≡ false
 not_cut c left f =
     let st = states c left f in
     let size : length (record_text c ++ left) ≡ (2 + length (body_text c)) + length left =
-    length-append (record_text c) left ∙ ap (λ n. n + length left) (length-append (to_be_bytes w16 (length (body_text c))) (body_text c)) in
+    length-append (record_text c) left ∙ ap (λ n. n + length left) (ap length (sym (framed_is c)) ∙ length-append (to_be_bytes w16 (length (body_text c))) (body_text c)) in
     there (record_text c ++ left) (omega (arith, st, size))
 
 apart : (b : Bool) → b ≡ true → b ≡ false → ⊥
@@ -97,18 +120,23 @@ not_bad rest cut bad =
     (λ (h : HasBadBody rest). apart (is_cut_off rest) cut (there rest h.0))
     bad
 
-pub fronts_are_cut_off : FrontsAreCutOff
-fronts_are_cut_off c zero f h = refl
-fronts_are_cut_off c (suc zero) f h = cut_off_header (take 1 (record_text c)) (lit< tt)
-fronts_are_cut_off c (suc (suc m)) f h =
-    let size : length (record_text c) ≡ 2 + length (body_text c) = length-append (to_be_bytes w16 (length (body_text c))) (body_text c) in
+fronts_framed : (c : Record) (n : ℕ) → RecordFits c → n < length (framed (body_text c)) → is_cut_off (take n (framed (body_text c))) ≡ true
+fronts_framed c zero f h = refl
+fronts_framed c (suc zero) f h = cut_off_header (take 1 (framed (body_text c))) (lit< tt)
+fronts_framed c (suc (suc m)) f h =
+    let size : length (framed (body_text c)) ≡ 2 + length (body_text c) = length-append (to_be_bytes w16 (length (body_text c))) (body_text c) in
     cut_off_body (to_be_bytes w16 (length (body_text c))) (length (body_text c)) (take m (body_text c)) (refl, text_range c f) (simp length-take (omega (arith, size, h)))
+
+pub fronts_are_cut_off : FrontsAreCutOff
+fronts_are_cut_off c n f h =
+    subst (λ (xs : List ℕ). is_cut_off (take n xs) ≡ true) (framed_is c)
+    (fronts_framed c n f (subst (λ (xs : List ℕ). n < length xs) (sym (framed_is c)) h))
 
 -- ---- records stop at one place
 
 -- no record that goes on stands in front
 abbrev Stops : State → List ℕ → Type 0
-Stops s rest = (c : Record) (left : List ℕ) → RecordFits c → IsNextKey s c.name c.key → rest ≡ record_text c ++ left → ⊥
+Stops s rest = (c : Record) (left : List ℕ) → RecordFits c → IsNextRecord s c → rest ≡ record_text c ++ left → ⊥
 
 stops_cut : (s : State) (rest : List ℕ) → is_cut_off rest ≡ true → Stops s rest
 stops_cut s rest cut c left f k e = apart (is_cut_off rest) cut (ap is_cut_off e ∙ not_cut c left f)
@@ -116,21 +144,29 @@ stops_cut s rest cut c left f k e = apart (is_cut_off rest) cut (ap is_cut_off e
 stops_bad : (s : State) (rest : List ℕ) → HasBadLength rest ⊎ HasBadBody rest → Stops s rest
 stops_bad s rest bad c left f k e =
     ⊎_elim
-    (λ (h : HasBadLength rest). apart (is_in record_lengths (stated_length rest)) (ap (λ (xs : List ℕ). is_in record_lengths (stated_length xs)) e ∙ (ap (is_in record_lengths) (states c left f) ∙ text_range c f)) h.1)
+    (λ (h : HasBadLength rest). apart (is_record_length (stated_length rest)) (ap (λ (xs : List ℕ). is_record_length (stated_length xs)) e ∙ (ap is_record_length (states c left f) ∙ text_range c f)) h.1)
     (λ (h : HasBadBody rest). h.1 c left f e)
     bad
 
-stops_unknown : (s : State) (d : Record) (more : List ℕ) → RecordFits d → keys_held s d.name ≡ None → Stops s (record_text d ++ more)
-stops_unknown s d more g none c left f k e =
-    let same = (same_record d c more left g f e).0 in
-    none-some k.keys (sym none ∙ (ap (λ (x : Record). keys_held s x.name) same ∙ k.held))
+apart_kinds : (d : Change) (n : ℕ) → record_of.Change d ≡ record_of.Raise n → ⊥
+apart_kinds d n h = cc
 
-stops_version : (s : State) (d : Record) (more : List ℕ) (keys : List KeyRow) → RecordFits d → keys_held s d.name ≡ Some keys → d.key.kvno ≢ newest_kvno keys + 1 → Stops s (record_text d ++ more)
-stops_version s d more keys g held wrong c left f k e =
-    let same = (same_record d c more left g f e).0 in
-    let both : Some keys ≡ Some k.keys = sym held ∙ (ap (λ (x : Record). keys_held s x.name) same ∙ k.held) in
+change_is : (d c : Change) → record_of.Change d ≡ record_of.Change c → d ≡ c
+change_is d c h = cc
+
+stops_unknown : (s : State) (d : Change) (more : List ℕ) → ChangeFits d → keys_held s d.name ≡ None → Stops s (record_text (record_of.Change d) ++ more)
+stops_unknown s d more g none (record_of.Raise n) left f k e = absurd (apart_kinds d n (same_record (record_of.Change d) (record_of.Raise n) more left g f e).0)
+stops_unknown s d more g none (record_of.Change c) left f k e =
+    let same : d ≡ c = change_is d c (same_record (record_of.Change d) (record_of.Change c) more left g f e).0 in
+    none-some k.keys (sym none ∙ (ap (λ (x : Change). keys_held s x.name) same ∙ k.held))
+
+stops_version : (s : State) (d : Change) (more : List ℕ) (keys : List KeyRow) → ChangeFits d → keys_held s d.name ≡ Some keys → d.key.kvno ≢ newest_kvno keys + 1 → Stops s (record_text (record_of.Change d) ++ more)
+stops_version s d more keys g held wrong (record_of.Raise n) left f k e = absurd (apart_kinds d n (same_record (record_of.Change d) (record_of.Raise n) more left g f e).0)
+stops_version s d more keys g held wrong (record_of.Change c) left f k e =
+    let same : d ≡ c = change_is d c (same_record (record_of.Change d) (record_of.Change c) more left g f e).0 in
+    let both : Some keys ≡ Some k.keys = sym held ∙ (ap (λ (x : Change). keys_held s x.name) same ∙ k.held) in
     let others : keys ≡ k.keys = cc in
-    wrong (ap (λ (x : Record). x.key.kvno) same ∙ (k.next ∙ ap (λ (ks : List KeyRow). newest_kvno ks + 1) (sym others)))
+    wrong (ap (λ (x : Change). x.key.kvno) same ∙ (k.next ∙ ap (λ (ks : List KeyRow). newest_kvno ks + 1) (sym others)))
 
 same_stop : (s : State) (cs ds : List Record) (x y : List ℕ) → AreNext s cs → AreNext s ds → Stops (restored s cs) x → Stops (restored s ds) y → records_text cs ++ x ≡ records_text ds ++ y → (cs ≡ ds) × (x ≡ y)
 same_stop s [] [] x y h g p q e = (refl, e)
@@ -140,9 +176,9 @@ same_stop s (c ∷ cs) (d ∷ ds) x y h g p q e =
     let t : record_text c ++ (records_text cs ++ x) ≡ record_text d ++ (records_text ds ++ y) =
     sym (append_assoc (record_text c) (records_text cs) x) ∙ (e ∙ append_assoc (record_text d) (records_text ds) y) in
     let r = same_record c d (records_text cs ++ x) (records_text ds ++ y) h.0 g.0 t in
-    let g2 : AreNext (with_kept_key c.name c.key s) ds = subst (λ (z : Record). AreNext (with_kept_key z.name z.key s) ds) (sym r.0) g.2 in
-    let q2 : Stops (restored (with_kept_key c.name c.key s) ds) y = subst (λ (z : Record). Stops (restored (with_kept_key z.name z.key s) ds) y) (sym r.0) q in
-    let m = same_stop (with_kept_key c.name c.key s) cs ds x y h.2 g2 p q2 r.1 in
+    let g2 : AreNext (with_record c s) ds = subst (λ (z : Record). AreNext (with_record z s) ds) (sym r.0) g.2 in
+    let q2 : Stops (restored (with_record c s) ds) y = subst (λ (z : Record). Stops (restored (with_record z s) ds) y) (sym r.0) q in
+    let m = same_stop (with_record c s) cs ds x y h.2 g2 p q2 r.1 in
     (cc (r.0, m.0), m.1)
 
 -- a text that comes to whole records and one that is cut off comes to nothing else
@@ -154,10 +190,10 @@ reads_one s text cs cut b c (bad_record n) h =
     let m = same_stop s h.0 cs h.1 cut h.2.next b.next (stops_bad (restored s h.0) h.1 h.3) (stops_cut (restored s cs) cut c) (sym h.2.text_is ∙ b.text_is) in
     absurd (not_bad h.1 (ap is_cut_off m.1 ∙ c) h.3)
 reads_one s text cs cut b c (unknown_principal n) h =
-    let rest = record_text h.1 ++ h.2.left in
+    let rest = record_text (record_of.Change h.1) ++ h.2.left in
     let m = same_stop s h.0 cs rest cut h.2.begins.next b.next (stops_unknown (restored s h.0) h.1 h.2.left h.2.fits h.3) (stops_cut (restored s cs) cut c) (sym h.2.begins.text_is ∙ b.text_is) in
-    absurd (apart (is_cut_off rest) (ap is_cut_off m.1 ∙ c) (not_cut h.1 h.2.left h.2.fits))
+    absurd (apart (is_cut_off rest) (ap is_cut_off m.1 ∙ c) (not_cut (record_of.Change h.1) h.2.left h.2.fits))
 reads_one s text cs cut b c (wrong_version n) h =
-    let rest = record_text h.1 ++ h.3.left in
+    let rest = record_text (record_of.Change h.1) ++ h.3.left in
     let m = same_stop s h.0 cs rest cut h.3.begins.next b.next (stops_version (restored s h.0) h.1 h.3.left h.2 h.3.fits h.4 h.5) (stops_cut (restored s cs) cut c) (sym h.3.begins.text_is ∙ b.text_is) in
-    absurd (apart (is_cut_off rest) (ap is_cut_off m.1 ∙ c) (not_cut h.1 h.3.left h.3.fits))
+    absurd (apart (is_cut_off rest) (ap is_cut_off m.1 ∙ c) (not_cut (record_of.Change h.1) h.3.left h.3.fits))

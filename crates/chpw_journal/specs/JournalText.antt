@@ -1,46 +1,58 @@
 -- What a journal's text comes to: its whole records, in their order, and behind them one that is cut
 -- off; or its first fault. Records are counted from 1, and each is tested as J1, J3, J2.
 use Rattle.std.specs.Prelude.{◌≡◌, ◌≢◌, ℕ, ◌+◌, ◌≤◌, List, [], ◌∷◌, ◌++◌, length, Bool, true, false, ◌&&◌, ◌||◌, nat_lt, ◌⊎◌, Some, None}
-use Rattle.chpw_rules.specs.Limits.{is_in}
 use Rattle.chpw_table.specs.declared.key.KeyRow.{KeyRow}
 use Rattle.chpw_table.specs.State.{State, keys_held}
 use Rattle.chpw_table.specs.Decision.{newest_kvno}
-use Rattle.chpw_table.specs.Restoring.{with_kept_key, IsNextKey}
+use Rattle.chpw_table.specs.Restoring.{with_kept_key, with_kept_count, IsNextKey}
+use Rattle.chpw_journal.specs.declared.change.Change.{Change}
 use Rattle.chpw_journal.specs.declared.record.Record.{Record}
-use Rattle.chpw_journal.specs.Records.{RecordFits, record_text, records_text, stated_length, record_lengths}
+use Rattle.chpw_journal.specs.declared.record.Record.TheVariants as record_of
+use Rattle.chpw_journal.specs.Records.{ChangeFits, RecordFits, record_text, records_text, stated_length, is_record_length}
 
--- the state after these records, each of which does to its principal what an accepted request did
+-- the state after a record: a change does to its principal what an accepted request did, and a raise
+-- leaves no lower count
+abbrev pub with_record : Record → State → State
+with_record (record_of.Change c) s = with_kept_key c.name c.key s
+with_record (record_of.Raise count) s = with_kept_count count s
+
+-- and after these records
 abbrev pub restored : State → List Record → State
 restored s [] = s
-restored s (c ∷ cs) = restored (with_kept_key c.name c.key s) cs
+restored s (r ∷ rs) = restored (with_record r s) rs
 
--- each record is within the limits, its principal is held, and its version is the next
+-- a record may come next: a change's principal is held, and its version is the next; a raise may always
+abbrev pub IsNextRecord : State → Record → Type 0
+IsNextRecord s (record_of.Change c) = IsNextKey s c.name c.key
+IsNextRecord s (record_of.Raise count) = Unit {0}
+
+-- each record is within the limits and may come next
 abbrev pub AreNext : State → List Record → Type 0
 AreNext s [] = Unit {0}
-AreNext s (c ∷ cs) = RecordFits c × IsNextKey s c.name c.key × AreNext (with_kept_key c.name c.key s) cs
+AreNext s (r ∷ rs) = RecordFits r × IsNextRecord s r × AreNext (with_record r s) rs
 
 -- of a text's first record not all is there, perhaps nothing; its length, where that is there, is one that a record may have
 abbrev pub is_cut_off : List ℕ → Bool
-is_cut_off text = nat_lt (length text) 2 || (is_in record_lengths (stated_length text) && nat_lt (length text) (2 + stated_length text))
+is_cut_off text = nat_lt (length text) 2 || (is_record_length (stated_length text) && nat_lt (length text) (2 + stated_length text))
 
 -- J1: the first record's length is there and out of range
 abbrev pub HasBadLength : List ℕ → Type 0
-HasBadLength text = (2 ≤ length text) × (is_in record_lengths (stated_length text) ≡ false)
+HasBadLength text = (2 ≤ length text) × (is_record_length (stated_length text) ≡ false)
 
 -- J1: the first record is there whole, and it is none within the limits
 abbrev pub HasBadBody : List ℕ → Type 0
-HasBadBody text = (2 + stated_length text ≤ length text) × ((c : Record) (left : List ℕ) → RecordFits c → text ≢ record_text c ++ left)
+HasBadBody text = (2 + stated_length text ≤ length text) × ((r : Record) (left : List ℕ) → RecordFits r → text ≢ record_text r ++ left)
 
 -- a text that begins with these records, which go on from a state, and has this behind them
 pub record Begins (s : State) (text : List ℕ) (records : List Record) (rest : List ℕ) : Type 0 where
   pub text_is : text ≡ records_text records ++ rest
   pub next : AreNext s records
 
--- the text begins so, and then has a record within the limits
-pub record BeginsWith (s : State) (text : List ℕ) (records : List Record) (c : Record) : Type 0 where
+-- the text begins so, and then has the record of a change within the limits
+pub record BeginsWith (s : State) (text : List ℕ) (records : List Record) (c : Change) : Type 0 where
   pub left : List ℕ
-  pub begins : Begins s text records (record_text c ++ left)
-  pub fits : RecordFits c
+  pub begins : Begins s text records (record_text (record_of.Change c) ++ left)
+  pub fits : ChangeFits c
 
 -- what a text comes to
 pub data Reading : Type 0 where
@@ -52,7 +64,7 @@ pub data Reading : Type 0 where
 abbrev pub IsReading : State → List ℕ → Reading → Type 0
 IsReading s text (whole records rest) = Begins s text records rest × (is_cut_off rest ≡ true)
 IsReading s text (bad_record n) = (records : List Record) × (rest : List ℕ) × Begins s text records rest × (HasBadLength rest ⊎ HasBadBody rest) × (n ≡ length records + 1)
-IsReading s text (unknown_principal n) = (records : List Record) × (c : Record) × BeginsWith s text records c
+IsReading s text (unknown_principal n) = (records : List Record) × (c : Change) × BeginsWith s text records c
     × (keys_held (restored s records) c.name ≡ None) × (n ≡ length records + 1)
-IsReading s text (wrong_version n) = (records : List Record) × (c : Record) × (keys : List KeyRow) × BeginsWith s text records c
+IsReading s text (wrong_version n) = (records : List Record) × (c : Change) × (keys : List KeyRow) × BeginsWith s text records c
     × (keys_held (restored s records) c.name ≡ Some keys) × (c.key.kvno ≢ newest_kvno keys + 1) × (n ≡ length records + 1)

@@ -2,10 +2,9 @@
 use Rattle.std.specs.Prelude.{◌≡◌, ℕ, ◌≤◌, ◌<◌, List, [], ◌++◌, length, true, Option}
 use Rattle.std.specs.Int.{to_be_bytes, w16}
 use Rattle.std.specs.Io.KnownBytes.{Consumes, IsAtEnd}
-use Rattle.chpw_rules.specs.Limits.{is_in}
 use Rattle.chpw_journal.specs.declared.reading.Next.{Next}
 use Rattle.chpw_journal.specs.declared.reading.Next.TheVariants as next
-use Rattle.chpw_journal.specs.Records.{record_lengths}
+use Rattle.chpw_journal.specs.Records.{is_record_length}
 use Rattle.chpw_journal.specs.JournalText.{is_cut_off, HasBadLength}
 
 -- a record from behind its length, and the length before it
@@ -14,11 +13,11 @@ framed body = to_be_bytes w16 (length body) ++ body
 
 -- the two bytes of a length that a record may have
 abbrev pub IsHeader : List ℕ → ℕ → Type 0
-IsHeader header n = (header ≡ to_be_bytes w16 n) × (is_in record_lengths n ≡ true)
+IsHeader header n = (header ≡ to_be_bytes w16 n) × (is_record_length n ≡ true)
 
 -- known bytes begin with what was read, and lose it
 abbrev pub IsNext : Next → Option (List ℕ) → Option (List ℕ) → Type 0
-IsNext (next.Record body) old new = Consumes old new (framed body.items) × (is_in record_lengths (length body.items) ≡ true)
+IsNext (next.Record body) old new = Consumes old new (framed body.items) × (is_record_length (length body.items) ≡ true)
 IsNext next.BadLength old new = (header : List ℕ) × Consumes old new header × HasBadLength header
 IsNext next.Ended old new = Consumes old new [] × IsAtEnd new
 IsNext next.Torn old new = (rest : List ℕ) × Consumes old new rest × IsAtEnd new × (is_cut_off rest ≡ true) × (1 ≤ length rest)

@@ -4,7 +4,7 @@ use Rattle.chpw_rules.specs.declared.name.Name.{Name}
 use Rattle.chpw_rules.specs.Names.{is_name}
 use Rattle.chpw_rules.specs.Limits.{is_in, kvnos, iteration_counts, aes128_length, aes256_length}
 use Rattle.chpw_table.specs.declared.history.Event.{Event}
-use Rattle.chpw_table.specs.declared.history.Event.TheVariants.{Ask}
+use Rattle.chpw_table.specs.declared.history.Event.TheVariants.{Ask, Raise}
 use Rattle.chpw_table.specs.declared.history.Entry.{Entry}
 use Rattle.chpw_table.specs.Requests.{target_of}
 use Rattle.chpw_table.specs.State.{State, keys_held, kept_count, new_count}
@@ -13,10 +13,12 @@ use Rattle.chpw_table.specs.Step.{new_key}
 use Rattle.chpw_table.specs.History.{is_accepted, step_entry, outcome, IsLegal}
 use Rattle.chpw_table.specs.Journal.{journal}
 use Rattle.chpw_journal.specs.declared.record.Record.{Record}
+use Rattle.chpw_journal.specs.declared.record.Record.TheVariants as record_of
 
 -- the record of an event that is accepted
 abbrev pub record_by : State → Event → Record
-record_by s (Ask o v) = record { name = (target_of o).name; key = new_key s o }
+record_by s (Ask o v) = record_of.Change (record { name = (target_of o).name; key = new_key s o })
+record_by s (Raise count v) = record_of.Raise count
 
 abbrev pub event_records : State → Event → List Record
 event_records s event = if is_accepted event then record_by s event ∷ [] else []
@@ -37,9 +39,11 @@ pub record IsSound (s : State) : Type 0 where
   pub names : (name : Name) → IsSome (keys_held s name) → is_name name ≡ true
   pub versions : (name : Name) → IfSome (keys_held s name) (λ keys. newest_kvno keys ≤ kvnos.high)
 
--- the keys that an accepted event makes have as many bytes as the types of keys say
+-- what an accepted event brings in is whole: its keys have as many bytes as the types of keys say, and
+-- its count is one that a configuration takes
 abbrev pub BringsWhole : State → Event → Type 0
 BringsWhole s (Ask o v) = (length (new_key s o).aes128 ≡ aes128_length) × (length (new_key s o).aes256 ≡ aes256_length)
+BringsWhole s (Raise count v) = is_in iteration_counts count ≡ true
 
 abbrev pub AreWhole : State → List Entry → Type 0
 AreWhole s [] = Unit {0}
@@ -55,7 +59,12 @@ abbrev pub AreRuns : State → List Run → Type 0
 AreRuns s [] = Unit {0}
 AreRuns s (r ∷ rs) = SameKeys s r.opening × IsSound r.opening × IsLegal r.opening r.history × AreWhole r.opening r.history × AreRuns (outcome r.opening r.history) rs
 
--- what the runs left behind: a journal, its records, and a state with the principals
+-- each also opens with the iteration count of new keys that the one before it left, the first with that of a state
+abbrev pub KeepCount : State → List Run → Type 0
+KeepCount s [] = Unit {0}
+KeepCount s (r ∷ rs) = (new_count s ≡ new_count r.opening) × KeepCount (outcome r.opening r.history) rs
+
+-- what the runs left behind: a journal, its records, and a state with the principals and the count
 abbrev pub journals : List Run → List ℕ
 journals [] = []
 journals (r ∷ rs) = journal r.opening r.history ++ journals rs

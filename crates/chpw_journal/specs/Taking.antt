@@ -2,22 +2,30 @@
 use Rattle.std.specs.Prelude.{◌≡◌, ◌≢◌, ℕ, ◌+◌, List, length, false, Option, Some, None}
 use Rattle.std.specs.Io.KnownBytes.{Consumes}
 use Rattle.chpw_table.specs.declared.key.KeyRow.{KeyRow}
+use Rattle.chpw_table.specs.declared.table.restoring.KeyFault.{KeyFault}
 use Rattle.chpw_table.specs.State.{State, keys_held}
 use Rattle.chpw_table.specs.Decision.{newest_kvno}
 use Rattle.chpw_table.specs.Agreement.{Held, Agrees}
-use Rattle.chpw_table.specs.Restoring.{with_kept_key, IsNextKey}
+use Rattle.chpw_table.specs.Restoring.{IsKeyRefused}
+use Rattle.chpw_journal.specs.declared.change.Change.{Change}
 use Rattle.chpw_journal.specs.declared.record.Record.{Record}
+use Rattle.chpw_journal.specs.declared.record.Record.TheVariants as record_of
 use Rattle.chpw_journal.specs.declared.fault.RestoreFault.{RestoreFault}
 use Rattle.chpw_journal.specs.declared.fault.RestoreFault.TheVariants.{BadRecord, WrongVersion, UnknownPrincipal, CannotRead, Memory}
 use Rattle.chpw_journal.specs.declared.restoring.Restored.{Restored}
-use Rattle.chpw_journal.specs.Records.{RecordFits, body_text, records_text}
-use Rattle.chpw_journal.specs.JournalText.{AreNext, restored}
+use Rattle.chpw_journal.specs.Records.{ChangeFits, RecordFits, body_text, records_text}
+use Rattle.chpw_journal.specs.JournalText.{IsNextRecord, AreNext, with_record, restored}
+
+-- why a record isn't put back: a change for what its key is refused; a raise never
+abbrev pub IsRecordRefused : Held → Record → KeyFault → Type 0
+IsRecordRefused before (record_of.Change c) fault = (s : State) → Agrees before.state s → IsKeyRefused s c.name c.key fault
+IsRecordRefused before (record_of.Raise count) fault = ⊥
 
 pub record TakesRecord (before later : Restored) (body : List ℕ) : Type 0 where
   pub taken : Record
   pub fits : RecordFits taken
   pub text : body ≡ body_text taken
-  pub table : (s : State) → Agrees before.table.state s → IsNextKey s taken.name taken.key × Agrees later.table.state (with_kept_key taken.name taken.key s)
+  pub table : (s : State) → Agrees before.table.state s → IsNextRecord s taken × Agrees later.table.state (with_record taken s)
   pub events : later.table.events ≡ before.table.events
   pub seen : later.table.seen ≡ before.table.seen
   pub max_entries : later.table.max_entries ≡ before.table.max_entries
@@ -26,10 +34,10 @@ pub record TakesRecord (before later : Restored) (body : List ℕ) : Type 0 wher
   pub torn : later.torn ≡ before.torn
 
 abbrev pub IsRecordFault : Restored → List ℕ → RestoreFault → Type 0
-IsRecordFault before body (BadRecord n) = (n ≡ before.records + 1) × ((c : Record) → RecordFits c → body ≢ body_text c)
-IsRecordFault before body (UnknownPrincipal n) = (n ≡ before.records + 1) × (c : Record) × RecordFits c × (body ≡ body_text c)
+IsRecordFault before body (BadRecord n) = (n ≡ before.records + 1) × ((r : Record) → RecordFits r → body ≢ body_text r)
+IsRecordFault before body (UnknownPrincipal n) = (n ≡ before.records + 1) × (c : Change) × ChangeFits c × (body ≡ body_text (record_of.Change c))
     × ((s : State) → Agrees before.table.state s → keys_held s c.name ≡ None)
-IsRecordFault before body (WrongVersion n) = (n ≡ before.records + 1) × (c : Record) × RecordFits c × (body ≡ body_text c)
+IsRecordFault before body (WrongVersion n) = (n ≡ before.records + 1) × (c : Change) × ChangeFits c × (body ≡ body_text (record_of.Change c))
     × ((s : State) → Agrees before.table.state s → (keys : List KeyRow) × (keys_held s c.name ≡ Some keys) × (c.key.kvno ≢ newest_kvno keys + 1))
 IsRecordFault before body CannotRead = ⊥
 IsRecordFault before body Memory = Unit {0}

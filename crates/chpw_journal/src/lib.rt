@@ -1,6 +1,7 @@
 //! The journal: where its records go, and how a table is restored from them.
 #![tactic(auto)]
 
+mod change;
 mod fault;
 mod file_sink;
 mod journal_file;

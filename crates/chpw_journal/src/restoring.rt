@@ -1,8 +1,12 @@
 //! A table restored from its journal.
 ghost use Rattle.std.specs.Prelude.{◌≡◌, ◌+◌, ◌-◌, ◌*◌, ◌≤◌, ◌<◌, ◌^◌, IfOk, IfErr, OnOk, OnErr, length};
 ghost use Rattle.chpw_rules.specs.Limits.{is_in};
+ghost use Rattle.chpw_table.specs.State.{State};
+ghost use Rattle.chpw_table.specs.Agreement.{Agrees};
+ghost use Rattle.chpw_journal.specs.Records.{RecordFits};
+ghost use Rattle.chpw_journal.specs.JournalText.{IsNextRecord, with_record};
 ghost use Rattle.chpw_journal.specs.Restoring.{IsRestored, IsRefused};
-ghost use Rattle.chpw_journal.specs.Taking.{TakesRecord, IsRecordFault};
+ghost use Rattle.chpw_journal.specs.Taking.{TakesRecord, IsRecordFault, IsRecordRefused};
 
 use crate::fault::RestoreFault;
 use crate::reading::{MAX_READS, Next, next_record};
@@ -11,7 +15,7 @@ use chpw_table::{KeyFault, Table};
 use std::alloc::Global;
 use std::io::Read;
 
-/// A table with the changes in a journal's records.
+/// A table with a journal's records put back.
 #[derive(Drop)]
 pub struct Restored {
     pub table: Table,
@@ -23,8 +27,9 @@ pub struct Restored {
     pub torn: bool,
 }
 
-/// Puts the changes of a journal back into a table, each as the accepted request did that made it. What
-/// stands behind the last whole record is torn; it is dropped and not tested, but for its length.
+/// Puts the records of a journal back into a table: a change as the accepted request did that made it,
+/// and the count of a raise where it is greater than the table's. What stands behind the last whole
+/// record is torn; it is dropped and not tested, but for its length.
 ///
 /// The journal is read to its end, in no more than 4,294,967,296 reads; an interrupted one is tried
 /// again. A fault in a record that was read whole comes before that of a later read.
@@ -58,7 +63,7 @@ pub fn restore<R: Read>(
 }
 
 impl Restored {
-    // Puts the change in a record back; the record's text, from behind its length.
+    // Puts a record back and counts it; the record's text, from behind its length.
     fn take_record(&mut self, alloc: Global, body: &[u8]) -> Result<(), RestoreFault>
         requires few { self.old.records < 2 ^ 32 }
         requires short { self.old.kept ≤ 1092 * self.old.records }
@@ -70,7 +75,7 @@ impl Restored {
         let Some(record) = Record::read(alloc, body)? else {
             return Err(RestoreFault::BadRecord(number));
         };
-        match self.table.restore_key(&record.name, record.key) {
+        match put_back(&mut self.table, record) {
             Ok(()) => {}
             Err(KeyFault::UnknownPrincipal) => return Err(RestoreFault::UnknownPrincipal(number)),
             Err(KeyFault::WrongVersion) => return Err(RestoreFault::WrongVersion(number)),
@@ -79,5 +84,23 @@ impl Restored {
         self.records = number;
         self.kept += 2 + body.len() as u64;
         Ok(())
+    }
+}
+
+// Puts a record back. A raise is never refused.
+fn put_back(table: &mut Table, taken: Record) -> Result<(), KeyFault>
+    requires fits { RecordFits taken }
+    ensures step { OnOk result ((s : State) → Agrees table.old.state s
+        → IsNextRecord s taken × Agrees table.new.state (with_record taken s)) }
+    ensures counts { (table.new.events ≡ table.old.events) × (table.new.seen ≡ table.old.seen)
+        × (table.new.max_entries ≡ table.old.max_entries) }
+    ensures first { IfErr result (λ fault. IsRecordRefused table.old taken fault) }
+{
+    match taken {
+        Record::Change(change) => table.restore_key(&change.name, change.key),
+        Record::Raise(count) => {
+            table.restore_count(count);
+            Ok(())
+        }
     }
 }

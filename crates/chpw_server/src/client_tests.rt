@@ -158,6 +158,7 @@ fn client_asks_a_service(rt: HostRuntime) -> Result<(), Fail> {
         workers: 2,
         connections: 7,
         idle: None,
+        raise: None,
     };
     let (served, ()) = join(&rt, || serve(&rt, serving).is_ok(), || ask_all(&rt, port));
     assert!(rt; served);

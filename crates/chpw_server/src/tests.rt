@@ -16,6 +16,13 @@ const SCRIPT: &str =
 const CLIENT_LINE: &str = "chpw_server client --config realm.toml --seed seed --port 464 \
     --client alice/admin --password=-New-pass2- --target bob --no-initial";
 
+const SERVE_LINE: &str =
+    "chpw_server serve --config realm.toml --journal journal --seed seed --port 464 \
+    --workers 4 --connections 1000";
+
+/// Counts to raise to that there are not.
+const NO_COUNTS: [&str; 4] = ["0", "16777217", "many", "-1"];
+
 /// A client's line without --seed, with ports out of range, and with a target in the earlier protocol; a
 /// command that there isn't; none; two calls for help and one for the version.
 const REFUSED: [&str; 9] = [
@@ -131,6 +138,28 @@ fn client_line_is_read(rt: HostRuntime) -> Result<(), Fail> {
     assert!(rt; asked.config == "realm.toml" && asked.seed == "seed" && asked.port == 464);
     assert!(rt; asked.client == "alice/admin" && asked.password == "-New-pass2-");
     assert!(rt; asked.target == Some("bob") && asked.no_initial && !asked.old);
+    Ok(())
+}
+
+// What the service is asked to raise to by the words behind its line; none where the line is refused.
+fn raise_of(alloc: Global, behind: &str) -> Result<Option<Option<u32>>, AllocError> {
+    let line = format!(in alloc; "{SERVE_LINE}{behind}")?;
+    let words = words(alloc, &line)?;
+    Ok(match command_of(alloc, words.as_slice()) {
+        Ok(Invocation::Serve(options)) => Some(options.raise),
+        _ => None,
+    })
+}
+
+#[test]
+fn count_to_raise_to_is_read(rt: HostRuntime) -> Result<(), Fail> {
+    assert!(rt; raise_of(rt.alloc(), "")? == Some(None));
+    assert!(rt; raise_of(rt.alloc(), " --raise 1")? == Some(Some(1)));
+    assert!(rt; raise_of(rt.alloc(), " --raise 16777216")? == Some(Some(16_777_216)));
+    for count in NO_COUNTS {
+        let behind = format!(in rt.alloc(); " --raise={count}")?;
+        assert!(rt; raise_of(rt.alloc(), &behind)?.is_none());
+    }
     Ok(())
 }
 

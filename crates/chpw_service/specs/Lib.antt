@@ -3,3 +3,4 @@ pub mod Following
 pub mod Opening
 pub mod Serving
 pub mod Tallies
+pub mod Raised

@@ -114,7 +114,8 @@ fn serve_history<
     Ok(Some(next_opening(table, sink, hall.workers)?))
 }
 
-fn start_desk<D: DeskName, R: Wait + AllocGlobal>(
+/// A desk of this name, with its passes.
+pub(crate) fn start_desk<D: DeskName, R: Wait + AllocGlobal>(
     rt: &R,
     opening: Opening,
 ) -> Result<(Desk<D, FileSink<File>>, Vec<Pass<D>>), StartFault>
@@ -136,8 +137,8 @@ fn print_tally<'a, R: Print>(rt: &R, tally: Tally) -> Result<(), ServeFault<'a>>
     }
 }
 
-// The table that was closed opens the next history, and its journal goes on.
-fn next_opening<'a>(
+/// The table that was closed opens the next history, and its journal goes on.
+pub(crate) fn next_opening<'a>(
     table: Table,
     sink: FileSink<File>,
     workers: u8,

@@ -5,6 +5,7 @@ mod closing;
 mod fault;
 mod files;
 mod histories;
+mod raising;
 mod serving;
 mod starting;
 

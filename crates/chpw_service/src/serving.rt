@@ -8,6 +8,7 @@ ghost use Rattle.chpw_service.specs.declared.fault.ServeFault.TheVariants.{Canno
 use crate::fault::ServeFault;
 use crate::files::{read_seed, read_settings};
 use crate::histories::{Hall, Opening, first_opening, serve_histories};
+use crate::raising::raised;
 use crate::starting::open_table;
 use chpw_invocation::ServeOptions;
 use chpw_journal::Journal;
@@ -22,8 +23,9 @@ use std::time::Clock;
 
 /// Serves so many connections on 127.0.0.1, connection i (from 0) by worker i modulo their number,
 /// each worker one after the other. The configuration is read first, then the seed, then the
-/// journal, and then the port is listened at. A torn tail that was cut off the journal is told in a line
-/// on standard error. Printed are `listening on 127.0.0.1:N` before a
+/// journal; then the iteration count of new keys is raised where that is asked for, and then the port is
+/// listened at. A torn tail that was cut off the journal is told in a line
+/// on standard error. Printed are what came of the raise, `listening on 127.0.0.1:N` before a
 /// connection is accepted, and `entries N changes N` for each history: where one is full, its desk is
 /// closed, and the next one opens with the table that was closed, its used ids kept.
 pub fn serve<
@@ -72,13 +74,39 @@ pub fn serve_by<
         cut_at,
     } = open_table(rt, rt.alloc(), config, options.journal, &mut clock)?;
     tell_cut(rt, options.journal, cut_at);
+    let opening = first_opening(table, sink, options.workers);
+    let opening = raised(rt, opening, options.workers, &mut clock, options.raise)?;
+    serve_opened(rt, time, &options, service, seed, opening)
+}
+
+// Serves what is opened, once the port is listened at.
+fn serve_opened<
+    'a,
+    R: Net<Listener = TcpListener, Stream = TcpStream>
+        + Threads
+        + Wait
+        + Clock
+        + Print
+        + AllocGlobal
+        + Sync,
+    T: Clock + Sync,
+>(
+    rt: &R,
+    time: &T,
+    options: &ServeOptions<'_>,
+    service: Service,
+    seed: [u8; 32],
+    opening: Opening,
+) -> Result<(), ServeFault<'a>>
+    requires workers { workers_of opening.unnamed ≡ options.now.workers }
+    ensures fault { IfErr result IsLate }
+{
     let listener = listen(rt, options.port)?;
-    let terms = terms_of(&options, seed);
-    let hall = hall_of(rt.alloc(), service, &options, terms)?;
+    let terms = terms_of(options, seed);
+    let hall = hall_of(rt.alloc(), service, options, terms)?;
     if println!(rt; "listening on 127.0.0.1:{}", options.port).is_err() {
         return Err(ServeFault::CannotPrint);
     }
-    let opening = first_opening(table, sink, options.workers);
     serve_all(rt, time, &listener, &hall, opening, terms.connections)
 }
 

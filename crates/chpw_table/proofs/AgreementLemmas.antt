@@ -1,6 +1,6 @@
 -- A state and what a table holds of it are judged alike, and go on alike.
 use Rattle.std.proofs.Common.{filter, not, ◌≡◌, ℕ, max, List, [], ◌∷◌, ◌++◌, Bool, true, false, ◌&&◌, ◌||◌, if◌then◌else◌, Option, refl, sym, ◌∙◌, ap, subst, arith}
-use Rattle.std.specs.Prelude.{option_map, ℤ, int_le}
+use Rattle.std.specs.Prelude.{option_map, ℤ, int_le, nat_le}
 use Rattle.std.specs.Int.{int_max}
 use Rattle.std.specs.List.{list_any}
 use Rattle.std.proofs.lemmas.Int.{ints, clamps}
@@ -11,6 +11,8 @@ use Rattle.chpw_table.specs.declared.request.Opened.{Opened}
 use Rattle.chpw_table.specs.declared.request.RequestId.{RequestId}
 use Rattle.chpw_table.specs.declared.verdict.Verdict.{Verdict}
 use Rattle.chpw_table.specs.declared.verdict.Verdict.TheVariants.{Skew, Replay}
+use Rattle.chpw_table.specs.declared.raising.RaiseVerdict.{RaiseVerdict}
+use Rattle.chpw_table.specs.declared.raising.RaiseVerdict.TheVariants.{NotHigher, Broken, Raised}
 use Rattle.chpw_table.specs.declared.key.KeyRow.{KeyRow}
 use Rattle.chpw_table.specs.Requests.{id_of, is_same_id, target_of, digest_of}
 use Rattle.chpw_table.specs.State.{State, Fixed, keys_held, is_used, kept_count, new_count}
@@ -19,6 +21,7 @@ use Rattle.chpw_table.specs.Wanted.{wanted, lacking}
 use Rattle.chpw_table.specs.Decision.{verdict, message_row}
 use Rattle.chpw_table.specs.Times.{clock_at, is_far, is_later}
 use Rattle.chpw_table.specs.Step.{step, after, new_key}
+use Rattle.chpw_table.specs.Raising.{raise_verdict, is_raised, is_unwritten, after_raise, step_raise}
 use Rattle.chpw_table.specs.History.{missing}
 use Rattle.chpw_table.specs.Agreement.{Agrees}
 use Rattle.chpw_table.proofs.NameLemmas.{is_same_id-Decides}
@@ -56,15 +59,15 @@ same_verdict t s now o io a =
     (λ h. fresh)
 
 -- the same new key
-pub same_new_key : (t s : State) (o : Opened) → t.fixed ≡ s.fixed → keys_held t (target_of o).name ≡ keys_held s (target_of o).name → new_key t o ≡ new_key s o
-same_new_key t s o f k = let c : new_count t ≡ new_count s = ap (λ (x : Fixed). x.policy.iterations) f in simp (k, c)
+pub same_new_key : (t s : State) (o : Opened) → new_count t ≡ new_count s → keys_held t (target_of o).name ≡ keys_held s (target_of o).name → new_key t o ≡ new_key s o
+same_new_key t s o c k = simp (k, c)
 
 -- the same keys of each name after an event
 pub agrees_keys : (t s : State) (v : Verdict) (now : Moment) (o : Opened) (io : Bool) → Agrees t s → (name : Name) → keys_held (after v t now o io) name ≡ keys_held (after v s now o io) name
 agrees_keys t s v now o io a name =
     keys_after t v now o io name
     ∙ (ap (λ (x : Option (List KeyRow)). if is_done v && is_same_name (target_of o).name name then option_map (put (kept_count t) (new_key t o)) x else x) (a.principals name)
-    ∙ (ap (λ (k : KeyRow). if is_done v && is_same_name (target_of o).name name then option_map (put (kept_count t) k) (keys_held s name) else keys_held s name) (same_new_key t s o a.fixed (a.principals (target_of o).name))
+    ∙ (ap (λ (k : KeyRow). if is_done v && is_same_name (target_of o).name name then option_map (put (kept_count t) k) (keys_held s name) else keys_held s name) (same_new_key t s o a.count (a.principals (target_of o).name))
     ∙ (ap (λ (f : Fixed). if is_done v && is_same_name (target_of o).name name then option_map (put (max f.policy.depth 1) (new_key s o)) (keys_held s name) else keys_held s name) a.fixed
     ∙ sym (keys_after s v now o io name))))
 
@@ -83,6 +86,7 @@ agrees_after t s v now o io a = record {
   principals = agrees_keys t s v now o io a;
   clock = ap (λ c. int_max c now.seconds) a.clock;
   broken = ap (λ b. b || (is_broken v && io)) a.broken;
+  count = a.count;
   ids = λ id h. used_alike (adds_id v) (id_of o) id t.used s.used (a.ids id (still_young s.clock now.seconds id.ctime h));
 }
 
@@ -91,10 +95,32 @@ pub agrees_step : (t s : State) (now : Moment) (o : Opened) (io : Bool) → Agre
 agrees_step t s now o io a =
     subst (λ (v : Verdict). Agrees (step t now o io) (after v s now o io)) (same_verdict t s now o io a) (agrees_after t s (verdict t now o io) now o io a)
 
+-- a raise is judged alike
+pub same_raise_verdict : (t s : State) (count : ℕ) (io : Bool) → Agrees t s → raise_verdict t count io ≡ raise_verdict s count io
+same_raise_verdict t s count io a =
+    ap (λ (n : ℕ). if nat_le count n then NotHigher else if t.broken || io then Broken else Raised) a.count
+    ∙ ap (λ (b : Bool). if nat_le count s.count then NotHigher else if b || io then Broken else Raised) a.broken
+
+-- and they agree after it
+agrees_after_raise : (t s : State) (v : RaiseVerdict) (now : Moment) (count : ℕ) (io : Bool) → Agrees t s → Agrees (after_raise v t now count io) (after_raise v s now count io)
+agrees_after_raise t s v now count io a = record {
+  fixed = a.fixed;
+  principals = a.principals;
+  clock = ap (λ c. int_max c now.seconds) a.clock;
+  broken = ap (λ b. b || (is_unwritten v && io)) a.broken;
+  count = ap (λ (n : ℕ). if is_raised v then count else n) a.count;
+  ids = λ id h. a.ids id (still_young s.clock now.seconds id.ctime h);
+}
+
+pub agrees_raise : (t s : State) (now : Moment) (count : ℕ) (io : Bool) → Agrees t s → Agrees (step_raise t now count io) (step_raise s now count io)
+agrees_raise t s now count io a =
+    subst (λ (v : RaiseVerdict). Agrees (step_raise t now count io) (after_raise v s now count io)) (same_raise_verdict t s count io a)
+    (agrees_after_raise t s (raise_verdict t count io) now count io a)
+
 -- the same counts are missing
 pub same_missing : (t s : State) (now : Moment) (o : Opened) → Agrees t s → missing t now o ≡ missing s now o
 same_missing t s now o a =
-    let c : new_count t ≡ new_count s = ap (λ (x : Fixed). x.policy.iterations) a.fixed in
+    let c : new_count t ≡ new_count s = a.count in
     ap (λ (v : Verdict). if reads_keys v then lacking (digest_of o).derived (wanted t (target_of o).name) else []) (same_verdict t s now o false a)
     ∙ ap (λ (ns : List ℕ). if reads_keys (verdict s now o false) then lacking (digest_of o).derived ns else []) (simp (a.principals (target_of o).name, a.fixed, c))
 
@@ -105,12 +131,13 @@ agrees_onward a b c p q = record {
   principals = λ name. p.principals name ∙ q.principals name;
   clock = p.clock ∙ q.clock;
   broken = p.broken ∙ q.broken;
+  count = p.count ∙ q.count;
   ids = λ id h. p.ids id (ap (λ (k : ℤ). is_later k id.ctime) q.clock ∙ h) ∙ q.ids id h;
 }
 
 -- a state agrees with itself
 pub agrees_itself : (s : State) → Agrees s s
-agrees_itself s = record { fixed = refl; principals = λ name. refl; clock = refl; broken = refl; ids = λ id h. refl }
+agrees_itself s = record { fixed = refl; principals = λ name. refl; clock = refl; broken = refl; count = refl; ids = λ id h. refl }
 
 young_used : (clock : ℤ) (x : RequestId) (xs : List RequestId) (id : RequestId) → is_later clock id.ctime ≡ false
     → list_any (λ (y : RequestId). is_same_id y id) (filter (λ (y : RequestId). not (is_later clock y.ctime)) xs) ≡ list_any (λ (y : RequestId). is_same_id y id) xs
@@ -140,6 +167,7 @@ swept t = record {
   used = filter (λ (y : RequestId). not (is_later t.clock y.ctime)) t.used;
   clock = t.clock;
   broken = t.broken;
+  count = t.count;
 }
 
 -- a table that forgets the ids too old to be judged agrees as before
@@ -149,5 +177,6 @@ agrees_swept t s a = record {
   principals = a.principals;
   clock = a.clock;
   broken = a.broken;
+  count = a.count;
   ids = λ id h. used_swept t.clock t.used id (ap (λ (c : ℤ). is_later c id.ctime) a.clock ∙ h) ∙ a.ids id h;
 }

@@ -18,14 +18,16 @@ use Rattle.chpw_table.specs.declared.times.Moment.{Moment}
 use Rattle.chpw_table.specs.declared.request.Opened.{Opened}
 use Rattle.chpw_table.specs.declared.request.RequestId.{RequestId}
 use Rattle.chpw_table.specs.declared.verdict.Verdict.{Verdict}
+use Rattle.chpw_table.specs.declared.raising.RaiseVerdict.{RaiseVerdict}
 use Rattle.chpw_table.specs.Requests.{id_of, is_same_id}
 use Rattle.chpw_table.specs.State.{State, is_used}
 use Rattle.chpw_table.specs.Times.{is_later, clock_at}
 use Rattle.chpw_table.specs.Verdicts.{adds_id}
 use Rattle.chpw_table.specs.Step.{after}
+use Rattle.chpw_table.specs.Raising.{after_raise}
 use Rattle.chpw_table.specs.Agreement.{Agrees}
 use Rattle.chpw_table.specs.Holding.{id_cmp, young_ids, is_first_old}
-use Rattle.chpw_table.specs.Entering.{held_after, held_state}
+use Rattle.chpw_table.specs.Entering.{held_after, held_state, held_raise}
 use Rattle.chpw_table.proofs.NameLemmas.{is_same_id-Decides}
 use Rattle.chpw_table.proofs.StepLemmas.{used_more}
 use Rattle.chpw_table.proofs.AgreementLemmas.{used_swept}
@@ -147,7 +149,19 @@ held_agrees v s now o io = record {
   principals = λ name. refl;
   clock = refl;
   broken = refl;
+  count = refl;
   ids = λ id h. used_swept (clock_at s now) (with_first id_cmp s.used (if adds_id v then id_of o ∷ [] else [])) id h ∙ first_used (adds_id v) (id_of o) id s.used;
+}
+
+-- and so after a raise
+pub held_raise_agrees : (v : RaiseVerdict) (s : State) (now : Moment) (count : ℕ) (io : Bool) → Agrees (held_raise v s now count io) (after_raise v s now count io)
+held_raise_agrees v s now count io = record {
+  fixed = refl;
+  principals = λ name. refl;
+  clock = refl;
+  broken = refl;
+  count = refl;
+  ids = λ id h. used_swept (clock_at s now) s.used id h;
 }
 
 young_same : (clock : ℤ) (id x : RequestId) → is_same_id x id ≡ true → not (is_later clock x.ctime) ≡ not (is_later clock id.ctime)

@@ -17,7 +17,7 @@ use Rattle.chpw_table.specs.Requests.{target_of}
 use Rattle.chpw_table.specs.Entering.{with_keys_at}
 use Rattle.chpw_table.specs.declared.key.KeyRow.{KeyRow}
 use Rattle.chpw_table.specs.declared.table.Principal.{Principal}
-use Rattle.chpw_table.specs.State.{State, key_row_of, opening_principal, keys_held, kept_count}
+use Rattle.chpw_table.specs.State.{State, key_row_of, opening_principal, keys_held, kept_count, new_count}
 use Rattle.chpw_table.specs.Step.{with_key, new_key}
 use Rattle.chpw_table.specs.Holding.{is_count_in_range, is_holder, is_same_principal, hold_keys, are_in_order, names, are_holders}
 use Rattle.chpw_table.proofs.BoolLemmas.{and_left, and_right, both}
@@ -199,12 +199,12 @@ policy_of_fits c h = and_right _ _ (and_left _ _ (and_left _ _ h))
 pub principals_of_fits : (c : Config) → config_fits c ≡ true → principals_fit c.principals ≡ true
 principals_of_fits c h = and_right _ _ h
 
-iterations_in_range : (policy : Policy) → policy_fits policy ≡ true → is_in iteration_counts policy.iterations ≡ true
+pub iterations_in_range : (policy : Policy) → policy_fits policy ≡ true → is_in iteration_counts policy.iterations ≡ true
 iterations_in_range policy h = and_right _ _ h
 
 -- the principals after a change, where it is put in its place
-pub holders_at : (s : State) (o : Opened) (n : ℕ) (keys : List KeyRow) → policy_fits s.fixed.policy ≡ true → are_holders s.principals ≡ true
+pub holders_at : (s : State) (o : Opened) (n : ℕ) (keys : List KeyRow) → policy_fits s.fixed.policy ≡ true → is_in iteration_counts (new_count s) ≡ true → are_holders s.principals ≡ true
     → map (with_key (kept_count s) (target_of o).name (new_key s o)) s.principals ≡ with_keys_at n keys s.principals → are_holders (with_keys_at n keys s.principals) ≡ true
-holders_at s o n keys p h e =
+holders_at s o n keys p c h e =
     subst (λ (ps : List Principal). are_holders ps ≡ true) e
-    (new_holders (kept_count s) (target_of o).name (new_key s o) (kept_at_least s.fixed.policy.depth) (depth_at_most s.fixed.policy p) (iterations_in_range s.fixed.policy p) s.principals h)
+    (new_holders (kept_count s) (target_of o).name (new_key s o) (kept_at_least s.fixed.policy.depth) (depth_at_most s.fixed.policy p) c s.principals h)

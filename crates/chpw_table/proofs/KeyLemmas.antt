@@ -9,7 +9,7 @@ use Rattle.chpw_table.specs.declared.request.Opened.{Opened}
 use Rattle.chpw_table.specs.declared.verdict.Verdict.{Verdict}
 use Rattle.chpw_table.specs.declared.verdict.Verdict.TheVariants.{Skew, Replay, NotYet, Expired, BadPrivate, BadBody, Denied, NeedInitial, Unknown, Done}
 use Rattle.chpw_table.specs.declared.history.Event.{Event}
-use Rattle.chpw_table.specs.declared.history.Event.TheVariants.{Ask}
+use Rattle.chpw_table.specs.declared.history.Event.TheVariants.{Ask, Raise}
 use Rattle.chpw_table.specs.declared.key.KeyRow.{KeyRow}
 use Rattle.chpw_table.specs.declared.table.Principal.{Principal}
 use Rattle.chpw_table.specs.Requests.{target_of}
@@ -157,10 +157,12 @@ made_after : (s : State) (now : Moment) (io : Bool) (event : Event) (name : Name
 made_after s now io (Ask o v) name legal few =
     subst (λ (w : Verdict). keys_held (after w s now o io) name ≡ option_map (λ keys. take (kept_count s) (event_keys s (Ask o v) name ++ keys)) (keys_held s name)) legal.verdict_is
     (keys_after s v now o io name ∙ one_made (kept_count s) (new_key s o) (is_done v && is_same_name (target_of o).name name) (keys_held s name) (few name))
+made_after s now io (Raise count v) name legal few = kept_all (kept_count s) (keys_held s name) (few name)
 
 -- what an event leaves fixed
 pub same_fixed : (s : State) (now : Moment) (io : Bool) (event : Event) → (step_event s now io event).fixed ≡ s.fixed
 same_fixed s now io (Ask o v) = refl
+same_fixed s now io (Raise count v) = refl
 
 pub same_kept : (s : State) (now : Moment) (io : Bool) (event : Event) → kept_count (step_event s now io event) ≡ kept_count s
 same_kept s now io event = ap (λ (f : Fixed). max f.policy.depth 1) (same_fixed s now io event)

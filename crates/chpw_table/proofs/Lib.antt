@@ -9,6 +9,7 @@ pub mod BoolLemmas
 pub mod JournalLemmas
 pub mod Worked
 pub mod WorkedScripts
+pub mod WorkedRaises
 pub mod WorkedHistories
 pub mod DigestLemmas
 pub mod NameLemmas
@@ -25,3 +26,4 @@ pub mod OrderLemmas
 pub mod SortingLemmas
 pub mod HeldIdLemmas
 pub mod SendLemmas
+pub mod RaisingLemmas

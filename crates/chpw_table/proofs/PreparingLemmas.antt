@@ -48,7 +48,7 @@ planned_alike : (t s : State) (o : Opened) → Agrees t s
 planned_alike t s o a =
     let name : Name = (target_of o).name in
     ap (λ (f : Fixed). put (max f.policy.depth 1) (new_key t o) (unwrap_or (keys_held t name) [])) a.fixed
-    ∙ (ap (λ (k : KeyRow). put (kept_count s) k (unwrap_or (keys_held t name) [])) (same_new_key t s o a.fixed (a.principals name))
+    ∙ (ap (λ (k : KeyRow). put (kept_count s) k (unwrap_or (keys_held t name) [])) (same_new_key t s o a.count (a.principals name))
     ∙ ap (λ (x : Option (List KeyRow)). put (kept_count s) (new_key s o) (unwrap_or x [])) (a.principals name))
 
 -- a new key as a change is what its row shows
@@ -91,7 +91,7 @@ no_row t p r e = subst (λ (x : Option Change). IsPlanned t p.row p.opened x) e 
 
 -- ---- what the sink tells once it is finished
 
-told_nothing : (told : Option (List ℕ)) → told ≡ option_map (λ xs. xs ++ []) told
+pub told_nothing : (told : Option (List ℕ)) → told ≡ option_map (λ xs. xs ++ []) told
 told_nothing None = refl
 told_nothing (Some xs) = ap Some (sym (append-nil xs))
 

@@ -8,6 +8,8 @@ use Rattle.chpw_table.specs.declared.request.Opened.{Opened}
 use Rattle.chpw_table.specs.declared.request.RequestId.{RequestId}
 use Rattle.chpw_table.specs.declared.verdict.Verdict.{Verdict}
 use Rattle.chpw_table.specs.declared.verdict.Verdict.TheVariants.{Broken, Done}
+use Rattle.chpw_table.specs.declared.raising.RaiseVerdict.{RaiseVerdict}
+use Rattle.chpw_table.specs.declared.raising.RaiseVerdict.TheVariants as raise
 use Rattle.chpw_table.specs.declared.key.KeyRow.{KeyRow}
 use Rattle.chpw_table.specs.declared.table.Principal.{Principal}
 use Rattle.chpw_table.specs.State.{State, keys_held}
@@ -15,6 +17,7 @@ use Rattle.chpw_table.specs.Requests.{id_of}
 use Rattle.chpw_table.specs.Verdicts.{adds_id, is_done}
 use Rattle.chpw_table.specs.Times.{clock_at}
 use Rattle.chpw_table.specs.Step.{after, with_key}
+use Rattle.chpw_table.specs.Raising.{after_raise, is_raised, IsRaise}
 use Rattle.chpw_table.specs.Agreement.{Held}
 use Rattle.chpw_table.specs.Holding.{id_cmp, young_ids}
 
@@ -47,6 +50,10 @@ held_after clock used ids = young_ids clock (with_first id_cmp used ids)
 abbrev pub with_event : Moment → List RequestId → Held → Held
 with_event now ids t = record t { state = record t.state { used = held_after (clock_at t.state now) t.state.used ids; clock = clock_at t.state now }; events = t.events + 1 }
 
+-- the count is raised, and that is one change more
+abbrev pub with_raise : ℕ → Held → Held
+with_raise count t = record t { state = record t.state { count = count }; seen = t.seen + 1 }
+
 -- the journal is broken
 abbrev pub with_broken : Held → Held
 with_broken t = record t { state = record t.state { broken = true } }
@@ -62,4 +69,20 @@ pub record IsEntered (before later : Held) (now : Moment) (o : Opened) (row v : 
   pub state : later.state ≡ held_state v before.state now o io
   pub events : later.events ≡ before.events + 1
   pub seen : later.seen ≡ (if is_done v then before.seen + 1 else before.seen)
+  pub max_entries : later.max_entries ≡ before.max_entries
+
+-- Raised becomes Broken where the append failed
+abbrev pub raise_written : Bool → RaiseVerdict
+raise_written io = if io then raise.Broken else raise.Raised
+
+-- what a raise with this verdict leaves of what a table holds
+abbrev pub held_raise : RaiseVerdict → State → Moment → ℕ → Bool → State
+held_raise v s now count io = record (after_raise v s now count io) { used = held_after (clock_at s now) s.used [] }
+
+-- what a raise does, whose append may fail
+pub record IsRaiseEntered (before later : Held) (now : Moment) (count : ℕ) (v : RaiseVerdict) (io : Bool) : Type 0 where
+  pub legal : IsRaise before.state count io v
+  pub state : later.state ≡ held_raise v before.state now count io
+  pub events : later.events ≡ before.events + 1
+  pub seen : later.seen ≡ (if is_raised v then before.seen + 1 else before.seen)
   pub max_entries : later.max_entries ≡ before.max_entries

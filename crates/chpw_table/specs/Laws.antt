@@ -7,14 +7,15 @@ use Rattle.chpw_table.specs.declared.times.Moment.{Moment}
 use Rattle.chpw_table.specs.declared.request.Opened.{Opened}
 use Rattle.chpw_table.specs.declared.verdict.Verdict.TheVariants.{Skew, Done}
 use Rattle.chpw_table.specs.declared.history.Event.{Event}
-use Rattle.chpw_table.specs.declared.history.Event.TheVariants.{Ask}
+use Rattle.chpw_table.specs.declared.history.Event.TheVariants.{Ask, Raise}
 use Rattle.chpw_table.specs.declared.history.Entry.{Entry}
 use Rattle.chpw_table.specs.declared.key.KeyRow.{KeyRow}
 use Rattle.chpw_table.specs.Requests.{id_of, target_of}
-use Rattle.chpw_table.specs.State.{State, keys_held, kept_count}
+use Rattle.chpw_table.specs.State.{State, keys_held, kept_count, new_count}
 use Rattle.chpw_table.specs.Verdicts.{adds_id, is_done}
 use Rattle.chpw_table.specs.Decision.{verdict, newest_kvno}
 use Rattle.chpw_table.specs.Step.{step, new_key}
+use Rattle.chpw_table.specs.Raising.{step_raise}
 use Rattle.chpw_table.specs.History.{step_entry, outcome, IsLegal}
 
 -- a verdict other than Done leaves all principals
@@ -37,6 +38,12 @@ abbrev pub OthersStay : Type 0
 OthersStay = (s : State) (now : Moment) (o : Opened) (io : Bool) (name : Name) →
     name ≢ (target_of o).name → keys_held (step s now o io) name ≡ keys_held s name
 
+-- a raise leaves all principals and used ids, and never lowers the count
+abbrev pub RaiseKeepsKeys : Type 0
+RaiseKeepsKeys = (s : State) (now : Moment) (count : ℕ) (io : Bool) →
+    ((step_raise s now count io).principals ≡ s.principals) × ((step_raise s now count io).used ≡ s.used)
+    × (new_count s ≤ new_count (step_raise s now count io))
+
 -- an id that an entry added is never judged past Replay again
 abbrev pub UsedForGood : Type 0
 UsedForGood = (s : State) (before : Moment) (used : Opened) (failed : Bool) (es : List Entry)
@@ -50,6 +57,7 @@ event_keys s (Ask o v) name =
     if is_done v && is_same_name (target_of o).name name
     then new_key s o ∷ []
     else []
+event_keys s (Raise count v) name = []
 
 -- those that the entries made, newest first
 abbrev pub keys_made : State → List Entry → Name → List KeyRow

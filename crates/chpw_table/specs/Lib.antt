@@ -7,6 +7,7 @@ pub mod Wanted
 pub mod Times
 pub mod Decision
 pub mod Step
+pub mod Raising
 pub mod History
 pub mod Versions
 pub mod Journal

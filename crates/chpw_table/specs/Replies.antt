@@ -2,6 +2,8 @@
 -- answered by one (RFC 4120 section 7.5.9), and the text.
 use Rattle.std.specs.Prelude.{ℕ, ℤ, List, Option, Some, None, codes}
 use Rattle.krb_protocol.specs.declared.codes.TheConstants.{KRB5_KPASSWD_SUCCESS, KRB5_KPASSWD_MALFORMED, KRB5_KPASSWD_HARDERROR, KRB5_KPASSWD_AUTHERROR, KRB5_KPASSWD_SOFTERROR, KRB5_KPASSWD_ACCESSDENIED, KRB5_KPASSWD_INITIAL_FLAG_NEEDED, KRB_AP_ERR_SKEW, KRB_AP_ERR_REPEAT, KRB_AP_ERR_TKT_NYV, KRB_AP_ERR_TKT_EXPIRED}
+use Rattle.chpw_table.specs.declared.raising.RaiseVerdict.{RaiseVerdict}
+use Rattle.chpw_table.specs.declared.raising.RaiseVerdict.TheVariants as raise
 use Rattle.chpw_table.specs.declared.verdict.Verdict.{Verdict}
 use Rattle.chpw_table.specs.declared.verdict.Verdict.TheVariants.{Skew, Replay, NotYet, Expired, BadPrivate, BadBody, Denied, NeedInitial, Unknown, Short, Classes, Reused, LastVersion, Broken, Done}
 
@@ -34,3 +36,13 @@ answer_of Reused = by_private KRB5_KPASSWD_SOFTERROR (codes "password used befor
 answer_of LastVersion = by_private KRB5_KPASSWD_HARDERROR (codes "no version left")
 answer_of Broken = by_private KRB5_KPASSWD_HARDERROR (codes "journal failed")
 answer_of Done = by_private KRB5_KPASSWD_SUCCESS (codes "password changed")
+
+-- what is told of a raise, by a result code and a text; no message carries it
+pub record Told : Type 0 where
+  pub code : ℕ
+  pub text : List ℕ
+
+abbrev pub told_of : RaiseVerdict → Told
+told_of raise.NotHigher = record { code = KRB5_KPASSWD_SOFTERROR; text = codes "count not higher" }
+told_of raise.Broken = record { code = KRB5_KPASSWD_HARDERROR; text = codes "journal failed" }
+told_of raise.Raised = record { code = KRB5_KPASSWD_SUCCESS; text = codes "count raised" }

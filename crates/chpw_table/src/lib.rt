@@ -2,6 +2,7 @@
 //! table.
 #![tactic(auto)]
 
+mod change;
 mod counts;
 mod derived;
 mod digest;
@@ -10,19 +11,22 @@ mod journal;
 mod key;
 pub mod laws;
 mod outcome;
+mod raising;
 mod request;
 mod sink;
 mod table;
 mod times;
 mod verdict;
 
+pub use change::{Accepted, KeyChange};
 pub use counts::{COUNTS_LIMIT, Counts};
 pub use derived::Derived;
 pub use digest::Digest;
 pub use history::{Entry, Event, Receipt};
-pub use journal::record_bytes;
+pub use journal::{raise_bytes, record_bytes};
 pub use key::{KeyRow, newest};
 pub use outcome::{DecideFault, Outcome, Refused};
+pub use raising::{Full, Raise, RaiseVerdict};
 pub use request::{Body, Opened, RequestId, Target};
 pub use sink::{JournalSink, SinkFault};
 pub use table::{KeyFault, Lookup, Prepared, Principal, RowChange, Table};

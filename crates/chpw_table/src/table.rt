@@ -3,10 +3,10 @@ ghost use Rattle.std.specs.Prelude.{◌≡◌, ◌≤◌, ◌<◌, ◌&&◌, not
 ghost use Rattle.std.specs.List.{IsDistinct};
 ghost use Rattle.std.specs.List.Sorted.{IsStrictlySortedBy};
 ghost use Rattle.chpw_rules.specs.Names.{is_same_name, name_cmp};
-ghost use Rattle.chpw_rules.specs.Limits.{entry_counts};
+ghost use Rattle.chpw_rules.specs.Limits.{is_in, entry_counts, iteration_counts};
 ghost use Rattle.chpw_rules.specs.Fitting.{config_fits};
 ghost use Rattle.chpw_table.specs.Agreement.{Agrees};
-ghost use Rattle.chpw_table.specs.State.{State, opening_of, keys_held, is_used};
+ghost use Rattle.chpw_table.specs.State.{State, opening_of, keys_held, is_used, new_count};
 ghost use Rattle.chpw_table.specs.Requests.{is_same_id};
 ghost use Rattle.chpw_table.specs.Times.{is_later};
 ghost use Rattle.chpw_table.specs.Holding.{StandsAt};
@@ -17,6 +17,7 @@ mod changing;
 mod decision;
 mod opening;
 mod preparing;
+mod raising;
 mod reopening;
 mod restoring;
 mod step;
@@ -47,9 +48,9 @@ pub struct Lookup {
     pub kvno: u32,
     /// The iteration counts of its keys, newest first.
     pub held: Counts,
-    /// The iteration count of new keys: the policy's.
+    /// The iteration count of new keys: the policy's, until it is raised.
     pub policy: u32,
-    /// The changes accepted so far, of all principals.
+    /// The changes accepted so far, of all principals, raises among them.
     pub seen: u32,
 }
 
@@ -79,6 +80,8 @@ pub struct Table {
     used: KeyTree<RequestId>,
     clock: i64,
     broken: bool,
+    // The iteration count of new keys.
+    count: u32,
     events: u32,
     seen: u32,
     max_entries: u32,
@@ -87,7 +90,7 @@ pub struct Table {
 impl Model for Table {
     ghost use Rattle.std.specs.Prelude.{◌≡◌, ◌≤◌, ◌+◌, length, IsTrue};
     ghost use Rattle.std.specs.List.Sorted.{IsStrictlySortedBy};
-    ghost use Rattle.chpw_rules.specs.Limits.{is_in, entry_counts};
+    ghost use Rattle.chpw_rules.specs.Limits.{is_in, entry_counts, iteration_counts};
     ghost use Rattle.chpw_rules.specs.Fitting.{policy_fits};
     ghost use Rattle.chpw_table.specs.Times.{IsTime};
     ghost use Rattle.chpw_table.specs.Agreement.{Held};
@@ -107,6 +110,7 @@ impl Model for Table {
         used = t.used;
         clock = t.clock;
         broken = t.broken;
+        count = t.count;
       };
       events = t.events;
       seen = t.seen;
@@ -117,14 +121,14 @@ impl Model for Table {
         × IsTrue (is_in entry_counts t.max_entries) × IsTime t.clock
         × IsTrue (policy_fits t.policy) × IsTrue (are_holders t.principals.items)
         × (length t.used ≤ t.events + 2147483648) × IsStrictlySortedBy id_cmp t.used
-        × (young_ids t.clock t.used ≡ t.used) };
+        × (young_ids t.clock t.used ≡ t.used) × IsTrue (is_in iteration_counts t.count) };
 }
 
 impl Table {
     /// The table that a configuration opens with: of each principal the newest keys, as many as the
-    /// policy's depth and at least one; clock 0, no id used, no event decided. The configuration
-    /// fits (`Config::fits`). A request whose ctime is not after `quiet_until`, seconds since 1970,
-    /// will be refused; -1 refuses none.
+    /// policy's depth and at least one; clock 0, no id used, no event decided; new keys under the
+    /// policy's iteration count. The configuration fits (`Config::fits`). A request whose ctime is not
+    /// after `quiet_until`, seconds since 1970, will be refused; -1 refuses none.
     pub fn start(alloc: Global, config: Config, quiet_until: i64) -> Result<Table, AllocError>
         requires fits { config_fits config ≡ true }
         ensures opening { IfOk result (λ t. Agrees t.state (opening_of config quiet_until)) }
@@ -132,6 +136,7 @@ impl Table {
             × (t.max_entries ≡ config.max_entries)) }
     {
         let kept = kept_by(config.policy);
+        let count = config.policy.iterations;
         let principals = opening_table(alloc, config.principals.into_vec(), kept)?;
         Ok(Table {
             realm: config.realm,
@@ -142,6 +147,7 @@ impl Table {
             used: KeyTree::new(),
             clock: 0,
             broken: false,
+            count,
             events: 0,
             seen: 0,
             max_entries: config.max_entries,
@@ -158,7 +164,7 @@ impl Table {
         self.events == self.max_entries
     }
 
-    /// How many changes it has accepted, of all principals.
+    /// How many changes it has accepted, of all principals, raises among them.
     pub fn seen(&self) -> u32
         ensures value { result ≡ self.now.seen }
         ensures few { result ≤ entry_counts.high }
@@ -233,13 +239,22 @@ impl Table {
         self.used.len() as u32
     }
 
-    /// Its policy. The depth is at most 16, and the iteration count of new keys at least 1.
+    /// Its policy. The depth is at most 16, and the iteration count at least 1.
     pub fn policy(&self) -> Policy
         ensures value { result ≡ self.now.state.fixed.policy }
         ensures depth { max result.depth 1 ≤ 16 }
         ensures iterations { 1 ≤ result.iterations }
     {
         self.policy
+    }
+
+    /// The iteration count of new keys, 1 to 16,777,216: the policy's, until it is raised.
+    pub fn count(&self) -> u32
+        ensures value { result ≡ new_count self.now.state }
+        ensures range { is_in iteration_counts result ≡ true }
+        ensures positive { 1 ≤ result }
+    {
+        self.count
     }
 
     /// What the table shows of a name; none for an unknown one. The counts are at least 1, and 1 to
@@ -265,7 +280,7 @@ impl Table {
         Lookup {
             kvno: kvno_of(keys),
             held: counts_of(keys),
-            policy: self.policy.iterations,
+            policy: self.count,
             seen: self.seen,
         }
     }

@@ -12,44 +12,47 @@ use Rattle.chpw_rules.specs.declared.name.Name.{Name}
 use Rattle.chpw_rules.specs.Names.{is_same_name}
 use Rattle.chpw_table.specs.declared.table.Principal.{Principal}
 use Rattle.chpw_table.specs.State.{State, kept_count}
-use Rattle.chpw_table.specs.Versions.{KeyChange, Shown, shown, with_change}
+use Rattle.chpw_table.specs.declared.change.KeyChange.{KeyChange}
+use Rattle.chpw_table.specs.declared.change.Accepted.{Accepted}
+use Rattle.chpw_table.specs.Versions.{Shown, shown, shown_after, shown_count, count_after, with_change}
 use Rattle.chpw_table.proofs.NameLemmas.{is_same_name-Decides}
-use Rattle.chpw_fronts.specs.declared.change.NumberedChange.{NumberedChange}
-use Rattle.chpw_fronts.specs.Changes.{name_at, named}
+use Rattle.chpw_fronts.specs.declared.change.NumberedKey.{NumberedKey}
+use Rattle.chpw_fronts.specs.declared.change.NumberedChange.TheVariants.{Key}
+use Rattle.chpw_fronts.specs.Changes.{name_at, named_key}
 use Rattle.chpw_versions.specs.declared.rows.Row.{Row}
 use Rattle.chpw_versions.specs.Rows.{names_of_rows, names_of, changed_row, changed_at, row_shown, shown_in, HasPositive}
 use Rattle.chpw_versions.specs.Following.{IsNumberOf, HasNumber}
 
 -- a write of a changed row is the change at its place
-pub set-changed : (kept : ℕ) (c : NumberedChange) (n : ℕ) (rows : List Row) (d r : Row) → n < length rows → r ≡ changed_row kept c (get_or rows n d) → set rows n r ≡ changed_at kept c n rows
+pub set-changed : (kept : ℕ) (c : NumberedKey) (n : ℕ) (rows : List Row) (d r : Row) → n < length rows → r ≡ changed_row kept c (get_or rows n d) → set rows n r ≡ changed_at kept c n rows
 set-changed kept c n [] d r h e = absurd (omega arith)
 set-changed kept c zero (x ∷ xs) d r h e = ap (λ w. w ∷ xs) e
 set-changed kept c (suc n) (x ∷ xs) d r h e = ap (λ ws. x ∷ ws) (set-changed kept c n xs d r (omega (arith, h)) e)
 
 -- and past the end there is none
-pub past-changed : (kept : ℕ) (c : NumberedChange) (n : ℕ) (rows : List Row) → length rows ≤ n → rows ≡ changed_at kept c n rows
+pub past-changed : (kept : ℕ) (c : NumberedKey) (n : ℕ) (rows : List Row) → length rows ≤ n → rows ≡ changed_at kept c n rows
 past-changed kept c n [] h = refl
 past-changed kept c zero (x ∷ xs) h = absurd (omega arith)
 past-changed kept c (suc n) (x ∷ xs) h = ap (λ ws. x ∷ ws) (past-changed kept c n xs (omega (arith, h)))
 
 -- names stay
-pub names_changed : (kept : ℕ) (c : NumberedChange) (n : ℕ) (rows : List Row) → names_of_rows (changed_at kept c n rows) ≡ names_of_rows rows
+pub names_changed : (kept : ℕ) (c : NumberedKey) (n : ℕ) (rows : List Row) → names_of_rows (changed_at kept c n rows) ≡ names_of_rows rows
 names_changed kept c n [] = refl
 names_changed kept c zero (r ∷ rs) = refl
 names_changed kept c (suc n) (r ∷ rs) = ap (λ ns. r.name ∷ ns) (names_changed kept c n rs)
 
 -- and so does their number
-pub length_changed : (kept : ℕ) (c : NumberedChange) (n : ℕ) (rows : List Row) → length (changed_at kept c n rows) ≡ length rows
+pub length_changed : (kept : ℕ) (c : NumberedKey) (n : ℕ) (rows : List Row) → length (changed_at kept c n rows) ≡ length rows
 length_changed kept c n [] = refl
 length_changed kept c zero (r ∷ rs) = refl
 length_changed kept c (suc n) (r ∷ rs) = ap suc (length_changed kept c n rs)
 
 -- a change of this name
-abbrev pub change_for : Name → NumberedChange → KeyChange
+abbrev pub change_for : Name → NumberedKey → KeyChange
 change_for name c = record { name = name; kvno = c.kvno; count = c.count }
 
 -- what the rows show of a name once a change of `of` is made, where they showed `row`
-abbrev after_change : ℕ → NumberedChange → Name → Name → Option Shown → Option Shown
+abbrev after_change : ℕ → NumberedKey → Name → Name → Option Shown → Option Shown
 after_change kept c of name row = if is_same_name of name then option_map (with_change kept (change_for of c)) row else row
 
 same_test : (a b name : Name) → is_same_name a b ≡ true → is_same_name a name ≡ is_same_name b name
@@ -59,26 +62,26 @@ other_test : (r of name : Name) → is_same_name r of ≡ false → is_same_name
 other_test r of name e f true g = sym ((is_same_name-Decides r of).1 ((is_same_name-Decides r name).0 f ∙ sym ((is_same_name-Decides of name).0 g))) ∙ e
 other_test r of name e f false g = refl
 
-at_head : (kept : ℕ) (c : NumberedChange) (of : Name) (r : Row) (rs : List Row) (name : Name) → is_same_name r.name of ≡ true → (b : Bool) → is_same_name r.name name ≡ b
+at_head : (kept : ℕ) (c : NumberedKey) (of : Name) (r : Row) (rs : List Row) (name : Name) → is_same_name r.name of ≡ true → (b : Bool) → is_same_name r.name name ≡ b
     → shown_in (changed_row kept c r ∷ rs) name ≡ after_change kept c of name (shown_in (r ∷ rs) name)
 at_head kept c of r rs name e true f = let g : is_same_name of name ≡ true = sym (same_test r.name of name e) ∙ f in rw (f, g) refl
 at_head kept c of r rs name e false f = let g : is_same_name of name ≡ false = sym (same_test r.name of name e) ∙ f in rw (f, g) refl
 
-behind : (kept : ℕ) (c : NumberedChange) (n : ℕ) (of : Name) (r : Row) (rs : List Row) (name : Name) → is_same_name r.name of ≡ false
+behind : (kept : ℕ) (c : NumberedKey) (n : ℕ) (of : Name) (r : Row) (rs : List Row) (name : Name) → is_same_name r.name of ≡ false
     → shown_in (changed_at kept c n rs) name ≡ after_change kept c of name (shown_in rs name)
     → (b : Bool) → is_same_name r.name name ≡ b → shown_in (r ∷ changed_at kept c n rs) name ≡ after_change kept c of name (shown_in (r ∷ rs) name)
 behind kept c n of r rs name e ih true f = let g : is_same_name of name ≡ false = other_test r.name of name e f (is_same_name of name) refl in rw (f, g) refl
 behind kept c n of r rs name e ih false f = rw f ih
 
 -- the change shows at its name, and at no other
-pub changed_shows : (kept : ℕ) (c : NumberedChange) (of : Name) (rows : List Row) (n : ℕ) (name : Name) → IsNumberOf (names_of_rows rows) of n
+pub changed_shows : (kept : ℕ) (c : NumberedKey) (of : Name) (rows : List Row) (n : ℕ) (name : Name) → IsNumberOf (names_of_rows rows) of n
     → shown_in (changed_at kept c n rows) name ≡ (if is_same_name of name then option_map (with_change kept (change_for of c)) (shown_in rows name) else shown_in rows name)
 changed_shows kept c of [] n name h = absurd h
 changed_shows kept c of (r ∷ rs) zero name h = at_head kept c of r rs name h (is_same_name r.name name) refl
 changed_shows kept c of (r ∷ rs) (suc n) name h = behind kept c n of r rs name h.0 (changed_shows kept c of rs n name h.1) (is_same_name r.name name) refl
 
 -- counts stay positive, where that of the change is
-pub changed_positive : (kept : ℕ) (c : NumberedChange) (n : ℕ) (rows : List Row) → 1 ≤ c.count → All HasPositive rows → All HasPositive (changed_at kept c n rows)
+pub changed_positive : (kept : ℕ) (c : NumberedKey) (n : ℕ) (rows : List Row) → 1 ≤ c.count → All HasPositive rows → All HasPositive (changed_at kept c n rows)
 changed_positive kept c n [] h all = All-nil HasPositive
 changed_positive kept c zero (r ∷ rs) h all =
     let front : All (λ m. 1 ≤ m) (c.count ∷ r.counts) = All-cons (λ m. 1 ≤ m) c.count r.counts h (All-head HasPositive r rs all) in
@@ -107,13 +110,16 @@ at_number [] name n h = absurd h
 at_number (p ∷ ps) name zero h = (is_same_name-Decides p.name name).0 h
 at_number (p ∷ ps) name (suc n) h = at_number ps name n h.1
 
--- a change with the number that was found for a name is one of that name
-pub named_change : (opening : State) (rows : List Row) (name : Name) (c : NumberedChange) → names_of_rows rows ≡ names_of opening → position (λ (r : Row). is_same_name r.name name) rows ≡ Some c.number
-    → HasNumber opening c × (named opening c ≡ change_for name c)
-named_change opening rows name c e found =
+-- the place that was found for a name is its number
+pub found_number : (opening : State) (rows : List Row) (name : Name) (n : ℕ) → names_of_rows rows ≡ names_of opening → position (λ (r : Row). is_same_name r.name name) rows ≡ Some n → IsNumberOf (names_of opening) name n
+found_number opening rows name n e found =
     let none : Row = record { name = name; kvno = 0; counts = [] } in
-    let placed = position-Some (λ (r : Row). is_same_name r.name name) rows c.number none found in
-    let number : IsNumberOf (names_of opening) name c.number = subst (λ ns. IsNumberOf ns name c.number) e (place_number rows name c.number none placed.0 placed.1 placed.2) in
+    let placed = position-Some (λ (r : Row). is_same_name r.name name) rows n none found in
+    subst (λ ns. IsNumberOf ns name n) e (place_number rows name n none placed.0 placed.1 placed.2)
+
+-- a change with that number is one of that name
+pub named_change : (opening : State) (name : Name) (c : NumberedKey) → IsNumberOf (names_of opening) name c.number → HasNumber opening (Key c) × (named_key opening c ≡ change_for name c)
+named_change opening name c number =
     let is : name_at opening.principals c.number ≡ name = at_number opening.principals name c.number number in
     (subst (λ m. IsNumberOf (names_of opening) m c.number) (sym is) number, ap (λ m. change_for m c) is)
 
@@ -141,12 +147,11 @@ has_number rows name row h none =
     none-some row (sym (ap (λ (o : Option Row). option_map row_shown o) missing) ∙ h)
 
 -- one change more
-pub shown_more : (opening : State) (list : List KeyChange) (c : KeyChange) (name : Name) → shown opening (list ++ c ∷ []) name ≡ (if is_same_name c.name name then option_map (with_change (kept_count opening) c) (shown opening list name) else shown opening list name)
+pub shown_more : (opening : State) (list : List Accepted) (c : Accepted) (name : Name) → shown opening (list ++ c ∷ []) name ≡ shown_after (kept_count opening) name (shown opening list name) c
 shown_more opening list c name = fold-append _ _ list (c ∷ [])
 
-pub none_of : {A : Type 0} (o : Option A) → ((x : A) → o ≡ Some x → ⊥) → o ≡ None
-none_of None h = refl
-none_of (Some x) h = absurd (h x refl)
+pub count_more : (opening : State) (list : List Accepted) (c : Accepted) → shown_count opening (list ++ c ∷ []) ≡ count_after (shown_count opening list) c
+count_more opening list c = fold-append _ _ list (c ∷ [])
 
 pub none_mapped : {A B : Type 0} (f : A → B) (o : Option A) → option_map f o ≡ None → o ≡ None
 none_mapped f None h = refl

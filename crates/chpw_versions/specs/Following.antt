@@ -7,11 +7,13 @@ use lib.ListN.{get_elem?}
 use Rattle.logbook.specs.Pages.{Book as LogName}
 use Rattle.chpw_rules.specs.declared.name.Name.{Name}
 use Rattle.chpw_rules.specs.Names.{is_same_name}
-use Rattle.chpw_table.specs.State.{State, kept_count, new_count}
-use Rattle.chpw_table.specs.Versions.{KeyChange, shown}
+use Rattle.chpw_table.specs.State.{State, kept_count}
+use Rattle.chpw_table.specs.declared.change.Accepted.{Accepted}
+use Rattle.chpw_table.specs.Versions.{shown, shown_count}
 use Rattle.chpw_fronts.specs.declared.change.NumberedChange.{NumberedChange}
+use Rattle.chpw_fronts.specs.declared.change.NumberedChange.TheVariants.{Key, Count}
 use Rattle.chpw_fronts.specs.declared.entry.LogEntry.{LogEntry}
-use Rattle.chpw_fronts.specs.Changes.{named}
+use Rattle.chpw_fronts.specs.Changes.{named, named_key}
 use Rattle.chpw_fronts.specs.Pens.{changes_in, opening_state, opening_table}
 use Rattle.chpw_versions.specs.declared.version.Version.{Version}
 use Rattle.chpw_versions.specs.declared.version.ListShown.{ListShown}
@@ -35,25 +37,30 @@ IsNumberOf [] name n = ⊥
 IsNumberOf (m ∷ ms) name zero = is_same_name m name ≡ true
 IsNumberOf (m ∷ ms) name (suc n) = (is_same_name m name ≡ false) × IsNumberOf ms name n
 
--- the change is one of a name that the opening has
+-- a change of a key is one of a name that the opening has
 abbrev pub HasNumber : State → NumberedChange → Type 0
-HasNumber opening c = IsNumberOf (names_of opening) (named opening c).name c.number
+HasNumber opening (Key c) = IsNumberOf (names_of opening) (named_key opening c).name c.number
+HasNumber opening (Count n) = Unit {0}
 
-abbrev pub list_by : List KeyChange → KeyChange → ℕ → List KeyChange
+-- it can be shown behind this list: it has its number, and may come next
+abbrev pub CanBeShown : State → List Accepted → NumberedChange → Type 0
+CanBeShown opening list c = HasNumber opening c × IsNextVersion opening list (named opening c)
+
+abbrev pub list_by : List Accepted → Accepted → ℕ → List Accepted
 list_by before last zero = []
 list_by before last (suc n) = before ++ last ∷ []
 
 -- the list that the version shows, all but the last change of which its mark knows
-abbrev pub list_shown : List LogEntry → Version → List KeyChange
+abbrev pub list_shown : List LogEntry → Version → List Accepted
 list_shown root x = list_by (changes_in root x.seen.log) (named (opening_state root) x.last) x.len
 
 -- the same of what is kept of the version
-abbrev pub list_of : List LogEntry → ListShown → List KeyChange
+abbrev pub list_of : List LogEntry → ListShown → List Accepted
 list_of root s = list_by (changes_in root s.seen.log) (named (opening_state root) s.last) s.len
 
 -- The version is of the list named by this log and root, and shows these changes of it, along which
 -- versions rise. Its rows count them, and those that the table had accepted before.
-pub record ShowsList (log : LogName) (root : List LogEntry) (list : List KeyChange) (x : Version) : Type 0 where
+pub record ShowsList (log : LogName) (root : List LogEntry) (list : List Accepted) (x : Version) : Type 0 where
   pub root_book : x.root.book ≡ log
   pub root_log : x.root.log ≡ root
   pub seen_book : x.seen.book ≡ log
@@ -62,7 +69,7 @@ pub record ShowsList (log : LogName) (root : List LogEntry) (list : List KeyChan
   pub seen_is : x.rows.seen ≡ (opening_table root).seen + length list
   pub names : names_of_rows x.rows.rows ≡ names_of (opening_state root)
   pub kept : x.rows.kept ≡ kept_count (opening_state root)
-  pub policy : x.rows.policy ≡ new_count (opening_state root)
+  pub policy : x.rows.policy ≡ shown_count (opening_state root) list
   pub shows : (name : Name) → shown_in x.rows.rows name ≡ shown (opening_state root) list name
   pub rise : AreNextVersions (opening_state root) [] list
   pub positive : IsPositive x.rows
@@ -79,12 +86,12 @@ log_of v = record { number = v.number; log_name = v.log_name; cells_name = v.cel
 abbrev pub IsOf : LogName → List LogEntry → View → Type 0
 IsOf log root v = (v.known ≡ true) × (log_of v ≡ log) × (v.root ≡ root)
 
-abbrev pub IsTied : Version → List KeyChange → View → Type 0
+abbrev pub IsTied : Version → List Accepted → View → Type 0
 IsTied x list v = v.known ≡ true → (log_of v ≡ x.root.book) × (v.root ≡ x.root.log) × IsPrefix v.front list
 
 abbrev pub IsRuled : Version → List View → Type 0
 IsRuled x views =
-    (list : List KeyChange) × ShowsList x.root.book x.root.log list x
+    (list : List Accepted) × ShowsList x.root.book x.root.log list x
     × ((seat : ℕ) (v : View) → get_elem? views seat ≡ some v → IsTied x list v)
 
 -- a reader enters: the list goes on from what it saw, and the version shows it
@@ -100,18 +107,18 @@ Published v x y w = w ≡ record v { front = v.front ++ named (opening_state v.r
 abbrev pub Settled : View → Version → Version → View → Type 0
 Settled v x y w = IsOf y.root.book y.root.log w × (w.front ≡ [])
 
--- the operations that wait: none, or this change, which may come behind this list
-abbrev pub IsWaiting : LogName → List LogEntry → List KeyChange → List Operation → Option NumberedChange → Type 0
+-- the operations that wait: none, or this change, which can be shown behind this list
+abbrev pub IsWaiting : LogName → List LogEntry → List Accepted → List Operation → Option NumberedChange → Type 0
 IsWaiting log root list ops None = ops ≡ []
 IsWaiting log root list ops (Some c) =
     (o : Operation) × (ops ≡ o ∷ []) × (o.change ≡ c) × (o.seen.book ≡ log) × (changes_in root o.seen.log ≡ list)
-    × HasNumber (opening_state root) o.change × IsNextVersion (opening_state root) list (named (opening_state root) o.change)
+    × CanBeShown (opening_state root) list o.change
 
 -- what the writer holds shows this list, and it knows that
-abbrev pub IsShelved : LogName → List LogEntry → View → Version → List KeyChange → Type 0
+abbrev pub IsShelved : LogName → List LogEntry → View → Version → List Accepted → Type 0
 IsShelved log root v x list = IsOf log root v × (v.front ≡ list) × ShowsList log root list x
 
 -- what a reader that isn't lent knows
-abbrev pub front_by : {R : Type 0} → Option R → (R → View) → List KeyChange
+abbrev pub front_by : {R : Type 0} → Option R → (R → View) → List Accepted
 front_by None f = []
 front_by (Some r) f = (f r).front

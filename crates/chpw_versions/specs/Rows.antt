@@ -6,8 +6,11 @@ use Rattle.chpw_table.specs.declared.table.Principal.{Principal}
 use Rattle.chpw_table.specs.declared.table.Lookup.{Lookup}
 use Rattle.chpw_table.specs.State.{State, keys_held, new_count, kept_count}
 use Rattle.chpw_table.specs.Agreement.{Held}
-use Rattle.chpw_table.specs.Versions.{KeyChange, Shown, shown, shown_keys}
+use Rattle.chpw_table.specs.declared.change.Accepted.{Accepted}
+use Rattle.chpw_table.specs.Versions.{Shown, shown, shown_count, shown_keys}
+use Rattle.chpw_fronts.specs.declared.change.NumberedKey.{NumberedKey}
 use Rattle.chpw_fronts.specs.declared.change.NumberedChange.{NumberedChange}
+use Rattle.chpw_fronts.specs.declared.change.NumberedChange.TheVariants.{Key, Count}
 use Rattle.chpw_versions.specs.declared.rows.Row.{Row}
 
 -- the rows, how many counts of a principal are kept, the count of new keys, and the changes accepted so far
@@ -32,18 +35,19 @@ abbrev pub IsPositive : Rowed → Type 0
 IsPositive r = (1 ≤ r.policy) × All HasPositive r.rows
 
 -- its newest version, and its count before the others, of which the newest are kept
-abbrev pub changed_row : ℕ → NumberedChange → Row → Row
+abbrev pub changed_row : ℕ → NumberedKey → Row → Row
 changed_row kept c r = record { name = r.name; kvno = c.kvno; counts = take kept (c.count ∷ r.counts) }
 
 -- the change in the row with this number
-abbrev pub changed_at : ℕ → NumberedChange → ℕ → List Row → List Row
+abbrev pub changed_at : ℕ → NumberedKey → ℕ → List Row → List Row
 changed_at kept c n [] = []
 changed_at kept c zero (r ∷ rs) = changed_row kept c r ∷ rs
 changed_at kept c (suc n) (r ∷ rs) = r ∷ changed_at kept c n rs
 
--- one change more
+-- one change more: of a key in its row, or of the count of new keys
 abbrev pub rows_after : NumberedChange → Rowed → Rowed
-rows_after c r = record r { rows = changed_at r.kept c c.number r.rows; seen = (r.seen + 1) % 4294967296 }
+rows_after (Key c) r = record r { rows = changed_at r.kept c c.number r.rows; seen = (r.seen + 1) % 4294967296 }
+rows_after (Count n) r = record r { policy = n; seen = (r.seen + 1) % 4294967296 }
 
 abbrev pub row_shown : Row → Shown
 row_shown r = record { kvno = r.kvno; counts = r.counts }
@@ -69,6 +73,6 @@ lookup_with policy seen s = record { kvno = s.kvno; held = s.counts; policy = po
 
 -- What a lookup shows of a name after the table of the opening and these changes: none for an unknown
 -- name. It counts the changes that the table had accepted before, and these.
-abbrev pub lookup_after : Held → List KeyChange → Name → Option Lookup
+abbrev pub lookup_after : Held → List Accepted → Name → Option Lookup
 lookup_after opening changes name =
-    option_map (lookup_with (new_count opening.state) (opening.seen + length changes)) (shown opening.state changes name)
+    option_map (lookup_with (shown_count opening.state changes) (opening.seen + length changes)) (shown opening.state changes name)

@@ -2,9 +2,10 @@
 ghost use Rattle.std.specs.Prelude.{◌≡◌, ◌≤◌, ◌∷◌, All, IfSome, take, find, position, option_map, option_copied, slice_get};
 ghost use Rattle.std.specs.List.Sorted.{IsStrictlySortedBy};
 ghost use Rattle.chpw_rules.specs.Names.{is_same_name, name_cmp};
+ghost use Rattle.chpw_fronts.specs.declared.change.NumberedChange.TheVariants.{Key, Count};
 ghost use Rattle.chpw_versions.specs.Rows.{changed_at, changed_row, rows_after, row_shown, shown_in, lookup_with, names_of_rows, IsPositive};
 
-use chpw_fronts::NumberedChange;
+use chpw_fronts::{NumberedChange, NumberedKey};
 use chpw_rules::Name;
 use chpw_table::{Counts, Lookup, newest};
 use ordered_keys::{Keyed, place_of};
@@ -59,8 +60,8 @@ impl Model for Rows {
 }
 
 impl Rows {
-    /// These rows, which stand in the order of their names. Of each principal the newest counts are kept, 1 to 16 of them; `policy` is the count
-    /// of new keys, and `seen` how many changes were accepted so far.
+    /// These rows, which stand in the order of their names. Of each principal the newest counts are kept,
+    /// 1 to 16 of them; `policy` is the count of new keys, and `seen` how many changes were accepted so far.
     pub fn of(rows: Vec<Row>, kept: u8, policy: u32, seen: u32) -> Rows
         requires order { IsStrictlySortedBy name_cmp (names_of_rows rows.items) }
         requires kept { (1 ≤ kept) × (kept ≤ 16) }
@@ -75,13 +76,29 @@ impl Rows {
         }
     }
 
-    /// Makes a change, in the row with its number; in none where no row has it. It takes no memory and
-    /// doesn't fail.
+    /// Makes a change: of a key in the row with its number, in none where no row has it; or of the count
+    /// of new keys. It takes no memory and doesn't fail.
     pub(crate) fn change(&mut self, change: NumberedChange)
         ensures value { self.new ≡ rows_after change self.old }
     {
+        match change {
+            NumberedChange::Key(key) => self.change_key(key),
+            NumberedChange::Count(count) => self.change_count(count),
+        }
+    }
+
+    fn change_key(&mut self, change: NumberedKey)
+        ensures value { self.new ≡ rows_after (Key change) self.old }
+    {
         let kept = self.kept;
         put(self.rows.as_mut_slice(), change, kept);
+        self.seen = self.seen.wrapping_add(1);
+    }
+
+    fn change_count(&mut self, count: u32)
+        ensures value { self.new ≡ rows_after (Count count) self.old }
+    {
+        self.policy = count;
         self.seen = self.seen.wrapping_add(1);
     }
 
@@ -136,7 +153,7 @@ fn lookup_of(row: &Row, policy: u32, seen: u32) -> Lookup
 }
 
 // The change in the row with its number.
-fn put(rows: &mut [Row], change: NumberedChange, kept: u8)
+fn put(rows: &mut [Row], change: NumberedKey, kept: u8)
     requires kept { (1 ≤ kept) × (kept ≤ 16) }
     ensures value { rows.new ≡ changed_at kept change change.number rows.old }
 {
@@ -145,7 +162,7 @@ fn put(rows: &mut [Row], change: NumberedChange, kept: u8)
     }
 }
 
-fn put_row(row: &mut Row, change: NumberedChange, kept: u8)
+fn put_row(row: &mut Row, change: NumberedKey, kept: u8)
     requires kept { (1 ≤ kept) × (kept ≤ 16) }
     ensures value { row.new ≡ changed_row kept change row.old }
 {

@@ -1,15 +1,19 @@
 //! What lies under the lock: the writer of the versions, beside the one keeper of the list.
 ghost use Rattle.std.specs.Prelude.{◌≡◌, ◌+◌, ◌<◌, ◌^◌, ◌++◌, ◌∷◌, [], length, None, Some, IfOk, IfSome, IsSome, OnOk, OnErr};
 ghost use mathlib.Core.List.{IsPrefix};
+ghost use Rattle.chpw_table.specs.declared.change.Accepted.TheVariants.{Key, Count};
+ghost use Rattle.chpw_table.specs.Versions.{Shown, shown};
+ghost use Rattle.chpw_fronts.specs.Changes.{named};
 ghost use Rattle.chpw_fronts.specs.Pens.{opening_state, opening_table};
-ghost use Rattle.chpw_versions.specs.Rows.{ShowsOpening};
+ghost use Rattle.chpw_versions.specs.Rows.{ShowsOpening, names_of};
 ghost use Rattle.chpw_versions.specs.Rising.{IsNextVersion};
+ghost use Rattle.chpw_versions.specs.Following.{CanBeShown, IsNumberOf};
 
 use crate::place::Place;
 use crate::rows::Rows;
 use crate::version::{Operation, Version};
 use crate::view::{HandsOn, Learns, Publishes, Settles, VersionWriter};
-use chpw_fronts::{Front, Keeper, ListName, Mark, NumberedChange};
+use chpw_fronts::{Front, Keeper, ListName, Mark, NumberedChange, NumberedKey};
 use chpw_rules::Name;
 use left_right::writer::Writer;
 use std::alloc::{AllocError, Global};
@@ -97,28 +101,66 @@ impl<D: ListName> Shelf<D> {
         }
     }
 
-    /// The last growth before a change is accepted: from here on it waits. `kvno` is one more than the
-    /// version that the list shows of the name, and `count` the iteration count of new keys.
+    /// The last growth before a change of a name's keys is accepted: from here on it waits. `kvno` is one
+    /// more than the version that the list shows of the name, and `count` the iteration count of new keys
+    /// that it shows.
     pub fn prepare(&mut self, name: &Name, kvno: u32, count: u32) -> Result<(), AllocError>
         requires free { self.old.waiting ≡ None }
         requires next { IsNextVersion (opening_state D.root) self.old.list
-            (record { name = name.now; kvno = kvno; count = count }) }
+            (Key (record { name = name.now; kvno = kvno; count = count })) }
         ensures ok { OnOk result (self.new ≡ record {
           list = self.old.list;
-          waiting = Some (record { name = name.now; kvno = kvno; count = count });
+          waiting = Some (Key (record { name = name.now; kvno = kvno; count = count }));
         }) }
         ensures err { OnErr result (self.new ≡ self.old) }
     {
-        let Some(mut writer) = self.writer.take() else {
+        let number = self.number_of(name);
+        self.wait(NumberedChange::Key(NumberedKey {
+            number,
+            kvno,
+            count,
+        }))
+    }
+
+    /// The same of a raise of the iteration count of new keys, to a count above the one that the list
+    /// shows.
+    pub fn prepare_count(&mut self, count: u32) -> Result<(), AllocError>
+        requires free { self.old.waiting ≡ None }
+        requires next { IsNextVersion (opening_state D.root) self.old.list (Count count) }
+        ensures ok { OnOk result (self.new
+            ≡ record { list = self.old.list; waiting = Some (Count count) }) }
+        ensures err { OnErr result (self.new ≡ self.old) }
+    {
+        self.wait(NumberedChange::Count(count))
+    }
+
+    // The number of a name that the list shows.
+    fn number_of(&self, name: &Name) -> usize
+        requires known { (row : Shown)
+            × (shown (opening_state D.root) self.now.list name.now ≡ Some row) }
+        ensures number { IsNumberOf (names_of (opening_state D.root)) name.now result }
+    {
+        let Some(writer) = &self.writer else {
             unreachable!()
         };
         let Some(number) = writer.published().rows.number_of(name) else {
             unreachable!()
         };
-        let change = NumberedChange {
-            number,
-            kvno,
-            count,
+        number
+    }
+
+    // The change waits.
+    fn wait(&mut self, change: NumberedChange) -> Result<(), AllocError>
+        requires free { self.old.waiting ≡ None }
+        requires shown { CanBeShown (opening_state D.root) self.old.list change }
+        ensures ok { OnOk result (self.new ≡ record {
+          list = self.old.list;
+          waiting = Some (named (opening_state D.root) change);
+        }) }
+        ensures err { OnErr result (self.new ≡ self.old) }
+    {
+        let Some(mut writer) = self.writer.take() else {
+            unreachable!()
         };
         let operation = Operation {
             change,

@@ -1,5 +1,6 @@
 //! The published value.
 ghost use Rattle.std.specs.Prelude.{◌≡◌};
+ghost use Rattle.chpw_fronts.specs.declared.change.NumberedChange.TheVariants.{Count};
 ghost use Rattle.chpw_versions.specs.Following.{list_of, list_shown};
 
 use crate::rows::Rows;
@@ -50,7 +51,7 @@ impl Version {
     pub(crate) fn of(rows: Rows, root: &Mark) -> Version
         ensures value { (result.rows ≡ rows) × (result.len ≡ 0) × (result.seen ≡ root.now)
             × (result.root ≡ root.now) }
-        ensures last { result.last ≡ record { number = 0; kvno = 0; count = 0 } }
+        ensures last { result.last ≡ Count 0 }
     {
         Version {
             rows,

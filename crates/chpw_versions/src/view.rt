@@ -2,7 +2,8 @@
 
 use crate::version::{Operation, Version};
 use atomic_table::{Join, Split};
-use chpw_fronts::{KeyChange, LogEntry};
+use chpw_fronts::LogEntry;
+use chpw_table::Accepted;
 use crossbeam_utils::rule::{Outcome, Protocol};
 use left_right::reader::Reader;
 use left_right::writer::Writer;
@@ -16,7 +17,7 @@ pub struct View {
     pub log_name: u64,
     pub cells_name: u64,
     pub root: LinkedList<LogEntry>,
-    pub front: LinkedList<KeyChange>,
+    pub front: LinkedList<Accepted>,
 }
 
 /// The rule: the version shows a list, and each view that knows whose it is has a beginning of it.

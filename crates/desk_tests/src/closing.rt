@@ -84,7 +84,9 @@ fn changed_receipt(rt: HostRuntime) -> Result<(), Fail> {
     let mut receipts = [receipt(&history[0], 0)?, receipt(&history[2], 2)?];
     assert!(rt; agree(&history, 0, &receipts).is_none());
     assert!(rt; agree(&history, 1, &receipts) == Some(1));
-    let Event::Ask { verdict, .. } = &mut receipts[1].entry.event;
+    let Event::Ask { verdict, .. } = &mut receipts[1].entry.event else {
+        return Err(Fail::new("a raise"));
+    };
     *verdict = Verdict::Replay;
     assert!(rt; agree(&history, 0, &receipts) == Some(2));
     assert!(rt; agree(&history, 0, &receipts[..1]) == Some(2));

@@ -8,6 +8,8 @@ mod desks;
 #[cfg(test)]
 mod keys;
 #[cfg(test)]
+mod raises;
+#[cfg(test)]
 mod sides;
 #[cfg(test)]
 mod versions;

@@ -4,7 +4,7 @@ ghost use Rattle.chpw_book.specs.Starting.{IsNamed, workers_of};
 
 use crate::desks::{change, closed, shown, table, verdict};
 use chpw_book::{Desk, DeskName, Pass, UnnamedDesk};
-use chpw_table::{Opened, Verdict};
+use chpw_table::{Entry, Event, Opened, RaiseVerdict, Verdict};
 use std::alloc::Global;
 use std::marker::Brand;
 use std::process::Abort;
@@ -20,7 +20,8 @@ fn sixteen_workers(rt: HostRuntime) -> Result<(), Fail> {
     all_at::<Brand, _>(&rt, rt.alloc(), UnnamedDesk::of(table, 16))
 }
 
-// Each worker changes the password of a principal of its own, twice; then all is closed.
+// Each worker changes the password of a principal of its own, raises the iteration count, and changes the
+// password once more; then all is closed.
 fn all_at<D: DeskName + Send + Sync, R: Threads + Wait + Abort + Sync>(
     rt: &R,
     alloc: Global,
@@ -40,14 +41,39 @@ fn all_at<D: DeskName + Send + Sync, R: Threads + Wait + Abort + Sync>(
         },
     );
     let (history, full) = closed(rt, desk, passes).expect(rt, "all agree");
-    assert!(rt; history.len() == 32 && !full);
+    assert!(rt; history.len() == 48 && !full);
     for entry in &history {
-        assert!(rt; entry.worker < 16 && (entry.number == 1 || entry.number == 2));
+        assert!(rt; entry.worker < 16 && 1 <= entry.number && entry.number <= 3);
     }
+    // From 4; the last worker raises it to 20.
+    assert!(rt; count_behind(rt, &history, 4) == 20);
     Ok(())
 }
 
-// Two changes of the principal with the worker's number.
+// The count behind these entries, each of which was accepted or, as a raise, wasn't higher.
+fn count_behind(rt: &impl Abort, history: &[Entry], opening: u32) -> u32 {
+    let mut count = opening;
+    for entry in history {
+        match &entry.event {
+            Event::Ask { verdict, .. } => assert!(rt; *verdict == Verdict::Done),
+            Event::Raise {
+                count: asked,
+                verdict: RaiseVerdict::Raised,
+            } => {
+                assert!(rt; *asked > count);
+                count = *asked;
+            }
+            Event::Raise {
+                count: asked,
+                verdict,
+            } => assert!(rt; *verdict == RaiseVerdict::NotHigher && *asked <= count),
+        }
+    }
+    count
+}
+
+// A change of the principal with the worker's number, a raise to a count of the worker's own, and a second
+// change.
 fn change_own<D: DeskName, R: Wait + Abort>(
     rt: &R,
     alloc: Global,
@@ -55,12 +81,15 @@ fn change_own<D: DeskName, R: Wait + Abort>(
     pass: &mut Pass<D>,
 ) {
     let worker = pass.worker();
-    for (cusec, password) in [(1, b"New-pass2".as_slice()), (2, b"New-pass3".as_slice())] {
-        let opened = asked(rt, alloc, worker, cusec);
-        let done = verdict(desk.decide_deriving(rt, pass, NOW, opened, password));
-        assert!(rt; done == Some(Verdict::Done));
-    }
-    assert!(rt; pass.receipts().len() == 2 && !pass.was_full());
+    let first = asked(rt, alloc, worker, 1);
+    let done = verdict(desk.decide_deriving(rt, pass, NOW, first, b"New-pass2"));
+    assert!(rt; done == Some(Verdict::Done));
+    let raised = desk.raise(rt, pass, NOW, 5 + worker as u32);
+    assert!(rt; matches!(raised, Ok(RaiseVerdict::Raised | RaiseVerdict::NotHigher)));
+    let second = asked(rt, alloc, worker, 2);
+    let done = verdict(desk.decide_deriving(rt, pass, NOW, second, b"New-pass3"));
+    assert!(rt; done == Some(Verdict::Done));
+    assert!(rt; pass.receipts().len() == 3 && !pass.was_full());
 }
 
 pub fn asked(rt: &impl Abort, alloc: Global, number: u8, cusec: u32) -> Opened {

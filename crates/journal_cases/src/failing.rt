@@ -1,10 +1,11 @@
-//! Changes decided over a journal in memory that fails, and what is restored from what it holds.
+//! Changes and raises over a journal in memory that fails, and what is restored from what it holds.
 use crate::realm::{table, versions};
 use crate::refusal::Refusal;
 use crate::restoring::restored;
 use case_lines::Census;
 use chpw_journal::MemorySink;
-use chpw_table::{Digest, JournalSink, Opened, Outcome, Table};
+use chpw_rules::ITERATION_COUNTS;
+use chpw_table::{Digest, JournalSink, Opened, Table};
 use krb_keys::Key;
 use std::alloc::Global;
 use test_realm::{NOW, name};
@@ -12,7 +13,8 @@ use test_realm::{NOW, name};
 /// The length of a record of alice.
 const RECORD: usize = 66;
 
-/// What is answered to the changes of a case, `NAME PASSWORD, ..`, and restored after them.
+/// What is answered to the changes of a case, `NAME PASSWORD, ..`, where `raise COUNT` may stand too, and
+/// restored after them.
 pub fn decided(alloc: Global, sink: &str, changes: &str) -> Result<String, Refusal> {
     decided_over(alloc, sink_of(alloc, sink)?, changes)
 }
@@ -23,8 +25,16 @@ fn decided_over(alloc: Global, mut sink: MemorySink, changes: &str) -> Result<St
     let mut number = 0_u32;
     for change in changes.split(", ") {
         number = number.saturating_add(1);
-        let outcome = decide(&mut table, &mut sink, request(alloc, change, number)?)?;
-        answers.push_str(answer(alloc, &outcome)?.as_str())?;
+        let answer = match change.split_once(' ') {
+            Some(("raise", count)) => raised(alloc, &mut table, &mut sink, count)?,
+            _ => asked(
+                alloc,
+                &mut table,
+                &mut sink,
+                request(alloc, change, number)?,
+            )?,
+        };
+        answers.push_str(answer.as_str())?;
     }
     let held = versions(alloc, &table)?;
     let bytes = restored(alloc, sink.bytes())?;
@@ -75,24 +85,52 @@ fn request(alloc: Global, change: &str, cusec: u32) -> Result<Opened, Refusal> {
     Ok(test_realm::change(alloc, name(alloc, client)?, cusec, digest)?)
 }
 
-fn decide(table: &mut Table, sink: &mut MemorySink, opened: Opened) -> Result<Outcome, Refusal> {
+/// The answer to a request.
+fn asked(
+    alloc: Global,
+    table: &mut Table,
+    sink: &mut MemorySink,
+    opened: Opened,
+) -> Result<String, Refusal> {
     if sink.failures() == u64::MAX {
         return Err(Refusal::NoSuchCase);
     }
-    table
-        .decide(NOW, opened, sink)
-        .map_err(|_| Refusal::NoSuchCase)
+    match table.decide(NOW, opened, sink) {
+        Ok(outcome) => answer(
+            alloc,
+            outcome.verdict.code(),
+            outcome.verdict.text(),
+            outcome.io_failed,
+        ),
+        Err(_) => Err(Refusal::NoSuchCase),
+    }
+}
+
+/// The answer to a raise of the iteration count.
+fn raised(
+    alloc: Global,
+    table: &mut Table,
+    sink: &mut MemorySink,
+    count: &str,
+) -> Result<String, Refusal> {
+    let count = number(count)?;
+    if sink.failures() == u64::MAX || !ITERATION_COUNTS.allow(count as usize) {
+        return Err(Refusal::NoSuchCase);
+    }
+    match table.raise(NOW, count, sink) {
+        Ok(raise) => answer(
+            alloc,
+            raise.verdict.code(),
+            raise.verdict.text(),
+            raise.io_failed,
+        ),
+        Err(_) => Err(Refusal::NoSuchCase),
+    }
 }
 
 /// Code and text, and whether an append failed.
-fn answer(alloc: Global, outcome: &Outcome) -> Result<String, Refusal> {
-    let code = outcome.verdict.code();
-    let text = outcome.verdict.text();
-    let append = if outcome.io_failed {
-        " (an append failed)"
-    } else {
-        ""
-    };
+fn answer(alloc: Global, code: u16, text: &str, io_failed: bool) -> Result<String, Refusal> {
+    let append = if io_failed { " (an append failed)" } else { "" };
     Ok(format!(in alloc; "{code} {text}{append}; ")?)
 }
 

@@ -1,7 +1,7 @@
 //! A journal's bytes, put together from pieces.
 use crate::refusal::Refusal;
 use chpw_rules::Name;
-use chpw_table::{KeyRow, record_bytes};
+use chpw_table::{KeyRow, raise_bytes, record_bytes};
 use std::alloc::Global;
 
 /// The journal with these pieces.
@@ -13,9 +13,9 @@ pub fn journal_of(alloc: Global, pieces: &str) -> Result<Vec<u8>, Refusal> {
     Ok(journal)
 }
 
-/// A piece: `nothing`; `NAME KVNO`, a record, with ` kind K` or ` length L` behind it where that is
-/// another; `NAME KVNO to KVNO`, a record for each version; `first N of` before a record, of which only
-/// so many bytes are there.
+/// A piece: `nothing`; `NAME KVNO`, the record of a change, or `raise COUNT`, that of a raise, with
+/// ` kind K` or ` length L` behind it where that is another; `NAME KVNO to KVNO`, a record for each
+/// version; `first N of` before a record, of which only so many bytes are there.
 fn bytes_of(alloc: Global, piece: &str) -> Result<Vec<u8>, Refusal> {
     if piece == "nothing" {
         return Ok(Vec::new(alloc));
@@ -46,9 +46,12 @@ fn records_of(alloc: Global, first: &str, last: &str) -> Result<Vec<u8>, Refusal
 }
 
 fn record_of(alloc: Global, words: &str) -> Result<Vec<u8>, Refusal> {
-    let (name, rest) = words.split_once(' ').ok_or(Refusal::NoSuchCase)?;
-    let (kvno, change) = rest.split_once(' ').unwrap_or((rest, ""));
-    let mut record = plain_record(alloc, name, number(kvno)?)?;
+    let (what, rest) = words.split_once(' ').ok_or(Refusal::NoSuchCase)?;
+    let (figure, change) = rest.split_once(' ').unwrap_or((rest, ""));
+    let mut record = match what {
+        "raise" => Vec::from_slice(alloc, &raise_bytes(number(figure)?))?,
+        name => plain_record(alloc, name, number(figure)?)?,
+    };
     change_record(&mut record, change)?;
     Ok(record)
 }

@@ -2,8 +2,9 @@
 //!
 //! A line is a journal, its pieces with commas between: it is restored onto a table of alice and
 //! bob/admin, who have a key of kvno 1 each. Before the pieces, and `: `, may stand what is done with
-//! them; a line that begins with `sink` has changes, decided over a journal in memory, and one that begins
-//! with `disk` a file that takes bytes so. README.md has the forms. A line that begins with `#`, or is empty, is passed on.
+//! them; a line that begins with `sink` has changes and raises, decided over a journal in memory, and one
+//! that begins with `disk` a file that takes bytes so. README.md has the forms. A line that begins with
+//! `#`, or is empty, is passed on.
 #![tactic(auto)]
 
 mod changed;

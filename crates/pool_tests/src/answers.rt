@@ -7,6 +7,7 @@ use crate::realm::{CHANGED, opening, request, told};
 use chpw_answer::{Gate, NoGate, answer};
 use chpw_book::{AtDesk, CloseRefused, Closed, Desk, DeskName, Pass, UnnamedDesk};
 use chpw_client::Sent;
+use chpw_decider::Decider;
 use chpw_journal::MemorySink;
 use chpw_messages::Service;
 use chpw_table::{Entry, Moment};
@@ -38,12 +39,24 @@ pub fn answered<D: DeskName, G: Gate, R: Wait + Abort>(
     sent: &Sent,
 ) -> Vec<u8> {
     let mut place = AtDesk { rt, desk, pass };
+    answered_at(rt, alloc, service, &mut place, gate, sent)
+}
+
+// The same of a worker at any place.
+pub fn answered_at<P: Decider, G: Gate, R: Abort>(
+    rt: &R,
+    alloc: Global,
+    service: &Service,
+    place: &mut P,
+    gate: &mut G,
+    sent: &Sent,
+) -> Vec<u8> {
     let reply = answer(
         alloc,
         service,
         [127, 0, 0, 1],
         sent.message.as_slice(),
-        &mut place,
+        place,
         gate,
         WORDS,
         NOW,
@@ -245,4 +258,4 @@ fn fill<D: DeskName, R: Wait + Abort>(
 
 const FULL: &[u8] = b"code 2 error 60 history full";
 
-const BROKEN: &[u8] = b"code 2 journal failed";
+pub const BROKEN: &[u8] = b"code 2 journal failed";

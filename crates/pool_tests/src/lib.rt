@@ -11,7 +11,11 @@ mod gates;
 #[cfg(test)]
 mod limits;
 #[cfg(test)]
+mod overtaken;
+#[cfg(test)]
 mod pools;
+#[cfg(test)]
+mod raises;
 #[cfg(test)]
 mod realm;
 #[cfg(test)]

@@ -1,11 +1,12 @@
 //! The service with its files: where it listens, its words, and a second start at one journal.
-ghost use Rattle.std.specs.Prelude.{◌<◌, ◌^◌};
+ghost use Rattle.std.specs.Prelude.{◌≡◌, ◌≤◌, ◌<◌, ◌^◌, ℕ, Some};
 
-use crate::realm::{CHANGED, SetClock, request, told};
+use crate::realm::{CHANGED, SetClock, opening, request, told};
 use crate::site::{expect_line, reply, send};
 use chpw_client::Sent;
 use chpw_frame::split_reply;
 use chpw_invocation::ServeOptions;
+use chpw_journal::restore;
 use chpw_service::serve_by;
 use chpw_table::Moment;
 use std::alloc::Global;
@@ -16,6 +17,7 @@ use std::process::Abort;
 use std::test::Fail;
 use std::thread::{self, join};
 use std::time::{Clock, Duration};
+use test_realm::name;
 
 /// Alice and bob, and the key of the requests' tickets, behind the line `[service]`.
 const SETTINGS: &str = "\
@@ -76,6 +78,7 @@ fn options<'a>(seed: &'a str, journal: &'a str, port: u16) -> ServeOptions<'a> {
         workers: 1,
         connections: 1,
         idle: Some(10),
+        raise: None,
     }
 }
 
@@ -153,6 +156,67 @@ fn a_second_start(rt: HostRuntime) -> Result<(), Fail> {
     Ok(())
 }
 
+// A service that raises the count first, where one is given.
+fn raising<'a>(port: u16, raise: Option<u32>) -> ServeOptions<'a>
+    requires raise { (count : ℕ) → raise ≡ Some count → (1 ≤ count) × (count ≤ 16777216) }
+{
+    ServeOptions {
+        config: CONFIG_FILE,
+        journal: "raised.journal",
+        seed: "raised.seed",
+        port,
+        workers: 1,
+        connections: 1,
+        idle: Some(10),
+        raise,
+    }
+}
+
+// The first run raises the count from 4 to 8 before it listens; the second has no such option, and the third
+// asks for the same count. All that is changed after the raise is changed under 8.
+#[test]
+fn a_second_start_behind_a_raise(rt: HostRuntime) -> Result<(), Fail> {
+    write_config(&rt)?;
+    fs::write(&rt, "raised.seed", [1; 32].as_slice())?;
+    let _ = fs::remove_file(&rt, "raised.journal");
+    let alloc = rt.alloc();
+    let listener = TcpListener::bind(&rt, ("127.0.0.1", 0u16))?;
+    let port = listener.local_addr()?.port();
+    drop(listener);
+    let clock = SetClock::new(START);
+    for (later, password, raises) in [
+        (0u32, "New-pass2", true),
+        (400, "New-pass3", false),
+        (800, "New-pass4", true),
+    ] {
+        let options = if raises {
+            raising(port, Some(8))
+        } else {
+            raising(port, None)
+        };
+        let start = START + u64::from(later);
+        clock.set(start);
+        let sent = request(&rt, alloc, "alice", moment(start + 301), password)?;
+        let once = [(start + 301, &sent, CHANGED)];
+        let (served, ()) = join(
+            &rt,
+            || serve_by(&rt, &clock, options).is_ok(),
+            || ask_in_turn(&rt, alloc, &clock, port, &once),
+        );
+        assert!(rt; served);
+    }
+    let journal = fs::read(&rt, "raised.journal")?;
+    assert_eq!(rt; journal.len(), 7 + 3 * 66);
+    let (_, table) = opening(alloc, 100)?;
+    let restored = restore(alloc, table, &mut journal.as_slice());
+    let restored = restored.ok().expect(&rt, "a table");
+    let alice = name(alloc, "alice")?;
+    let shown = restored.table.lookup(&alice).expect(&rt, "a principal");
+    assert!(rt; restored.records == 4 && shown.policy == 8 && shown.kvno == 4);
+    assert!(rt; shown.held.as_slice() == [8, 8].as_slice());
+    Ok(())
+}
+
 // Asks, and is answered so; the reply.
 fn answered<R: Abort>(
     rt: &R,
@@ -212,6 +276,7 @@ fn a_full_history_and_the_next(rt: HostRuntime) -> Result<(), Fail> {
         workers: 1,
         connections: 2,
         idle: Some(10),
+        raise: None,
     };
     let clock = SetClock::new(START);
     let (served, ()) = join(

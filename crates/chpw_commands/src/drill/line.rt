@@ -2,13 +2,16 @@
 ghost use Rattle.std.specs.Prelude.{◌≡◌, map, IfOk, IfSome, option_map};
 ghost use Rattle.std.specs.Str.{is_utf8};
 ghost use Rattle.chpw_commands.specs.Words.{keep_if, words_of};
-ghost use Rattle.chpw_commands.specs.Lines.{realm_of, quiet_of, open_of, fail_of, show_of, line_from, line_of};
+ghost use Rattle.chpw_commands.specs.Lines.{realm_of, quiet_of, open_of, fail_of, raise_of, show_of, line_from, line_of};
 ghost use Rattle.chpw_commands.specs.Following.{FitsLine};
 
 use crate::drill::asking::{Asked, SECONDS, asked_from};
 use crate::drill::setup::{policy, principal, rule};
 use crate::drill::words::number;
-use chpw_rules::{ENTRY_COUNTS, Items, Name, Policy, PrincipalRow, REALM_LENGTHS, Rule};
+use chpw_rules::{
+    ENTRY_COUNTS, ITERATION_COUNTS, Items, Name, Policy, PrincipalRow, REALM_LENGTHS, Rule,
+};
+use chpw_table::Moment;
 use std::alloc::{AllocError, Global};
 
 /// The bytes of a line, at the most.
@@ -31,6 +34,8 @@ pub enum Line {
     Fail,
     /// `ask ..`
     Ask(Asked),
+    /// `raise NOW COUNT`: the iteration count of new keys, 1 to 16,777,216.
+    Raise { now: Moment, count: u32 },
     /// `show NAME`, and the name as it was written.
     Show { name: Name, text: Items<u8> },
 }
@@ -80,6 +85,17 @@ fn fail(words: &[&str]) -> Option<Line>
     }
 }
 
+fn raise(words: &[&str]) -> Option<Line>
+    ensures value { result ≡ raise_of (map (λ w. w.now) words.now) }
+    ensures fits { IfSome result FitsLine }
+{
+    let [now, count] = words else { return None };
+    let seconds = number(now, SECONDS)? as i64;
+    let count = number(count, ITERATION_COUNTS)? as u32;
+    let now = Moment { seconds, micros: 0 };
+    Some(Line::Raise { now, count })
+}
+
 fn show(alloc: Global, words: &[&str]) -> Result<Option<Line>, AllocError>
     ensures value { IfOk result (λ found. found ≡ show_of (map (λ w. w.now) words.now)) }
     ensures fits { IfOk result (λ found. IfSome found FitsLine) }
@@ -109,6 +125,7 @@ fn line_from(alloc: Global, realm: &[u8], words: &[&str]) -> Result<Option<Line>
         "open" => Ok(open(words)),
         "fail" => Ok(fail(words)),
         "ask" => Ok(asked_from(alloc, realm, words)?.map(Line::Ask)),
+        "raise" => Ok(raise(words)),
         "show" => show(alloc, words),
         _ => Ok(None),
     }

@@ -1,19 +1,21 @@
-//! What `ask` and `show` print.
+//! What `ask`, `raise` and `show` print.
 ghost use Rattle.std.specs.Prelude.{◌≡◌, ◌++◌, IfOk, OnOk, option_copied, option_map, string_bytes};
 ghost use Rattle.std.specs.List.{flat_map};
 ghost use Rattle.chpw_commands.specs.Printed.{error_text, reply_text, count_text, row_text, rows_text, shown_text, response_text};
 ghost use Rattle.chpw_commands.specs.declared.drill.printed.Response.TheVariants.{Need};
 
-use chpw_table::{Counts, KeyRow, Verdict};
+use chpw_table::{Counts, KeyRow, RaiseVerdict, Verdict};
 use std::alloc::{AllocError, Global};
 
-/// What is answered to a request.
+/// What is answered to a request, or to a raise.
 #[derive(Drop)]
 pub enum Response {
     /// The verdict.
     Said(Verdict),
     /// The counts that its digest lacks, ascending.
     Need(Counts),
+    /// The verdict on a raise.
+    Told(RaiseVerdict),
     /// The table has decided as many events as it may.
     Full,
 }
@@ -28,6 +30,7 @@ impl Response {
                 reply_line(alloc, verdict.code(), verdict.error(), verdict.text())
             }
             Response::Need(counts) => need_line(alloc, counts.as_slice()),
+            Response::Told(verdict) => reply_line(alloc, verdict.code(), None, verdict.text()),
             Response::Full => String::from_str(alloc, "full\n"),
         }
     }

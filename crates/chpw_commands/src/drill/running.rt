@@ -1,15 +1,16 @@
 //! The machine that a script runs.
 ghost use Rattle.std.specs.Prelude.{◌≡◌, IfOk, true, ◌&&◌, not};
 ghost use Rattle.chpw_rules.specs.Fitting.{config_fits};
+ghost use Rattle.chpw_rules.specs.Limits.{is_in, iteration_counts};
 ghost use Rattle.chpw_table.specs.Times.{IsMoment};
-ghost use Rattle.chpw_commands.specs.Stages.{Machine, opened_with, response_to, machine_after};
+ghost use Rattle.chpw_commands.specs.Stages.{Machine, opened_with, response_to, machine_after, response_to_raise, machine_raised};
 ghost use Rattle.chpw_commands.specs.Following.{Runs, refusal_of};
 
 use crate::drill::asking::Asked;
 use crate::drill::printed::Response;
 use crate::drill::sink::RequestSink;
 use chpw_rules::{Config, Items};
-use chpw_table::{DecideFault, Table};
+use chpw_table::{DecideFault, Moment, Table};
 use std::alloc::{AllocError, Global};
 
 /// The table, and what the lines hold beside it.
@@ -56,6 +57,25 @@ impl Drill {
                 Some(response) => Ok(response),
                 None => Err(AllocError),
             },
+        }
+    }
+
+    /// What is answered to a raise, and one step unless the table is full. A pending failure is over
+    /// where it met an append.
+    pub fn raise(&mut self, now: Moment, count: u32) -> Response
+        requires moment { IsMoment now }
+        requires count { is_in iteration_counts count ≡ true }
+        ensures response { (m : Machine) → Runs self.old m → result ≡ response_to_raise m count }
+        ensures step { (m : Machine) → Runs self.old m
+            → Runs self.new (machine_raised m now count) }
+    {
+        let mut sink = RequestSink::new(self.fails);
+        match self.table.raise(now, count, &mut sink) {
+            Ok(raise) => {
+                self.fails = still_fails(self.fails, raise.io_failed);
+                Response::Told(raise.verdict)
+            }
+            Err(_) => Response::Full,
         }
     }
 }

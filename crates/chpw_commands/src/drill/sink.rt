@@ -3,7 +3,7 @@ ghost use Rattle.std.specs.Prelude.{◌≡◌, if◌then◌else◌, [], Some, No
 
 use chpw_table::{JournalSink, SinkFault};
 
-/// The journal of one request. It keeps no bytes; its appends fail, or they don't.
+/// The journal of one event. It keeps no bytes; its appends fail, or they don't.
 #[derive(Drop)]
 pub struct RequestSink {
     fails: bool,

@@ -207,6 +207,7 @@ fn turn_running(alloc: Global, drill: Drill, line: Line) -> Result<Option<Turn>,
             Vec::new(alloc)
         }
         Line::Ask(asked) => drill.respond(asked)?.line(alloc)?.into_bytes(),
+        Line::Raise { now, count } => drill.raise(now, count).line(alloc)?.into_bytes(),
         Line::Show { name, text } => {
             shown_line(alloc, text.as_slice(), drill.table.keys_of(&name))?
         }

@@ -60,6 +60,7 @@ fn digits_up_to(digits: &[u8], high: usize) -> Option<usize>
 pub fn number(word: &str, limits: Limits) -> Option<usize>
     requires { limits.high < 2 ^ 60 }
     ensures value { result ≡ number_in limits word.now }
+    ensures low { IfSome result (λ number. limits.low ≤ number) }
     ensures high { IfSome result (λ number. number ≤ limits.high) }
 {
     let digits = word.as_bytes();

@@ -78,7 +78,7 @@ impl Table {
         let Some(digest) = opened.digest() else {
             unreachable!()
         };
-        let count = self.policy.iterations;
+        let count = self.count;
         let Some(keys) = digest.derived.keys_under(count) else {
             unreachable!()
         };

@@ -9,9 +9,9 @@ use std::alloc::AllocError;
 const MOST_CARRIED: usize = 0x8000_0000;
 
 impl Table {
-    /// The table as a further history opens with it: all that it holds stays, its used ids and its
-    /// clock too, and its events and changes are counted from 0 again. Refused where more than 2^31 ids
-    /// are held, as memory is that they would take.
+    /// The table as a further history opens with it: all that it holds stays, its used ids, its clock
+    /// and the count of new keys too, and its events and changes are counted from 0 again. Refused
+    /// where more than 2^31 ids are held, as memory is that they would take.
     pub fn reopened(self) -> Result<Table, AllocError>
         ensures value { IfOk result (λ t. t ≡ record self { events = 0; seen = 0 }) }
         ensures refused { OnErr result (2 ^ 31 < length self.state.used) }

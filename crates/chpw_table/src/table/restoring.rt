@@ -1,4 +1,4 @@
-//! A kept key put back.
+//! A kept key put back, and a kept count.
 ghost use Rattle.std.specs.Prelude.{◌≡◌, ◌<◌, ◌==◌, ◌+◌, IfOk, IfErr, OnOk, OnErr, true, length, map};
 ghost use Rattle.chpw_rules.specs.Limits.{is_in, iteration_counts};
 ghost use Rattle.chpw_table.specs.State.{State, kept_count};
@@ -6,7 +6,7 @@ ghost use Rattle.chpw_table.specs.Step.{with_key};
 ghost use Rattle.chpw_table.specs.Agreement.{Agrees};
 ghost use Rattle.chpw_table.specs.Entering.{with_keys_at};
 ghost use Rattle.chpw_table.specs.Holding.{are_holders};
-ghost use Rattle.chpw_table.specs.Restoring.{with_kept_key, with_held_at, IsNextKey, IsKeyRefused};
+ghost use Rattle.chpw_table.specs.Restoring.{with_kept_count, with_kept_key, with_held_at, IsNextKey, IsKeyRefused};
 
 use super::changing::{put_keys, with_front};
 use super::{Table, kept_by};
@@ -52,6 +52,26 @@ impl Table {
         let (place, keys) = self.kept_keys(name, key)?;
         self.put_kept(place, keys);
         Ok(())
+    }
+
+    /// Puts back a count that was raised in a former run, 1 to 16,777,216: the count of new keys
+    /// becomes the greater of this and the present one. All else in the table stays: it is no event.
+    pub fn restore_count(&mut self, count: u32)
+        requires count { is_in iteration_counts count ≡ true }
+        ensures step { (s : State) → Agrees self.old.state s
+            → Agrees self.new.state (with_kept_count count s) }
+        ensures counts { (self.new.events ≡ self.old.events) × (self.new.seen ≡ self.old.seen)
+            × (self.new.max_entries ≡ self.old.max_entries) }
+    {
+        self.keep_count(count);
+    }
+
+    // The same, by the table's own state.
+    fn keep_count(&mut self, count: u32)
+        requires count { is_in iteration_counts count ≡ true }
+        ensures value { self.new ≡ record self.old { state = with_kept_count count self.old.state } }
+    {
+        self.count = self.count.max(count);
     }
 
     // Puts keys in the place of a principal's.

@@ -105,7 +105,7 @@ impl Table {
     }
 
     // One event more, at this moment, which uses these ids.
-    fn tick(&mut self, now: Moment, ids: KeyTree<RequestId>)
+    pub(super) fn tick(&mut self, now: Moment, ids: KeyTree<RequestId>)
         requires moment { IsMoment now }
         requires room { self.old.events < self.old.max_entries }
         requires one { length ids ≤ 1 }

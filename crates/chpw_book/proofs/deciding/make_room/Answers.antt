@@ -1,5 +1,3 @@
-use Rattle.std.proofs.Common.{ap}
-use Rattle.chpw_rules.specs.declared.policy.Policy.{Policy}
 use Rattle.chpw_table.proofs.AgreementLemmas.{agrees_itself}
 use Rattle.chpw_fronts.specs.Pens.{opening_state}
 use Rattle.chpw_changes.proofs.RiseLemmas.{row_next}
@@ -15,4 +13,4 @@ pub prepare-requires-clause-next : goal.prepare-requires-clause-next
 prepare-requires-clause-next g c =
     let t = c.args.table.now in
     let k = c.requires.kept in
-    row_next (opening_state g.D.ListName.root) t.state k.0 c.args.shelf.now.list _ _ _ _ _ k.1 k.2 k.3.list (c.in-Some.ensures.some t c.requires.ready t.state (agrees_itself t.state)) (ap (λ (p : Policy). p.iterations) c.policy.ensures.value)
+    row_next (opening_state g.D.ListName.root) t.state k.0 c.args.shelf.now.list _ _ _ _ _ k.1 k.2 k.3.list (c.in-Some.ensures.some t c.requires.ready t.state (agrees_itself t.state)) c.count.ensures.value

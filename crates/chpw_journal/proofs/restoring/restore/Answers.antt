@@ -1,8 +1,7 @@
 use Rattle.std.proofs.Common.{◌≡◌, ℕ, ◌≤◌, List, length, true, sym, ◌∙◌, ap, subst, arith}
 use Rattle.std.specs.Io.KnownBytes.{Consumes}
 use Rattle.std.proofs.lemmas.Result.{err_from_is_err_and}
-use Rattle.chpw_rules.specs.Limits.{is_in}
-use Rattle.chpw_journal.specs.Records.{record_lengths}
+use Rattle.chpw_journal.specs.Records.{is_record_length}
 use Rattle.chpw_journal.specs.NextRecord.{framed}
 use Rattle.chpw_journal.proofs.CutLemmas.{length_most}
 use Rattle.chpw_journal.proofs.RestoringLemmas.{so_far_next, ended, bad_length, cannot_read, record_fault}
@@ -33,7 +32,7 @@ returns-in_err-take_record-in-Record-clause-first g c =
     let body = c.as_slice.result.now in
     let next = rw c.in-Record.is at c.in_ok-body.ensures.next in
     let read : Consumes now new (framed body) = subst (λ (xs : List ℕ). Consumes now new (framed xs)) (sym c.as_slice.ensures.value) next.0 in
-    let range : is_in record_lengths (length body) ≡ true = ap (λ (xs : List ℕ). is_in record_lengths (length xs)) c.as_slice.ensures.value ∙ next.1 in
+    let range : is_record_length (length body) ≡ true = ap (λ (xs : List ℕ). is_record_length (length xs)) c.as_slice.ensures.value ∙ next.1 in
     let fault = record_fault c.args.table old now new c.loop-restored.restored body c.in_err-take_record-in-Record.field-0.0 c.loop-restored.invariant.0 read range c.in_err-take_record-in-Record.ensures.fault in
     let p = err_from_is_err_and c.from_residual-in_err-take_record-in-Record.result c.from_residual-in_err-take_record-in-Record.ensures.1 in
     rw (p.1, p.2) fault

@@ -7,7 +7,7 @@ use Rattle.chpw_table.specs.declared.request.RequestId.{RequestId}
 use Rattle.chpw_table.specs.declared.table.Principal.{Principal}
 use Rattle.chpw_table.specs.Requests.{is_same_id}
 use Rattle.chpw_table.specs.State.{opening_principal}
-use Rattle.chpw_table.proofs.HoldingLemmas.{kept_at_least, depth_at_most, entries_of_fits, policy_of_fits, principals_of_fits}
+use Rattle.chpw_table.proofs.HoldingLemmas.{kept_at_least, depth_at_most, entries_of_fits, policy_of_fits, principals_of_fits, iterations_in_range}
 use Rattle.chpw_table.proofs.HeldIdLemmas.{none_held}
 use Rattle.chpw_table.proofs.table.Table.start.Goals as goal
 
@@ -21,7 +21,8 @@ opening_table-requires-clause-kept c =
 pub invariant_of-result : goal.invariant_of-result
 invariant_of-result c =
     let none = none_held (pos 0) c.new.result c.new.ensures.empty in
-    (omega arith, omega arith, entries_of_fits c.args.config c.requires.fits, search rules, search rules, search rules, omega (arith, none.0), none.1, none.2)
+    let count = iterations_in_range c.args.config.policy (policy_of_fits c.args.config c.requires.fits) in
+    (omega arith, omega arith, entries_of_fits c.args.config c.requires.fits, search rules, search rules, search rules, omega (arith, none.0), none.1, none.2, count)
 
 pub returns-clause-opening : goal.returns-clause-opening
 returns-clause-opening c = record {
@@ -32,5 +33,6 @@ returns-clause-opening c = record {
       ∙ ap (λ (rows : List PrincipalRow). find (λ (p : Principal). is_same_name p.name name) (map (opening_principal (max c.args.config.policy.depth 1)) rows)) c.into_vec.ensures.value));
   clock = refl;
   broken = refl;
+  count = refl;
   ids = λ id h. ap (list_any (λ (x : RequestId). is_same_id x id)) c.new.ensures.empty;
 }

@@ -13,4 +13,5 @@ invariant_of-self c = (
   rw c.put_ids.ensures.value (held_beside _ _ _ _ _ c.self.invariant.6),
   rw c.put_ids.ensures.value (sorted_held _ _ _ c.self.invariant.7),
   search (rules, c.put_ids.ensures.young),
+  search rules,
 )

@@ -2,7 +2,7 @@ use Rattle.std.proofs.Common.{◌≡◌, ◌∙◌, [], append-nil, List, sym, a
 use Rattle.std.specs.Prelude.{option_map}
 use mathlib.Core.List.{IsPrefix}
 use Rattle.left_right.specs.Sides.{view}
-use Rattle.chpw_table.specs.Versions.{KeyChange}
+use Rattle.chpw_table.specs.declared.change.Accepted.{Accepted}
 use Rattle.chpw_versions.specs.Known.{Known}
 use Rattle.chpw_versions.specs.declared.version.Version.{Version}
 use Rattle.chpw_fronts.specs.Pens.{opening_state, opening_table}
@@ -54,15 +54,15 @@ returns-else-not-begins-clause-found g c =
     let shown_is : list_of r c.shown-shown.result ≡ list_shown r x = c.shown-shown.ensures.value r ∙ ap (λ (z : Version). list_shown r z) c.get-version.ensures in
     let list : w.front ≡ list_of r c.shown-shown.result = shown_list b r w.front x shows ∙ sym shown_is in
     let before : IsPrefix (list_of r c.self.inside.shown) v.front = subst (λ o. IsPrefix (list_of r c.self.inside.shown) (front_by o (λ q. view q.place))) is c.self.invariant.1 in
-    let later : IsPrefix (list_of r c.self.inside.shown) (list_of r c.shown-shown.result) = subst (λ (l : List KeyChange). IsPrefix (list_of r c.self.inside.shown) l) list (prefix_trans (list_of r c.self.inside.shown) v.front w.front before looked.1) in
+    let later : IsPrefix (list_of r c.self.inside.shown) (list_of r c.shown-shown.result) = subst (λ (l : List Accepted). IsPrefix (list_of r c.self.inside.shown) l) list (prefix_trans (list_of r c.self.inside.shown) v.front w.front before looked.1) in
     let begins : IsPrefix c.args.self.now.told (list_shown r x) = begins_shown b r w.front c.args.self.now.told x shows (search rules) (search rules) in
     let read = c.lookup-found.ensures.value ∙ ap (λ (z : Version). option_map (lookup_with z.rows.policy z.rows.seen) (shown_in z.rows.rows name)) c.get-version.ensures in
     let found : c.lookup-found.result ≡ lookup_after (opening_table r) (list_of r c.shown-shown.result) name =
-    read ∙ shown_by b r w.front x name shows ∙ ap (λ (l : List KeyChange). lookup_after (opening_table r) l name) (sym shown_is) in
-    let rise : AreNextVersions (opening_state r) [] (list_of r c.shown-shown.result) = subst (λ (l : List KeyChange). AreNextVersions (opening_state r) [] l) list shows.rise in
+    read ∙ shown_by b r w.front x name shows ∙ ap (λ (l : List Accepted). lookup_after (opening_table r) l name) (sym shown_is) in
+    let rise : AreNextVersions (opening_state r) [] (list_of r c.shown-shown.result) = subst (λ (l : List Accepted). AreNextVersions (opening_state r) [] l) list shows.rise in
     record {
-      later = subst (λ (l : List KeyChange). IsPrefix l (list_of r c.shown-shown.result)) (ap (λ (k : Known). k.seen) c.self.view_is) later;
-      after = subst (λ (l : List KeyChange). IsPrefix c.args.self.now.told l) (sym shown_is) begins;
+      later = subst (λ (l : List Accepted). IsPrefix l (list_of r c.shown-shown.result)) (ap (λ (k : Known). k.seen) c.self.view_is) later;
+      after = subst (λ (l : List Accepted). IsPrefix c.args.self.now.told l) (sym shown_is) begins;
       shown = found;
       rises = lookup_rises (opening_table r) (list_of r c.shown-shown.result) name c.lookup-found.result rise found;
       positive = c.lookup-found.ensures.positive (subst (λ (z : Version). IsPositive z.rows) (sym c.get-version.ensures) shows.positive);

@@ -1,0 +1,118 @@
+//! One raise of the iteration count of new keys, with its entry.
+ghost use Rattle.std.specs.Prelude.{◌≡◌, ◌<◌, IfOk, IfErr, OnOk, OnErr, vec_len, vec_capacity, true};
+ghost use Rattle.chpw_rules.specs.Limits.{is_in, iteration_counts};
+ghost use Rattle.chpw_fronts.specs.Pens.{opening_state};
+ghost use Rattle.chpw_table.specs.declared.change.Accepted.TheVariants.{Count};
+ghost use Rattle.chpw_table.specs.declared.history.Event.TheVariants.{Raise};
+ghost use Rattle.chpw_table.specs.History.{IsLegal, outcome};
+ghost use Rattle.chpw_table.specs.Agreement.{Agrees};
+ghost use Rattle.chpw_table.specs.Raising.{would_raise};
+ghost use Rattle.chpw_table.specs.Times.{IsMoment};
+ghost use Rattle.chpw_book.specs.Calls.{IsFirstFault};
+ghost use Rattle.chpw_book.specs.Stored.{Replays};
+ghost use Rattle.chpw_book.specs.Publishing.{IsStored, Publishes, with_waiting};
+
+use crate::naming::DeskName;
+use crate::pass::Pass;
+use crate::store::Store;
+use chpw_table::{Entry, Event, JournalSink, Moment, RaiseVerdict, Receipt, Table};
+use chpw_versions::Shelf;
+use std::alloc::AllocError;
+
+/// Why no raise was decided, in the order of the tests; nothing has changed.
+#[derive(Clone, Copy, PartialEq, Eq, Debug, Drop)]
+pub enum RaiseFault {
+    /// The table has decided as many events as it may.
+    Full,
+    /// A growth was refused.
+    Memory,
+}
+
+impl From<AllocError> for RaiseFault {
+    ghost use Rattle.std.specs.Prelude.{◌≡◌};
+    ghost use Rattle.chpw_book.specs.declared.raising.RaiseFault.TheVariants.{Memory};
+
+    ghost from_gives = { λ _ fault. fault ≡ Memory };
+
+    fn from(_error: AllocError) -> RaiseFault {
+        RaiseFault::Memory
+    }
+}
+
+impl<D: DeskName, S: JournalSink> Store<D, S> {
+    /// One raise: an entry of the pass's worker at the end, and its receipt in the pass. The count that
+    /// it sets waits on the shelf; putting it there is the last growth before the journal is appended
+    /// to.
+    ///
+    /// `now` has seconds from 0 to `chpw_table::LAST_SECOND`, and `count` is 1 to 16,777,216. After a
+    /// fault nothing has changed: `Full`, `Memory`.
+    pub(crate) fn raise(
+        &mut self,
+        shelf: &mut Shelf<D>,
+        pass: &mut Pass<D>,
+        now: Moment,
+        count: u32,
+    ) -> Result<RaiseVerdict, RaiseFault>
+        requires moment { IsMoment now }
+        requires count { is_in iteration_counts count ≡ true }
+        requires publishes { Publishes (opening_state D.root) self.old.history
+            self.old.table.state.broken shelf.old }
+        ensures stored { IfOk result (λ v. IsStored (opening_state D.root) D.workers self.old self.new
+            pass.old pass.new shelf.old shelf.new now (Raise count v)) }
+        ensures first { IfErr result (λ fault. IsFirstFault self.old.table fault) }
+        ensures unchanged { OnErr result
+            ((self.new ≡ self.old) × (pass.new ≡ pass.old) × (shelf.new ≡ shelf.old)) }
+        ensures replays { Replays (opening_state D.root) D.workers self.old }
+    {
+        make_room(
+            &mut self.history.entries,
+            &mut pass.calls.receipts,
+            shelf,
+            self.journaled.table(),
+            count,
+        )?;
+        let Ok(raise) = self.journaled.raise(now, count) else {
+            unreachable!()
+        };
+        let verdict = raise.verdict;
+        let event = Event::Raise { count, verdict };
+        let copy = Event::Raise { count, verdict };
+        self.history
+            .add(&mut pass.calls, now, raise.io_failed, event, copy);
+        Ok(verdict)
+    }
+}
+
+// Room for one event more, then all growths: a place in both lists, and, where the raise is accepted
+// unless its append fails, the change that waits on the shelf, which is the last before the journal is
+// appended to.
+fn make_room<D: DeskName>(
+    entries: &mut Vec<Entry>,
+    receipts: &mut Vec<Receipt>,
+    shelf: &mut Shelf<D>,
+    table: &Table,
+    count: u32,
+) -> Result<(), RaiseFault>
+    requires kept { (es : _) × IsLegal (opening_state D.root) es
+        × Agrees table.now.state (outcome (opening_state D.root) es)
+        × Publishes (opening_state D.root) es table.now.state.broken shelf.old }
+    ensures same { (entries.new.items ≡ entries.old.items)
+        × (receipts.new.items ≡ receipts.old.items) }
+    ensures places { OnOk result ((vec_len entries.new < vec_capacity entries.new)
+        × (vec_len receipts.new < vec_capacity receipts.new)) }
+    ensures room { OnOk result (table.now.events < table.now.max_entries) }
+    ensures ok { OnOk result
+        (shelf.new ≡ with_waiting (would_raise table.now count) (Count count) shelf.old) }
+    ensures first { IfErr result (λ fault. IsFirstFault table.now fault) }
+    ensures err { OnErr result (shelf.new ≡ shelf.old) }
+{
+    if table.is_full() {
+        return Err(RaiseFault::Full);
+    }
+    entries.reserve(1)?;
+    receipts.reserve(1)?;
+    if table.would_raise(count) {
+        shelf.prepare_count(count)?;
+    }
+    Ok(())
+}
