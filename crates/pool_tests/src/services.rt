@@ -156,10 +156,15 @@ fn a_second_start(rt: HostRuntime) -> Result<(), Fail> {
     Ok(())
 }
 
-// A service that raises the count first, where one is given.
-fn raising<'a>(port: u16, raise: Option<u32>) -> ServeOptions<'a>
-    requires raise { (count : ℕ) → raise ≡ Some count → (1 ≤ count) × (count ≤ 16777216) }
+// The count that a service raises to, where it does.
+fn count_of(raises: bool) -> Option<u32>
+    ensures range { (count : ℕ) → result ≡ Some count → (1 ≤ count) × (count ≤ 16777216) }
 {
+    if raises { Some(8) } else { None }
+}
+
+// A service that raises the count first, or doesn't.
+fn raising<'a>(port: u16, raises: bool) -> ServeOptions<'a> {
     ServeOptions {
         config: CONFIG_FILE,
         journal: "raised.journal",
@@ -168,7 +173,23 @@ fn raising<'a>(port: u16, raise: Option<u32>) -> ServeOptions<'a>
         workers: 1,
         connections: 1,
         idle: Some(10),
-        raise,
+        raise: count_of(raises),
+    }
+}
+
+// Changes alice's password so many seconds and 301 more after the first run's start.
+fn change_later<R: Net<Stream = TcpStream> + Clock + Abort>(
+    rt: &R,
+    alloc: Global,
+    clock: &SetClock,
+    port: u16,
+    later: u32,
+    password: &str,
+) {
+    let second = START + u64::from(later) + 301;
+    match request(rt, alloc, "alice", moment(second), password) {
+        Ok(sent) => ask_in_turn(rt, alloc, clock, port, &[(second, &sent, CHANGED)]),
+        Err(_) => panic!(rt; "a request"),
     }
 }
 
@@ -189,19 +210,12 @@ fn a_second_start_behind_a_raise(rt: HostRuntime) -> Result<(), Fail> {
         (400, "New-pass3", false),
         (800, "New-pass4", true),
     ] {
-        let options = if raises {
-            raising(port, Some(8))
-        } else {
-            raising(port, None)
-        };
-        let start = START + u64::from(later);
-        clock.set(start);
-        let sent = request(&rt, alloc, "alice", moment(start + 301), password)?;
-        let once = [(start + 301, &sent, CHANGED)];
+        let options = raising(port, raises);
+        clock.set(START + u64::from(later));
         let (served, ()) = join(
             &rt,
             || serve_by(&rt, &clock, options).is_ok(),
-            || ask_in_turn(&rt, alloc, &clock, port, &once),
+            || change_later(&rt, alloc, &clock, port, later, password),
         );
         assert!(rt; served);
     }
