@@ -4,7 +4,7 @@ ghost use Rattle.chpw_book.specs.Starting.{IsNamed};
 
 use crate::desks::{change, closed, name, table, verdict};
 use chpw_book::{Desk, DeskName, Pass, RaiseFault, UnnamedDesk};
-use chpw_table::{Event, Lookup, Opened, RaiseVerdict, Verdict};
+use chpw_table::{Entry, Event, Lookup, Opened, RaiseVerdict, Verdict};
 use std::alloc::Global;
 use std::marker::Brand;
 use std::process::Abort;
@@ -51,34 +51,29 @@ fn raised_at<D: DeskName, R: Wait + Abort>(
     passes.push(second).ok().expect(rt, "a place");
     let (history, full) = closed(rt, desk, passes).expect(rt, "all agree");
     assert!(rt; history.len() == 3 && full);
-    assert!(rt;
-        matches!(
-            history[0].event,
-            Event::Raise {
-                count: 4,
-                verdict: RaiseVerdict::NotHigher
-            }
-        )
-    );
-    assert!(rt;
-        matches!(
-            history[1].event,
-            Event::Raise {
-                count: 8,
-                verdict: RaiseVerdict::Raised
-            }
-        )
-    );
-    assert!(rt;
-        matches!(
-            history[2].event,
-            Event::Ask {
-                verdict: Verdict::Done,
-                ..
-            }
-        )
-    );
+    assert!(rt; is_raise(&history[0], 4, RaiseVerdict::NotHigher));
+    assert!(rt; is_raise(&history[1], 8, RaiseVerdict::Raised));
+    assert!(rt; is_change(&history[2]));
     Ok(())
+}
+
+// Whether the entry is of a raise to this count, with this verdict.
+fn is_raise(entry: &Entry, count: u32, verdict: RaiseVerdict) -> bool {
+    match &entry.event {
+        Event::Raise {
+            count: asked,
+            verdict: said,
+        } => *asked == count && *said == verdict,
+        Event::Ask { .. } => false,
+    }
+}
+
+// Whether it is of a change.
+fn is_change(entry: &Entry) -> bool {
+    match &entry.event {
+        Event::Ask { verdict, .. } => *verdict == Verdict::Done,
+        Event::Raise { .. } => false,
+    }
 }
 
 // What a pass is shown of alice.
