@@ -15,7 +15,7 @@ import subprocess
 import sys
 import tempfile
 
-from journal import plain_record, read_journal
+from journal import Raise, plain_record, raise_record, read_journal
 from report import Report
 from sample_realm import write_configuration
 from server import PROGRAM, Server
@@ -81,12 +81,39 @@ def full_disk(report, server):
     report.tell("the journal's bytes, its torn tail cut off", size, 3 * RECORD)
 
 
+def said_at_start(server, to, **options):
+    """What is printed before `listening`, and behind one connection: with `--raise` to this count."""
+    server.options = ["--raise", to]
+    server.start(connections=1, **options)
+    server.connect()
+    return server.said, server.last_words()
+
+
+def raising(report, server):
+    """`serve --raise` at one journal, in the order of its outcomes; it serves after each of them."""
+    tally = "entries 0 changes 0"
+    report.tell("raised", said_at_start(server, 8192), (["raised 8192"], tally))
+    report.tell("the same again", said_at_start(server, 8192), (["count not higher"], tally))
+    report.tell("a lower count", said_at_start(server, 4097), (["count not higher"], tally))
+    report.tell("a higher one", said_at_start(server, 8193), (["raised 8193"], tally))
+    raises = [Raise(8192), Raise(8193)]
+    report.tell("in the journal", read_journal(server.journal.read_bytes()), (raises, b""))
+    resource.setrlimit(resource.RLIMIT_FSIZE, (16, resource.RLIM_INFINITY))
+    found = said_at_start(server, 8194, restore_signals=False)
+    resource.setrlimit(resource.RLIMIT_FSIZE, (resource.RLIM_INFINITY, resource.RLIM_INFINITY))
+    report.tell("a disk for two", found, (["journal failed"], tally))
+    torn = raise_record(8194)[:2]
+    report.tell("in the journal then", read_journal(server.journal.read_bytes()), (raises, torn))
+    cut = f"{tally}\n{server.journal}: a torn tail was cut off behind 14 bytes"
+    report.tell("behind it", said_at_start(server, 8194), (["raised 8194"], cut))
+
+
 def main():
     parser = argparse.ArgumentParser()
     parser.add_argument("--server", default=PROGRAM)
     arguments = parser.parse_args()
     report = Report()
-    for cases in (full_disk, at_start):
+    for cases in (full_disk, at_start, raising):
         with tempfile.TemporaryDirectory(prefix="chpw-faults-") as folder:
             server = Server(arguments.server, pathlib.Path(folder), workers=1)
             write_configuration(server.configuration, [NAME])

@@ -14,13 +14,17 @@ PROGRAM = pathlib.Path(__file__).resolve().parent.parent / "crates/chpw_server/o
 class Server:
     """`serve` in a folder with its configuration; the journal and the seed are made there."""
 
-    def __init__(self, program, folder, workers, idle=None):
+    def __init__(self, program, folder, workers, idle=None, options=()):
         self.program = program
         self.configuration = folder / "realm.toml"
         self.journal = folder / "journal"
         self.seed = folder / "seed"
         self.workers = workers
         self.idle = idle
+        # further words of its command line
+        self.options = list(options)
+        # the lines that it printed before it listened
+        self.said = []
         [self.port] = free_ports(1)
         self.seed.write_bytes(os.urandom(32))
         self.process = None
@@ -30,7 +34,7 @@ class Server:
         numbers = ["--port", self.port, "--workers", self.workers, "--connections", connections]
         if self.idle is not None:
             numbers += ["--idle", self.idle]
-        return [self.program, "serve", *files, *map(str, numbers)]
+        return [self.program, "serve", *files, *map(str, [*numbers, *self.options])]
 
     def start(self, connections, **options):
         """Until it says that it listens; what it says instead is raised."""
@@ -43,10 +47,17 @@ class Server:
             start_new_session=True,
             **options,
         )
-        line = self.process.stdout.readline()
-        if line != f"listening on 127.0.0.1:{self.port}\n":
-            self.end()
-            raise RuntimeError(f"serve says: {line}{self.process.stderr.read()}")
+        self.said = self.lines_before(f"listening on 127.0.0.1:{self.port}")
+
+    def lines_before(self, wanted):
+        """The lines that it prints before this one; all that it says is raised where this one doesn't come."""
+        lines = []
+        for line in self.process.stdout:
+            if line.rstrip("\n") == wanted:
+                return lines
+            lines.append(line.rstrip("\n"))
+        self.end()
+        raise RuntimeError(f"serve says: {lines} {self.process.stderr.read()}")
 
     def connect(self):
         """A connection without a message."""
