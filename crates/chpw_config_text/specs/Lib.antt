@@ -1,0 +1,4 @@
+pub mod Entries
+pub mod Tables
+pub mod Typed
+pub mod Writable

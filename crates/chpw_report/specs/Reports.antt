@@ -1,0 +1,86 @@
+-- What is told of the principals that a table holds: a text for each, in the order of their names.
+use Rattle.std.specs.Prelude.{ℕ, Bool, ◌||◌, List, [], ◌∷◌, ◌++◌, length, map, codes, if◌then◌else◌}
+use Rattle.std.specs.List.{flat_map, join_with_byte}
+use Rattle.std.specs.Option.{option_map_or}
+use Rattle.std.specs.Fmt.{decimal}
+use Rattle.hex.specs.Hex.{encode_lower}
+use Rattle.chpw_rules.specs.declared.name.Name.{Name}
+use Rattle.chpw_rules.specs.Limits.{range, is_in}
+use Rattle.chpw_table.specs.declared.key.KeyRow.{KeyRow}
+use Rattle.chpw_table.specs.declared.table.Lookup.{Lookup}
+use Rattle.chpw_table.specs.declared.table.Principal.{Principal}
+use Rattle.chpw_table.specs.State.{keys_held}
+use Rattle.chpw_table.specs.Agreement.{Held}
+use Rattle.chpw_table.specs.Lookups.{lookup_of}
+use Rattle.chpw_report.specs.declared.form.Form.{Form}
+use Rattle.chpw_report.specs.declared.form.Form.TheVariants.{Lines, Keys}
+
+-- ASCII that is printed, but the space, `/`, `@` and `\`
+abbrev pub is_plain : ℕ → Bool
+is_plain byte =
+    is_in (range 0x21 0x2e) byte || is_in (range 0x30 0x3f) byte
+    || is_in (range 0x41 0x5b) byte || is_in (range 0x5d 0x7e) byte
+
+-- a byte of a name: itself, or \x and two hexadecimal digits
+abbrev pub byte_text : ℕ → List ℕ
+byte_text byte = if is_plain byte then byte ∷ [] else codes "\\x" ++ encode_lower (byte ∷ [])
+
+abbrev pub quoted : List ℕ → List ℕ
+quoted bytes = flat_map byte_text bytes
+
+-- the components with `/` between them
+abbrev pub name_text : Name → List ℕ
+name_text name = join_with_byte 47 (map quoted name.parts)
+
+-- ---- a line for a person: `alice kvno 3 counts 4096 4096`
+
+abbrev pub number_text : ℕ → List ℕ
+number_text number = codes " " ++ decimal number
+
+abbrev pub shown_line : Name → Lookup → List ℕ
+shown_line name shown =
+    name_text name ++ codes " kvno " ++ decimal shown.kvno
+    ++ codes " counts" ++ flat_map number_text shown.held ++ codes "\n"
+
+-- ---- lines for a KDC's tool, a line a key: principal, kvno, etype, iterations, key, salt
+
+-- name and realm
+abbrev pub principal_text : List ℕ → Name → List ℕ
+principal_text realm name = name_text name ++ codes "@" ++ quoted realm
+
+-- the default salt (RFC 4120 section 4): the realm, then the name's components
+abbrev pub salt_text : List ℕ → Name → List ℕ
+salt_text realm name = quoted (realm ++ flat_map (λ (part : List ℕ). part) name.parts)
+
+abbrev pub key_line : List ℕ → List ℕ → ℕ → ℕ → ℕ → List ℕ → List ℕ
+key_line principal salt kvno etype count key =
+    principal ++ number_text kvno ++ number_text etype ++ number_text count
+    ++ codes " " ++ encode_lower key ++ codes " " ++ salt ++ codes "\n"
+
+-- both keys of a version (etypes 18 and 17, RFC 3962 section 7)
+abbrev pub row_lines : List ℕ → List ℕ → KeyRow → List ℕ
+row_lines principal salt row =
+    key_line principal salt row.kvno 18 row.count row.aes256
+    ++ key_line principal salt row.kvno 17 row.count row.aes128
+
+abbrev pub keys_lines : List ℕ → Name → List KeyRow → List ℕ
+keys_lines realm name rows = flat_map (row_lines (principal_text realm name) (salt_text realm name)) rows
+
+-- ---- the whole
+
+abbrev pub told_of : Form → List ℕ → Held → Name → List ℕ
+told_of Lines realm t name = option_map_or (shown_line name) (lookup_of t name) []
+told_of Keys realm t name = option_map_or (keys_lines realm name) (keys_held t.state name) []
+
+abbrev pub names_of : Held → List Name
+names_of t = map (λ (p : Principal). p.name) t.state.principals
+
+-- behind the lines for a person: how many principals there are, and how many changes a journal had
+abbrev pub end_of : Form → ℕ → ℕ → List ℕ
+end_of Lines principals changes =
+    codes "principals " ++ decimal principals ++ codes " changes " ++ decimal changes ++ codes "\n"
+end_of Keys principals changes = []
+
+abbrev pub report : Form → List ℕ → Held → ℕ → List ℕ
+report form realm t changes =
+    flat_map (told_of form realm t) (names_of t) ++ end_of form (length (names_of t)) changes

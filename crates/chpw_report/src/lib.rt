@@ -1,0 +1,11 @@
+//! What is told of the principals that a table holds: lines for a person, and lines for a KDC's tool.
+#![tactic(auto)]
+
+mod form;
+mod keys;
+mod lines;
+mod quoting;
+mod report;
+
+pub use form::Form;
+pub use report::{ReportFault, write_report};

@@ -1,0 +1,51 @@
+//! A principal's line for a person.
+ghost use Rattle.std.specs.Prelude.{◌≡◌, ◌++◌, OnOk};
+ghost use Rattle.std.specs.List.{flat_map};
+ghost use Rattle.std.specs.Fmt.{decimal};
+ghost use Rattle.chpw_report.specs.Reports.{number_text, shown_line};
+
+use crate::quoting::put_name;
+use chpw_rules::Name;
+use chpw_table::Lookup;
+use std::alloc::AllocError;
+
+/// Puts the line at the end: `alice kvno 3 counts 4096 4096`.
+pub(crate) fn put_line(text: &mut Vec<u8>, name: &Name, shown: &Lookup) -> Result<(), AllocError>
+    ensures value { OnOk result (text.new.items ≡ text.old.items ++ shown_line name.now shown.now) }
+{
+    put_name(text, name)?;
+    text.extend_from_slice(b" kvno ")?;
+    put_number(text, u64::from(shown.kvno))?;
+    text.extend_from_slice(b" counts")?;
+    put_counts(text, shown.held.as_slice())?;
+    text.push(b'\n')?;
+    Ok(())
+}
+
+// Each count behind a space.
+fn put_counts(text: &mut Vec<u8>, counts: &[u32]) -> Result<(), AllocError>
+    ensures value { OnOk result (text.new.items ≡ text.old.items ++ flat_map number_text counts.now) }
+{
+    let mut others = counts;
+    while let [count, rest @ ..] = others {
+        put_behind_space(text, *count)?;
+        others = rest;
+    }
+    Ok(())
+}
+
+/// Puts a number at the end, behind a space.
+pub(crate) fn put_behind_space(text: &mut Vec<u8>, number: u32) -> Result<(), AllocError>
+    ensures value { OnOk result (text.new.items ≡ text.old.items ++ number_text number) }
+{
+    text.push(b' ')?;
+    put_number(text, u64::from(number))
+}
+
+/// Puts a number at the end, in decimal digits.
+pub(crate) fn put_number(text: &mut Vec<u8>, number: u64) -> Result<(), AllocError>
+    ensures value { OnOk result (text.new.items ≡ text.old.items ++ decimal number) }
+{
+    let digits = number.to_string(*text.allocator())?;
+    text.extend_from_slice(digits.as_bytes())
+}

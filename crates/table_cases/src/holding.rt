@@ -1,0 +1,51 @@
+//! The table that a configuration and a journal hold.
+use chpw_config::read_config;
+use chpw_held::{HeldTable, held_from, write_configuration};
+use chpw_report::{Form, write_report};
+use chpw_rules::Config;
+use std::alloc::Global;
+use std::io::{Error, ErrorKind, Result};
+
+/// What is held, or the words of the first fault.
+#[derive(Drop)]
+pub enum Found {
+    Held { realm: Vec<u8>, held: HeldTable },
+    Faulty(String),
+}
+
+/// The table that is held.
+pub fn found_in(alloc: Global, config: &str, journal: &[u8]) -> Result<Found> {
+    let config = match read_config(alloc, config) {
+        Ok(config) => config,
+        Err(error) => return Ok(Found::Faulty(error.to_string(alloc)?)),
+    };
+    let realm = Vec::from_slice(alloc, config.realm.as_slice())?;
+    match held_from(alloc, config, journal) {
+        Ok(held) => Ok(Found::Held { realm, held }),
+        Err(fault) => Ok(Found::Faulty(fault.to_string(alloc)?)),
+    }
+}
+
+/// What is told of it in this form, with this count of changes.
+pub fn report(
+    alloc: Global,
+    form: Form,
+    realm: &[u8],
+    held: &HeldTable,
+    changes: u64,
+) -> Result<Vec<u8>> {
+    let mut text = Vec::new(alloc);
+    match write_report(alloc, form, realm, &held.table, changes, &mut text) {
+        Ok(()) => Ok(text),
+        Err(_) => Err(Error::from(ErrorKind::Other)),
+    }
+}
+
+/// The configuration's file that it makes with the other settings of this one.
+pub fn configuration(alloc: Global, config: Config, held: &HeldTable) -> Result<Vec<u8>> {
+    let mut text = Vec::new(alloc);
+    match write_configuration(alloc, config, &held.table, &mut text) {
+        Ok(()) => Ok(text),
+        Err(_) => Err(Error::from(ErrorKind::Other)),
+    }
+}

@@ -1,0 +1,134 @@
+//! One case.
+use crate::holding::{Found, configuration, found_in, report};
+use crate::journal::journal_of;
+use case_lines::Census;
+use chpw_config::read_config;
+use chpw_held::HeldTable;
+use chpw_report::Form;
+use std::alloc::Global;
+use std::io::{Error, ErrorKind, Result, Write};
+
+/// Prints what a case gives with this configuration: what is told of the table with the journal's changes,
+/// behind a line with the form.
+pub fn print_case<W: Write>(alloc: Global, out: &mut W, config: &str, case: &str) -> Result<()> {
+    let (kind, words) = case.split_once(' ').unwrap_or((case, "-"));
+    let journal = journal_of(alloc, words)?;
+    writeln!(out, "-- {kind}")?;
+    match kind {
+        "lines" => print_report(alloc, out, Form::Lines, config, &journal),
+        "keys" => print_report(alloc, out, Form::Keys, config, &journal),
+        "configuration" => print_configuration(alloc, out, config, &journal),
+        "prefixes" => print_prefixes(alloc, out, config, &journal),
+        _ => writeln!(out, "no such case"),
+    }
+}
+
+fn print_report<W: Write>(
+    alloc: Global,
+    out: &mut W,
+    form: Form,
+    config: &str,
+    journal: &[u8],
+) -> Result<()> {
+    match found_in(alloc, config, journal)? {
+        Found::Held { realm, held } => {
+            print_torn(out, &held)?;
+            let text = report(alloc, form, &realm, &held, held.changes)?;
+            out.write_all(&text)
+        }
+        Found::Faulty(words) => writeln!(out, "{words}"),
+    }
+}
+
+// What `table` tells on standard error.
+fn print_torn<W: Write>(out: &mut W, held: &HeldTable) -> Result<()> {
+    match held.torn_behind {
+        Some(behind) => writeln!(out, "a torn record stands behind {behind} bytes"),
+        None => Ok(()),
+    }
+}
+
+// The configuration that is held, and whether the table that it is read as is told alike.
+fn print_configuration<W: Write>(
+    alloc: Global,
+    out: &mut W,
+    config: &str,
+    journal: &[u8],
+) -> Result<()> {
+    match found_in(alloc, config, journal)? {
+        Found::Held { realm, held } => {
+            print_torn(out, &held)?;
+            let text = made_configuration(alloc, config, &held)?;
+            out.write_all(&text)?;
+            print_likeness(alloc, out, &text, &realm, &held)
+        }
+        Found::Faulty(words) => writeln!(out, "{words}"),
+    }
+}
+
+/// The file of the configuration that is held, the other settings as in this one.
+pub fn made_configuration(alloc: Global, config: &str, held: &HeldTable) -> Result<Vec<u8>> {
+    match read_config(alloc, config) {
+        Ok(config) => configuration(alloc, config, held),
+        Err(_) => Err(Error::from(ErrorKind::InvalidData)),
+    }
+}
+
+/// Prints whether both reports of this configuration, without a journal, are those of that table.
+pub fn print_likeness<W: Write>(
+    alloc: Global,
+    out: &mut W,
+    config: &[u8],
+    realm: &[u8],
+    held: &HeldTable,
+) -> Result<()> {
+    let alike = is_told_alike(alloc, config, realm, held)?;
+    writeln!(
+        out,
+        "{}",
+        if alike {
+            "read alike"
+        } else {
+            "read as another"
+        }
+    )
+}
+
+fn is_told_alike(alloc: Global, config: &[u8], realm: &[u8], held: &HeldTable) -> Result<bool> {
+    let Ok(config) = str::from_utf8(config) else {
+        return Ok(false);
+    };
+    let Found::Held {
+        realm: realm_again,
+        held: again,
+    } = found_in(alloc, config, &[])?
+    else {
+        return Ok(false);
+    };
+    let mut alike = true;
+    for form in [Form::Lines, Form::Keys] {
+        let text = report(alloc, form, realm, held, 0)?;
+        let text_again = report(alloc, form, &realm_again, &again, again.changes)?;
+        alike = alike && text.as_slice() == text_again.as_slice();
+    }
+    Ok(alike)
+}
+
+// What the lines are of each proper prefix of the journal, `;` standing for a newline, behind the count of
+// those prefixes and their lengths.
+fn print_prefixes<W: Write>(
+    alloc: Global,
+    out: &mut W,
+    config: &str,
+    journal: &[u8],
+) -> Result<()> {
+    let mut census = Census::new(alloc);
+    for length in 0..journal.len() {
+        let mut told = Vec::new(alloc);
+        print_report(alloc, &mut told, Form::Lines, config, &journal[..length])?;
+        let told = str::from_utf8(&told).unwrap_or("");
+        let line = told.trim_end().replace(alloc, "\n", "; ")?;
+        census.add(alloc, length, line.as_str())?;
+    }
+    writeln!(out, "{}", census.shown(alloc)?)
+}
