@@ -5,7 +5,10 @@ mod fault;
 mod fields;
 mod names;
 mod rows;
+mod stanzas;
 mod writing;
 
 pub use fault::WriteFault;
+pub use names::can_be_written;
+pub use stanzas::write_stanzas;
 pub use writing::write_config;

@@ -31,6 +31,32 @@ fn part_text(part: &[u8]) -> Result<&str, WriteFault>
     Ok(text)
 }
 
+/// Whether a file can say the name: each component is UTF-8 and has no `/`.
+pub fn can_be_written(name: &Name) -> bool
+    ensures value { result ≡ is_writable_name name.now }
+{
+    let parts = name.parts.as_slice();
+    parts
+        .iter()
+        .all(|part| part_can_be_written(part.as_slice()))
+}
+
+// Whether a file can say a component.
+fn part_can_be_written(part: &[u8]) -> bool
+    ensures value { result ≡ is_writable_part part.now }
+{
+    is_text(part) && !part.contains(&b'/')
+}
+
+fn is_text(bytes: &[u8]) -> bool
+    ensures value { result ≡ is_utf8 bytes.now }
+{
+    match str::from_utf8(bytes) {
+        Ok(_) => true,
+        Err(_) => false,
+    }
+}
+
 /// A name's components with `/` between them.
 pub fn name_text(alloc: Global, name: &Name) -> Result<String, WriteFault>
     ensures value { IfOk result (λ text. string_bytes text ≡ text_of name.now) }

@@ -1,11 +1,11 @@
 -- What is told of the principals that a table holds: a text for each, in the order of their names.
-use Rattle.std.specs.Prelude.{ℕ, Bool, ◌||◌, List, [], ◌∷◌, ◌++◌, length, map, codes, if◌then◌else◌}
-use Rattle.std.specs.List.{flat_map, join_with_byte}
+use Rattle.std.specs.Prelude.{ℕ, List, [], ◌++◌, length, map, codes}
+use Rattle.std.specs.List.{flat_map}
 use Rattle.std.specs.Option.{option_map_or}
 use Rattle.std.specs.Fmt.{decimal}
 use Rattle.hex.specs.Hex.{encode_lower}
 use Rattle.chpw_rules.specs.declared.name.Name.{Name}
-use Rattle.chpw_rules.specs.Limits.{range, is_in}
+use Rattle.chpw_printing.specs.Quoting.{name_text, number_text, principal_text, quoted}
 use Rattle.chpw_table.specs.declared.key.KeyRow.{KeyRow}
 use Rattle.chpw_table.specs.declared.table.Lookup.{Lookup}
 use Rattle.chpw_table.specs.declared.table.Principal.{Principal}
@@ -15,27 +15,7 @@ use Rattle.chpw_table.specs.Lookups.{lookup_of}
 use Rattle.chpw_report.specs.declared.form.Form.{Form}
 use Rattle.chpw_report.specs.declared.form.Form.TheVariants.{Lines, Keys}
 
--- ASCII that is printed, but the space, `/`, `@` and `\`
-abbrev pub is_plain : ℕ → Bool
-is_plain byte =
-    is_in (range 0x21 0x2e) byte || is_in (range 0x30 0x3f) byte
-    || is_in (range 0x41 0x5b) byte || is_in (range 0x5d 0x7e) byte
-
--- a byte of a name: itself, or \x and two hexadecimal digits
-abbrev pub byte_text : ℕ → List ℕ
-byte_text byte = if is_plain byte then byte ∷ [] else codes "\\x" ++ encode_lower (byte ∷ [])
-
-abbrev pub quoted : List ℕ → List ℕ
-quoted bytes = flat_map byte_text bytes
-
--- the components with `/` between them
-abbrev pub name_text : Name → List ℕ
-name_text name = join_with_byte 47 (map quoted name.parts)
-
 -- ---- a line for a person: `alice kvno 3 counts 4096 4096`
-
-abbrev pub number_text : ℕ → List ℕ
-number_text number = codes " " ++ decimal number
 
 abbrev pub shown_line : Name → Lookup → List ℕ
 shown_line name shown =
@@ -43,10 +23,6 @@ shown_line name shown =
     ++ codes " counts" ++ flat_map number_text shown.held ++ codes "\n"
 
 -- ---- lines for a KDC's tool, a line a key: principal, kvno, etype, iterations, key, salt
-
--- name and realm
-abbrev pub principal_text : List ℕ → Name → List ℕ
-principal_text realm name = name_text name ++ codes "@" ++ quoted realm
 
 -- the default salt (RFC 4120 section 4): the realm, then the name's components
 abbrev pub salt_text : List ℕ → Name → List ℕ

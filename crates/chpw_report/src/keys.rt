@@ -1,10 +1,10 @@
 //! A principal's lines for a KDC's tool.
 ghost use Rattle.std.specs.Prelude.{◌≡◌, ◌++◌, IfOk, OnOk};
 ghost use Rattle.std.specs.List.{flat_map};
-ghost use Rattle.chpw_report.specs.Reports.{key_line, keys_lines, principal_text, quoted, row_lines, salt_text};
+ghost use Rattle.chpw_printing.specs.Quoting.{principal_text, quoted};
+ghost use Rattle.chpw_report.specs.Reports.{key_line, keys_lines, row_lines, salt_text};
 
-use crate::lines::put_behind_space;
-use crate::quoting::{put_hex, put_name, put_quoted};
+use chpw_printing::{put_behind_space, put_hex, put_principal, put_quoted};
 use chpw_rules::Name;
 use chpw_table::KeyRow;
 use std::alloc::{AllocError, Global};
@@ -51,9 +51,7 @@ fn make_printed(alloc: Global, realm: &[u8], name: &Name) -> Result<Printed, All
     ensures salt { IfOk result (λ p. p.salt.items ≡ salt_text realm.now name.now) }
 {
     let mut principal = Vec::new(alloc);
-    put_name(&mut principal, name)?;
-    principal.push(b'@')?;
-    put_quoted(&mut principal, realm)?;
+    put_principal(&mut principal, realm, name)?;
     let mut salt = Vec::new(alloc);
     put_quoted(&mut salt, realm)?;
     put_parts(&mut salt, name)?;

@@ -4,7 +4,6 @@
 mod form;
 mod keys;
 mod lines;
-mod quoting;
 mod report;
 
 pub use form::Form;

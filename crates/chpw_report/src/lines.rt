@@ -1,10 +1,10 @@
 //! A principal's line for a person.
 ghost use Rattle.std.specs.Prelude.{◌≡◌, ◌++◌, OnOk};
 ghost use Rattle.std.specs.List.{flat_map};
-ghost use Rattle.std.specs.Fmt.{decimal};
-ghost use Rattle.chpw_report.specs.Reports.{number_text, shown_line};
+ghost use Rattle.chpw_printing.specs.Quoting.{number_text};
+ghost use Rattle.chpw_report.specs.Reports.{shown_line};
 
-use crate::quoting::put_name;
+use chpw_printing::{put_behind_space, put_name, put_number};
 use chpw_rules::Name;
 use chpw_table::Lookup;
 use std::alloc::AllocError;
@@ -32,20 +32,4 @@ fn put_counts(text: &mut Vec<u8>, counts: &[u32]) -> Result<(), AllocError>
         others = rest;
     }
     Ok(())
-}
-
-/// Puts a number at the end, behind a space.
-pub(crate) fn put_behind_space(text: &mut Vec<u8>, number: u32) -> Result<(), AllocError>
-    ensures value { OnOk result (text.new.items ≡ text.old.items ++ number_text number) }
-{
-    text.push(b' ')?;
-    put_number(text, u64::from(number))
-}
-
-/// Puts a number at the end, in decimal digits.
-pub(crate) fn put_number(text: &mut Vec<u8>, number: u64) -> Result<(), AllocError>
-    ensures value { OnOk result (text.new.items ≡ text.old.items ++ decimal number) }
-{
-    let digits = number.to_string(*text.allocator())?;
-    text.extend_from_slice(digits.as_bytes())
 }

@@ -5,7 +5,8 @@ ghost use Rattle.chpw_report.specs.Reports.{end_of, report, told_of};
 
 use crate::form::Form;
 use crate::keys::put_keys;
-use crate::lines::{put_line, put_number};
+use crate::lines::put_line;
+use chpw_printing::put_number;
 use chpw_rules::Name;
 use chpw_table::Table;
 use std::alloc::{AllocError, Global};

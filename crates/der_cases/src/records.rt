@@ -1,4 +1,6 @@
 //! Each record: its text is read, and what was read is written.
+ghost use Rattle.std.specs.Prelude.{◌≡◌, true, IfOk};
+ghost use Rattle.krb_elements.specs.Texts.{fits};
 
 use hex::encode;
 use krb_der::{
@@ -11,132 +13,157 @@ use krb_der::{
     write_enc_ticket_part, write_encrypted_data, write_encryption_key, write_host_address,
     write_krb_error, write_krb_priv, write_principal_name, write_ticket, write_transited_encoding,
 };
-use std::alloc::Global;
+use krb_elements::Write;
+use std::alloc::{AllocError, Global};
 
-// A small function for each record, since a check takes far longer for one function with all of them.
-macro_rules! again {
-    ($alloc:expr, $text:expr, $read:ident, $write:ident) => {{
-        let value = $read($alloc, $text)?;
-        if fits(&value) {
-            Ok(encode($alloc, $write($alloc, &value)?)?)
-        } else {
-            Ok(String::from_str($alloc, "does not fit")?)
-        }
-    }};
+/// Why no text is written.
+#[derive(Drop)]
+enum Unwritten {
+    Unread(ReadError),
+    Unfit,
 }
 
-fn principal_name(alloc: Global, text: &[u8]) -> Result<String, ReadError> {
-    again!(alloc, text, read_principal_name, write_principal_name)
+/// A record that was read and can be written.
+fn legal<T: Write + Drop>(found: Result<T, ReadError>) -> Result<T, Unwritten>
+    ensures fits { IfOk result (λ v. fits T.shape (T.value v) ≡ true) }
+{
+    match found {
+        Ok(value) if fits(&value) => Ok(value),
+        Ok(_) => Err(Unwritten::Unfit),
+        Err(error) => Err(Unwritten::Unread(error)),
+    }
 }
 
-fn encrypted_data(alloc: Global, text: &[u8]) -> Result<String, ReadError> {
-    again!(alloc, text, read_encrypted_data, write_encrypted_data)
+/// The text of the bytes that were written.
+fn shown(alloc: Global, made: Result<Vec<u8>, AllocError>) -> Result<String, Unwritten> {
+    let shown = match made {
+        Ok(text) => encode(alloc, &text),
+        Err(error) => Err(error),
+    };
+    shown.map_err(|_| Unwritten::Unread(ReadError::Memory))
 }
 
-fn encryption_key(alloc: Global, text: &[u8]) -> Result<String, ReadError> {
-    again!(alloc, text, read_encryption_key, write_encryption_key)
+fn principal_name(alloc: Global, text: &[u8]) -> Result<String, Unwritten> {
+    let value = legal(read_principal_name(alloc, text))?;
+    shown(alloc, write_principal_name(alloc, &value))
 }
 
-fn host_address(alloc: Global, text: &[u8]) -> Result<String, ReadError> {
-    again!(alloc, text, read_host_address, write_host_address)
+fn encrypted_data(alloc: Global, text: &[u8]) -> Result<String, Unwritten> {
+    let value = legal(read_encrypted_data(alloc, text))?;
+    shown(alloc, write_encrypted_data(alloc, &value))
 }
 
-fn checksum(alloc: Global, text: &[u8]) -> Result<String, ReadError> {
-    again!(alloc, text, read_checksum, write_checksum)
+fn encryption_key(alloc: Global, text: &[u8]) -> Result<String, Unwritten> {
+    let value = legal(read_encryption_key(alloc, text))?;
+    shown(alloc, write_encryption_key(alloc, &value))
 }
 
-fn transited_encoding(alloc: Global, text: &[u8]) -> Result<String, ReadError> {
-    again!(
-        alloc,
-        text,
-        read_transited_encoding,
-        write_transited_encoding
-    )
+fn host_address(alloc: Global, text: &[u8]) -> Result<String, Unwritten> {
+    let value = legal(read_host_address(alloc, text))?;
+    shown(alloc, write_host_address(alloc, &value))
 }
 
-fn authorization_data(alloc: Global, text: &[u8]) -> Result<String, ReadError> {
-    again!(
-        alloc,
-        text,
-        read_authorization_data,
-        write_authorization_data
-    )
+fn checksum(alloc: Global, text: &[u8]) -> Result<String, Unwritten> {
+    let value = legal(read_checksum(alloc, text))?;
+    shown(alloc, write_checksum(alloc, &value))
 }
 
-fn change_passwd_data(alloc: Global, text: &[u8]) -> Result<String, ReadError> {
-    again!(
-        alloc,
-        text,
-        read_change_passwd_data,
-        write_change_passwd_data
-    )
+fn transited_encoding(alloc: Global, text: &[u8]) -> Result<String, Unwritten> {
+    let value = legal(read_transited_encoding(alloc, text))?;
+    shown(alloc, write_transited_encoding(alloc, &value))
 }
 
-fn ticket(alloc: Global, text: &[u8]) -> Result<String, ReadError> {
-    again!(alloc, text, read_ticket, write_ticket)
+fn authorization_data(alloc: Global, text: &[u8]) -> Result<String, Unwritten> {
+    let value = legal(read_authorization_data(alloc, text))?;
+    shown(alloc, write_authorization_data(alloc, &value))
 }
 
-fn enc_ticket_part(alloc: Global, text: &[u8]) -> Result<String, ReadError> {
-    again!(alloc, text, read_enc_ticket_part, write_enc_ticket_part)
+fn change_passwd_data(alloc: Global, text: &[u8]) -> Result<String, Unwritten> {
+    let value = legal(read_change_passwd_data(alloc, text))?;
+    shown(alloc, write_change_passwd_data(alloc, &value))
 }
 
-fn authenticator(alloc: Global, text: &[u8]) -> Result<String, ReadError> {
-    again!(alloc, text, read_authenticator, write_authenticator)
+fn ticket(alloc: Global, text: &[u8]) -> Result<String, Unwritten> {
+    let value = legal(read_ticket(alloc, text))?;
+    shown(alloc, write_ticket(alloc, &value))
 }
 
-fn ap_req(alloc: Global, text: &[u8]) -> Result<String, ReadError> {
-    again!(alloc, text, read_ap_req, write_ap_req)
+fn enc_ticket_part(alloc: Global, text: &[u8]) -> Result<String, Unwritten> {
+    let value = legal(read_enc_ticket_part(alloc, text))?;
+    shown(alloc, write_enc_ticket_part(alloc, &value))
 }
 
-fn ap_rep(alloc: Global, text: &[u8]) -> Result<String, ReadError> {
-    again!(alloc, text, read_ap_rep, write_ap_rep)
+fn authenticator(alloc: Global, text: &[u8]) -> Result<String, Unwritten> {
+    let value = legal(read_authenticator(alloc, text))?;
+    shown(alloc, write_authenticator(alloc, &value))
 }
 
-fn enc_ap_rep_part(alloc: Global, text: &[u8]) -> Result<String, ReadError> {
-    again!(alloc, text, read_enc_ap_rep_part, write_enc_ap_rep_part)
+fn ap_req(alloc: Global, text: &[u8]) -> Result<String, Unwritten> {
+    let value = legal(read_ap_req(alloc, text))?;
+    shown(alloc, write_ap_req(alloc, &value))
 }
 
-fn krb_priv(alloc: Global, text: &[u8]) -> Result<String, ReadError> {
-    again!(alloc, text, read_krb_priv, write_krb_priv)
+fn ap_rep(alloc: Global, text: &[u8]) -> Result<String, Unwritten> {
+    let value = legal(read_ap_rep(alloc, text))?;
+    shown(alloc, write_ap_rep(alloc, &value))
 }
 
-fn enc_krb_priv_part(alloc: Global, text: &[u8]) -> Result<String, ReadError> {
-    again!(alloc, text, read_enc_krb_priv_part, write_enc_krb_priv_part)
+fn enc_ap_rep_part(alloc: Global, text: &[u8]) -> Result<String, Unwritten> {
+    let value = legal(read_enc_ap_rep_part(alloc, text))?;
+    shown(alloc, write_enc_ap_rep_part(alloc, &value))
 }
 
-fn krb_error(alloc: Global, text: &[u8]) -> Result<String, ReadError> {
-    again!(alloc, text, read_krb_error, write_krb_error)
+fn krb_priv(alloc: Global, text: &[u8]) -> Result<String, Unwritten> {
+    let value = legal(read_krb_priv(alloc, text))?;
+    shown(alloc, write_krb_priv(alloc, &value))
+}
+
+fn enc_krb_priv_part(alloc: Global, text: &[u8]) -> Result<String, Unwritten> {
+    let value = legal(read_enc_krb_priv_part(alloc, text))?;
+    shown(alloc, write_enc_krb_priv_part(alloc, &value))
+}
+
+fn krb_error(alloc: Global, text: &[u8]) -> Result<String, Unwritten> {
+    let value = legal(read_krb_error(alloc, text))?;
+    shown(alloc, write_krb_error(alloc, &value))
 }
 
 /// The text of the value that a text spells, if there is such a record.
 pub fn again(alloc: Global, record: &str, text: &[u8]) -> Result<Option<String>, ReadError> {
-    let written = match record {
-        "principal_name" => principal_name(alloc, text),
-        "encrypted_data" => encrypted_data(alloc, text),
-        "encryption_key" => encryption_key(alloc, text),
-        "host_address" => host_address(alloc, text),
-        "checksum" => checksum(alloc, text),
-        "transited_encoding" => transited_encoding(alloc, text),
-        "authorization_data" => authorization_data(alloc, text),
-        "change_passwd_data" => change_passwd_data(alloc, text),
-        _ => return message_again(alloc, record, text),
-    };
-    written.map(Some)
+    match written(alloc, record, text) {
+        None => Ok(None),
+        Some(Ok(text)) => Ok(Some(text)),
+        Some(Err(Unwritten::Unread(error))) => Err(error),
+        Some(Err(Unwritten::Unfit)) => Ok(Some(String::from_str(alloc, "does not fit")?)),
+    }
+}
+
+fn written(alloc: Global, record: &str, text: &[u8]) -> Option<Result<String, Unwritten>> {
+    match record {
+        "principal_name" => Some(principal_name(alloc, text)),
+        "encrypted_data" => Some(encrypted_data(alloc, text)),
+        "encryption_key" => Some(encryption_key(alloc, text)),
+        "host_address" => Some(host_address(alloc, text)),
+        "checksum" => Some(checksum(alloc, text)),
+        "transited_encoding" => Some(transited_encoding(alloc, text)),
+        "authorization_data" => Some(authorization_data(alloc, text)),
+        "change_passwd_data" => Some(change_passwd_data(alloc, text)),
+        _ => message_written(alloc, record, text),
+    }
 }
 
 /// The same, of messages and their sealed parts.
-fn message_again(alloc: Global, record: &str, text: &[u8]) -> Result<Option<String>, ReadError> {
-    let written = match record {
-        "ticket" => ticket(alloc, text),
-        "enc_ticket_part" => enc_ticket_part(alloc, text),
-        "authenticator" => authenticator(alloc, text),
-        "ap_req" => ap_req(alloc, text),
-        "ap_rep" => ap_rep(alloc, text),
-        "enc_ap_rep_part" => enc_ap_rep_part(alloc, text),
-        "krb_priv" => krb_priv(alloc, text),
-        "enc_krb_priv_part" => enc_krb_priv_part(alloc, text),
-        "krb_error" => krb_error(alloc, text),
-        _ => return Ok(None),
-    };
-    written.map(Some)
+fn message_written(alloc: Global, record: &str, text: &[u8]) -> Option<Result<String, Unwritten>> {
+    match record {
+        "ticket" => Some(ticket(alloc, text)),
+        "enc_ticket_part" => Some(enc_ticket_part(alloc, text)),
+        "authenticator" => Some(authenticator(alloc, text)),
+        "ap_req" => Some(ap_req(alloc, text)),
+        "ap_rep" => Some(ap_rep(alloc, text)),
+        "enc_ap_rep_part" => Some(enc_ap_rep_part(alloc, text)),
+        "krb_priv" => Some(krb_priv(alloc, text)),
+        "enc_krb_priv_part" => Some(enc_krb_priv_part(alloc, text)),
+        "krb_error" => Some(krb_error(alloc, text)),
+        _ => None,
+    }
 }

@@ -1,6 +1,6 @@
 use Rattle.std.proofs.Common.{◌≡◌, ◌++◌, List, ℕ, length}
 use Rattle.std.specs.List.{flat_map}
-use Rattle.chpw_report.specs.Reports.{quoted}
+use Rattle.chpw_printing.specs.Quoting.{quoted}
 use Rattle.chpw_report.proofs.keys.put_parts.Given as goal
 
 abbrev pub invariant-loop-parts : goal.invariant-loop-parts

@@ -1,6 +1,6 @@
 use Rattle.std.proofs.Common.{◌≡◌, ◌++◌, length}
 use Rattle.std.specs.List.{flat_map}
-use Rattle.chpw_report.specs.Reports.{number_text}
+use Rattle.chpw_printing.specs.Quoting.{number_text}
 use Rattle.chpw_report.proofs.lines.put_counts.Given as goal
 
 abbrev pub invariant-loop-others : goal.invariant-loop-others

@@ -1,0 +1,2 @@
+pub mod Keytabs
+pub mod Passwords

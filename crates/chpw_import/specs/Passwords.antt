@@ -1,0 +1,38 @@
+-- The keys of a password (RFC 3962 section 4), and the password that a file holds.
+use Rattle.std.specs.Prelude.{◌≡◌, ◌⊎◌, ◌<◌, ℕ, List, [], ◌∷◌, ◌++◌, length}
+use Rattle.std.specs.List.{flat_map}
+use Rattle.krb_keys.specs.declared.etype.Etype.TheVariants as etype
+use Rattle.krb_keys.specs.Keys.{bytes_of, s2k}
+use Rattle.chpw_rules.specs.declared.name.Name.{Name}
+use Rattle.chpw_rules.specs.declared.config.KeyBytes.{KeyBytes}
+use Rattle.chpw_rules.specs.declared.config.PrincipalRow.{PrincipalRow}
+use Rattle.chpw_import.specs.declared.numbers.KeyNumbers.{KeyNumbers}
+
+-- a newline (10) stands at the end
+abbrev pub EndsInNewline : List ℕ → Type 0
+EndsInNewline bytes = (front : List ℕ) × (bytes ≡ front ++ 10 ∷ [])
+
+-- the file's bytes without one newline at their end, where there are any
+abbrev pub IsPasswordOf : List ℕ → List ℕ → Type 0
+IsPasswordOf file password =
+    (0 < length password) × ((file ≡ password ++ 10 ∷ []) ⊎ ((file ≡ password) × ¬ (EndsInNewline file)))
+
+-- nothing, or a newline
+abbrev pub HoldsNoPassword : List ℕ → Type 0
+HoldsNoPassword file = (file ≡ []) ⊎ (file ≡ 10 ∷ [])
+
+-- the default salt (RFC 4120 section 4): the realm, then the name's components
+abbrev pub salt_of : List ℕ → Name → List ℕ
+salt_of realm name = realm ++ flat_map (λ (part : List ℕ). part) name.parts
+
+-- string-to-key of both encryption types
+abbrev pub key_of : List ℕ → List ℕ → KeyNumbers → KeyBytes
+key_of password salt numbers = record {
+  kvno = numbers.kvno;
+  iterations = numbers.iterations;
+  aes128 = bytes_of (s2k etype.Aes128 password salt numbers.iterations);
+  aes256 = bytes_of (s2k etype.Aes256 password salt numbers.iterations);
+}
+
+abbrev pub row_of : List ℕ → Name → List ℕ → KeyNumbers → PrincipalRow
+row_of realm name password numbers = record { name = name; keys = key_of password (salt_of realm name) numbers ∷ [] }

@@ -1,0 +1,17 @@
+//! Keys brought in: the service keys and the principals' keys that a keytab holds, with what is left out of
+//! it and why; and a principal's keys of a password.
+#![tactic(auto)]
+
+mod entries;
+mod keytab;
+mod left;
+mod numbers;
+mod password;
+mod rows;
+mod slot;
+mod versions;
+
+pub use keytab::{Brought, ImportFault, bring_in};
+pub use left::{Left, LeftLine, Reason};
+pub use numbers::KeyNumbers;
+pub use password::{default_salt, password_in, password_row};

@@ -1,0 +1,4 @@
+pub mod Moments
+pub mod Lines
+pub mod Tellings
+pub mod Laws

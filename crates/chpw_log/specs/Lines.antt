@@ -1,0 +1,114 @@
+-- A line of the log: one record for one message, its fields in a fixed order with a space between any
+-- two. A field has no space, but for the last one, the reply's text. `-` stands for what there isn't.
+use Rattle.std.specs.Prelude.{◌≡◌, ℕ, ℤ, Bool, true, false, ◌&&◌, List, [], ◌∷◌, ◌++◌, map, codes, Option, Some, None}
+use Rattle.std.specs.List.{join_with_byte}
+use Rattle.std.specs.Option.{option_map, option_map_or}
+use Rattle.std.specs.Fmt.{decimal, signed_decimal}
+use Rattle.chpw_printing.specs.Quoting.{are_printed, is_field, principal_text, words_text}
+use Rattle.chpw_table.specs.declared.request.Body.{Body}
+use Rattle.chpw_table.specs.declared.request.Body.TheVariants.{Ask, BadPrivate, BadData}
+use Rattle.chpw_table.specs.declared.request.Opened.{Opened}
+use Rattle.chpw_table.specs.declared.request.Target.{Target}
+use Rattle.chpw_table.specs.Requests.{client_of, named_or}
+use Rattle.chpw_table.specs.Replies.{Answer, answer_of}
+use Rattle.krb_protocol.specs.declared.refusal.Refusal.{Refusal}
+use Rattle.chpw_log.specs.declared.line.Line.{Line}
+use Rattle.chpw_log.specs.declared.news.Asked.{Asked}
+use Rattle.chpw_log.specs.declared.news.News.{News}
+use Rattle.chpw_log.specs.declared.news.News.TheVariants.{Decided, Full, Unopened}
+use Rattle.chpw_log.specs.declared.news.Party.{Party}
+use Rattle.chpw_log.specs.Moments.{moment_text}
+
+-- ---- whom a request names
+
+abbrev pub named : Party → Target
+named p = record { realm = p.realm.now; name = p.name.now }
+
+-- whose password is to be new: nobody's, where the KRB-PRIV is bad
+abbrev pub body_asked : Body → Target → Option Target
+body_asked (Ask target digest) client = Some (named_or target client)
+body_asked BadPrivate client = None
+body_asked BadData client = None
+
+abbrev pub target_asked : Opened → Option Target
+target_asked o = body_asked o.body (client_of o)
+
+-- ---- what came of a message
+
+-- client and target, the reply's result code, error code and text, and the new key's version
+pub record Outcome : Type 0 where
+  pub client : Option Target
+  pub target : Option Target
+  pub code : ℕ
+  pub error : Option ℤ
+  pub kvno : Option ℕ
+  pub text : List ℕ
+
+abbrev pub decided : Asked → Answer → Option ℕ → Outcome
+decided asked answer kvno = record {
+  client = Some (named asked.client);
+  target = option_map named asked.target;
+  code = answer.code;
+  error = answer.error;
+  kvno = kvno;
+  text = answer.text;
+}
+
+abbrev pub refused : Option Target → Option Target → Refusal → Outcome
+refused client target refusal = record {
+  client = client;
+  target = target;
+  code = refusal.code;
+  error = Some refusal.error;
+  kvno = None;
+  text = refusal.text.now;
+}
+
+abbrev pub outcome_of : News → Outcome
+outcome_of (Decided asked verdict kvno) = decided asked (answer_of verdict) kvno
+outcome_of (Full asked refusal) =
+    refused (Some (named asked.client)) (option_map named asked.target) refusal.now
+outcome_of (Unopened refusal) = refused None None refusal.now
+
+-- ---- the fields
+
+abbrev pub or_dash : {A : Type 0} → (A → List ℕ) → Option A → List ℕ
+or_dash text found = option_map_or text found (codes "-")
+
+abbrev pub party_text : Target → List ℕ
+party_text p = principal_text p.realm p.name
+
+-- four decimal numbers with `.` between them
+abbrev pub address_text : List ℕ → List ℕ
+address_text address = join_with_byte 46 (map decimal address)
+
+abbrev pub outcome_fields : Outcome → List (List ℕ)
+outcome_fields o =
+    codes "client" ∷ or_dash party_text o.client
+    ∷ codes "target" ∷ or_dash party_text o.target
+    ∷ codes "code" ∷ decimal o.code
+    ∷ codes "error" ∷ or_dash signed_decimal o.error
+    ∷ codes "kvno" ∷ or_dash decimal o.kvno
+    ∷ codes "text" ∷ words_text o.text ∷ []
+
+abbrev pub fields_of : Line → List (List ℕ)
+fields_of l =
+    moment_text l.moment
+    ∷ codes "worker" ∷ decimal l.worker
+    ∷ codes "peer" ∷ address_text l.peer
+    ∷ outcome_fields (outcome_of l.news)
+
+abbrev pub line_of : Line → List ℕ
+line_of l = join_with_byte 32 (fields_of l) ++ codes "\n"
+
+-- ---- what a line is
+
+-- fields that can stand between two spaces, and a last one that may have spaces; all of printed ASCII
+abbrev pub are_fields : List (List ℕ) → Bool
+are_fields [] = false
+are_fields (text ∷ []) = are_printed text
+are_fields (field ∷ next ∷ more) = is_field field && are_fields (next ∷ more)
+
+-- printed ASCII and then a newline, the only one
+abbrev pub IsRecord : List ℕ → Type 0
+IsRecord line = (text : List ℕ) × (line ≡ text ++ codes "\n") × (are_printed text ≡ true)

@@ -1,0 +1,14 @@
+-- For proofs: what the program's fields say.
+use Rattle.std.specs.Option.{option_map}
+use Rattle.chpw_log.specs.declared.news.Told.{Told}
+use Rattle.chpw_log.specs.Lines.{Outcome, named}
+
+abbrev pub said : Told → Outcome
+said t = record {
+  client = option_map named t.client;
+  target = option_map named t.target;
+  code = t.code;
+  error = t.error;
+  kvno = t.kvno;
+  text = t.text.now;
+}

@@ -1,0 +1,34 @@
+//! Numbers as they are printed.
+ghost use Rattle.std.specs.Prelude.{◌≡◌, ◌++◌, true, OnOk};
+ghost use Rattle.std.specs.Fmt.{decimal, signed_decimal};
+ghost use Rattle.chpw_printing.specs.Quoting.{is_field, number_text};
+
+use std::alloc::AllocError;
+
+/// Puts a number at the end, in decimal digits.
+#[tactic(auto, using(crate::proofs::PrintedLemmas::decimal_field))]
+pub fn put_number(text: &mut Vec<u8>, number: u64) -> Result<(), AllocError>
+    ensures value { OnOk result (text.new.items ≡ text.old.items ++ decimal number) }
+    ensures field { is_field (decimal number) ≡ true }
+{
+    let digits = number.to_string(*text.allocator())?;
+    text.extend_from_slice(digits.as_bytes())
+}
+
+/// Puts a number at the end, in decimal digits, a negative one behind `-`.
+#[tactic(auto, using(crate::proofs::PrintedLemmas::signed_field))]
+pub fn put_signed(text: &mut Vec<u8>, number: i64) -> Result<(), AllocError>
+    ensures value { OnOk result (text.new.items ≡ text.old.items ++ signed_decimal number) }
+    ensures field { is_field (signed_decimal number) ≡ true }
+{
+    let digits = number.to_string(*text.allocator())?;
+    text.extend_from_slice(digits.as_bytes())
+}
+
+/// Puts a number at the end, behind a space.
+pub fn put_behind_space(text: &mut Vec<u8>, number: u32) -> Result<(), AllocError>
+    ensures value { OnOk result (text.new.items ≡ text.old.items ++ number_text number) }
+{
+    text.push(b' ')?;
+    put_number(text, u64::from(number))
+}

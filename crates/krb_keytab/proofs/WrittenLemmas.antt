@@ -1,0 +1,65 @@
+-- Fields and entries that were written are read again.
+use Rattle.std.proofs.Common.{◌≡◌, ℕ, suc, ◌^◌, ◌<◌, ltb, List, [], ◌∷◌, ◌++◌, length, Some, false, refl, ap, ◌∙◌, append_assoc, arith}
+use Rattle.std.specs.Int.{Width, w8, w16, w32, byte_len, from_be_bytes, to_be_bytes}
+use Rattle.std.specs.List.{flat_map, AllByRecursion}
+use Rattle.std.proofs.lemmas.Bool.{le-ltb}
+use Rattle.std.proofs.lemmas.List.{take_at, drop_at, length-append}
+use Rattle.std.proofs.lemmas.List.Concat.{flat_map-cons}
+use Rattle.std.proofs.lemmas.Nat.{from_be_bytes-to_be_bytes_2, from_be_bytes-to_be_bytes_4}
+use Rattle.krb_keytab.specs.Entries.{Entry, number_at, counted_at, components_at, entry_at}
+use Rattle.krb_keytab.specs.Written.{counted, fields, IsShort, Fits}
+
+record IsWide (w : Width) (limit : ℕ) : Type 0 where
+  len : (n : ℕ) → length (to_be_bytes w n) ≡ byte_len w
+  again : (n : ℕ) → n < limit → from_be_bytes w (to_be_bytes w n) ≡ n
+
+wide8 : IsWide w8 (2 ^ 8)
+wide8 = record { len = λ n. refl; again = λ n lt. omega arith }
+
+wide16 : IsWide w16 (2 ^ 16)
+wide16 = record { len = λ n. refl; again = λ n lt. from_be_bytes-to_be_bytes_2 n lt }
+
+wide32 : IsWide w32 (2 ^ 32)
+wide32 = record { len = λ n. refl; again = λ n lt. from_be_bytes-to_be_bytes_4 n lt }
+
+number_again : (w : Width) (limit : ℕ) (wide : IsWide w limit) (n : ℕ) (rest : List ℕ) → n < limit → number_at w (to_be_bytes w n ++ rest) ≡ Some (n, rest)
+unfolding number_at
+number_again w limit wide n rest lt =
+    let len = wide.len n in
+    let long : ltb (length (to_be_bytes w n ++ rest)) (byte_len w) ≡ false = le-ltb _ _ (omega (arith, length-append (to_be_bytes w n) rest)) in
+    rw (long, take_at (to_be_bytes w n) rest (byte_len w) len, drop_at (to_be_bytes w n) rest (byte_len w) len, wide.again n lt) refl
+
+counted_again : (bytes rest : List ℕ) → IsShort bytes → counted_at (counted bytes ++ rest) ≡ Some (bytes, rest)
+unfolding counted_at
+counted_again bytes rest short =
+    let long : ltb (length (bytes ++ rest)) (length bytes) ≡ false = le-ltb _ _ (omega (arith, length-append bytes rest)) in
+    rw (number_again w16 (2 ^ 16) wide16 (length bytes) (bytes ++ rest) short, long, take_at bytes rest (length bytes) refl, drop_at bytes rest (length bytes) refl) refl
+
+components_again : (cs : List (List ℕ)) (rest : List ℕ) → AllByRecursion IsShort cs → components_at (length cs) (flat_map counted cs ++ rest) ≡ Some (cs, rest)
+unfolding components_at
+components_again [] rest short = refl
+components_again (c ∷ cs) rest short =
+    let regrouped : flat_map counted (c ∷ cs) ++ rest ≡ counted c ++ (flat_map counted cs ++ rest) = ap (λ (x : List ℕ). x ++ rest) (flat_map-cons counted c cs) ∙ append_assoc (counted c) (flat_map counted cs) rest in
+    ap (components_at (suc (length cs))) regrouped ∙ rw (counted_again c (flat_map counted cs ++ rest) short.0, components_again cs rest short.1) refl
+
+pub entry_again : (e : Entry) (short : ℕ) (behind_key : List ℕ) → Fits e short behind_key → entry_at e.place (fields e short behind_key) ≡ Some e
+unfolding entry_at
+entry_again e short behind_key fits =
+    let behind_etype : List ℕ = counted e.key ++ behind_key in
+    let behind_short : List ℕ = to_be_bytes w16 e.etype ++ behind_etype in
+    let behind_time : List ℕ = to_be_bytes w8 short ++ behind_short in
+    let behind_type : List ℕ = to_be_bytes w32 e.timestamp ++ behind_time in
+    let behind_names : List ℕ = to_be_bytes w32 e.name_type ++ behind_type in
+    let behind_realm : List ℕ = flat_map counted e.components ++ behind_names in
+    let behind_count : List ℕ = counted e.realm ++ behind_realm in
+    rw (
+      number_again w16 (2 ^ 16) wide16 (length e.components) behind_count fits.count,
+      counted_again e.realm behind_realm fits.realm,
+      components_again e.components behind_names fits.components,
+      number_again w32 (2 ^ 32) wide32 e.name_type behind_type fits.name_type,
+      number_again w32 (2 ^ 32) wide32 e.timestamp behind_time fits.timestamp,
+      number_again w8 (2 ^ 8) wide8 short behind_short fits.short_kvno,
+      number_again w16 (2 ^ 16) wide16 e.etype behind_etype fits.etype,
+      counted_again e.key behind_key fits.key,
+      fits.kvno,
+    ) refl

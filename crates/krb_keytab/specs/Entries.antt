@@ -1,0 +1,68 @@
+-- The entry of a record (MIT Kerberos, keytab file format 0x0502): its fields stand one after the
+-- other, each number high byte first.
+use Rattle.std.specs.Prelude.{ℕ, zero, suc, List, [], ◌∷◌, ◌==◌, nat_lt, if◌then◌else◌, length, take, drop, Option, Some, None}
+use Rattle.std.specs.Int.{Width, w8, w16, w32, byte_len, from_be_bytes}
+
+-- an entry without where it lies in memory; its record stands at that place of the file
+pub record Entry : Type 0 where
+  pub place : ℕ
+  pub realm : List ℕ
+  pub components : List (List ℕ)
+  pub name_type : ℕ
+  pub timestamp : ℕ
+  pub kvno : ℕ
+  pub etype : ℕ
+  pub key : List ℕ
+
+-- a field, and those after it where it is there
+infixl 10 ◌>>=◌
+abbrev pub ◌>>=◌ : {A B : Type 0} → Option A → (A → Option B) → Option B
+(Some field) >>= next = next field
+None >>= next = None
+
+-- a number at the front, and what follows it
+unfoldable pub number_at : Width → List ℕ → Option (ℕ × List ℕ)
+number_at w bytes =
+    if nat_lt (length bytes) (byte_len w) then None
+    else Some (from_be_bytes w (take (byte_len w) bytes), drop (byte_len w) bytes)
+
+-- bytes behind their count in 16 bits
+unfoldable pub counted_at : List ℕ → Option (List ℕ × List ℕ)
+counted_at bytes = do
+  count ← number_at w16 bytes
+  (if nat_lt (length count.1) count.0 then None else Some (take count.0 count.1, drop count.0 count.1))
+
+-- so many of them
+unfoldable pub components_at : ℕ → List ℕ → Option (List (List ℕ) × List ℕ)
+components_at zero bytes = Some ([], bytes)
+components_at (suc count) bytes = do
+  first ← counted_at bytes
+  others ← components_at count first.1
+  Some (first.0 ∷ others.0, others.1)
+
+-- the kvno in 32 bits stands for the one in 8 where it is there and not zero
+abbrev pub kvno_of : ℕ → Option (ℕ × List ℕ) → ℕ
+kvno_of short None = short
+kvno_of short (Some long) = if long.0 == 0 then short else long.0
+
+-- the entry in the bytes of the record at this place, where none of its fields passes them
+unfoldable pub entry_at : ℕ → List ℕ → Option Entry
+entry_at place bytes = do
+  count ← number_at w16 bytes
+  realm ← counted_at count.1
+  components ← components_at count.0 realm.1
+  name_type ← number_at w32 components.1
+  timestamp ← number_at w32 name_type.1
+  short ← number_at w8 timestamp.1
+  etype ← number_at w16 short.1
+  key ← counted_at etype.1
+  Some (record {
+    place = place;
+    realm = realm.0;
+    components = components.0;
+    name_type = name_type.0;
+    timestamp = timestamp.0;
+    kvno = kvno_of short.0 (number_at w32 key.1);
+    etype = etype.0;
+    key = key.0;
+  })

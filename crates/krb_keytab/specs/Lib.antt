@@ -1,0 +1,5 @@
+pub mod Entries
+pub mod Keytabs
+pub mod Answers
+pub mod Written
+pub mod Laws

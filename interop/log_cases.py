@@ -1,0 +1,90 @@
+#!/usr/bin/env python3
+"""What `log_cases` must print, worked out with nothing of ours:
+
+    python3 interop/log_cases.py < crates/log_cases/stdin > crates/log_cases/stdout
+
+The codes, errors and texts are docs/RULES.md's, the times datetime's, the addresses ipaddress's.
+"""
+import datetime
+import ipaddress
+import string
+import sys
+
+# the rows of the decision (docs/RULES.md): code, error, text
+ROWS = {
+    "Skew": (3, 37, "clock skew too great"),
+    "Replay": (3, 34, "request replayed"),
+    "NotYet": (3, 33, "ticket not yet valid"),
+    "Expired": (3, 32, "ticket expired"),
+    "BadPrivate": (3, "-", "authentication failed"),
+    "BadBody": (1, "-", "malformed"),
+    "Denied": (5, "-", "access denied"),
+    "NeedInitial": (7, "-", "initial ticket needed"),
+    "Unknown": (2, "-", "no such principal"),
+    "Short": (4, "-", "password too short"),
+    "Classes": (4, "-", "too few character classes"),
+    "Reused": (4, "-", "password used before"),
+    "LastVersion": (2, "-", "no version left"),
+    "Broken": (2, "-", "journal failed"),
+    "Done": (0, "-", "password changed"),
+}
+
+TEXTS = {
+    "malformed": "malformed",
+    "failed": "authentication failed",
+    "version": "bad version",
+    "long": "message too long",
+    "full": "history full",
+    "none": "",
+    "strange": " a\tb\\c\u00e9d\ne~\u007f/@ ",
+}
+
+PRINTED = (string.ascii_letters + string.digits + string.punctuation).encode()
+
+
+def shown(octets, plain):
+    return "".join(chr(b) if b in plain else "\\x" + bytes([b]).hex() for b in octets)
+
+
+def name(octets):
+    return shown(octets, PRINTED.translate(None, b"/@\\"))
+
+
+def principal(word):
+    realm, _, parts = word.partition(":")
+    parts = [name(bytes.fromhex(part)) for part in parts.split(".")] if ":" in word else []
+    return "/".join(parts) + "@" + name(bytes.fromhex(realm))
+
+
+def target(client, word):
+    if word in ("bad-private", "bad-data"):
+        return "-"
+    return principal(client if word == "own" else word)
+
+
+def moment(seconds, micros):
+    start = datetime.datetime(1970, 1, 1)
+    time = start + datetime.timedelta(seconds=int(seconds), microseconds=int(micros))
+    return time.isoformat(timespec="microseconds") + "Z"
+
+
+def answer(case):
+    kind, seconds, micros, worker, peer, *rest = case.split(" ")
+    client = asked = kvno = "-"
+    if kind == "unopened":
+        code, error, text = rest
+    elif kind == "full":
+        who, whose, code, error, text = rest
+        client, asked = principal(who), target(who, whose)
+    else:
+        who, whose, verdict, kvno = rest
+        client, asked = principal(who), target(who, whose)
+        code, error, text = ROWS[verdict]
+    text = shown(TEXTS.get(text, text).encode(), PRINTED.replace(b"\\", b" "))
+    address = ipaddress.IPv4Address(bytes.fromhex(peer))
+    return (f"{moment(seconds, micros)} worker {worker} peer {address} client {client} target {asked} "
+            f"code {code} error {error} kvno {kvno} text {text}")
+
+
+for line in sys.stdin.read().split("\n")[:-1]:
+    print(line if line == "" or line.startswith("#") else answer(line))
