@@ -4,6 +4,7 @@ use crate::stop::{Stop, called};
 use chpw_commands::{DrillFault, explain_check, run_check, run_drill};
 use chpw_config::{ConfigError, read_config};
 use chpw_invocation::{Invocation, command_of};
+use chpw_rules::Config;
 use clap::error::ErrorKind;
 use std::alloc::Global;
 
@@ -44,23 +45,32 @@ const SCRIPT: &str = "realm EXAMPLE.COM
 pub fn told(alloc: Global, line: &str) -> Result<String, Stop> {
     let (call, text) = line.split_once(' ').unwrap_or((line, ""));
     match call {
-        "read_config" => read(alloc),
-        "run_check" if text == "faulty" => checked(alloc, FAULTY),
-        "run_check" => checked(alloc, CONFIG),
-        "explain_check" => explained(alloc),
+        "read_config" => read(alloc, config_of(text)),
+        "run_check" => checked(alloc, config_of(text)),
+        "explain_check" => explained(alloc, config_of("faulty")),
         "run_drill" => drilled(alloc, text),
         "command_of" => commanded(alloc, text),
         _ => Err(Stop::Wrong("no such call")),
     }
 }
 
-fn read(alloc: Global) -> Result<String, Stop> {
-    match read_config(alloc, CONFIG) {
-        Ok(config) => {
-            let realm = str::from_utf8(config.realm.as_slice()).unwrap_or("no UTF-8");
-            let count = config.principals.as_slice().len();
-            Ok(format!(in alloc; "{realm} principals {count}")?)
-        }
+// The texts stand in a function of their own, since each goal of one that has them reads them whole.
+fn config_of(kind: &str) -> &'static str {
+    match kind {
+        "faulty" => FAULTY,
+        _ => CONFIG,
+    }
+}
+
+fn shown(alloc: Global, config: &Config) -> Result<String, Stop> {
+    let realm = str::from_utf8(config.realm.as_slice()).unwrap_or("no UTF-8");
+    let count = config.principals.as_slice().len();
+    Ok(format!(in alloc; "{realm} principals {count}")?)
+}
+
+fn read(alloc: Global, text: &str) -> Result<String, Stop> {
+    match read_config(alloc, text) {
+        Ok(config) => shown(alloc, &config),
         Err(ConfigError::Memory) => Err(Stop::Call),
         Err(ConfigError::Fault(_)) => Err(Stop::Wrong("a fault of the configuration")),
     }
@@ -87,8 +97,8 @@ fn checked(alloc: Global, config: &str) -> Result<String, Stop> {
     Ok(format!(in alloc; "{}, status {status}", text_of(&written))?)
 }
 
-fn explained(alloc: Global) -> Result<String, Stop> {
-    let words = called(explain_check(alloc, FAULTY.as_bytes()))?;
+fn explained(alloc: Global, config: &str) -> Result<String, Stop> {
+    let words = called(explain_check(alloc, config.as_bytes()))?;
     words.ok_or(Stop::Wrong("a fault that isn't explained"))
 }
 
@@ -96,18 +106,36 @@ fn explained(alloc: Global) -> Result<String, Stop> {
 fn drilled(alloc: Global, script: &str) -> Result<String, Stop> {
     let script = script.replace(alloc, ";", "\n")?;
     let mut written = Vec::with_capacity(alloc, PRINTED)?;
-    let mut reader = script.as_str().as_bytes();
-    let answer = run_drill(alloc, &mut reader, &mut written);
-    printed(answer, &written)?;
+    drill(alloc, script.as_str().as_bytes(), &mut written)?;
     Ok(text_of(&written).replace(alloc, "\n", ";")?)
 }
 
+/// Runs a script over an empty list of bytes.
+fn drill(alloc: Global, script: &[u8], written: &mut Vec<u8>) -> Result<(), Stop> {
+    let mut reader = script;
+    let answer = run_drill(alloc, &mut reader, written);
+    printed(answer, written)
+}
+
 fn commanded(alloc: Global, text: &str) -> Result<String, Stop> {
+    named_of(alloc, &words_of(alloc, text)?)
+}
+
+fn words_of(alloc: Global, text: &str) -> Result<Vec<String>, Stop> {
     let mut words = Vec::new(alloc);
     for word in text.split(' ') {
-        words.push(String::from_str(alloc, word)?)?;
+        add_word(&mut words, alloc, word)?;
     }
-    match command_of(alloc, &words) {
+    Ok(words)
+}
+
+fn add_word(words: &mut Vec<String>, alloc: Global, word: &str) -> Result<(), Stop> {
+    Ok(words.push(String::from_str(alloc, word)?)?)
+}
+
+/// A word of the command that these words ask for, or why they ask for none.
+fn named_of(alloc: Global, words: &[String]) -> Result<String, Stop> {
+    match command_of(alloc, words) {
         Ok(invocation) => Ok(String::from_str(alloc, named(&invocation))?),
         Err(error) if error.kind() == ErrorKind::OutOfMemory => Err(Stop::Call),
         Err(error) => Ok(format!(in alloc; "{:?}", error.kind())?),
@@ -118,6 +146,9 @@ fn named<'a>(invocation: &Invocation<'a>) -> &'a str {
     match invocation {
         Invocation::Drill => "drill",
         Invocation::Check { config } => config,
+        Invocation::Table(options) => options.config,
+        Invocation::Import(options) => options.keytab,
+        Invocation::Key(options) => options.name,
         Invocation::Serve(options) => options.journal,
         Invocation::Client(options) => options.client,
     }

@@ -1,13 +1,12 @@
 //! Decisions, and the same again where memory was wanting.
 
 use crate::clock::NOW;
-use crate::seen::table_text;
+use crate::seen::kept_text;
 use crate::stop::{Fell, Stop, Told};
 use crate::streams::Serving;
 use crate::world::{JOURNAL, asked, password, table};
 use chpw_journal::MemorySink;
 use chpw_table::{Counts, DecideFault, JournalSink, Opened, Outcome, Refused, Table, Verdict};
-use hex::encode;
 use std::alloc::Global;
 
 /// Derives the keys of a request's password, under the one count that there is.
@@ -35,21 +34,21 @@ fn refused_for(fault: &DecideFault) -> Result<(), Stop> {
     }
 }
 
-/// The verdict that is given beside the call.
-fn verdict_beside(answer: Result<Verdict, Refused>) -> Result<Verdict, Stop> {
+/// What is answered beside the call.
+fn decided_beside<T>(answer: Result<T, Refused>) -> Result<T, Stop> {
     match answer {
-        Ok(verdict) => Ok(verdict),
-        Err(refused) => {
-            refused_for(&refused.fault)?;
-            Err(Stop::Beside)
-        }
+        Ok(value) => Ok(value),
+        Err(refused) => Err(match refused.fault {
+            DecideFault::Memory => Stop::Beside,
+            _ => Stop::Wrong("another refusal"),
+        }),
     }
 }
 
 /// So many changes, each to another password.
 pub fn change_often<D: Serving>(alloc: Global, decider: &mut D, count: u32) -> Result<(), Stop> {
     for number in 0..count {
-        verdict_beside(decider.decide(NOW, complete(alloc, number)?))?;
+        decided_beside(decider.decide(NOW, complete(alloc, number)?))?;
     }
     Ok(())
 }
@@ -63,88 +62,105 @@ pub fn decided<D: Serving>(
 ) -> Result<Told, Stop> {
     change_often(alloc, decider, before)?;
     let password = password(alloc, before)?;
-    let password = password.as_str().as_bytes();
     let opened = if derives {
         asked(alloc, before)?
     } else {
         complete(alloc, before)?
     };
-    let copy = opened.clone()?;
-    let was = decider.seen(alloc)?;
-    let mut fell = Fell::Nowhere;
-    let verdict = match ask(decider, opened, password, derives) {
-        Ok(verdict) => verdict,
-        Err(Refused { fault, opened }) => {
-            refused_for(&fault)?;
-            if decider.seen(alloc)?.as_str() != was.as_str() {
-                return Err(Stop::Wrong("the table isn't as it was"));
-            }
-            if !derives && !opened.is_same(&copy) {
-                return Err(Stop::Wrong("the request isn't as it was"));
-            }
-            fell = Fell::Call;
-            verdict_beside(ask(decider, opened, password, derives))?
-        }
+    let way = Way {
+        password: password.as_str().as_bytes(),
+        derives,
     };
+    let (fell, verdict) = verdict_of(alloc, decider, opened, way)?;
     let seen = decider.seen(alloc)?;
     let text = format!(in alloc; "{}; {seen}", verdict.text())?;
     Ok(Told { fell, text })
 }
 
+/// How a request is decided: by its keys, or by those derived of a password.
+#[derive(Clone, Copy, Drop)]
+struct Way<'a> {
+    password: &'a [u8],
+    derives: bool,
+}
+
+/// The verdict of a request, and where it fell.
+fn verdict_of<D: Serving>(
+    alloc: Global,
+    decider: &mut D,
+    opened: Opened,
+    way: Way<'_>,
+) -> Result<(Fell, Verdict), Stop> {
+    let copy = opened.clone()?;
+    let was = decider.seen(alloc)?;
+    match ask(decider, opened, way) {
+        Ok(verdict) => Ok((Fell::Nowhere, verdict)),
+        Err(refused) => {
+            let verdict = asked_again(alloc, decider, refused, way, (&copy, was.as_str()))?;
+            Ok((Fell::Call, verdict))
+        }
+    }
+}
+
+/// The verdict of a request that was refused, made again: table and request are as they were.
+fn asked_again<D: Serving>(
+    alloc: Global,
+    decider: &mut D,
+    refused: Refused,
+    way: Way<'_>,
+    was: (&Opened, &str),
+) -> Result<Verdict, Stop> {
+    let copy = if way.derives { &refused.opened } else { was.0 };
+    unchanged(&refused, copy, decider.seen(alloc)?.as_str(), was.1)?;
+    decided_beside(ask(decider, refused.opened, way))
+}
+
+/// That want of memory refused a request, and left it and all that is seen as they were.
+fn unchanged(refused: &Refused, copy: &Opened, seen: &str, was: &str) -> Result<(), Stop> {
+    refused_for(&refused.fault)?;
+    if seen != was {
+        return Err(Stop::Wrong("the table isn't as it was"));
+    }
+    if !refused.opened.is_same(copy) {
+        return Err(Stop::Wrong("the request isn't as it was"));
+    }
+    Ok(())
+}
+
 /// A request decided after so many changes, and not again where it was refused.
 pub fn decided_once<D: Serving>(alloc: Global, decider: &mut D, before: u32) -> Result<Told, Stop> {
     change_often(alloc, decider, before)?;
-    let opened = complete(alloc, before)?;
+    let fell = fell_of(decider.decide(NOW, complete(alloc, before)?))?;
     let text = String::from_str(alloc, "left")?;
-    let fell = match decider.decide(NOW, opened) {
-        Ok(_) => Fell::Nowhere,
-        Err(refused) => {
-            refused_for(&refused.fault)?;
-            Fell::Call
-        }
-    };
     Ok(Told { fell, text })
 }
 
-fn ask<D: Serving>(
-    decider: &mut D,
-    opened: Opened,
-    password: &[u8],
-    derives: bool,
-) -> Result<Verdict, Refused> {
-    if derives {
-        decider.decide_deriving(NOW, opened, password)
+/// Where a decision fell.
+fn fell_of(answer: Result<Verdict, Refused>) -> Result<Fell, Stop> {
+    match answer {
+        Ok(_) => Ok(Fell::Nowhere),
+        Err(refused) => {
+            refused_for(&refused.fault)?;
+            Ok(Fell::Call)
+        }
+    }
+}
+
+fn ask<D: Serving>(decider: &mut D, opened: Opened, way: Way<'_>) -> Result<Verdict, Refused> {
+    if way.derives {
+        decider.decide_deriving(NOW, opened, way.password)
     } else {
         decider.decide(NOW, opened)
     }
 }
 
-/// All that is seen of a table and its journal.
-fn seen(alloc: Global, table: &Table, sink: &MemorySink) -> Result<String, Stop> {
-    let (table, journal) = (table_text(alloc, table)?, encode(alloc, sink.bytes())?);
-    Ok(format!(in alloc; "{table} journal {journal}")?)
-}
-
-fn outcome_beside(answer: Result<Outcome, Refused>) -> Result<Outcome, Stop> {
-    match answer {
-        Ok(outcome) => Ok(outcome),
-        Err(refused) => {
-            refused_for(&refused.fault)?;
-            Err(Stop::Beside)
-        }
-    }
-}
-
 /// `Table::decide` of a request, over a sink that has room to count one more failure.
-fn ask_table(
-    table: &mut Table,
-    opened: Opened,
-    sink: &mut MemorySink,
-) -> Result<Result<Outcome, Refused>, Stop> {
+fn ask_table(table: &mut Table, opened: Opened, sink: &mut MemorySink) -> Result<Outcome, Refused> {
     if sink.failures() == u64::MAX {
-        return Err(Stop::Wrong("a sink that failed too often"));
+        let fault = DecideFault::Full;
+        return Err(Refused { fault, opened });
     }
-    Ok(table.decide(NOW, opened, sink))
+    table.decide(NOW, opened, sink)
 }
 
 /// So many changes, each to another password.
@@ -155,7 +171,7 @@ fn change_table(
     count: u32,
 ) -> Result<(), Stop> {
     for number in 0..count {
-        outcome_beside(ask_table(table, complete(alloc, number)?, sink)?)?;
+        decided_beside(ask_table(table, complete(alloc, number)?, sink))?;
     }
     Ok(())
 }
@@ -168,14 +184,9 @@ fn again(
     refused: Refused,
     was: (&Opened, &str),
 ) -> Result<Outcome, Stop> {
-    refused_for(&refused.fault)?;
-    if seen(alloc, table, sink)?.as_str() != was.1 {
-        return Err(Stop::Wrong("the table isn't as it was"));
-    }
-    if !refused.opened.is_same(was.0) {
-        return Err(Stop::Wrong("the request isn't as it was"));
-    }
-    outcome_beside(ask_table(table, refused.opened, sink)?)
+    let seen = kept_text(alloc, table, sink)?;
+    unchanged(&refused, was.0, seen.as_str(), was.1)?;
+    decided_beside(ask_table(table, refused.opened, sink))
 }
 
 /// What is told of an outcome over a table.
@@ -186,7 +197,7 @@ fn outcome_told(
     fell: Fell,
     outcome: &Outcome,
 ) -> Result<Told, Stop> {
-    let seen = seen(alloc, table, sink)?;
+    let seen = kept_text(alloc, table, sink)?;
     let text = format!(in alloc; "{}; {seen}", outcome.verdict.text())?;
     Ok(Told { fell, text })
 }
@@ -199,8 +210,8 @@ fn outcome_of(
     opened: Opened,
     copy: &Opened,
 ) -> Result<(Fell, Outcome), Stop> {
-    let was = seen(alloc, table, sink)?;
-    match ask_table(table, opened, sink)? {
+    let was = kept_text(alloc, table, sink)?;
+    match ask_table(table, opened, sink) {
         Ok(outcome) => Ok((Fell::Nowhere, outcome)),
         Err(refused) => {
             let outcome = again(alloc, table, sink, refused, (copy, was.as_str()))?;

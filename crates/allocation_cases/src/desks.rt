@@ -4,17 +4,16 @@ ghost use Rattle.chpw_book.specs.Starting.{IsNamed, workers_of};
 
 use crate::clock::NOW;
 use crate::deciding::{change_often, decided, decided_once};
-use crate::seen::{history_text, lookup_text, pass_text, receipts_text, table_text};
+use crate::seen::{history_text, kept_text, lookup_text, pass_text, receipts_text};
 use crate::stop::{Fell, Stop, Told};
 use crate::streams::served;
-use crate::world::{JOURNAL, table};
+use crate::world::{JOURNAL, known, table};
 use chpw_book::{AtDesk, CloseRefused, Closed, Desk, DeskName, Pass, RaiseFault, UnnamedDesk};
 use chpw_journal::MemorySink;
-use hex::encode;
+use chpw_table::RaiseVerdict;
 use std::alloc::Global;
 use std::marker::Brand;
 use std::sync::Wait;
-use test_realm::name;
 
 /// The length of a record of alice's.
 const RECORD: usize = 66;
@@ -46,24 +45,52 @@ fn at<D: DeskName, R: Wait>(
     requires name { IsNamed unnamed D.name D.parts D.book D.root D.workers }
 {
     let sink = MemorySink::new(alloc, JOURNAL)?;
-    let Ok((desk, mut passes)) = Desk::<D, MemorySink>::start(rt, alloc, unnamed, sink) else {
-        return Err(if asked.call == "start" {
-            Stop::Call
-        } else {
-            Stop::Beside
-        });
-    };
-    let told = match passes.as_mut_slice() {
-        [pass, ..] => with_pass(rt, alloc, &desk, pass, asked),
-        [] => Err(Stop::Wrong("no pass")),
-    };
+    match Desk::<D, MemorySink>::start(rt, alloc, unnamed, sink) {
+        Ok((desk, passes)) => with_desk(rt, alloc, desk, passes, asked),
+        Err(_) if asked.call == "start" => Err(Stop::Call),
+        Err(_) => Err(Stop::Beside),
+    }
+}
+
+fn with_desk<D: DeskName, R: Wait>(
+    rt: &R,
+    alloc: Global,
+    desk: Desk<D, MemorySink>,
+    mut passes: Vec<Pass<D>>,
+    asked: Asked<'_>,
+) -> Result<Told, Stop> {
+    let told = with_first(rt, alloc, &desk, &mut passes, asked);
     let closed = closed(rt, desk, passes);
-    let (Told { fell, text }, closed) = (told?, closed?);
+    let told = told?;
+    with_left(alloc, told.fell, told.text.as_str(), &closed?, asked)
+}
+
+fn with_first<D: DeskName, R: Wait>(
+    rt: &R,
+    alloc: Global,
+    desk: &Desk<D, MemorySink>,
+    passes: &mut [Pass<D>],
+    asked: Asked<'_>,
+) -> Result<Told, Stop> {
+    match passes {
+        [pass, ..] => with_pass(rt, alloc, desk, pass, asked),
+        [] => Err(Stop::Wrong("no pass")),
+    }
+}
+
+/// What was told, and what the desk leaves.
+fn with_left(
+    alloc: Global,
+    fell: Fell,
+    told: &str,
+    closed: &Closed<MemorySink>,
+    asked: Asked<'_>,
+) -> Result<Told, Stop> {
     let left = match asked.call {
-        "leave" => counted(alloc, &closed, asked.before, fell)?,
-        _ => left(alloc, &closed)?,
+        "leave" => counted(alloc, closed, asked.before, fell)?,
+        _ => left(alloc, closed)?,
     };
-    let text = format!(in alloc; "{text}; {left}")?;
+    let text = format!(in alloc; "{told}; {left}")?;
     Ok(Told { fell, text })
 }
 
@@ -100,7 +127,7 @@ fn looked_up<D: DeskName>(
     desk: &Desk<D, MemorySink>,
     pass: &mut Pass<D>,
 ) -> Result<Told, Stop> {
-    let alice = name(alloc, "alice")?;
+    let alice = known(alloc, "alice")?;
     let was = receipts_text(alloc, pass.receipts())?;
     let mut fell = Fell::Nowhere;
     let found = match desk.lookup(pass, &alice) {
@@ -126,18 +153,42 @@ fn raised<D: DeskName, R: Wait>(
     pass: &mut Pass<D>,
 ) -> Result<Told, Stop> {
     let was = pass_text(alloc, desk, pass)?;
-    let (fell, raised) = match desk.raise(rt, pass, NOW, 8) {
-        Err(RaiseFault::Memory) => {
-            if pass_text(alloc, desk, pass)?.as_str() != was.as_str() {
-                return Err(Stop::Wrong("the pass isn't as it was"));
-            }
-            (Fell::Call, desk.raise(rt, pass, NOW, 8))
+    let (fell, verdict) = match desk.raise(rt, pass, NOW, 8) {
+        Ok(verdict) => (Fell::Nowhere, verdict),
+        Err(fault) => {
+            refused_for(
+                fault,
+                pass_text(alloc, desk, pass)?.as_str() == was.as_str(),
+            )?;
+            (Fell::Call, raised_beside(desk.raise(rt, pass, NOW, 8))?)
         }
-        raised => (Fell::Nowhere, raised),
     };
-    let Ok(verdict) = raised else {
-        return Err(Stop::Wrong("another refusal"));
-    };
+    raise_text(alloc, desk, pass, fell, verdict)
+}
+
+/// Only want of memory may refuse a raise, and leaves the pass as it was.
+fn refused_for(fault: RaiseFault, is_as_it_was: bool) -> Result<(), Stop> {
+    match fault {
+        RaiseFault::Memory if is_as_it_was => Ok(()),
+        RaiseFault::Memory => Err(Stop::Wrong("the pass isn't as it was")),
+        _ => Err(Stop::Wrong("another refusal")),
+    }
+}
+
+fn raised_beside(answer: Result<RaiseVerdict, RaiseFault>) -> Result<RaiseVerdict, Stop> {
+    match answer {
+        Ok(verdict) => Ok(verdict),
+        Err(_) => Err(Stop::Wrong("another refusal")),
+    }
+}
+
+fn raise_text<D: DeskName>(
+    alloc: Global,
+    desk: &Desk<D, MemorySink>,
+    pass: &mut Pass<D>,
+    fell: Fell,
+    verdict: RaiseVerdict,
+) -> Result<Told, Stop> {
     let seen = pass_text(alloc, desk, pass)?;
     let text = format!(in alloc; "{}; {seen}", verdict.text())?;
     Ok(Told { fell, text })
@@ -167,9 +218,8 @@ pub fn closed<D: DeskName, R: Wait>(
 /// What a desk leaves: its history, table and journal.
 fn left(alloc: Global, closed: &Closed<MemorySink>) -> Result<String, Stop> {
     let history = history_text(alloc, &closed.history)?;
-    let table = table_text(alloc, &closed.table)?;
-    let journal = encode(alloc, closed.sink.bytes())?;
-    Ok(format!(in alloc; "{history} {table} journal {journal}")?)
+    let kept = kept_text(alloc, &closed.table, &closed.sink)?;
+    Ok(format!(in alloc; "{history} {kept}")?)
 }
 
 /// That a desk leaves so many changes, and one more unless the last was refused.

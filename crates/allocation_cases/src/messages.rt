@@ -2,6 +2,7 @@
 
 use crate::making::{KEY, SERVICE, ap_rep, ap_req, krb_error, krb_priv, ticket};
 use crate::records::bytes_of;
+use crate::seen::add;
 use crate::stop::{Stop, beside, called, opened};
 use crate::world::{PEER, configured, sent};
 use chpw_client::Sent;
@@ -14,7 +15,7 @@ use krb_der::{
 };
 use krb_keys::Key;
 use krb_msgs::{ApOpened, ServiceKey, open_ap, open_priv};
-use std::alloc::Global;
+use std::alloc::{AllocError, Global};
 
 /// `make_.. HEX`, a message of that part; `open_..`, of alice's request; and `service`.
 pub fn told(alloc: Global, line: &str) -> Result<String, Stop> {
@@ -63,29 +64,48 @@ fn open(alloc: Global, ap: &[u8]) -> Result<ApOpened, Stop> {
 fn ap_opened(alloc: Global) -> Result<String, Stop> {
     let sent = beside(sent(alloc, 0))?;
     let found = open(alloc, parts_of(&sent)?.ap)?;
+    opened_text(alloc, &found)
+}
+
+fn opened_text(alloc: Global, found: &ApOpened) -> Result<String, Stop> {
     let mut text = encode(alloc, found.crealm.as_slice())?;
+    add_opened(&mut text, alloc, found)?;
+    Ok(text)
+}
+
+fn add_opened(text: &mut String, alloc: Global, found: &ApOpened) -> Result<(), Stop> {
     for part in found.cname.name_string.as_slice() {
         text.push_str(" ")?;
-        text.push_str(encode(alloc, part.as_slice())?.as_str())?;
+        add(text, encode(alloc, part.as_slice()))?;
     }
-    let (session, subkey) = (
-        encode(alloc, found.session.bytes())?,
-        encode(alloc, found.subkey.bytes())?,
-    );
-    text.push_str(format!(in alloc; " {session} {subkey} {}", found.ctime.0)?.as_str())?;
-    Ok(text)
+    let session = encode(alloc, found.session.bytes())?;
+    let subkey = encode(alloc, found.subkey.bytes())?;
+    add(
+        text,
+        format!(in alloc; " {session} {subkey} {}", found.ctime.0),
+    )
 }
 
 fn priv_opened(alloc: Global) -> Result<String, Stop> {
     let sent = beside(sent(alloc, 0))?;
     let parts = parts_of(&sent)?;
     let found = beside(open(alloc, parts.ap))?;
-    let private = opened(open_priv(alloc, &found, parts.tail))?;
+    user_text(alloc, &found, parts.tail)
+}
+
+/// The user-data of a KRB-PRIV.
+fn user_text(alloc: Global, found: &ApOpened, tail: &[u8]) -> Result<String, Stop> {
+    let private = opened(open_priv(alloc, found, tail))?;
     Ok(encode(alloc, private.user_bytes.as_slice())?)
 }
 
 fn service(alloc: Global) -> Result<String, Stop> {
     let config = configured(alloc)?;
-    let service = called(Service::of(alloc, &config))?;
+    realm_text(alloc, Service::of(alloc, &config))
+}
+
+/// The realm of a service that was made.
+fn realm_text(alloc: Global, made: Result<Service, AllocError>) -> Result<String, Stop> {
+    let service = called(made)?;
     Ok(encode(alloc, chpw_answer::Messages::realm(&service))?)
 }

@@ -3,7 +3,7 @@ ghost use Rattle.std.specs.Prelude.{◌≡◌};
 ghost use Rattle.chpw_book.specs.Starting.{IsNamed};
 
 use crate::desks::closed;
-use crate::seen::table_text;
+use crate::seen::kept_text;
 use crate::stop::{Fell, Stop, Told, beside};
 use crate::streams::{service, stream_of};
 use crate::world::{JOURNAL, sent_at, table};
@@ -12,7 +12,6 @@ use chpw_journal::MemorySink;
 use chpw_messages::Service;
 use chpw_pool::{machine_moment, run_pool};
 use chpw_table::{Entry, Event, Verdict};
-use hex::encode;
 use std::alloc::Global;
 use std::io::{self, Read, Write};
 use std::marker::Brand;
@@ -81,22 +80,43 @@ fn at<D: DeskName + Send + Sync, R: Machine>(
     requires name { IsNamed unnamed D.name D.parts D.book D.root D.workers }
 {
     let sink = MemorySink::new(alloc, JOURNAL)?;
-    let Ok((desk, mut passes)) = Desk::<D, MemorySink>::start(rt, alloc, unnamed, sink) else {
+    let Ok((desk, passes)) = Desk::<D, MemorySink>::start(rt, alloc, unnamed, sink) else {
         return Err(Stop::Beside);
     };
-    let (listener, service, shared) = (site.listener, site.service, &desk);
-    let (fell, answered) = join(
-        rt,
-        || pooled(rt, alloc, listener, service, shared, &mut passes),
-        || asked(rt, site),
-    );
+    with_desk(rt, alloc, desk, passes, site)
+}
+
+fn with_desk<D: DeskName + Send + Sync, R: Machine>(
+    rt: &R,
+    alloc: Global,
+    desk: Desk<D, MemorySink>,
+    mut passes: Vec<Pass<D>>,
+    site: Site<'_>,
+) -> Result<Told, Stop> {
+    let fell = at_once(rt, alloc, &desk, &mut passes, site);
     let closed = closed(rt, desk, passes)?;
-    let fell = match fell {
-        Fell::Nowhere if answered < CONNECTIONS => Fell::Connection,
-        fell => fell,
-    };
     let text = left(alloc, &closed)?;
     Ok(Told { fell, text })
+}
+
+/// The pool beside its client: where it fell.
+fn at_once<D: DeskName + Send + Sync, R: Machine>(
+    rt: &R,
+    alloc: Global,
+    desk: &Desk<D, MemorySink>,
+    passes: &mut Vec<Pass<D>>,
+    site: Site<'_>,
+) -> Fell {
+    let (listener, service) = (site.listener, site.service);
+    let (fell, answered) = join(
+        rt,
+        || pooled(rt, alloc, listener, service, desk, passes),
+        || asked(rt, site),
+    );
+    match fell {
+        Fell::Nowhere if answered < CONNECTIONS => Fell::Connection,
+        fell => fell,
+    }
 }
 
 /// Runs the pool until it has served so many connections: whether it was refused.
@@ -172,11 +192,8 @@ fn left(alloc: Global, closed: &Closed<MemorySink>) -> Result<String, Stop> {
     if !is_so {
         return Err(Stop::Wrong("not one change and its replays"));
     }
-    let (table, journal) = (
-        table_text(alloc, &closed.table)?,
-        encode(alloc, closed.sink.bytes())?,
-    );
-    Ok(format!(in alloc; "one change, then replays; {table} journal {journal}")?)
+    let kept = kept_text(alloc, &closed.table, &closed.sink)?;
+    Ok(format!(in alloc; "one change, then replays; {kept}")?)
 }
 
 fn is_replay(entry: &Entry) -> bool {

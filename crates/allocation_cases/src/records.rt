@@ -1,9 +1,11 @@
 //! Calls of krb_der: each record is read from its text, or written.
+ghost use Rattle.std.specs.Prelude.{◌≡◌, true, IfOk};
+ghost use Rattle.krb_elements.specs.Texts.{fits};
 
 use crate::stop::{Stop, beside, called, read};
 use hex::{FromHexError, decode, encode};
 use krb_der::{
-    fits, read_ap_rep, read_ap_req, read_authenticator, read_authorization_data,
+    ReadError, fits, read_ap_rep, read_ap_req, read_authenticator, read_authorization_data,
     read_change_passwd_data, read_checksum, read_enc_ap_rep_part, read_enc_krb_priv_part,
     read_enc_ticket_part, read_encrypted_data, read_encryption_key, read_host_address,
     read_krb_error, read_krb_priv, read_principal_name, read_ticket, read_transited_encoding,
@@ -12,142 +14,112 @@ use krb_der::{
     write_enc_ticket_part, write_encrypted_data, write_encryption_key, write_host_address,
     write_krb_error, write_krb_priv, write_principal_name, write_ticket, write_transited_encoding,
 };
-use std::alloc::Global;
+use krb_elements::Write;
+use std::alloc::{AllocError, Global};
 
-// A small function for each record, since a check takes far longer for one function with all of them.
-macro_rules! again {
-    ($alloc:expr, $reads:expr, $text:expr, $read:ident, $write:ident) => {{
-        let found = read($read($alloc, $text));
-        let value = if $reads { found? } else { beside(found)? };
-        if !fits(&value) {
-            return Err(Stop::Wrong("a record that can't be written"));
-        }
-        let made = called($write($alloc, &value));
-        let text = if $reads { beside(made)? } else { made? };
-        Ok(encode($alloc, &text)?)
-    }};
+/// A record that was read and can be written.
+fn legal<T: Write + Drop>(reads: bool, found: Result<T, ReadError>) -> Result<T, Stop>
+    ensures fits { IfOk result (λ v. fits T.shape (T.value v) ≡ true) }
+{
+    let found = read(found);
+    let value = if reads { found? } else { beside(found)? };
+    if fits(&value) {
+        Ok(value)
+    } else {
+        Err(Stop::Wrong("a record that can't be written"))
+    }
+}
+
+/// The text of the bytes that were written.
+fn shown(alloc: Global, reads: bool, made: Result<Vec<u8>, AllocError>) -> Result<String, Stop> {
+    let made = called(made);
+    let text = if reads { beside(made)? } else { made? };
+    Ok(encode(alloc, &text)?)
 }
 
 fn principal_name(alloc: Global, reads: bool, text: &[u8]) -> Result<String, Stop> {
-    again!(
-        alloc,
-        reads,
-        text,
-        read_principal_name,
-        write_principal_name
-    )
+    let value = legal(reads, read_principal_name(alloc, text))?;
+    shown(alloc, reads, write_principal_name(alloc, &value))
 }
 
 fn encrypted_data(alloc: Global, reads: bool, text: &[u8]) -> Result<String, Stop> {
-    again!(
-        alloc,
-        reads,
-        text,
-        read_encrypted_data,
-        write_encrypted_data
-    )
+    let value = legal(reads, read_encrypted_data(alloc, text))?;
+    shown(alloc, reads, write_encrypted_data(alloc, &value))
 }
 
 fn encryption_key(alloc: Global, reads: bool, text: &[u8]) -> Result<String, Stop> {
-    again!(
-        alloc,
-        reads,
-        text,
-        read_encryption_key,
-        write_encryption_key
-    )
+    let value = legal(reads, read_encryption_key(alloc, text))?;
+    shown(alloc, reads, write_encryption_key(alloc, &value))
 }
 
 fn host_address(alloc: Global, reads: bool, text: &[u8]) -> Result<String, Stop> {
-    again!(alloc, reads, text, read_host_address, write_host_address)
+    let value = legal(reads, read_host_address(alloc, text))?;
+    shown(alloc, reads, write_host_address(alloc, &value))
 }
 
 fn checksum(alloc: Global, reads: bool, text: &[u8]) -> Result<String, Stop> {
-    again!(alloc, reads, text, read_checksum, write_checksum)
+    let value = legal(reads, read_checksum(alloc, text))?;
+    shown(alloc, reads, write_checksum(alloc, &value))
 }
 
 fn transited_encoding(alloc: Global, reads: bool, text: &[u8]) -> Result<String, Stop> {
-    again!(
-        alloc,
-        reads,
-        text,
-        read_transited_encoding,
-        write_transited_encoding
-    )
+    let value = legal(reads, read_transited_encoding(alloc, text))?;
+    shown(alloc, reads, write_transited_encoding(alloc, &value))
 }
 
 fn authorization_data(alloc: Global, reads: bool, text: &[u8]) -> Result<String, Stop> {
-    again!(
-        alloc,
-        reads,
-        text,
-        read_authorization_data,
-        write_authorization_data
-    )
+    let value = legal(reads, read_authorization_data(alloc, text))?;
+    shown(alloc, reads, write_authorization_data(alloc, &value))
 }
 
 fn change_passwd_data(alloc: Global, reads: bool, text: &[u8]) -> Result<String, Stop> {
-    again!(
-        alloc,
-        reads,
-        text,
-        read_change_passwd_data,
-        write_change_passwd_data
-    )
+    let value = legal(reads, read_change_passwd_data(alloc, text))?;
+    shown(alloc, reads, write_change_passwd_data(alloc, &value))
 }
 
 fn ticket(alloc: Global, reads: bool, text: &[u8]) -> Result<String, Stop> {
-    again!(alloc, reads, text, read_ticket, write_ticket)
+    let value = legal(reads, read_ticket(alloc, text))?;
+    shown(alloc, reads, write_ticket(alloc, &value))
 }
 
 fn enc_ticket_part(alloc: Global, reads: bool, text: &[u8]) -> Result<String, Stop> {
-    again!(
-        alloc,
-        reads,
-        text,
-        read_enc_ticket_part,
-        write_enc_ticket_part
-    )
+    let value = legal(reads, read_enc_ticket_part(alloc, text))?;
+    shown(alloc, reads, write_enc_ticket_part(alloc, &value))
 }
 
 fn authenticator(alloc: Global, reads: bool, text: &[u8]) -> Result<String, Stop> {
-    again!(alloc, reads, text, read_authenticator, write_authenticator)
+    let value = legal(reads, read_authenticator(alloc, text))?;
+    shown(alloc, reads, write_authenticator(alloc, &value))
 }
 
 fn ap_req(alloc: Global, reads: bool, text: &[u8]) -> Result<String, Stop> {
-    again!(alloc, reads, text, read_ap_req, write_ap_req)
+    let value = legal(reads, read_ap_req(alloc, text))?;
+    shown(alloc, reads, write_ap_req(alloc, &value))
 }
 
 fn ap_rep(alloc: Global, reads: bool, text: &[u8]) -> Result<String, Stop> {
-    again!(alloc, reads, text, read_ap_rep, write_ap_rep)
+    let value = legal(reads, read_ap_rep(alloc, text))?;
+    shown(alloc, reads, write_ap_rep(alloc, &value))
 }
 
 fn enc_ap_rep_part(alloc: Global, reads: bool, text: &[u8]) -> Result<String, Stop> {
-    again!(
-        alloc,
-        reads,
-        text,
-        read_enc_ap_rep_part,
-        write_enc_ap_rep_part
-    )
+    let value = legal(reads, read_enc_ap_rep_part(alloc, text))?;
+    shown(alloc, reads, write_enc_ap_rep_part(alloc, &value))
 }
 
 fn krb_priv(alloc: Global, reads: bool, text: &[u8]) -> Result<String, Stop> {
-    again!(alloc, reads, text, read_krb_priv, write_krb_priv)
+    let value = legal(reads, read_krb_priv(alloc, text))?;
+    shown(alloc, reads, write_krb_priv(alloc, &value))
 }
 
 fn enc_krb_priv_part(alloc: Global, reads: bool, text: &[u8]) -> Result<String, Stop> {
-    again!(
-        alloc,
-        reads,
-        text,
-        read_enc_krb_priv_part,
-        write_enc_krb_priv_part
-    )
+    let value = legal(reads, read_enc_krb_priv_part(alloc, text))?;
+    shown(alloc, reads, write_enc_krb_priv_part(alloc, &value))
 }
 
 fn krb_error(alloc: Global, reads: bool, text: &[u8]) -> Result<String, Stop> {
-    again!(alloc, reads, text, read_krb_error, write_krb_error)
+    let value = legal(reads, read_krb_error(alloc, text))?;
+    shown(alloc, reads, write_krb_error(alloc, &value))
 }
 
 /// The bytes of a text in hexadecimal.

@@ -132,24 +132,57 @@ fn answer<D: Serving>(
 /// Alice's first request, and the reply to it.
 pub fn exchanged(alloc: Global) -> Result<(Sent, Vec<u8>), Stop> {
     let sent = beside(sent(alloc, 0))?;
-    let stream = stream_of(alloc, &sent)?;
-    let (mut alone, service) = (started(alloc)?, service(alloc)?);
-    let written = beside(answer(alloc, &mut alone, &service, &stream))?;
+    let written = beside(reply_to(alloc, &sent))?;
     Ok((sent, written))
+}
+
+fn reply_to(alloc: Global, sent: &Sent) -> Result<Vec<u8>, Stop> {
+    let stream = stream_of(alloc, sent)?;
+    let service = service(alloc)?;
+    reply_of_new(alloc, &service, &stream)
+}
+
+/// The reply of a table that has no event yet.
+fn reply_of_new(alloc: Global, service: &Service, stream: &[u8]) -> Result<Vec<u8>, Stop> {
+    answer(alloc, &mut started(alloc)?, service, stream)
 }
 
 /// A request served after so many others, and then its bytes once more.
 pub fn served<D: Serving>(alloc: Global, decider: &mut D, before: u32) -> Result<Told, Stop> {
-    let service = service(alloc)?;
     change_often(alloc, decider, before)?;
     let sent = beside(sent(alloc, before))?;
-    let stream = stream_of(alloc, &sent)?;
-    let fell = change(alloc, decider, &service, &sent, &stream)?;
-    let written = beside(answer(alloc, decider, &service, &stream))?;
-    let line = beside(line_of(alloc, &sent, reply_of(&written)))?;
-    let seen = decider.seen(alloc)?;
-    let text = format!(in alloc; "{line}; {seen}")?;
+    let service = service(alloc)?;
+    served_of(alloc, decider, &service, &sent)
+}
+
+fn served_of<D: Serving>(
+    alloc: Global,
+    decider: &mut D,
+    service: &Service,
+    sent: &Sent,
+) -> Result<Told, Stop> {
+    let stream = stream_of(alloc, sent)?;
+    let fell = change(alloc, decider, service, sent, &stream)?;
+    let line = beside(line_to(alloc, decider, service, sent, &stream))?;
+    let text = with_seen(alloc, decider, line.as_str())?;
     Ok(Told { fell, text })
+}
+
+/// What the client prints of the reply to a stream.
+fn line_to<D: Serving>(
+    alloc: Global,
+    decider: &mut D,
+    service: &Service,
+    sent: &Sent,
+    stream: &[u8],
+) -> Result<String, Stop> {
+    let written = answer(alloc, decider, service, stream)?;
+    line_of(alloc, sent, reply_of(&written))
+}
+
+fn with_seen<D: Serving>(alloc: Global, decider: &mut D, line: &str) -> Result<String, Stop> {
+    let seen = decider.seen(alloc)?;
+    Ok(format!(in alloc; "{line}; {seen}")?)
 }
 
 /// Serves a request to its entry: it is accepted, or served again where memory was wanting and it has
@@ -163,18 +196,30 @@ fn change<D: Serving>(
 ) -> Result<Fell, Stop> {
     let was = decider.seen(alloc)?;
     let count = decider.receipts().len();
-    let (fell, written) = match answer(alloc, decider, service, stream) {
-        Ok(written) => (Fell::Nowhere, written),
-        Err(Stop::Call) if decider.receipts().len() != count => return Ok(Fell::Behind),
+    match answer(alloc, decider, service, stream) {
+        Ok(written) => accepted(alloc, sent, &written, Fell::Nowhere),
+        Err(Stop::Call) if decider.receipts().len() != count => Ok(Fell::Behind),
         Err(Stop::Call) => {
-            if decider.seen(alloc)?.as_str() != was.as_str() {
-                return Err(Stop::Wrong("the table isn't as it was"));
-            }
-            (Fell::Call, beside(answer(alloc, decider, service, stream))?)
+            unchanged(alloc, decider, was.as_str())?;
+            let written = beside(answer(alloc, decider, service, stream))?;
+            accepted(alloc, sent, &written, Fell::Call)
         }
-        Err(stop) => return Err(stop),
-    };
-    if beside(line_of(alloc, sent, reply_of(&written)))?.as_str() == CHANGED {
+        Err(stop) => Err(stop),
+    }
+}
+
+/// That all that is seen is as it was.
+fn unchanged<D: Serving>(alloc: Global, decider: &mut D, was: &str) -> Result<(), Stop> {
+    if decider.seen(alloc)?.as_str() == was {
+        Ok(())
+    } else {
+        Err(Stop::Wrong("the table isn't as it was"))
+    }
+}
+
+/// That the reply says so.
+fn accepted(alloc: Global, sent: &Sent, written: &[u8], fell: Fell) -> Result<Fell, Stop> {
+    if beside(line_of(alloc, sent, reply_of(written)))?.as_str() == CHANGED {
         Ok(fell)
     } else {
         Err(Stop::Wrong("a request that isn't accepted"))

@@ -3,17 +3,17 @@ ghost use Rattle.std.specs.Prelude.{◌≤◌, All};
 
 use crate::clock::NOW;
 use crate::deciding::{decided, decided_by_table, with_keys};
-use crate::seen::{history_text, table_text};
+use crate::seen::{add, history_text, table_text};
 use crate::stop::{Fell, Stop, Told, beside, called};
 use crate::streams::served;
-use crate::world::{JOURNAL, asked, configured, table};
+use crate::world::{JOURNAL, asked, configured, known, table};
 use chpw_decider::Alone;
-use chpw_journal::{MemorySink, RestoreFault, restore};
+use chpw_journal::{MemorySink, RestoreFault, Restored, restore};
 use chpw_rules::Name;
-use chpw_table::{Counts, Digest, Entry, Event, KeyRow, Table, Verdict, record_bytes};
+use chpw_table::{Counts, Digest, Entry, Event, KeyRow, Opened, Table, Verdict, record_bytes};
 use hex::encode;
 use std::alloc::Global;
-use test_realm::name;
+use std::slice;
 
 /// `decide N`, `decide_deriving N`, `serve_alone N`, `Table::decide N`: the call after N changes;
 /// `add`: keys derived beside others.
@@ -39,18 +39,23 @@ pub fn started(alloc: Global) -> Result<Alone<MemorySink>, Stop> {
 /// Keys of a password under five counts, the last of which is added.
 fn added(alloc: Global) -> Result<Told, Stop> {
     let mut digest = Digest::derive(alloc, b"New-pass2", b"salt", &four_counts())?;
-    let fifth = fifth_count();
-    let before = digest_text(alloc, &digest)?;
-    let mut fell = Fell::Nowhere;
-    if digest.add(b"New-pass2", b"salt", &fifth).is_err() {
-        if digest_text(alloc, &digest)?.as_str() != before.as_str() {
-            return Err(Stop::Wrong("the digest isn't as it was"));
-        }
-        fell = Fell::Call;
-        digest.add(b"New-pass2", b"salt", &fifth)?;
-    }
+    let fell = add_fifth(alloc, &mut digest)?;
     let text = digest_text(alloc, &digest)?;
     Ok(Told { fell, text })
+}
+
+/// Adds a fifth key, again where memory was wanting.
+fn add_fifth(alloc: Global, digest: &mut Digest) -> Result<Fell, Stop> {
+    let fifth = fifth_count();
+    let before = digest_text(alloc, digest)?;
+    if digest.add(b"New-pass2", b"salt", &fifth).is_ok() {
+        return Ok(Fell::Nowhere);
+    }
+    if digest_text(alloc, digest)?.as_str() != before.as_str() {
+        return Err(Stop::Wrong("the digest isn't as it was"));
+    }
+    digest.add(b"New-pass2", b"salt", &fifth)?;
+    Ok(Fell::Call)
 }
 
 fn four_counts() -> Counts
@@ -71,11 +76,20 @@ fn fifth_count() -> Counts
 
 fn digest_text(alloc: Global, digest: &Digest) -> Result<String, Stop> {
     let mut text = format!(in alloc; "{} {}", digest.length, digest.classes)?;
-    for (count, short, long) in digest.derived.as_slice() {
-        let (short, long) = (encode(alloc, short.bytes())?, encode(alloc, long.bytes())?);
-        text.push_str(format!(in alloc; " {count}:{short}:{long}")?.as_str())?;
-    }
+    add_derived(&mut text, alloc, digest)?;
     Ok(text)
+}
+
+fn add_derived(text: &mut String, alloc: Global, digest: &Digest) -> Result<(), Stop> {
+    for (count, short, long) in digest.derived.as_slice() {
+        add_key(text, alloc, *count, (short.bytes(), long.bytes()))?;
+    }
+    Ok(())
+}
+
+fn add_key(text: &mut String, alloc: Global, count: u32, key: (&[u8], &[u8])) -> Result<(), Stop> {
+    let (short, long) = (encode(alloc, key.0)?, encode(alloc, key.1)?);
+    add(text, format!(in alloc; " {count}:{short}:{long}"))
 }
 
 /// Calls that leave nothing behind.
@@ -96,11 +110,16 @@ pub fn plain(alloc: Global, line: &str) -> Result<String, Stop> {
 fn parsed(alloc: Global, text: &str) -> Result<String, Stop> {
     let name = called(Name::parse(alloc, text))?.ok_or(Stop::Wrong("no name"))?;
     let mut shown = String::new(alloc);
-    for part in name.parts.as_slice() {
-        shown.push_str(encode(alloc, part.as_slice())?.as_str())?;
-        shown.push_str(" ")?;
-    }
+    add_parts(&mut shown, alloc, &name)?;
     Ok(shown)
+}
+
+fn add_parts(text: &mut String, alloc: Global, name: &Name) -> Result<(), Stop> {
+    for part in name.parts.as_slice() {
+        add(text, encode(alloc, part.as_slice()))?;
+        text.push_str(" ")?;
+    }
+    Ok(())
 }
 
 fn opening(alloc: Global) -> Result<String, Stop> {
@@ -119,7 +138,7 @@ fn derived(alloc: Global) -> Result<String, Stop> {
 
 /// A record of alice's key with this version.
 fn record(alloc: Global, kvno: u32) -> Result<Vec<u8>, Stop> {
-    let alice = name(alloc, "alice")?;
+    let alice = known(alloc, "alice")?;
     let key = KeyRow {
         kvno,
         count: 4,
@@ -131,13 +150,28 @@ fn record(alloc: Global, kvno: u32) -> Result<Vec<u8>, Stop> {
 
 /// A table with so many records of alice's.
 fn restored(alloc: Global, records: u32) -> Result<String, Stop> {
+    let journal = journal(alloc, records)?;
+    restored_text(
+        alloc,
+        restore(alloc, table(alloc)?, &mut journal.as_slice()),
+    )
+}
+
+fn journal(alloc: Global, records: u32) -> Result<Vec<u8>, Stop> {
     let mut journal = Vec::new(alloc);
     for number in 0..records {
-        let record = beside(record(alloc, number.saturating_add(2)))?;
-        journal.extend_from_slice(&record)?;
+        add_record(&mut journal, alloc, number.saturating_add(2))?;
     }
-    let table = table(alloc)?;
-    match restore(alloc, table, &mut journal.as_slice()) {
+    Ok(journal)
+}
+
+fn add_record(journal: &mut Vec<u8>, alloc: Global, kvno: u32) -> Result<(), Stop> {
+    let record = beside(record(alloc, kvno))?;
+    Ok(journal.extend_from_slice(&record)?)
+}
+
+fn restored_text(alloc: Global, answer: Result<Restored, RestoreFault>) -> Result<String, Stop> {
+    match answer {
         Ok(restored) => {
             let text = table_text(alloc, &restored.table)?;
             Ok(format!(in alloc; "records {} {text}", restored.records)?)
@@ -155,7 +189,13 @@ fn sink(alloc: Global) -> Result<String, Stop> {
 fn cloned(alloc: Global) -> Result<String, Stop> {
     let mut opened = asked(alloc, 0)?;
     with_keys(alloc, &mut opened, 0)?;
-    let entry = Entry {
+    let entry = entry_of(opened);
+    let copy = called(entry.clone())?;
+    copy_text(alloc, &copy, &entry)
+}
+
+fn entry_of(opened: Opened) -> Entry {
+    Entry {
         worker: 0,
         number: 1,
         now: NOW,
@@ -164,10 +204,13 @@ fn cloned(alloc: Global) -> Result<String, Stop> {
             opened,
             verdict: Verdict::Done,
         },
-    };
-    let copy = called(entry.clone())?;
-    if !copy.is_same(&entry) {
+    }
+}
+
+/// A copy, which is to be the same.
+fn copy_text(alloc: Global, copy: &Entry, entry: &Entry) -> Result<String, Stop> {
+    if !copy.is_same(entry) {
         return Err(Stop::Wrong("a copy that differs"));
     }
-    history_text(alloc, &[copy])
+    history_text(alloc, slice::from_ref(copy))
 }

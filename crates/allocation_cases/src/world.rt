@@ -1,15 +1,15 @@
 //! The realm EXAMPLE.COM with alice and bob, and what alice asks there.
 ghost use Rattle.std.specs.Prelude.{◌≡◌, true, IfOk};
 ghost use Rattle.chpw_rules.specs.Fitting.{config_fits};
+ghost use Rattle.chpw_rules.specs.Names.{is_name};
 
 use crate::clock::{Counting, NOW};
 use crate::stop::{Stop, called};
 use chpw_client::{LAST_START, LONGEST_PASSWORD, Sent, client_request};
-use chpw_rules::{Config, Items};
+use chpw_rules::{Config, Items, Name};
 use chpw_table::{Body, Digest, Moment, Opened, Table};
 use krb_keys::CONFOUNDER_LEN;
 use std::alloc::Global;
-use std::io;
 use test_realm::name;
 
 pub const CONFOUNDER: [u8; CONFOUNDER_LEN] = [1; CONFOUNDER_LEN];
@@ -23,12 +23,29 @@ pub const JOURNAL: usize = 10_000;
 /// Bytes of replies here.
 pub const REPLIES: usize = 10_000;
 
+/// The principal with this name.
+pub fn known(alloc: Global, text: &str) -> Result<Name, Stop>
+    ensures fits { IfOk result (λ name. is_name name ≡ true) }
+{
+    match name(alloc, text) {
+        Ok(name) => Ok(name),
+        Err(error) => Err(Stop::from(error)),
+    }
+}
+
+fn principals(alloc: Global) -> Result<Vec<Name>, Stop> {
+    let (alice, bob) = (known(alloc, "alice")?, known(alloc, "bob")?);
+    Ok(vec![in alloc; alice, bob]?)
+}
+
 /// The realm's configuration.
-pub fn configured(alloc: Global) -> io::Result<Config>
+pub fn configured(alloc: Global) -> Result<Config, Stop>
     ensures fits { IfOk result (λ config. config_fits config ≡ true) }
 {
-    let principals = vec![in alloc; name(alloc, "alice")?, name(alloc, "bob")?]?;
-    test_realm::config(alloc, principals, 4, 100)
+    match test_realm::config(alloc, principals(alloc)?, 4, 100) {
+        Ok(config) => Ok(config),
+        Err(error) => Err(Stop::from(error)),
+    }
 }
 
 /// The table that it opens with.
@@ -49,9 +66,22 @@ pub fn sent(alloc: Global, micros: u32) -> Result<Sent, Stop> {
 /// Alice's request at a moment, for the password of this number.
 pub fn sent_at(alloc: Global, now: Moment, number: u32) -> Result<Sent, Stop> {
     let config = configured(alloc)?;
-    let alice = name(alloc, "alice")?;
+    let alice = known(alloc, "alice")?;
     let password = password(alloc, number)?;
-    let password = password.as_str().as_bytes();
+    request(alloc, &config, &alice, password.as_str().as_bytes(), now)
+}
+
+/// A principal's request of a password.
+fn request(
+    alloc: Global,
+    config: &Config,
+    client: &Name,
+    password: &[u8],
+    now: Moment,
+) -> Result<Sent, Stop>
+    requires fits { config_fits config.now ≡ true }
+    requires client { is_name client.now ≡ true }
+{
     if config.service.as_slice().is_empty()
         || now.seconds < 0
         || now.seconds > LAST_START
@@ -62,16 +92,22 @@ pub fn sent_at(alloc: Global, now: Moment, number: u32) -> Result<Sent, Stop> {
     }
     let words = &mut Counting::new();
     called(client_request(
-        alloc, &config, now, &alice, password, None, true, false, words,
+        alloc, config, now, client, password, None, true, false, words,
     ))
 }
 
 /// Alice's request as it opened, with these microseconds and no keys yet.
 pub fn asked(alloc: Global, cusec: u32) -> Result<Opened, Stop> {
     let digest = Digest::of(9, 4, Vec::new(alloc)).ok_or(Stop::Wrong("no digest"))?;
-    Ok(Opened {
-        crealm: Items::of(Vec::from_slice(alloc, b"EXAMPLE.COM")?),
-        client: name(alloc, "alice")?,
+    let crealm = Items::of(Vec::from_slice(alloc, b"EXAMPLE.COM")?);
+    let client = known(alloc, "alice")?;
+    Ok(opened_of(crealm, client, digest, cusec))
+}
+
+fn opened_of(crealm: Items<u8>, client: Name, digest: Digest, cusec: u32) -> Opened {
+    Opened {
+        crealm,
+        client,
         initial: true,
         invalid: false,
         starts: 0,
@@ -83,7 +119,7 @@ pub fn asked(alloc: Global, cusec: u32) -> Result<Opened, Stop> {
             target: None,
             digest,
         },
-    })
+    }
 }
 
 /// The password of the request with these microseconds.

@@ -1,5 +1,5 @@
 -- What a message that opened is answered.
-use Rattle.std.proofs.Common.{◌≡◌, ℕ, List, refl, ◌∙◌, ap, subst, inl, inr}
+use Rattle.std.proofs.Common.{◌≡◌, ℕ, List, Option, Some, None, refl, ◌∙◌, ap, subst, inl, inr}
 use Rattle.krb_protocol.specs.declared.refusal.Refusal.{Refusal}
 use Rattle.chpw_table.specs.declared.times.Moment.{Moment}
 use Rattle.chpw_table.specs.declared.history.Receipt.{Receipt}
@@ -12,12 +12,10 @@ use Rattle.chpw_answer.specs.declared.messages.Seal.{Seal}
 use Rattle.chpw_answer.specs.declared.messages.Incoming.{Incoming}
 use Rattle.chpw_answer.specs.declared.messages.OpenResult.{OpenResult}
 use Rattle.chpw_answer.specs.declared.messages.OpenResult.TheVariants as program
-use Rattle.chpw_answer.specs.declared.deciding.Decision.{Decision}
-use Rattle.chpw_answer.specs.declared.deciding.Decision.TheVariants as decision
 use Rattle.chpw_answer.specs.Requests.{Request, Opens, refused, opened, opened_under, password_in}
 use Rattle.chpw_answer.specs.Holding.{IsIncoming, IsOpenResult, answer_in}
 use Rattle.chpw_answer.specs.Answers.{history_full, reply, AnswersRequest, IsAnswer}
-use Rattle.chpw_answer.specs.Trying.{IsDecision}
+use Rattle.chpw_answer.specs.Trying.{IsVerdict}
 use Rattle.chpw_answer.proofs.CompletingLemmas.{completed_on, under}
 
 module _ (error_frame : Answer → Moment → List ℕ) (private_frame : Seal → Answer → List ℕ → List ℕ) (full : Type 0) (words : List ℕ) (now : Moment) (old new : List Receipt) where
@@ -28,17 +26,17 @@ module _ (error_frame : Answer → Moment → List ℕ) (private_frame : Seal �
   answers_message opens found i bytes e (opened q, is, h) f = (opened q, is, f q (subst (λ (x : OpenResult). IsOpenResult (opened q) x) e h))
 
   -- a full history
-  pub answers_full : (password : List ℕ) (ready : Opened) (mid : List Receipt) (d : Decision) (r : Refusal) (q : Request) (bytes : List ℕ) → mid ≡ old → d ≡ decision.Full → IsDecision full d password ready now mid new
+  pub answers_full : (password : List ℕ) (ready : Opened) (mid : List Receipt) (d : Option Verdict) (r : Refusal) (q : Request) (bytes : List ℕ) → mid ≡ old → d ≡ None → IsVerdict full d password ready now mid new
       → answer_in r ≡ history_full → bytes ≡ error_frame (answer_in r) now → AnswersRequest error_frame private_frame full q words now old new bytes
   answers_full password ready mid d r q bytes same e h said is =
-      let t = subst (λ (d : Decision). IsDecision full d password ready now mid new) e h in
+      let t = subst (λ (d : Option Verdict). IsVerdict full d password ready now mid new) e h in
       inl (t.0 ∙ same, t.1, is ∙ ap (λ (a : Answer). error_frame a now) said)
 
   -- a verdict
-  pub answers_verdict : (i : Incoming) (password : List ℕ) (ready : Opened) (mid : List Receipt) (d : Decision) (v : Verdict) (q : Request) (bytes : List ℕ) → IsIncoming q i → password ≡ i.password → IsCompletedFrom password i.opened ready
-      → mid ≡ old → d ≡ decision.Verdict v → IsDecision full d password ready now mid new → bytes ≡ reply error_frame private_frame i.seal v words now → AnswersRequest error_frame private_frame full q words now old new bytes
+  pub answers_verdict : (i : Incoming) (password : List ℕ) (ready : Opened) (mid : List Receipt) (d : Option Verdict) (v : Verdict) (q : Request) (bytes : List ℕ) → IsIncoming q i → password ≡ i.password → IsCompletedFrom password i.opened ready
+      → mid ≡ old → d ≡ Some v → IsVerdict full d password ready now mid new → bytes ≡ reply error_frame private_frame i.seal v words now → AnswersRequest error_frame private_frame full q words now old new bytes
   answers_verdict i password ready mid d v q bytes holds is_password first same e h is =
-      let t = subst (λ (d : Decision). IsDecision full d password ready now mid new) e h in
+      let t = subst (λ (d : Option Verdict). IsVerdict full d password ready now mid new) e h in
       let whole = completed_on password i.opened ready (completed password t.0 ready) first (t.0, refl) in
       let counts : List ℕ = whole.0 in
       let made : completed password t.0 ready ≡ opened_under counts q =

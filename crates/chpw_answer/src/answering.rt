@@ -6,10 +6,10 @@ ghost use Rattle.chpw_answer.specs.Holding.{IsReplyTime, answer_in};
 ghost use Rattle.chpw_answer.specs.Answers.{Answering, AddsOne, is_opened, history_full as full_answer, reply as reply_to};
 
 use crate::completing::derive_wanted;
-use crate::deciding::{Decision, decide};
 use crate::drawing::Drawing;
 use crate::gate::{Gate, Spot};
 use crate::messages::{Incoming, Messages, OpenResult, Seal};
+use crate::telling::decide_telling;
 use chpw_decider::Decider;
 use chpw_table::{Moment, Verdict};
 use krb_protocol::Refusal;
@@ -69,6 +69,7 @@ pub fn answer_message<M: Messages, D: Decider, G: Gate>(
     let incoming = match service.open(alloc, peer, message)? {
         OpenResult::Opened(incoming) => incoming,
         OpenResult::Refused(refusal) => {
+            gate.refused(peer, drawn.now, None, &refusal);
             let bytes = service.make_error(alloc, refusal, drawn.now)?;
             return Ok(Answered {
                 bytes,
@@ -89,9 +90,10 @@ pub fn answer_message<M: Messages, D: Decider, G: Gate>(
         password.as_slice(),
     )?;
     gate.at(Spot::Opened);
-    let bytes = match decide(decider, drawn.now, ready, password.as_slice())? {
-        Decision::Full => service.make_error(alloc, history_full(), drawn.now)?,
-        Decision::Verdict(verdict) => reply(alloc, service, &seal, verdict, drawn)?,
+    let verdict = decide_telling(decider, gate, peer, drawn.now, ready, password.as_slice())?;
+    let bytes = match verdict {
+        None => service.make_error(alloc, history_full(), drawn.now)?,
+        Some(verdict) => reply(alloc, service, &seal, verdict, drawn)?,
     };
     Ok(Answered {
         bytes,
@@ -100,7 +102,7 @@ pub fn answer_message<M: Messages, D: Decider, G: Gate>(
 }
 
 /// What a full history is answered with.
-fn history_full() -> Refusal
+pub(crate) fn history_full() -> Refusal
     ensures value { answer_in result ≡ full_answer }
 {
     Refusal {

@@ -15,14 +15,15 @@ const TRIES: u32 = 3;
 #[derive(Drop)]
 pub(crate) enum Decision {
     Verdict(Verdict),
-    Full,
+    /// The history is full, and this is the request.
+    Full(Opened),
 }
 
 /// What came of one try.
 #[derive(Drop)]
 enum Try {
     Verdict(Verdict),
-    Full,
+    Full(Opened),
     /// Keys were missing, and are derived now.
     Again(Opened),
 }
@@ -45,14 +46,14 @@ pub(crate) fn decide<D: Decider>(
     for _ in 0..TRIES {
         match try_once(decider, now, opened, password)? {
             Try::Verdict(verdict) => return Ok(Decision::Verdict(verdict)),
-            Try::Full => return Ok(Decision::Full),
+            Try::Full(back) => return Ok(Decision::Full(back)),
             Try::Again(again) => opened = again,
         }
     }
     match decider.decide_deriving(now, opened, password) {
         Ok(verdict) => Ok(Decision::Verdict(verdict)),
         Err(refused) => match refused.fault {
-            DecideFault::Full => Ok(Decision::Full),
+            DecideFault::Full => Ok(Decision::Full(refused.opened)),
             DecideFault::NeedKeys(_) | DecideFault::Memory => Err(AllocError),
         },
     }
@@ -79,7 +80,7 @@ fn try_once<D: Decider>(
         Err(refused) => refused,
     };
     match fault {
-        DecideFault::Full => Ok(Try::Full),
+        DecideFault::Full => Ok(Try::Full(back)),
         DecideFault::Memory => Err(AllocError),
         DecideFault::NeedKeys(counts) => {
             derive_more(&mut back, password, &counts)?;

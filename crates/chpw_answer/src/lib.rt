@@ -8,6 +8,7 @@ mod drawing;
 mod gate;
 pub mod laws;
 mod messages;
+mod telling;
 
 pub use answering::{Answered, answer, answer_message};
 pub use drawing::Drawing;

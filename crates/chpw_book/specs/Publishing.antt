@@ -14,6 +14,9 @@ use Rattle.chpw_table.specs.Decision.{newest_kvno}
 use Rattle.chpw_table.specs.History.{is_accepted}
 use Rattle.chpw_table.specs.declared.change.Accepted.{Accepted}
 use Rattle.chpw_table.specs.Versions.{change_by, accepted}
+use Rattle.chpw_fronts.specs.declared.change.NumberedKey.{NumberedKey}
+use Rattle.chpw_fronts.specs.declared.change.NumberedChange.TheVariants.{Key}
+use Rattle.chpw_fronts.specs.Changes.{EndsWith}
 use Rattle.chpw_versions.specs.declared.rows.Row.{Row}
 use Rattle.chpw_versions.specs.Known.{Known, Shelved}
 use Rattle.chpw_versions.specs.Rows.{Rowed}
@@ -76,6 +79,11 @@ pub record Tells (opening : State) (before later : List Entry) (mine more : Know
 -- a lookup shows nothing and leaves what is known, or it looks up
 abbrev pub MayShow : Held → Known → Known → Name → Option Lookup → Type 0
 MayShow opening mine more name found = ((found ≡ None) × (more ≡ mine)) ⊎ LooksUp opening mine more name found
+
+-- what was told ends, unless it is empty, with the change to a key of this version
+abbrev pub EndsInKvno : State → Option (List Accepted) → ℕ → Type 0
+EndsInKvno opening own kvno =
+    (front : List Accepted) × (own ≡ Some front) × (key : NumberedKey) × (key.kvno ≡ kvno) × EndsWith opening front (Key key)
 
 -- the row of a name of which this is shown
 abbrev pub row_showing : Name → Lookup → Row

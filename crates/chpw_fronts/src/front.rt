@@ -62,6 +62,13 @@ impl<D: ListName> Front<D> {
         self.len
     }
 
+    /// The last of its changes; of a front without any nothing is told.
+    pub fn last(&self) -> NumberedChange
+        ensures value { EndsWith (opening_state D.root) self.now result }
+    {
+        self.last
+    }
+
     /// The same front once more.
     pub fn again(&self) -> Front<D>
         ensures value { result ≡ self.now }

@@ -123,6 +123,10 @@ impl<'a, 'p, K: Decider, R: Wait, G> Decider for Watch<'a, 'p, K, R, G> {
         self.decider.receipts()
     }
 
+    fn made_kvno(&self) -> Option<u32> {
+        self.decider.made_kvno()
+    }
+
     ghost stays = { λ w. K.stays w.decider };
 
     ghost goes_on = { λ a b c h g. K.goes_on a.decider b.decider c.decider h g };

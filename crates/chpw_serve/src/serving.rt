@@ -66,7 +66,9 @@ pub fn serve_stream<R: Read, W: Write, M: Messages, D: Decider, G: Gate, C: Cloc
             Ok(Received::Ended) => return Ended::Input,
             Ok(Received::CutOff) => return Ended::CutOff,
             Ok(Received::ReadFault) => return Ended::ReadFault,
-            Ok(Received::TooLong) => return refuse(alloc, service, writer, clock, words),
+            Ok(Received::TooLong) => {
+                return refuse(alloc, service, peer, writer, gate, clock, words);
+            }
             Ok(Received::Message(message)) => message,
         };
         let drawn = draw(clock, words);
@@ -91,10 +93,12 @@ fn pass_answered<G: Gate>(gate: &mut G, opened: bool) {
 }
 
 /// Answers a message whose length is too long.
-fn refuse<W: Write, M: Messages, C: Clock, X: Words>(
+fn refuse<W: Write, M: Messages, G: Gate, C: Clock, X: Words>(
     alloc: Global,
     service: &M,
+    peer: [u8; 4],
     writer: &mut W,
+    gate: &mut G,
     clock: &mut C,
     words: &mut X,
 ) -> Ended
@@ -103,6 +107,7 @@ fn refuse<W: Write, M: Messages, C: Clock, X: Words>(
         (record { out = W.contents writer.new; clock = clock.new; words = words.new }) }
 {
     let drawn = draw(clock, words);
+    gate.refused(peer, drawn.now, None, &too_long());
     match service.make_error(alloc, too_long(), drawn.now) {
         Err(_) => Ended::Memory,
         Ok(reply) => match write_tcp(writer, &reply) {

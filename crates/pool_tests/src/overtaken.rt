@@ -91,6 +91,10 @@ impl<D: DeskName, R: Wait + Abort> Decider for Overtaken<'_, D, R> {
         self.place.receipts()
     }
 
+    fn made_kvno(&self) -> Option<u32> {
+        self.place.made_kvno()
+    }
+
     ghost stays = { λ a. (refl, refl, λ h. h) };
 
     ghost goes_on = { λ a b c h g. (g.0 ∙ h.0, g.1 ∙ h.1, λ k. g.2 (h.2 k)) };

@@ -79,6 +79,7 @@ fn options<'a>(seed: &'a str, journal: &'a str, port: u16) -> ServeOptions<'a> {
         connections: 1,
         idle: Some(10),
         raise: None,
+        log: None,
     }
 }
 
@@ -174,6 +175,7 @@ fn raising<'a>(port: u16, raises: bool) -> ServeOptions<'a> {
         connections: 1,
         idle: Some(10),
         raise: count_of(raises),
+        log: None,
     }
 }
 
@@ -291,6 +293,7 @@ fn a_full_history_and_the_next(rt: HostRuntime) -> Result<(), Fail> {
         connections: 2,
         idle: Some(10),
         raise: None,
+        log: None,
     };
     let clock = SetClock::new(START);
     let (served, ()) = join(

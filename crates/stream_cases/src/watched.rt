@@ -133,6 +133,10 @@ impl<S: JournalSink> Decider for Watched<S> {
         self.alone.receipts()
     }
 
+    fn made_kvno(&self) -> Option<u32> {
+        self.alone.made_kvno()
+    }
+
     ghost stays = { λ _. tt };
 
     ghost goes_on = { λ _ _ _ _ _. tt };

@@ -40,6 +40,3 @@ returns-in-Ok-clause-follows g c = g.met.D.Decider.goes_on c.args.decider.now c.
 
 pub returns-in-Full-fault-clause-follows : goal.returns-in-Full-fault-clause-follows
 returns-in-Full-fault-clause-follows g c = g.met.D.Decider.goes_on c.args.decider.now c.loop.decider c.decide_deriving.new.self c.loop.invariant.2 c.decide_deriving.ensures.follows
-
-pub returns-clause-follows : goal.returns-clause-follows
-returns-clause-follows g c = g.met.D.Decider.goes_on c.args.decider.now c.loop.decider c.decide_deriving.new.self c.loop.invariant.2 c.decide_deriving.ensures.follows

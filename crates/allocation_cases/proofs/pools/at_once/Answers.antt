@@ -18,7 +18,7 @@ use Rattle.chpw_journal.proofs.memory_sink.MemorySink.TheSendSync as memory
 use Rattle.chpw_messages.specs.contracts.service.Service as Service
 use Rattle.chpw_messages.proofs.service.Service.TheSendSync as service
 use Rattle.allocation_cases.proofs.SendLemmas.{six_send}
-use Rattle.allocation_cases.proofs.pools.at.Goals as goal
+use Rattle.allocation_cases.proofs.pools.at_once.Goals as goal
 
 pub join-fell-requires-send-F : goal.join-fell-requires-send-F
 join-fell-requires-send-F g c κs within =
