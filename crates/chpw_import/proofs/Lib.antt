@@ -1,1 +1,5 @@
+pub mod LeftLemmas
 pub mod PasswordLemmas
+pub mod RowLemmas
+pub mod SlotLemmas
+pub mod TableLemmas

@@ -1,2 +1,5 @@
+pub mod Entries
 pub mod Keytabs
 pub mod Passwords
+pub mod Rows
+pub mod Tables

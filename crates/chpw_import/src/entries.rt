@@ -1,84 +1,41 @@
 //! The entries of a keytab, each by itself.
+ghost use Rattle.std.specs.Prelude.{◌≡◌, IfOk, map};
+ghost use Rattle.chpw_import.specs.Entries.{key_in, name_in, named};
 
-use crate::left::{Left, Reason};
-use crate::slot::{Rank, Slot};
+use crate::left::Reason;
 use chpw_config_text::can_be_written;
 use chpw_rules::{ETYPES, Items, Name};
 use krb_keys::{Key, key_of};
 use krb_keytab::KeytabEntry;
 use std::alloc::{AllocError, Global};
-use std::cmp::Reverse;
 
-/// What is found of an entry by itself.
-#[derive(Drop)]
-pub(crate) struct Judged {
-    /// None where no version of a principal of the realm has it.
-    pub slot: Option<Slot>,
-    /// Why it is left out, where it is.
-    pub why: Option<Reason>,
-}
-
-/// The slots of the entries, in their order; and which entries are left out by themselves, in their order.
-pub(crate) fn slots_of(
+/// The name of the entry, where it is of a version of a principal of the realm; else why it is none.
+#[tactic(auto, unfolding(crate::specs::Entries::named))]
+pub(crate) fn named_in(
     alloc: Global,
     realm: &[u8],
-    entries: &[KeytabEntry],
-) -> Result<(Vec<Slot>, Vec<Left>), AllocError> {
-    let mut slots = Vec::new(alloc);
-    let mut left = Vec::new(alloc);
-    for (index, entry) in entries.iter().enumerate() {
-        let judged = judge(alloc, realm, index, entry)?;
-        if let Some(why) = judged.why {
-            left.push(Left { index, why })?;
-        }
-        if let Some(slot) = judged.slot {
-            slots.push(slot)?;
-        }
-    }
-    Ok((slots, left))
-}
-
-// The index-th entry.
-fn judge(
-    alloc: Global,
-    realm: &[u8],
-    index: usize,
     entry: &KeytabEntry,
-) -> Result<Judged, AllocError> {
+) -> Result<Result<Name, Reason>, AllocError>
+    ensures value { IfOk result (λ found. found ≡ named realm.now entry.now) }
+{
     if entry.realm.as_slice() != realm {
-        return Ok(left_out(Reason::OtherRealm));
+        return Ok(Err(Reason::OtherRealm));
     }
-    let name = name_of(alloc, entry.components.as_slice())?;
+    let name = name_of(alloc, entry)?;
     if !name.fits() || !can_be_written(&name) {
-        return Ok(left_out(Reason::BadName));
+        return Ok(Err(Reason::BadName));
     }
     if entry.kvno == 0 {
-        return Ok(left_out(Reason::NoVersion));
+        return Ok(Err(Reason::NoVersion));
     }
-    let rank = Rank {
-        name,
-        kvno: Reverse(entry.kvno),
-        index: Reverse(index),
-    };
-    let (key, why) = match usable_key(entry) {
-        Ok(key) => (Some(key), None),
-        Err(why) => (None, Some(why)),
-    };
-    Ok(Judged {
-        slot: Some(Slot { rank, key }),
-        why,
-    })
+    Ok(Ok(name))
 }
 
-fn left_out(why: Reason) -> Judged {
-    Judged {
-        slot: None,
-        why: Some(why),
-    }
-}
-
-// The entry's key, where a configuration can have it.
-fn usable_key(entry: &KeytabEntry) -> Result<Key, Reason> {
+/// The entry's key, or why no configuration can have it.
+#[tactic(auto, unfolding(crate::specs::Entries::key_in))]
+pub(crate) fn usable_key(entry: &KeytabEntry) -> Result<Key, Reason>
+    ensures value { result ≡ key_in entry.now }
+{
     if !ETYPES.allow(usize::from(entry.etype)) {
         return Err(Reason::OtherType);
     }
@@ -88,13 +45,22 @@ fn usable_key(entry: &KeytabEntry) -> Result<Key, Reason> {
     }
 }
 
-// The name of these components, in memory of its own.
-fn name_of(alloc: Global, components: &[Vec<u8>]) -> Result<Name, AllocError> {
+// The name of the entry, in memory of its own.
+fn name_of(alloc: Global, entry: &KeytabEntry) -> Result<Name, AllocError>
+    ensures value { IfOk result (λ name. name ≡ name_in entry.now) }
+{
+    let parts = copies(alloc, entry.components.as_slice())?;
+    Ok(Name {
+        parts: Items::of(parts),
+    })
+}
+
+fn copies(alloc: Global, components: &[Vec<u8>]) -> Result<Vec<Items<u8>>, AllocError>
+    ensures value { IfOk result (λ parts. parts.items ≡ map (λ c. c.items) components.now) }
+{
     let mut parts = Vec::with_capacity(alloc, components.len())?;
     for component in components {
         parts.push(Items::of(Vec::from_slice(alloc, component.as_slice())?))?;
     }
-    Ok(Name {
-        parts: Items::of(parts),
-    })
+    Ok(parts)
 }

@@ -1,14 +1,17 @@
 //! The keys of a keytab.
-ghost use Rattle.std.specs.Prelude.{IfErr};
-ghost use Rattle.chpw_import.specs.Keytabs.{IsOfKeytab};
+ghost use Rattle.std.specs.Prelude.{◌≡◌, IfErr, IfOk, Ok, map};
+ghost use Rattle.std.specs.List.Sorted.{IsStrictlySortedBy};
+ghost use Rattle.krb_keytab.specs.Answers.{views};
+ghost use Rattle.krb_keytab.specs.Keytabs.{keytab};
+ghost use Rattle.chpw_rules.specs.Names.{name_cmp};
+ghost use Rattle.chpw_import.specs.Keytabs.{ArePrincipals, AreServiceKeys, BeginsWithUnusable, IsOfKeytab};
 
-use crate::entries::slots_of;
 use crate::left::Left;
-use crate::rows::{Gathered, principals_of};
-use crate::versions::versions_of;
+use crate::left_out::left_of;
+use crate::rows::{principals_of, service_of};
+use crate::table::table_of;
 use chpw_rules::{PrincipalRow, ServiceRow};
 use krb_keytab::{KeytabEntry, KeytabError, KeytabFault, read_keytab};
-use ordered_keys::sort;
 use std::alloc::{AllocError, Global};
 
 /// What a keytab holds of a realm.
@@ -45,6 +48,15 @@ pub fn bring_in(
     iterations: u32,
 ) -> Result<Brought, ImportFault>
     ensures fault { IfErr result (IsOfKeytab bytes.now) }
+    ensures entries { IfOk result (λ b. keytab bytes.now ≡ Ok (views b.entries.items)) }
+    ensures service { IfOk result (λ b.
+        AreServiceKeys realm.now b.entries.items b.service.items) }
+    ensures principals { IfOk result (λ b.
+        ArePrincipals realm.now iterations b.entries.items b.principals.items) }
+    ensures sorted { IfOk result (λ b.
+        IsStrictlySortedBy name_cmp (map (λ row. row.name) b.principals.items)) }
+    ensures left { IfOk result (λ b.
+        BeginsWithUnusable realm.now b.entries.items b.left.items) }
 {
     match read_keytab(alloc, bytes) {
         Err(KeytabError::Fault(fault)) => Err(ImportFault::Keytab(fault)),
@@ -62,15 +74,27 @@ fn brought_of(
     entries: Vec<KeytabEntry>,
     realm: &[u8],
     iterations: u32,
-) -> Result<Brought, AllocError> {
-    let (mut slots, mut left) = slots_of(alloc, realm, entries.as_slice())?;
-    sort(&mut slots);
-    let versions = versions_of(alloc, slots, &mut left)?;
-    let mut gathered = Gathered::new(alloc, iterations, left);
-    for version in versions {
-        gathered.take(version)?;
-    }
-    let (service, principals, left) = principals_of(alloc, gathered)?;
+) -> Result<Brought, AllocError>
+    ensures entries { IfOk result (λ b. b.entries.items ≡ entries.items) }
+    ensures service { IfOk result (λ b.
+        AreServiceKeys realm.now b.entries.items b.service.items) }
+    ensures principals { IfOk result (λ b.
+        ArePrincipals realm.now iterations b.entries.items b.principals.items) }
+    ensures sorted { IfOk result (λ b.
+        IsStrictlySortedBy name_cmp (map (λ row. row.name) b.principals.items)) }
+    ensures left { IfOk result (λ b.
+        BeginsWithUnusable realm.now b.entries.items b.left.items) }
+{
+    let table = table_of(alloc, realm, entries.as_slice())?;
+    let service = service_of(alloc, &table.found)?;
+    let principals = principals_of(alloc, &table, iterations)?;
+    let left = left_of(
+        alloc,
+        realm,
+        entries.as_slice(),
+        &table,
+        principals.as_slice(),
+    )?;
     Ok(Brought {
         entries,
         service,

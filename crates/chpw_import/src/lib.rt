@@ -5,11 +5,12 @@
 mod entries;
 mod keytab;
 mod left;
+mod left_out;
 mod numbers;
 mod password;
 mod rows;
 mod slot;
-mod versions;
+mod table;
 
 pub use keytab::{Brought, ImportFault, bring_in};
 pub use left::{Left, LeftLine, Reason};

@@ -1,187 +1,184 @@
-//! The rows of a configuration that versions make.
+//! The rows of a configuration that the keys of a table make.
+ghost use Rattle.std.specs.Prelude.{◌≡◌, IfOk, IfErr, map};
+ghost use Rattle.std.specs.List.Sorted.{IsStrictlySortedBy};
+ghost use Rattle.std.specs.BTreeMap.{IsOrdered, get};
+ghost use Rattle.chpw_rules.specs.Names.{name_cmp};
+ghost use Rattle.chpw_import.specs.Tables.{slot_cmp};
+ghost use Rattle.chpw_import.specs.Rows.{first_principals, first_service_rows, is_service, key_for, keys_from, pair_for, pair_of, row_for, service_row};
 
-use crate::left::{Left, Reason};
-use crate::versions::{Aes128Found, Aes256Found, Keys, Version};
+use crate::slot::{Found, Slot};
+use crate::table::Table;
 use chpw_rules::{
-    Items, KEY_COUNTS, KeyBytes, Name, PRINCIPAL_COUNTS, PrincipalRow, SERVICE_KEY_COUNTS,
+    ETYPES, Items, KEY_COUNTS, KeyBytes, Name, PRINCIPAL_COUNTS, PrincipalRow, SERVICE_KEY_COUNTS,
     ServiceRow,
 };
-use krb_keys::{AES128_CTS_HMAC_SHA1_96, AES256_CTS_HMAC_SHA1_96};
+use krb_keys::Key;
 use std::alloc::{AllocError, Global};
+use std::cmp::Reverse;
+use std::collections::BTreeMap;
 
-/// A principal whose keys are being gathered.
-#[derive(Drop)]
-struct Draft {
-    name: Name,
-    /// Newest first, one at least.
-    keys: Vec<KeyBytes>,
-}
-
-/// What is gathered.
-#[derive(Drop)]
-pub(crate) struct Gathered {
-    alloc: Global,
-    iterations: u32,
-    pub service: Vec<ServiceRow>,
-    drafts: Vec<Draft>,
-    /// A name that takes no more versions.
-    closed: Option<Name>,
-    pub left: Vec<Left>,
-}
-
-impl Gathered {
-    /// Nothing yet, where these entries are left out.
-    pub(crate) fn new(alloc: Global, iterations: u32, left: Vec<Left>) -> Gathered {
-        Gathered {
-            alloc,
-            iterations,
-            service: Vec::new(alloc),
-            drafts: Vec::new(alloc),
-            closed: None,
-            left,
-        }
-    }
-
-    /// Takes the next version.
-    pub(crate) fn take(&mut self, version: Version) -> Result<(), AllocError> {
-        if is_service(&version.name) {
-            return self.serve(version.kvno, version.keys);
-        }
-        match self.fate_of(&version) {
-            Ok(key) => self.put(version.name, key),
-            Err(why) => {
-                self.leave_out(version.keys, why)?;
-                self.closed = Some(version.name);
-                Ok(())
-            }
-        }
-    }
-
-    // The key that the version is, or why it is left out.
-    fn fate_of(&self, version: &Version) -> Result<KeyBytes, Reason> {
-        if let Some(closed) = &self.closed
-            && closed.is_same(&version.name)
-        {
-            return Err(Reason::BehindGap);
-        }
-        let Some(key) = pair_of(version, self.iterations) else {
-            return Err(Reason::Unpaired);
-        };
-        match self.drafts.as_slice().last() {
-            Some(draft) if draft.name.is_same(&version.name) => {
-                follows(draft.keys.as_slice(), version.kvno)?;
-            }
-            _ => {
-                if self.drafts.len() >= PRINCIPAL_COUNTS.high {
-                    return Err(Reason::TooManyPrincipals);
-                }
-            }
-        }
-        Ok(key)
-    }
-
-    // Joins a key to the last principal, or begins one with it.
-    fn put(&mut self, name: Name, key: KeyBytes) -> Result<(), AllocError> {
-        if let Some(draft) = self.drafts.last_mut()
-            && draft.name.is_same(&name)
-        {
-            draft.keys.push(key)?;
-            return Ok(());
-        }
-        let mut keys = Vec::new(self.alloc);
-        keys.push(key)?;
-        self.drafts.push(Draft { name, keys })?;
-        Ok(())
-    }
-
-    // Takes a version of the service's keys, the longer one first.
-    fn serve(&mut self, kvno: u32, keys: Keys) -> Result<(), AllocError> {
-        if let Some(found) = keys.aes256 {
-            self.serve_key(found.index, kvno, AES256_CTS_HMAC_SHA1_96, &found.bytes)?;
-        }
-        if let Some(found) = keys.aes128 {
-            self.serve_key(found.index, kvno, AES128_CTS_HMAC_SHA1_96, &found.bytes)?;
-        }
-        Ok(())
-    }
-
-    fn serve_key(
-        &mut self,
-        index: usize,
-        kvno: u32,
-        etype: i32,
-        bytes: &[u8],
-    ) -> Result<(), AllocError> {
-        if self.service.len() >= SERVICE_KEY_COUNTS.high {
-            let why = Reason::TooManyKeys;
-            self.left.push(Left { index, why })?;
-            return Ok(());
-        }
-        let key = Items::of(Vec::from_slice(self.alloc, bytes)?);
-        self.service.push(ServiceRow { kvno, etype, key })?;
-        Ok(())
-    }
-
-    // The keys that there are of a version.
-    fn leave_out(&mut self, keys: Keys, why: Reason) -> Result<(), AllocError> {
-        if let Some(Aes256Found { index, bytes: _ }) = keys.aes256 {
-            self.left.push(Left { index, why })?;
-        }
-        if let Some(Aes128Found { index, bytes: _ }) = keys.aes128 {
-            self.left.push(Left { index, why })?;
-        }
-        Ok(())
-    }
-}
-
-/// The principals of drafts.
+/// The principals with keys, in the order of their names; at most 10,000.
 pub(crate) fn principals_of(
     alloc: Global,
-    gathered: Gathered,
-) -> Result<(Vec<ServiceRow>, Vec<PrincipalRow>, Vec<Left>), AllocError> {
-    let mut principals = Vec::with_capacity(alloc, gathered.drafts.len())?;
-    for draft in gathered.drafts {
-        principals.push(PrincipalRow {
-            name: draft.name,
-            keys: Items::of(draft.keys),
-        })?;
+    table: &Table,
+    iterations: u32,
+) -> Result<Vec<PrincipalRow>, AllocError>
+    ensures value { IfOk result (λ rows. rows.items
+        ≡ first_principals (get slot_cmp table.now.found) iterations table.now.newest.entries) }
+    ensures sorted { IfOk result (λ rows.
+        IsStrictlySortedBy name_cmp (map (λ row. row.name) rows.items)) }
+    ensures ordered { IfOk result (λ _. IsOrdered name_cmp table.now.newest) }
+{
+    let count = table.newest.len();
+    let mut rows = Vec::with_capacity(alloc, count.min(PRINCIPAL_COUNTS.high))?;
+    for (name, newest) in &table.newest {
+        if rows.len() >= PRINCIPAL_COUNTS.high {
+            return Ok(rows);
+        }
+        if let Some(row) = row_of(alloc, &table.found, name, *newest, iterations)? {
+            rows.push(row)?;
+        }
     }
-    Ok((gathered.service, principals, gathered.left))
+    Ok(rows)
 }
 
-// kadmin/changepw (RFC 3244 section 2).
-fn is_service(name: &Name) -> bool {
+// The principal of this name, where it has keys.
+fn row_of(
+    alloc: Global,
+    found: &BTreeMap<Slot, Found>,
+    name: &Name,
+    newest: u32,
+    iterations: u32,
+) -> Result<Option<PrincipalRow>, AllocError>
+    ensures value { IfOk result (λ row.
+        row ≡ row_for (get slot_cmp found.now) iterations (name.now, newest)) }
+{
+    if is_service(name) {
+        return Ok(None);
+    }
+    let keys = keys_of(alloc, found, name, newest, iterations)?;
+    if keys.is_empty() {
+        return Ok(None);
+    }
+    Ok(Some(PrincipalRow {
+        name: name.clone()?,
+        keys: Items::of(keys),
+    }))
+}
+
+// The keys of the name's newest version and of each one below it, as long as both are there.
+#[tactic(auto, using(crate::proofs::RowLemmas::no_more, crate::proofs::RowLemmas::stopped, crate::proofs::RowLemmas::one_key))]
+fn keys_of(
+    alloc: Global,
+    found: &BTreeMap<Slot, Found>,
+    name: &Name,
+    newest: u32,
+    iterations: u32,
+) -> Result<Vec<KeyBytes>, AllocError>
+    ensures value { IfOk result (λ keys.
+        keys.items ≡ keys_from (pair_for (get slot_cmp found.now) iterations name.now) 16 newest) }
+{
+    let mut keys = Vec::new(alloc);
+    let mut kvno = newest;
+    while keys.len() < KEY_COUNTS.high && kvno > 0 {
+        let Some(pair) = pair_at(alloc, found, name, kvno, iterations)? else {
+            return Ok(keys);
+        };
+        keys.push(pair)?;
+        kvno -= 1;
+    }
+    Ok(keys)
+}
+
+/// Both keys of a version, where both are there.
+pub(crate) fn pair_at(
+    alloc: Global,
+    found: &BTreeMap<Slot, Found>,
+    name: &Name,
+    kvno: u32,
+    iterations: u32,
+) -> Result<Option<KeyBytes>, AllocError>
+    ensures value { IfOk result (λ pair.
+        pair ≡ pair_for (get slot_cmp found.now) iterations name.now kvno) }
+{
+    let aes128 = key_at(found, name.clone()?, kvno, 17);
+    let aes256 = key_at(found, name.clone()?, kvno, 18);
+    Ok(both(kvno, iterations, aes128, aes256))
+}
+
+// The key of a slot.
+fn key_at(found: &BTreeMap<Slot, Found>, name: Name, kvno: u32, etype: u16) -> Option<Key>
+    ensures value { result ≡ key_for (get slot_cmp found.now) name kvno etype }
+{
+    let slot = Slot {
+        name,
+        kvno: Reverse(kvno),
+        etype: Reverse(etype),
+    };
+    match found.get(&slot) {
+        Some(found) => Some(found.key),
+        None => None,
+    }
+}
+
+// Both keys, where both are there.
+fn both(kvno: u32, iterations: u32, aes128: Option<Key>, aes256: Option<Key>) -> Option<KeyBytes>
+    ensures value { result ≡ pair_of kvno iterations aes128 aes256 }
+{
+    match (aes128, aes256) {
+        (Some(Key::Aes128(aes128)), Some(Key::Aes256(aes256))) => Some(KeyBytes {
+            kvno,
+            iterations,
+            aes128,
+            aes256,
+        }),
+        _ => None,
+    }
+}
+
+/// The keys of the service, newest first and of one version etype 18 first; at most 16.
+pub(crate) fn service_of(
+    alloc: Global,
+    found: &BTreeMap<Slot, Found>,
+) -> Result<Vec<ServiceRow>, AllocError>
+    ensures value { IfOk result (λ rows. rows.items ≡ first_service_rows found.now.entries) }
+    ensures ordered { IfOk result (λ _. IsOrdered slot_cmp found.now) }
+{
+    let count = found.len();
+    let mut rows = Vec::with_capacity(alloc, count.min(SERVICE_KEY_COUNTS.high))?;
+    for (slot, key) in found {
+        if rows.len() >= SERVICE_KEY_COUNTS.high {
+            return Ok(rows);
+        }
+        if let Some(row) = service_row(alloc, slot, key)? {
+            rows.push(row)?;
+        }
+    }
+    Ok(rows)
+}
+
+// The row of a key, where it is the service's.
+fn service_row(alloc: Global, slot: &Slot, found: &Found) -> Result<Option<ServiceRow>, AllocError>
+    ensures value { IfOk result (λ row. row ≡ service_row (slot.now, found.now)) }
+{
+    if !is_service(&slot.name) {
+        return Ok(None);
+    }
+    let key = Items::of(Vec::from_slice(alloc, found.key.bytes())?);
+    Ok(Some(ServiceRow {
+        kvno: slot.kvno.0,
+        etype: i32::from(slot.etype.0),
+        key,
+    }))
+}
+
+/// Whether it is kadmin/changepw (RFC 3244 section 2).
+pub(crate) fn is_service(name: &Name) -> bool
+    ensures value { result ≡ is_service name.now }
+{
     match name.parts.as_slice() {
         [first, second] => first.as_slice() == b"kadmin".as_slice()
             && second.as_slice() == b"changepw".as_slice(),
         _ => false,
-    }
-}
-
-// Both keys of a version, where both are there.
-fn pair_of(version: &Version, iterations: u32) -> Option<KeyBytes> {
-    let aes128 = version.keys.aes128?;
-    let aes256 = version.keys.aes256?;
-    let aes128 = aes128.bytes;
-    let aes256 = aes256.bytes;
-    Some(KeyBytes {
-        kvno: version.kvno,
-        iterations,
-        aes128,
-        aes256,
-    })
-}
-
-// Whether the version is the next below these keys, and there is room for it.
-fn follows(keys: &[KeyBytes], kvno: u32) -> Result<(), Reason> {
-    match keys.last() {
-        Some(newer) if kvno.checked_add(1) == Some(newer.kvno) => {
-            if keys.len() >= KEY_COUNTS.high {
-                Err(Reason::TooManyKeys)
-            } else {
-                Ok(())
-            }
-        }
-        _ => Err(Reason::BehindGap),
     }
 }

@@ -1,9 +1,25 @@
-//! An entry of a keytab that has a place among the keys of a configuration.
+//! Which key of a configuration an entry offers.
 
 use chpw_rules::Name;
 use krb_keys::Key;
-use ordered_keys::Keyed;
 use std::cmp::Reverse;
+
+/// Which key: of a name, a version and an encryption type. In their order stand the names, of each the
+/// newest version first, and of that etype 18 first.
+#[derive(PartialEq, Eq, PartialOrd, Ord, Drop)]
+pub(crate) struct Slot {
+    pub name: Name,
+    pub kvno: Reverse<u32>,
+    pub etype: Reverse<u16>,
+}
+
+/// A key that an entry offers.
+#[derive(Clone, Copy, Drop)]
+pub(crate) struct Found {
+    /// The entry's place in the file, from 0.
+    pub index: usize,
+    pub key: Key,
+}
 
 /// Where an entry stands: those of a name side by side, of these the newest first, and of one version the
 /// one that came last in the file.
@@ -13,20 +29,4 @@ pub(crate) struct Rank {
     pub kvno: Reverse<u32>,
     /// The entry's place in the file, from 0.
     pub index: Reverse<usize>,
-}
-
-/// An entry of the realm whose name and version a configuration can have.
-#[derive(Drop)]
-pub(crate) struct Slot {
-    pub rank: Rank,
-    /// None where its key is of another encryption type or another length.
-    pub key: Option<Key>,
-}
-
-impl Keyed<Rank> for Slot {
-    ghost key_of = { λ slot. slot.rank };
-
-    fn key(&self) -> &Rank {
-        &self.rank
-    }
 }

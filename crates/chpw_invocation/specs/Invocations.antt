@@ -1,17 +1,23 @@
 -- What a user asks for, of what clap matched: the command's name, and each option's value by its name.
 -- The words are matched by clap's own rules.
-use Rattle.std.specs.Prelude.{◌≡◌, ◌≢◌, ◌⊎◌, ◌≤◌, ℕ, Bool, true, false, List, [], Option, Some, None, option_map, codes}
+use Rattle.std.specs.Prelude.{◌≡◌, ◌≢◌, ◌⊎◌, ◌≤◌, ℕ, Bool, true, false, List, [], Option, Some, None, option_map, codes, bytes_eq, if◌then◌else◌, length, ◌<◌}
+use Rattle.std.specs.Option.{option_map_or}
 use Rattle.std.specs.Str.Parse.{digits_value, without_leading_plus}
 use Rattle.clap.specs.Kinds.{HasKind, Kinds}
 use Rattle.clap.specs.Values.{kind_of}
 use Rattle.clap.specs.Walk.{Row, Text, first_of, one_of}
 use Rattle.clap.specs.declared.error.Error.{Error}
-use Rattle.clap.specs.declared.error.kind.ErrorKind.TheVariants.{ArgumentConflict, MissingSubcommand}
+use Rattle.clap.specs.declared.error.kind.ErrorKind.TheVariants.{ArgumentConflict, InvalidValue, MissingSubcommand}
 use Rattle.chpw_invocation.specs.declared.invocation.ClientOptions.{ClientOptions}
 use Rattle.chpw_invocation.specs.declared.invocation.ServeOptions.{ServeOptions}
+use Rattle.chpw_invocation.specs.declared.invocation.ImportOptions.{ImportOptions}
+use Rattle.chpw_invocation.specs.declared.invocation.KeyOptions.{KeyOptions}
 use Rattle.chpw_invocation.specs.declared.invocation.Invocation.{Invocation}
-use Rattle.chpw_invocation.specs.declared.invocation.Invocation.TheVariants.{Drill, Check, Serve, Client}
-use Rattle.chpw_invocation.specs.declared.invocation.TheConstants.{LONGEST_IDLE}
+use Rattle.chpw_invocation.specs.declared.invocation.Invocation.TheVariants.{Drill, Check, Table, Import, Key, Serve, Client}
+use Rattle.chpw_invocation.specs.declared.invocation.TableForm.{TableForm}
+use Rattle.chpw_invocation.specs.declared.invocation.TableForm.TheVariants.{Lines, Configuration, Keys}
+use Rattle.chpw_invocation.specs.declared.invocation.TableOptions.{TableOptions}
+use Rattle.chpw_invocation.specs.declared.invocation.TheConstants.{LONGEST_IDLE, LONGEST_REALM, USUAL_COUNT}
 
 -- an option that has to be there has this value
 abbrev pub HasText : List Row → Text → Text → Type 0
@@ -27,11 +33,53 @@ abbrev pub MayHaveNumber : ℕ → ℕ → List Row → Text → Option ℕ → 
 MayHaveNumber low high options name None = first_of name options ≡ None
 MayHaveNumber low high options name (Some number) = HasNumber low high options name number
 
+-- an option that may be left out has this number, within these limits, or is left out and this is the usual one
+abbrev pub HasNumberOr : ℕ → ℕ → ℕ → List Row → Text → ℕ → Type 0
+HasNumberOr usual low high options name number =
+    ((first_of name options ≡ None) × (number ≡ usual)) ⊎ HasNumber low high options name number
+
+-- the realm is this, of 1 to 255 bytes
+abbrev pub HasRealm : List Row → Text → Type 0
+HasRealm options realm = HasText options (codes "realm") realm × (1 ≤ length realm) × (length realm ≤ LONGEST_REALM)
+
+-- a realm that is empty or longer
+abbrev pub LacksRealm : List Row → Type 0
+LacksRealm options = (realm : Text) × HasText options (codes "realm") realm × ((realm ≡ []) ⊎ (LONGEST_REALM < length realm))
+
 -- a flag is given or isn't: clap matches true or false for it
 abbrev pub IsGiven : List Row → Text → Bool → Type 0
 IsGiven options name given = (one_of name options ≡ Some (codes "true") → given ≡ true)
     × (one_of name options ≡ Some (codes "false") → given ≡ false)
     × (one_of name options ≡ None → given ≡ false)
+
+-- the form of this name
+abbrev pub form_of_name : Text → Option TableForm
+form_of_name name =
+    if bytes_eq name (codes "lines") then Some Lines
+    else if bytes_eq name (codes "configuration") then Some Configuration
+    else if bytes_eq name (codes "keys") then Some Keys
+    else None
+
+-- lines, where none is named
+abbrev pub form_asked : List Row → Option TableForm
+form_asked options = option_map_or form_of_name (first_of (codes "as") options) (Some Lines)
+
+pub record AsksTable (options : List Row) (asked : TableOptions) : Type 0 where
+  pub config : HasText options (codes "config") asked.config.now
+  pub journal : HasText options (codes "journal") asked.journal.now
+  pub form : form_asked options ≡ Some asked.form
+
+pub record AsksImport (options : List Row) (asked : ImportOptions) : Type 0 where
+  pub keytab : HasText options (codes "keytab") asked.keytab.now
+  pub realm : HasRealm options asked.realm.now
+  pub iterations : HasNumberOr USUAL_COUNT 1 16777216 options (codes "iterations") asked.iterations
+
+pub record AsksKey (options : List Row) (asked : KeyOptions) : Type 0 where
+  pub realm : HasRealm options asked.realm.now
+  pub name : HasText options (codes "name") asked.name.now
+  pub password_file : HasText options (codes "password-file") asked.password_file.now
+  pub iterations : HasNumberOr USUAL_COUNT 1 16777216 options (codes "iterations") asked.iterations
+  pub kvno : HasNumberOr 1 1 4294967295 options (codes "kvno") asked.kvno
 
 pub record AsksServe (options : List Row) (asked : ServeOptions) : Type 0 where
   pub config : HasText options (codes "config") asked.config.now
@@ -42,6 +90,7 @@ pub record AsksServe (options : List Row) (asked : ServeOptions) : Type 0 where
   pub connections : HasNumber 1 4294967295 options (codes "connections") asked.connections
   pub idle : MayHaveNumber 1 LONGEST_IDLE options (codes "idle") asked.idle
   pub raise : MayHaveNumber 1 16777216 options (codes "raise") asked.raise
+  pub log : option_map (λ file. file.now) asked.log ≡ first_of (codes "log") options
 
 pub record AsksClient (options : List Row) (asked : ClientOptions) : Type 0 where
   pub config : HasText options (codes "config") asked.config.now
@@ -61,6 +110,9 @@ abbrev pub AsksFor : Option (Text × List Row) → Invocation → Type 0
 AsksFor None asked = ⊥
 AsksFor (Some p) Drill = p.0 ≡ codes "drill"
 AsksFor (Some p) (Check config) = (p.0 ≡ codes "check") × HasText p.1 (codes "config") config.now
+AsksFor (Some p) (Table asked) = (p.0 ≡ codes "table") × AsksTable p.1 asked
+AsksFor (Some p) (Import asked) = (p.0 ≡ codes "import") × AsksImport p.1 asked
+AsksFor (Some p) (Key asked) = (p.0 ≡ codes "key") × AsksKey p.1 asked
 AsksFor (Some p) (Serve asked) = (p.0 ≡ codes "serve") × AsksServe p.1 asked
 AsksFor (Some p) (Client asked) = (p.0 ≡ codes "client") × AsksClient p.1 asked
 
@@ -69,10 +121,23 @@ abbrev pub AimsOld : Option (Text × List Row) → Type 0
 AimsOld None = ⊥
 AimsOld (Some p) = (p.0 ≡ codes "client") × IsGiven p.1 (codes "old") true × (first_of (codes "target") p.1 ≢ None)
 
+-- a table in a form that there isn't
+abbrev pub NamesNoForm : Option (Text × List Row) → Type 0
+NamesNoForm None = ⊥
+NamesNoForm (Some p) = (p.0 ≡ codes "table") × (form_asked p.1 ≡ None)
+
+-- a keytab or a password of a realm that is empty or too long
+abbrev pub NamesNoRealm : Option (Text × List Row) → Type 0
+NamesNoRealm None = ⊥
+NamesNoRealm (Some p) = ((p.0 ≡ codes "import") ⊎ (p.0 ≡ codes "key")) × LacksRealm p.1
+
 -- Why words are refused, of the kinds of fault that clap may find in them: one of these, or memory
--- ran out; or for want of those a target in the earlier protocol. Words without a fault ask for a command,
+-- ran out; or for want of those a target in the earlier protocol, a form that there isn't, or a realm of 0 or more than 255 bytes. Words without a fault ask for a command,
 -- so the last case doesn't come; that isn't proved.
 abbrev pub IsRefusal : Kinds → Option (Text × List Row) → Error → Type 0
 IsRefusal kinds asked e =
     HasKind kinds e
-    ⊎ ((kinds ≡ []) × (((kind_of e ≡ ArgumentConflict) × AimsOld asked) ⊎ (kind_of e ≡ MissingSubcommand)))
+    ⊎ ((kinds ≡ []) × (((kind_of e ≡ ArgumentConflict) × AimsOld asked)
+    ⊎ (((kind_of e ≡ InvalidValue) × NamesNoForm asked)
+    ⊎ (((kind_of e ≡ InvalidValue) × NamesNoRealm asked)
+    ⊎ (kind_of e ≡ MissingSubcommand)))))

@@ -40,3 +40,9 @@ idle = may_be_numbered (codes "idle") LONGEST_IDLE
 
 abbrev pub raise : Rule
 raise = may_be_numbered (codes "raise") 16777216
+
+abbrev pub iterations : Rule
+iterations = may_be_numbered (codes "iterations") 16777216
+
+abbrev pub kvno : Rule
+kvno = may_be_numbered (codes "kvno") 4294967295

@@ -4,7 +4,7 @@ use Rattle.clap.specs.Walk.{Rule, Text}
 use Rattle.clap.specs.Simple.{App, Shape, new_shape}
 use Rattle.clap.specs.declared.builder.command.Command.{Command}
 use Rattle.clap.specs.declared.builder.command.Command.TheViews.{out-Command}
-use Rattle.chpw_invocation.specs.Options.{required, optional, flag, port, workers, connections, idle, raise}
+use Rattle.chpw_invocation.specs.Options.{required, optional, flag, port, workers, connections, idle, raise, iterations, kvno}
 
 abbrev pub command : Text → List Rule → Shape
 command name options = record (new_shape name) { rules = options }
@@ -25,8 +25,34 @@ drill = command (codes "drill") []
 abbrev pub check : Shape
 check = command (codes "check") (required (codes "config") ∷ [])
 
+-- table --config FILE --journal FILE [--as FORM]
+abbrev pub table : Shape
+table = command (codes "table")
+    (required (codes "config")
+    ∷ required (codes "journal")
+    ∷ optional (codes "as")
+    ∷ [])
+
+-- import --keytab FILE --realm REALM [--iterations COUNT]
+abbrev pub import_keytab : Shape
+import_keytab = command (codes "import")
+    (required (codes "keytab")
+    ∷ required (codes "realm")
+    ∷ iterations
+    ∷ [])
+
+-- key --realm REALM --name NAME --password-file FILE [--iterations COUNT] [--kvno N]
+abbrev pub key : Shape
+key = command (codes "key")
+    (required (codes "realm")
+    ∷ required (codes "name")
+    ∷ required (codes "password-file")
+    ∷ iterations
+    ∷ kvno
+    ∷ [])
+
 -- serve --config FILE --journal FILE --seed FILE --port N --workers N --connections N [--idle SECONDS]
--- [--raise COUNT]
+-- [--raise COUNT] [--log FILE]
 abbrev pub serve : Shape
 serve = command (codes "serve")
     (required (codes "config")
@@ -37,6 +63,7 @@ serve = command (codes "serve")
     ∷ connections
     ∷ idle
     ∷ raise
+    ∷ optional (codes "log")
     ∷ [])
 
 -- client --config FILE --seed FILE --port N --client NAME --password TEXT [--target NAME]
@@ -65,5 +92,5 @@ leading a = record a {
 
 abbrev pub program : App
 program = record (leading (alone (record (new_shape (codes "chpw_server")) { is_leaf = false }))) {
-  subs = drill ∷ check ∷ serve ∷ client ∷ [];
+  subs = drill ∷ check ∷ table ∷ import_keytab ∷ key ∷ serve ∷ client ∷ [];
 }

@@ -1,8 +1,15 @@
 //! What a user asks the program for.
-ghost use Rattle.std.specs.Prelude.{◌≡◌, ◌≤◌, ℕ, Some, true, None};
+ghost use Rattle.std.specs.Prelude.{◌≡◌, ◌≤◌, ℕ, Some, true, None, length};
+ghost use Rattle.chpw_invocation.specs.declared.invocation.TheConstants.{LONGEST_REALM};
 
 /// The greatest `--idle`, in seconds: an hour.
 pub const LONGEST_IDLE: u16 = 3600;
+
+/// The iteration count of keys for which none is named (RFC 3962 section 4).
+pub const USUAL_COUNT: u32 = 4096;
+
+/// The most bytes in a realm.
+pub const LONGEST_REALM: usize = 255;
 
 /// What `client` sends, and where.
 #[derive(Clone, Copy, Drop)]
@@ -47,8 +54,63 @@ pub struct ServeOptions<'a> {
     /// The iteration count that new keys are raised to before it listens, 1 to 16,777,216; none where
     /// it stays as it is.
     pub raise: Option<u32>,
+    /// The file of the log; none where there is none.
+    pub log: Option<&'a str>,
     ghost some_workers: { (1 ≤ workers) × (workers ≤ 16) },
     ghost some_count: { (count : ℕ) → raise ≡ Some count → (1 ≤ count) × (count ≤ 16777216) },
+}
+
+/// The forms in which the table that is held is told.
+#[derive(Clone, Copy, PartialEq, Eq, Debug, Drop)]
+pub enum TableForm {
+    /// A line for each principal, for a person.
+    Lines,
+    /// A whole configuration.
+    Configuration,
+    /// A line for each key, for a KDC's tool.
+    Keys,
+}
+
+/// Whose table is told, and how.
+#[derive(Clone, Copy, Drop)]
+pub struct TableOptions<'a> {
+    /// The configuration's file.
+    pub config: &'a str,
+    /// The journal's file.
+    pub journal: &'a str,
+    /// Lines, where none is named.
+    pub form: TableForm,
+}
+
+/// Whose keytab is brought in.
+#[derive(Clone, Copy, Drop)]
+pub struct ImportOptions<'a> {
+    /// The keytab's file.
+    pub keytab: &'a str,
+    /// 1 to [`LONGEST_REALM`] bytes.
+    pub realm: &'a str,
+    /// What the principals' keys were made with, 1 to 16,777,216; [`USUAL_COUNT`], where none is named.
+    pub iterations: u32,
+    ghost some_realm: { (1 ≤ length realm.now) × (length realm.now ≤ LONGEST_REALM) },
+    ghost some_count: { (1 ≤ iterations) × (iterations ≤ 16777216) },
+}
+
+/// Whose keys are made of a password.
+#[derive(Clone, Copy, Drop)]
+pub struct KeyOptions<'a> {
+    /// 1 to [`LONGEST_REALM`] bytes.
+    pub realm: &'a str,
+    /// The principal.
+    pub name: &'a str,
+    /// The password's file.
+    pub password_file: &'a str,
+    /// 1 to 16,777,216; [`USUAL_COUNT`], where none is named.
+    pub iterations: u32,
+    /// 1 to 4,294,967,295; 1, where none is named.
+    pub kvno: u32,
+    ghost some_realm: { (1 ≤ length realm.now) × (length realm.now ≤ LONGEST_REALM) },
+    ghost some_count: { (1 ≤ iterations) × (iterations ≤ 16777216) },
+    ghost some_kvno: { 1 ≤ kvno },
 }
 
 /// A command, with its options.
@@ -58,6 +120,12 @@ pub enum Invocation<'a> {
     Drill,
     /// The check of the configuration in a file.
     Check { config: &'a str },
+    /// The table that is held.
+    Table(TableOptions<'a>),
+    /// The keys of a keytab.
+    Import(ImportOptions<'a>),
+    /// The keys of a password.
+    Key(KeyOptions<'a>),
     /// The service.
     Serve(ServeOptions<'a>),
     /// One request.

@@ -7,5 +7,8 @@ mod matching;
 mod options;
 mod program;
 
-pub use invocation::{ClientOptions, Invocation, LONGEST_IDLE, ServeOptions};
+pub use invocation::{
+    ClientOptions, ImportOptions, Invocation, KeyOptions, LONGEST_IDLE, LONGEST_REALM,
+    ServeOptions, TableForm, TableOptions, USUAL_COUNT,
+};
 pub use matching::command_of;

@@ -3,9 +3,12 @@ ghost use Rattle.std.specs.Prelude.{◌≡◌, [], true, IfErr, IfOk, IfSome, On
 ghost use Rattle.clap.specs.Faults.{fault_of};
 ghost use Rattle.clap.specs.Words.{first_of, found_of, rows_of, subcommand_of, subcommand_rows_of};
 ghost use Rattle.chpw_invocation.specs.Program.{program};
-ghost use Rattle.chpw_invocation.specs.Invocations.{AimsOld, AsksClient, AsksFor, AsksServe, HasNumber, IsGiven, IsRefusal, MayHaveNumber};
+ghost use Rattle.chpw_invocation.specs.Invocations.{AimsOld, AsksClient, AsksFor, AsksImport, AsksKey, AsksServe, AsksTable, HasNumber, HasNumberOr, HasRealm, IsGiven, IsRefusal, LacksRealm, MayHaveNumber, NamesNoForm, NamesNoRealm, form_asked, form_of_name};
 
-use crate::invocation::{ClientOptions, Invocation, LONGEST_IDLE, ServeOptions};
+use crate::invocation::{
+    ClientOptions, ImportOptions, Invocation, KeyOptions, LONGEST_IDLE, LONGEST_REALM,
+    ServeOptions, TableForm, TableOptions, USUAL_COUNT,
+};
 use crate::program::program as new_program;
 use clap::error::ErrorKind;
 use clap::{ArgMatches, Error};
@@ -13,6 +16,10 @@ use std::alloc::Global;
 
 // In clap's own words for two options that exclude one another.
 const OLD_TARGET: &str = "the argument '--old' cannot be used with '--target <NAME>'";
+
+const NO_FORM: &str = "a value for '--as <FORM>' is one of: lines, configuration, keys";
+
+const NO_REALM: &str = "a value for '--realm <REALM>' has 1 to 255 bytes";
 
 /// The command that the words ask for, the first of them the program's name.
 ///
@@ -30,12 +37,15 @@ pub fn command_of<'a>(alloc: Global, words: &'a [String]) -> Result<Invocation<'
     match asked_of(&matches) {
         Some(invocation) => Ok(invocation),
         None if aims_old(&matches) => Err(program.error(ErrorKind::ArgumentConflict, OLD_TARGET)?),
+        None if names_no_form(&matches) => Err(program.error(ErrorKind::InvalidValue, NO_FORM)?),
+        None if names_no_realm(&matches) => Err(program.error(ErrorKind::InvalidValue, NO_REALM)?),
         None => Err(program.error(ErrorKind::MissingSubcommand, "no command")?),
     }
 }
 
 // The command that was matched; always one after a parse, since the program wants one and each
-// command its options, but where a request of the earlier protocol has a target.
+// command its options, but where a request of the earlier protocol has a target, a table is to be told
+// in a form that there isn't, or a realm is empty or too long.
 fn asked_of<'a>(matches: &ArgMatches<'a>) -> Option<Invocation<'a>>
     ensures asked { IfSome result (AsksFor (subcommand_rows_of matches.now)) }
 {
@@ -44,6 +54,12 @@ fn asked_of<'a>(matches: &ArgMatches<'a>) -> Option<Invocation<'a>>
         Some(Invocation::Drill)
     } else if name == "check" {
         check_of(options)
+    } else if name == "table" {
+        table_of(options).map(Invocation::Table)
+    } else if name == "import" {
+        import_of(options).map(Invocation::Import)
+    } else if name == "key" {
+        key_of(options).map(Invocation::Key)
     } else if name == "serve" {
         serve_of(options).map(Invocation::Serve)
     } else if name == "client" {
@@ -60,6 +76,99 @@ fn check_of<'a>(options: &ArgMatches<'a>) -> Option<Invocation<'a>>
     Some(Invocation::Check { config })
 }
 
+fn table_of<'a>(options: &ArgMatches<'a>) -> Option<TableOptions<'a>>
+    ensures asked { IfSome result (AsksTable (rows_of (found_of options.now))) }
+{
+    Some(TableOptions {
+        config: text_of(options, "config")?,
+        journal: text_of(options, "journal")?,
+        form: form_of(options)?,
+    })
+}
+
+// The form that is asked for; none where there is no such form.
+fn form_of(options: &ArgMatches<'_>) -> Option<TableForm>
+    ensures value { result ≡ form_asked (rows_of (found_of options.now)) }
+{
+    match text_of(options, "as") {
+        None => Some(TableForm::Lines),
+        Some(name) => form_named(name),
+    }
+}
+
+fn form_named(name: &str) -> Option<TableForm>
+    ensures value { result ≡ form_of_name name.now }
+{
+    match name {
+        "lines" => Some(TableForm::Lines),
+        "configuration" => Some(TableForm::Configuration),
+        "keys" => Some(TableForm::Keys),
+        _ => None,
+    }
+}
+
+// Whether `table` is to tell in a form that there isn't.
+fn names_no_form(matches: &ArgMatches<'_>) -> bool
+    ensures names { result ≡ true → NamesNoForm (subcommand_rows_of matches.now) }
+{
+    match matches.subcommand() {
+        None => false,
+        Some((name, options)) => name == "table" && form_of(options).is_none(),
+    }
+}
+
+fn import_of<'a>(options: &ArgMatches<'a>) -> Option<ImportOptions<'a>>
+    ensures asked { IfSome result (AsksImport (rows_of (found_of options.now))) }
+{
+    Some(ImportOptions {
+        keytab: text_of(options, "keytab")?,
+        realm: realm_of(options)?,
+        iterations: iterations_of(options)?,
+    })
+}
+
+fn key_of<'a>(options: &ArgMatches<'a>) -> Option<KeyOptions<'a>>
+    ensures asked { IfSome result (AsksKey (rows_of (found_of options.now))) }
+{
+    Some(KeyOptions {
+        realm: realm_of(options)?,
+        name: text_of(options, "name")?,
+        password_file: text_of(options, "password-file")?,
+        iterations: iterations_of(options)?,
+        kvno: kvno_of(options)?,
+    })
+}
+
+// The realm, where its length is within the limits.
+fn realm_of<'a>(options: &ArgMatches<'a>) -> Option<&'a str>
+    ensures realm { IfSome result (λ realm. HasRealm (rows_of (found_of options.now)) realm.now) }
+{
+    let realm = text_of(options, "realm")?;
+    if realm.is_empty() || realm.len() > LONGEST_REALM {
+        return None;
+    }
+    Some(realm)
+}
+
+// Whether a keytab or a password is to be of a realm that is empty or too long.
+fn names_no_realm(matches: &ArgMatches<'_>) -> bool
+    ensures names { result ≡ true → NamesNoRealm (subcommand_rows_of matches.now) }
+{
+    match matches.subcommand() {
+        None => false,
+        Some((name, options)) => (name == "import" || name == "key") && lacks_realm(options),
+    }
+}
+
+fn lacks_realm(options: &ArgMatches<'_>) -> bool
+    ensures lacks { result ≡ true → LacksRealm (rows_of (found_of options.now)) }
+{
+    match text_of(options, "realm") {
+        None => false,
+        Some(realm) => realm.is_empty() || realm.len() > LONGEST_REALM,
+    }
+}
+
 fn serve_of<'a>(options: &ArgMatches<'a>) -> Option<ServeOptions<'a>>
     ensures asked { IfSome result (AsksServe (rows_of (found_of options.now))) }
 {
@@ -72,6 +181,7 @@ fn serve_of<'a>(options: &ArgMatches<'a>) -> Option<ServeOptions<'a>>
         connections: connections_of(options)?,
         idle: idle_of(options)?,
         raise: raise_of(options)?,
+        log: text_of(options, "log"),
     })
 }
 
@@ -173,6 +283,34 @@ fn raise_of(options: &ArgMatches<'_>) -> Option<Option<u32>>
     }
     match options.get_one::<u32>("raise") {
         Some(count) if 1 <= count && count <= 16_777_216 => Some(Some(count)),
+        _ => None,
+    }
+}
+
+// The iteration count of keys that were made elsewhere, or are made of a password.
+fn iterations_of(options: &ArgMatches<'_>) -> Option<u32>
+    ensures iterations { IfSome result
+        (HasNumberOr USUAL_COUNT 1 16777216 (rows_of (found_of options.now)) (codes "iterations")) }
+{
+    if text_of(options, "iterations").is_none() {
+        return Some(USUAL_COUNT);
+    }
+    match options.get_one::<u32>("iterations") {
+        Some(count) if 1 <= count && count <= 16_777_216 => Some(count),
+        _ => None,
+    }
+}
+
+// The version of keys that are made of a password.
+fn kvno_of(options: &ArgMatches<'_>) -> Option<u32>
+    ensures kvno { IfSome result
+        (HasNumberOr 1 1 4294967295 (rows_of (found_of options.now)) (codes "kvno")) }
+{
+    if text_of(options, "kvno").is_none() {
+        return Some(1);
+    }
+    match options.get_one::<u32>("kvno") {
+        Some(kvno) if kvno > 0 => Some(kvno),
         _ => None,
     }
 }

@@ -2,7 +2,7 @@
 ghost use Rattle.std.specs.Prelude.{◌≡◌, false, pos};
 ghost use Rattle.clap.specs.Walk.{rule_of};
 ghost use Rattle.clap.specs.declared.builder.value_parser.ValueParser.TheVariants as parser;
-ghost use Rattle.chpw_invocation.specs.Options.{connections, flag, idle, optional, port, raise, required, workers};
+ghost use Rattle.chpw_invocation.specs.Options.{connections, flag, idle, iterations, kvno, optional, port, raise, required, workers};
 
 use crate::invocation::LONGEST_IDLE;
 use clap::builder::ValueParser;
@@ -83,6 +83,13 @@ fn idle_seconds<'a>() -> ValueParser<'a>
     value_parser!(u16).range(1..=i64::from(LONGEST_IDLE))
 }
 
+// 1 to 4294967295.
+fn key_version<'a>() -> ValueParser<'a>
+    ensures { result ≡ parser.Signed (pos 1) (pos 4294967295) }
+{
+    value_parser!(u32).range(1..)
+}
+
 // 1 to 16,777,216.
 fn iteration_count<'a>() -> ValueParser<'a>
     ensures { result ≡ parser.Signed (pos 1) (pos 16777216) }
@@ -128,4 +135,20 @@ pub(crate) fn raise_option<'a>(alloc: Global, help: &'a str) -> Arg<'a>
     ensures local { result.global ≡ false }
 {
     optional_option(alloc, "raise", "COUNT", help).value_parser(iteration_count())
+}
+
+/// `--iterations`, which may be left out.
+pub(crate) fn iterations_option<'a>(alloc: Global, help: &'a str) -> Arg<'a>
+    ensures rule { rule_of result ≡ iterations }
+    ensures local { result.global ≡ false }
+{
+    optional_option(alloc, "iterations", "COUNT", help).value_parser(iteration_count())
+}
+
+/// `--kvno`, which may be left out.
+pub(crate) fn kvno_option<'a>(alloc: Global, help: &'a str) -> Arg<'a>
+    ensures rule { rule_of result ≡ kvno }
+    ensures local { result.global ≡ false }
+{
+    optional_option(alloc, "kvno", "N", help).value_parser(key_version())
 }

@@ -6,8 +6,8 @@ ghost use Rattle.clap.specs.Words.{app_of};
 ghost use Rattle.chpw_invocation.specs.Program as specs_of;
 
 use crate::options::{
-    connections_option, flag_option, idle_option, optional_option, port_option, raise_option,
-    required_option, workers_option,
+    connections_option, flag_option, idle_option, iterations_option, kvno_option, optional_option,
+    port_option, raise_option, required_option, workers_option,
 };
 use clap::{Arg, Command};
 use std::alloc::{AllocError, Global};
@@ -44,6 +44,26 @@ Example:
 const CONFIG_HELP: &str =
     "The configuration, in TOML: realm, policy, rules, principals, service keys";
 
+const TABLE: &str = "Tells which keys the principals have now.";
+
+const TABLE_MORE: &str = "\
+The configuration's principals with the journal's changes put back, as a service would start with. Both
+files are only read, also while a service runs.
+
+  --as lines          a line for each principal: 'alice kvno 3 counts 4096 4096'; at the end
+                      'principals N changes N'
+  --as configuration  a configuration with the keys that are held: with it a journal starts anew
+  --as keys           a line for each key: name, kvno, etype, iterations, key, salt
+
+The last two have the keys in the clear: keep them as the configuration is kept.
+
+Example:
+  chpw_server table --config samples/realm.toml --journal realm.journal";
+
+const OLD_JOURNAL_HELP: &str = "The journal of accepted changes, which has to be there";
+
+const AS_HELP: &str = "lines, configuration or keys [default: lines]";
+
 const SERVE: &str = "Serves so many connections on a port of this machine, and ends.";
 
 const SERVE_MORE: &str = "\
@@ -71,6 +91,45 @@ const IDLE_HELP: &str =
 
 const RAISE_HELP: &str =
     "Raises the iteration count of new keys first, to 1 to 16777216; keys that are held stay";
+
+const LOG_HELP: &str =
+    "Where each decision is told in a line, appended; made where it isn't there [default: nowhere]";
+
+const IMPORT: &str = "Prints a keytab's keys as a configuration has them.";
+
+const IMPORT_MORE: &str = "\
+Prints a [[service.key]] for each key of kadmin/changepw, and a [[principal]] for each other principal of
+the realm. What can't stand in a configuration is left out, with a line on standard error that says why.
+A keytab doesn't say which iteration count its keys were made with: --iterations does.
+
+What is printed has keys in the clear: keep it as the keytab is kept.
+
+Example:
+  chpw_server import --keytab realm.keytab --realm EXAMPLE.COM >> realm.toml";
+
+const KEYTAB_HELP: &str = "The keytab, of MIT's format 0x0502";
+
+const REALM_HELP: &str = "The realm, 1 to 255 bytes";
+
+const KEY_COUNT_HELP: &str = "The keys' iteration count, 1 to 16777216 [default: 4096]";
+
+const KEY: &str = "Prints the keys that a password makes, as a configuration has them.";
+
+const KEY_MORE: &str = "\
+Prints a [[principal]] with one key, made of the password with the usual salt: the realm, and the name's
+components behind it. A newline at the end of the file is no part of the password.
+
+What is printed has keys in the clear: keep it as the password is kept.
+
+Example:
+  chpw_server key --realm EXAMPLE.COM --name alice --password-file alice.password >> realm.toml";
+
+const NAME_HELP: &str =
+    "Whose keys: 1 to 8 components of 1 to 128 bytes, with / between them, as alice or alice/admin";
+
+const PASSWORD_FILE_HELP: &str = "The file with the password";
+
+const KVNO_HELP: &str = "The key version, 1 to 4294967295 [default: 1]";
 
 const CLIENT: &str = "Sends one request to a service on this machine, with a ticket of its own.";
 
@@ -162,6 +221,59 @@ fn check<'a>(alloc: Global) -> Result<Command<'a>, AllocError>
     Ok(command)
 }
 
+fn table<'a>(alloc: Global) -> Result<Command<'a>, AllocError>
+    ensures shape { IfOk result (λ c. app_of c ≡ specs_of.alone specs_of.table) }
+    ensures local { IfOk result specs_of.IsLocal }
+{
+    let command = described(alloc, "table", TABLE, TABLE_MORE);
+    let command = with_option(
+        command,
+        required_option(alloc, "config", "FILE", CONFIG_HELP),
+    )?;
+    let command = with_option(
+        command,
+        required_option(alloc, "journal", "FILE", OLD_JOURNAL_HELP),
+    )?;
+    let command = with_option(command, optional_option(alloc, "as", "FORM", AS_HELP))?;
+    Ok(command)
+}
+
+fn import_keytab<'a>(alloc: Global) -> Result<Command<'a>, AllocError>
+    ensures shape { IfOk result (λ c. app_of c ≡ specs_of.alone specs_of.import_keytab) }
+    ensures local { IfOk result specs_of.IsLocal }
+{
+    let command = described(alloc, "import", IMPORT, IMPORT_MORE);
+    let command = with_option(
+        command,
+        required_option(alloc, "keytab", "FILE", KEYTAB_HELP),
+    )?;
+    let command = with_option(
+        command,
+        required_option(alloc, "realm", "REALM", REALM_HELP),
+    )?;
+    let command = with_option(command, iterations_option(alloc, KEY_COUNT_HELP))?;
+    Ok(command)
+}
+
+fn key<'a>(alloc: Global) -> Result<Command<'a>, AllocError>
+    ensures shape { IfOk result (λ c. app_of c ≡ specs_of.alone specs_of.key) }
+    ensures local { IfOk result specs_of.IsLocal }
+{
+    let command = described(alloc, "key", KEY, KEY_MORE);
+    let command = with_option(
+        command,
+        required_option(alloc, "realm", "REALM", REALM_HELP),
+    )?;
+    let command = with_option(command, required_option(alloc, "name", "NAME", NAME_HELP))?;
+    let command = with_option(
+        command,
+        required_option(alloc, "password-file", "FILE", PASSWORD_FILE_HELP),
+    )?;
+    let command = with_option(command, iterations_option(alloc, KEY_COUNT_HELP))?;
+    let command = with_option(command, kvno_option(alloc, KVNO_HELP))?;
+    Ok(command)
+}
+
 fn serve<'a>(alloc: Global) -> Result<Command<'a>, AllocError>
     ensures shape { IfOk result (λ c. app_of c ≡ specs_of.alone specs_of.serve) }
     ensures local { IfOk result specs_of.IsLocal }
@@ -181,6 +293,7 @@ fn serve<'a>(alloc: Global) -> Result<Command<'a>, AllocError>
     let command = with_option(command, connections_option(alloc, CONNECTIONS_HELP))?;
     let command = with_option(command, idle_option(alloc, IDLE_HELP))?;
     let command = with_option(command, raise_option(alloc, RAISE_HELP))?;
+    let command = with_option(command, optional_option(alloc, "log", "FILE", LOG_HELP))?;
     Ok(command)
 }
 
@@ -220,6 +333,9 @@ pub(crate) fn program<'a>(alloc: Global) -> Result<Command<'a>, AllocError>
     let program = leading(described(alloc, "chpw_server", ABOUT, STATUSES));
     let program = with_command(program, drill(alloc))?;
     let program = with_command(program, check(alloc)?)?;
+    let program = with_command(program, table(alloc)?)?;
+    let program = with_command(program, import_keytab(alloc)?)?;
+    let program = with_command(program, key(alloc)?)?;
     let program = with_command(program, serve(alloc)?)?;
     let program = with_command(program, client(alloc)?)?;
     Ok(program)

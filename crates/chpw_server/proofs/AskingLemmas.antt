@@ -11,7 +11,7 @@ use Rattle.chpw_client.specs.declared.request.Sent.{Sent}
 use Rattle.chpw_invocation.specs.declared.invocation.ClientOptions.{ClientOptions}
 use Rattle.chpw_server.specs.Asking.{Asks, HasAsked, IsUnasked, Names, Tells}
 use Rattle.chpw_server.specs.declared.ending.Ending.{Ending}
-use Rattle.chpw_server.specs.declared.ending.Ending.TheVariants.{Good, Faulty, Early, Unread, Unserved, BadArgument, Unconnected, Unanswered, Refused, Misused, NotText}
+use Rattle.chpw_server.specs.declared.ending.Ending.TheVariants.{Good, Faulty, Early, Unread, Unserved, Unbrought, BadArgument, Unconnected, Unanswered, Refused, Misused, NotText}
 
 pub asks : (options : ClientOptions) (config : Config) (q : Question) (target : Option Name) (drawn : _)
     (sent : Sent) → config_fits config ≡ true → q.realm ≡ config.realm → IsFirstKey config.service q.service
@@ -42,6 +42,7 @@ unasked options (Faulty file words) is = tt
 unasked options (Early fault) is = tt
 unasked options (Unread file) is = tt
 unasked options (Unserved fault) is = tt
+unasked options (Unbrought fault) is = tt
 unasked options BadArgument is = tt
 unasked options Unconnected is = tt
 unasked options Unanswered is = tt
@@ -55,6 +56,7 @@ replied options sent reply (Faulty file words) asks tells = tt
 replied options sent reply (Early fault) asks tells = tt
 replied options sent reply (Unread file) asks tells = tt
 replied options sent reply (Unserved fault) asks tells = tt
+replied options sent reply (Unbrought fault) asks tells = tt
 replied options sent reply BadArgument asks tells = tt
 replied options sent reply Unconnected asks tells = tt
 replied options sent reply Unanswered asks tells = tt

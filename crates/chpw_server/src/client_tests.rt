@@ -2,8 +2,9 @@
 use crate::client::ask;
 use crate::ending::Ending;
 use chpw_invocation::{ClientOptions, ServeOptions};
-use chpw_service::serve;
+use chpw_service::{ServeFault, serve};
 use std::fs::{File, Files};
+use std::io::{Read, Write};
 use std::net::{Net, TcpListener, TcpStream};
 use std::process::Abort;
 use std::test::Fail;
@@ -49,6 +50,20 @@ const CONFIG_FILE: &str = "client-tests.toml";
 const SEED_FILE: &str = "client-tests.seed";
 
 const JOURNAL_FILE: &str = "client-tests.journal";
+
+const LOG_FILE: &str = "client-tests.log";
+
+/// What the log has of each connection's message, behind its time and worker.
+const LOGGED: [&str; 8] = [
+    "127.0.0.1 client alice@EXAMPLE.COM target alice@EXAMPLE.COM code 0 error - kvno 2 text password changed",
+    "127.0.0.1 client alice@EXAMPLE.COM target alice@EXAMPLE.COM code 4 error - kvno - text password too short",
+    "127.0.0.1 client alice@EXAMPLE.COM target alice@EXAMPLE.COM code 7 error - kvno - text initial ticket needed",
+    "127.0.0.1 client alice@EXAMPLE.COM target bob@EXAMPLE.COM code 0 error - kvno 2 text password changed",
+    "127.0.0.1 client bob@EXAMPLE.COM target alice@EXAMPLE.COM code 5 error - kvno - text access denied",
+    "127.0.0.1 client alice@EXAMPLE.COM target alice@EXAMPLE.COM code 0 error - kvno 3 text password changed",
+    "127.0.0.1 client alice@EXAMPLE.COM target alice@EXAMPLE.COM code 7 error - kvno - text initial ticket needed",
+    "127.0.0.1 client - target - code 1 error 60 kvno - text malformed",
+];
 
 /// What a request is made of beside its files.
 #[derive(Clone, Copy, Drop)]
@@ -142,28 +157,71 @@ where
     assert!(rt; matches!(ask(rt, old_not_initial), Ending::Refused));
 }
 
-#[test]
-fn client_asks_a_service(rt: HostRuntime) -> Result<(), Fail> {
-    fs::write(&rt, CONFIG_FILE, CONFIG.as_bytes())?;
-    fs::write(&rt, SEED_FILE, [1; 32].as_slice())?;
-    let _ = fs::remove_file(&rt, JOURNAL_FILE);
-    let port = TcpListener::bind(&rt, ("127.0.0.1", 0u16))?
-        .local_addr()?
-        .port();
-    let serving = ServeOptions {
+// A message of one byte, and the first byte of its answer.
+fn send_malformed<R: Net<Stream = TcpStream> + Abort>(rt: &R, port: u16) {
+    let stream = TcpStream::connect(rt, ("127.0.0.1", port))
+        .ok()
+        .expect(rt, "a connection");
+    assert!(rt; (&mut &stream).write_all(b"\x00\x00\x00\x01\x00").is_ok());
+    let mut first = [0];
+    assert!(rt; matches!((&mut &stream).read(&mut first), Ok(1)));
+}
+
+// A service with a log, for so many connections.
+fn serving<'a>(port: u16, connections: u32, log: &'a str) -> ServeOptions<'a> {
+    ServeOptions {
         config: CONFIG_FILE,
         journal: JOURNAL_FILE,
         seed: SEED_FILE,
         port,
         workers: 2,
-        connections: 7,
+        connections,
         idle: None,
         raise: None,
-    };
-    let (served, ()) = join(&rt, || serve(&rt, serving).is_ok(), || ask_all(&rt, port));
+        log: Some(log),
+    }
+}
+
+// Its files, without a journal and a log; and a port where nobody listens.
+fn prepare(rt: &HostRuntime) -> Result<u16, Fail> {
+    fs::write(rt, CONFIG_FILE, CONFIG.as_bytes())?;
+    fs::write(rt, SEED_FILE, [1; 32].as_slice())?;
+    for file in [JOURNAL_FILE, LOG_FILE] {
+        let _ = fs::remove_file(rt, file);
+    }
+    let listener = TcpListener::bind(rt, ("127.0.0.1", 0u16))?;
+    Ok(listener.local_addr()?.port())
+}
+
+// The log has those lines and no other.
+fn expect_log<R: Files + AllocGlobal + Abort>(rt: &R) -> Result<(), Fail> {
+    let log = fs::read(rt, LOG_FILE)?;
+    let mut lines = str::from_utf8(log.as_slice()).unwrap_or("").lines();
+    for logged in LOGGED {
+        let line = lines.next().unwrap_or("");
+        let (_, behind) = line.split_once(" peer ").unwrap_or(("", ""));
+        assert!(rt; behind == logged);
+    }
+    assert!(rt; lines.next().is_none());
+    Ok(())
+}
+
+#[test]
+fn client_asks_a_service(rt: HostRuntime) -> Result<(), Fail> {
+    let port = prepare(&rt)?;
+    let options_of_it = serving(port, 8, LOG_FILE);
+    let (served, ()) = join(
+        &rt,
+        || serve(&rt, options_of_it).is_ok(),
+        || {
+            ask_all(&rt, port);
+            send_malformed(&rt, port);
+        },
+    );
     assert!(rt; served);
     // Two records of alice's, and one of bob's, whose name is shorter by two bytes.
     assert_eq!(rt; fs::read(&rt, JOURNAL_FILE)?.len(), 66 + 64 + 66);
+    expect_log(&rt)?;
     let late = options(port, own("New-pass6"));
     assert!(rt; matches!(ask(&rt, late), Ending::Unconnected));
     let unnamed = Wish {
@@ -171,8 +229,23 @@ fn client_asks_a_service(rt: HostRuntime) -> Result<(), Fail> {
         ..own("New-pass6")
     };
     assert!(rt; matches!(ask(&rt, options(port, unnamed)), Ending::BadArgument));
-    for file in [CONFIG_FILE, SEED_FILE, JOURNAL_FILE] {
-        fs::remove_file(&rt, file)?;
-    }
+    Ok(())
+}
+
+// No line can be written to /dev/full, and a folder is no log.
+#[test]
+fn log_that_cannot_be_written(rt: HostRuntime) -> Result<(), Fail> {
+    let port = prepare(&rt)?;
+    let ended = serve(&rt, serving(port, 1, "."));
+    assert!(rt; matches!(ended, Err(ServeFault::CannotWrite("."))));
+    assert!(rt; fs::read(&rt, JOURNAL_FILE).is_err());
+    let full = serving(port, 1, "/dev/full");
+    let (served, changed) = join(
+        &rt,
+        || serve(&rt, full).is_ok(),
+        || matches!(ask_soon(&rt, options(port, own("New-pass1"))), Ending::Good),
+    );
+    assert!(rt; served && changed);
+    assert_eq!(rt; fs::read(&rt, JOURNAL_FILE)?.len(), 66);
     Ok(())
 }

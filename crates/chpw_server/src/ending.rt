@@ -3,6 +3,7 @@ ghost use Rattle.std.specs.Prelude.{◌≡◌};
 ghost use Rattle.chpw_server.specs.Endings.{line_of, status_of};
 
 use chpw_commands::DrillFault;
+use chpw_keys::KeysFault;
 use chpw_service::ServeFault;
 use std::fmt;
 
@@ -19,6 +20,8 @@ pub enum Ending<'a> {
     Unread(&'a str),
     /// The service ended early, or a file that `client` reads has a fault.
     Unserved(ServeFault<'a>),
+    /// No keys were brought in.
+    Unbrought(KeysFault<'a>),
     /// A name, a password or the clock that no request can be made with.
     BadArgument,
     /// There is no service at the port.
@@ -42,6 +45,7 @@ impl Ending<'_> {
         match self {
             Ending::Good => 0,
             Ending::Faulty { .. } | Ending::Early(_) | Ending::Unread(_) | Ending::Unserved(_) => 1,
+            Ending::Unbrought(_) => 1,
             Ending::Unconnected | Ending::Unanswered | Ending::Refused => 1,
             Ending::BadArgument | Ending::Misused | Ending::NotText => 2,
         }
@@ -65,6 +69,7 @@ impl fmt::Display for Ending<'_> {
             Ending::Early(fault) => write!(f, "{fault}"),
             Ending::Unread(file) => write!(f, "cannot read {file}"),
             Ending::Unserved(fault) => write!(f, "{fault}"),
+            Ending::Unbrought(fault) => write!(f, "{fault}"),
             Ending::BadArgument => f.write_str("bad argument"),
             Ending::Unconnected => f.write_str("cannot connect"),
             Ending::Unanswered => f.write_str("connection ended"),

@@ -1,6 +1,6 @@
 //! The service's program. Its commands are `drill`, a script of decisions on standard input and their
-//! results on standard output; `check`, what is found in a configuration file; `serve`, the service on a
-//! port of this machine; and `client`, one request to it.
+//! results on standard output; `check`, what is found in a configuration file; `table`, the keys that are
+//! held; `import` and `key`, keys of a keytab and of a password; `serve`, the service on a port of this machine; and `client`, one request to it.
 #![tactic(auto)]
 
 mod client;
@@ -13,8 +13,9 @@ mod ending;
 mod tests;
 
 pub use chpw_commands::{DrillFault, explain_check, run_check, run_drill};
-use chpw_invocation::{Invocation, ServeOptions, command_of};
-use chpw_service::serve;
+use chpw_invocation::{Invocation, ServeOptions, TableOptions, command_of};
+use chpw_keys::{KeysFault, tell_keytab, tell_password};
+use chpw_service::{serve, tell_table};
 use clap::Error;
 use clap::error::ErrorKind;
 use client::ask;
@@ -69,6 +70,9 @@ where
         Err(error) => misused(rt, error),
         Ok(Invocation::Drill) => drill(rt),
         Ok(Invocation::Check { config }) => check(rt, config),
+        Ok(Invocation::Table(options)) => table(rt, options),
+        Ok(Invocation::Import(options)) => brought(tell_keytab(rt, options)),
+        Ok(Invocation::Key(options)) => brought(tell_password(rt, options)),
         Ok(Invocation::Serve(options)) => started(rt, options),
         Ok(Invocation::Client(options)) => ask(rt, options),
     }
@@ -99,6 +103,26 @@ where
     match serve(rt, options) {
         Ok(()) => Ending::Good,
         Err(fault) => Ending::Unserved(fault),
+    }
+}
+
+// The table that is held.
+fn table<'a, R>(rt: &R, options: TableOptions<'a>) -> Ending<'a>
+where
+    R: Files<File = File> + Print + Eprint + AllocGlobal,
+{
+    match tell_table(rt, options) {
+        Ok(()) => Ending::Good,
+        Err(fault) => Ending::Unserved(fault),
+    }
+}
+
+// The keys of a keytab or a password.
+fn brought(told: Result<(), KeysFault<'_>>) -> Ending<'_> {
+    match told {
+        Ok(()) => Ending::Good,
+        Err(KeysFault::BadName) => Ending::BadArgument,
+        Err(fault) => Ending::Unbrought(fault),
     }
 }
 

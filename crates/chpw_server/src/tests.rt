@@ -2,13 +2,16 @@
 use crate::command_line::words as words_of;
 use crate::ending::Ending;
 use crate::{DrillFault, run_check, run_drill};
-use chpw_invocation::{Invocation, command_of};
+use chpw_invocation::{Invocation, TableForm, TableOptions, command_of};
+use chpw_keys::{tell_keytab, tell_password};
+use chpw_service::{ServeFault, write_table};
 use std::alloc::{AllocError, Global};
 use std::env::FillError;
-use std::io;
+use std::fs::{File, Files};
 use std::io::{ErrorKind, Read, Write};
 use std::rt::Env;
 use std::test::Fail;
+use std::{fs, io};
 
 const SCRIPT: &str =
     "realm EXAMPLE.COM\npolicy 0 0 2 4096 no\nprincipal alice 1 4096:a1\nopen 10 -1\nshow alice\n";
@@ -36,6 +39,109 @@ const REFUSED: [&str; 9] = [
     "chpw_server help client",
     "chpw_server --version",
 ];
+
+const TABLE_LINE: &str = "chpw_server table --config realm.toml --journal journal";
+
+/// Alice has keys of two versions; `depth` is 2.
+const TABLE_CONFIG: &str = "\
+[service]
+realm = 'EXAMPLE.COM'
+max_entries = 1000
+[[service.key]]
+kvno = 3
+etype = 17
+key = '5a5a5a5a5a5a5a5a5a5a5a5a5a5a5a5a'
+[policy]
+min_length = 6
+min_classes = 2
+depth = 2
+iterations = 4
+set_needs_initial = false
+[[principal]]
+name = 'bob/admin'
+[[principal.key]]
+kvno = 1
+iterations = 4
+aes128 = 'b1b1b1b1b1b1b1b1b1b1b1b1b1b1b1b1'
+aes256 = 'b1b1b1b1b1b1b1b1b1b1b1b1b1b1b1b1b1b1b1b1b1b1b1b1b1b1b1b1b1b1b1b1'
+[[principal]]
+name = 'alice'
+[[principal.key]]
+kvno = 7
+iterations = 4
+aes128 = 'a7a7a7a7a7a7a7a7a7a7a7a7a7a7a7a7'
+aes256 = 'a7a7a7a7a7a7a7a7a7a7a7a7a7a7a7a7a7a7a7a7a7a7a7a7a7a7a7a7a7a7a7a7'
+[[principal.key]]
+kvno = 6
+iterations = 3
+aes128 = 'a6a6a6a6a6a6a6a6a6a6a6a6a6a6a6a6'
+aes256 = 'a6a6a6a6a6a6a6a6a6a6a6a6a6a6a6a6a6a6a6a6a6a6a6a6a6a6a6a6a6a6a6a6'
+";
+
+/// Alice's change to version 8 under 5 iterations, with keys of bytes a8, and a raise to 5 before it
+/// (docs/JOURNAL.md).
+const TABLE_JOURNAL: [&[u8]; 4] = [
+    b"\x00\x05\x02\x00\x00\x00\x05",
+    b"\x00\x40\x01\x00\x00\x00\x08\x00\x00\x00\x05",
+    &[0xa8; 48],
+    b"\x01\x05alice",
+];
+
+const TABLE_LINES: &str =
+    "alice kvno 8 counts 5 4\nbob/admin kvno 1 counts 4\nprincipals 2 changes 2\n";
+
+const TABLE_KEYS: &str = "\
+alice@EXAMPLE.COM 8 18 5 a8a8a8a8a8a8a8a8a8a8a8a8a8a8a8a8a8a8a8a8a8a8a8a8a8a8a8a8a8a8a8a8 EXAMPLE.COMalice
+alice@EXAMPLE.COM 8 17 5 a8a8a8a8a8a8a8a8a8a8a8a8a8a8a8a8 EXAMPLE.COMalice
+alice@EXAMPLE.COM 7 18 4 a7a7a7a7a7a7a7a7a7a7a7a7a7a7a7a7a7a7a7a7a7a7a7a7a7a7a7a7a7a7a7a7 EXAMPLE.COMalice
+alice@EXAMPLE.COM 7 17 4 a7a7a7a7a7a7a7a7a7a7a7a7a7a7a7a7 EXAMPLE.COMalice
+bob/admin@EXAMPLE.COM 1 18 4 b1b1b1b1b1b1b1b1b1b1b1b1b1b1b1b1b1b1b1b1b1b1b1b1b1b1b1b1b1b1b1b1 EXAMPLE.COMbobadmin
+bob/admin@EXAMPLE.COM 1 17 4 b1b1b1b1b1b1b1b1b1b1b1b1b1b1b1b1 EXAMPLE.COMbobadmin
+";
+
+const TABLE_CONFIGURATION: &str = "\
+rule = []
+
+[policy]
+depth = 2
+iterations = 5
+min_classes = 2
+min_length = 6
+set_needs_initial = false
+
+[[principal]]
+name = \"alice\"
+
+[[principal.key]]
+aes128 = \"a8a8a8a8a8a8a8a8a8a8a8a8a8a8a8a8\"
+aes256 = \"a8a8a8a8a8a8a8a8a8a8a8a8a8a8a8a8a8a8a8a8a8a8a8a8a8a8a8a8a8a8a8a8\"
+iterations = 5
+kvno = 8
+
+[[principal.key]]
+aes128 = \"a7a7a7a7a7a7a7a7a7a7a7a7a7a7a7a7\"
+aes256 = \"a7a7a7a7a7a7a7a7a7a7a7a7a7a7a7a7a7a7a7a7a7a7a7a7a7a7a7a7a7a7a7a7\"
+iterations = 4
+kvno = 7
+
+[[principal]]
+name = \"bob/admin\"
+
+[[principal.key]]
+aes128 = \"b1b1b1b1b1b1b1b1b1b1b1b1b1b1b1b1\"
+aes256 = \"b1b1b1b1b1b1b1b1b1b1b1b1b1b1b1b1b1b1b1b1b1b1b1b1b1b1b1b1b1b1b1b1\"
+iterations = 4
+kvno = 1
+
+[service]
+max_entries = 1000
+realm = \"EXAMPLE.COM\"
+
+[[service.key]]
+etype = 17
+key = \"5a5a5a5a5a5a5a5a5a5a5a5a5a5a5a5a\"
+kvno = 3
+";
 
 /// Gives its bytes and then fails.
 #[derive(Drop)]
@@ -193,5 +299,149 @@ fn words_that_are_no_text(rt: HostRuntime) -> Result<(), Fail> {
         return Err(Fail::new("no words"));
     };
     assert!(rt; words.len() == 2 && words[1].as_str() == "Größe");
+    Ok(())
+}
+
+// What is told of files with these names, and behind how many bytes a torn record stands.
+fn told<'a, R: Files<File = File> + AllocGlobal>(
+    rt: &R,
+    config: &'a str,
+    journal: &'a str,
+    form: TableForm,
+) -> Result<(Vec<u8>, Option<u64>), ServeFault<'a>> {
+    let options = TableOptions {
+        config,
+        journal,
+        form,
+    };
+    let mut text = Vec::new(rt.alloc());
+    let behind = write_table(rt, options, &mut text)?;
+    Ok((text, behind))
+}
+
+#[test]
+fn table_is_told_in_each_form(rt: HostRuntime) -> Result<(), Fail> {
+    fs::write(&rt, "table.toml", TABLE_CONFIG.as_bytes())?;
+    let mut journal = Vec::new(rt.alloc());
+    for part in TABLE_JOURNAL {
+        journal.extend_from_slice(part)?;
+    }
+    fs::write(&rt, "table.journal", journal.as_slice())?;
+    for (form, text) in [
+        (TableForm::Lines, TABLE_LINES),
+        (TableForm::Keys, TABLE_KEYS),
+        (TableForm::Configuration, TABLE_CONFIGURATION),
+    ] {
+        let Ok((told, behind)) = told(&rt, "table.toml", "table.journal", form) else {
+            return Err(Fail::new("not told"));
+        };
+        assert!(rt; told.as_slice() == text.as_bytes() && behind.is_none());
+    }
+    journal.extend_from_slice(b"\x00\x05\x02")?;
+    fs::write(&rt, "torn.journal", journal.as_slice())?;
+    let Ok((told, behind)) = told(&rt, "table.toml", "torn.journal", TableForm::Lines) else {
+        return Err(Fail::new("not told"));
+    };
+    assert!(rt; told.as_slice() == TABLE_LINES.as_bytes() && behind == Some(73));
+    assert!(rt; fs::read(&rt, "torn.journal")?.as_slice() == journal.as_slice());
+    Ok(())
+}
+
+#[test]
+fn table_that_is_not_told(rt: HostRuntime) -> Result<(), Fail> {
+    fs::write(&rt, "good.toml", TABLE_CONFIG.as_bytes())?;
+    fs::write(&rt, "no.toml", b"[")?;
+    fs::write(&rt, "empty.journal", b"")?;
+    let other = b"\x00\x3e\x01\x00\x00\x00\x02\x00\x00\x00\x05".as_slice();
+    let parts = [other, [0xa8; 48].as_slice(), b"\x01\x03zoe".as_slice()];
+    let mut journal = Vec::new(rt.alloc());
+    for part in parts {
+        journal.extend_from_slice(part)?;
+    }
+    fs::write(&rt, "other.journal", journal.as_slice())?;
+    for (config, journal, line) in [
+        ("good.toml", "missing", "cannot read missing"),
+        ("good.toml", ".", "cannot read ."),
+        ("good.toml", "other.journal", "journal: J3 at 1"),
+        ("good.toml", "good.toml", "journal: J1 at 1"),
+        ("no.toml", "missing", "config: C1 file 0"),
+        ("missing", "empty.journal", "cannot read missing"),
+        (".", "empty.journal", "cannot read ."),
+    ] {
+        for form in [TableForm::Lines, TableForm::Keys, TableForm::Configuration] {
+            let Err(fault) = told(&rt, config, journal, form) else {
+                return Err(Fail::new("told"));
+            };
+            assert!(rt; fault.to_string(rt.alloc())?.as_str() == line);
+        }
+    }
+    for form in [TableForm::Lines, TableForm::Keys, TableForm::Configuration] {
+        let options = TableOptions {
+            config: "good.toml",
+            journal: "empty.journal",
+            form,
+        };
+        let ended = write_table(&rt, options, &mut Closed);
+        assert!(rt; matches!(ended, Err(ServeFault::CannotPrint)));
+    }
+    Ok(())
+}
+
+#[test]
+fn form_of_a_table_is_read(rt: HostRuntime) -> Result<(), Fail> {
+    for (behind, form) in [
+        ("", Some(TableForm::Lines)),
+        (" --as lines", Some(TableForm::Lines)),
+        (" --as configuration", Some(TableForm::Configuration)),
+        (" --as=keys", Some(TableForm::Keys)),
+        (" --as key", None),
+        (" --as=", None),
+        (" --as", None),
+    ] {
+        let line = format!(in rt.alloc(); "{TABLE_LINE}{behind}")?;
+        let words = words(rt.alloc(), &line)?;
+        let read = match command_of(rt.alloc(), words.as_slice()) {
+            Ok(Invocation::Table(options)) => Some(options.form),
+            _ => None,
+        };
+        assert!(rt; read == form);
+    }
+    Ok(())
+}
+
+#[test]
+fn keys_that_are_not_brought_in(rt: HostRuntime) -> Result<(), Fail> {
+    fs::write(&rt, "no.keytab", b"[")?;
+    fs::write(&rt, "no.password", b"\n")?;
+    for (line, told) in [
+        ("import --keytab missing", "cannot read missing"),
+        ("import --keytab .", "cannot read ."),
+        (
+            "import --keytab no.keytab",
+            "no.keytab: no keytab of format 0x0502",
+        ),
+        (
+            "key --name alice --password-file missing",
+            "cannot read missing",
+        ),
+        ("key --name alice --password-file .", "cannot read ."),
+        (
+            "key --name alice --password-file no.password",
+            "no.password: the password is empty",
+        ),
+        ("key --name a//b --password-file missing", "bad argument"),
+    ] {
+        let line = format!(in rt.alloc(); "chpw_server {line} --realm EXAMPLE.COM")?;
+        let words = words(rt.alloc(), &line)?;
+        let ended = match command_of(rt.alloc(), words.as_slice()) {
+            Ok(Invocation::Import(options)) => tell_keytab(&rt, options),
+            Ok(Invocation::Key(options)) => tell_password(&rt, options),
+            _ => return Err(Fail::new("another command")),
+        };
+        let Err(fault) = ended else {
+            return Err(Fail::new("brought in"));
+        };
+        assert!(rt; fault.to_string(rt.alloc())?.as_str() == told);
+    }
     Ok(())
 }

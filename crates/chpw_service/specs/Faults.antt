@@ -1,5 +1,6 @@
 -- Why the service ends early: which faults its parts have, and the lines that tell them.
-use Rattle.std.specs.Prelude.{◌≡◌, ◌≢◌, ◌⊎◌, ℕ, List, ◌++◌, Option, Result, Err, codes}
+use Rattle.std.specs.Prelude.{◌≡◌, ◌≢◌, ◌⊎◌, ℕ, List, ◌++◌, Option, Some, None, Result, Err, codes}
+use Rattle.std.specs.Borrow.{Bor}
 use Rattle.std.specs.Str.{IsUtf8}
 use Rattle.chpw_config.specs.Faults.{fault_text as config_text, no_toml}
 use Rattle.chpw_config.specs.Settings.{settings_of}
@@ -17,6 +18,8 @@ use Rattle.chpw_pool.specs.declared.pool.PoolFault.TheVariants as pool
 use Rattle.chpw_invocation.specs.declared.invocation.ServeOptions.{ServeOptions}
 use Rattle.chpw_service.specs.declared.fault.ServeFault.{ServeFault}
 use Rattle.chpw_service.specs.declared.fault.ServeFault.TheVariants.{CannotRead, Config, CannotWrite, Journal, CannotListen, CannotPrint, Memory, CannotClose}
+use Rattle.chpw_service.specs.declared.fault.LateFault.{LateFault}
+use Rattle.chpw_service.specs.declared.fault.LateFault.TheVariants as late
 
 abbrev pub line_of : ServeFault → List ℕ
 line_of (CannotRead file) = codes "cannot read " ++ file.now
@@ -65,6 +68,17 @@ IsOfJournal path (CannotWrite file) = file.now ≡ path
 IsOfJournal path (Journal fault) = (fault ≢ NoMemory) × IsOfRecords fault
 IsOfJournal path fault = IsUnread path fault
 
+-- of the log at a path: it can't be made or appended to
+abbrev pub IsUnlogged : List ℕ → ServeFault → Type 0
+IsUnlogged path (CannotWrite file) = file.now ≡ path
+IsUnlogged path Memory = Unit {0}
+IsUnlogged path fault = ⊥
+
+-- of the log, where one is asked for
+abbrev pub IsOfLog : Option (Bor (List ℕ)) → ServeFault → Type 0
+IsOfLog None fault = ⊥
+IsOfLog (Some path) fault = IsUnlogged path.now fault
+
 -- once the files are read
 abbrev pub IsLate : ServeFault → Type 0
 IsLate CannotListen = Unit {0}
@@ -73,10 +87,17 @@ IsLate Memory = Unit {0}
 IsLate CannotClose = Unit {0}
 IsLate fault = ⊥
 
+-- the fault that a late one is
+abbrev pub late_fault : LateFault → ServeFault
+late_fault late.CannotListen = CannotListen
+late_fault late.CannotPrint = CannotPrint
+late_fault late.Memory = Memory
+late_fault late.CannotClose = CannotClose
+
 -- of a service with these files
 abbrev pub IsOfService : ServeOptions → ServeFault → Type 0
 IsOfService o fault = IsOfSettings o.config.now fault ⊎ (IsUnread o.seed.now fault
-    ⊎ (IsOfJournal o.journal.now fault ⊎ IsLate fault))
+    ⊎ (IsOfLog o.log fault ⊎ (IsOfJournal o.journal.now fault ⊎ IsLate fault)))
 
 -- what a pool that ended early is told as
 abbrev pub told_as : PoolFault → ServeFault

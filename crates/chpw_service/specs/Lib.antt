@@ -4,3 +4,4 @@ pub mod Opening
 pub mod Serving
 pub mod Tallies
 pub mod Raised
+pub mod Telling

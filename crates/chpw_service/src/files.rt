@@ -12,7 +12,7 @@ use std::fs::{File, Files};
 use std::io::{ErrorKind, Read};
 use std::{fs, io, str};
 
-/// The settings in the configuration's file. A text that isn't UTF-8 isn't TOML.
+/// The settings in the configuration's file.
 pub fn read_settings<'a, R: Files + AllocGlobal>(
     rt: &R,
     path: &'a str,
@@ -21,14 +21,45 @@ pub fn read_settings<'a, R: Files + AllocGlobal>(
     ensures value { IfOk result (λ config. (bytes : List ℕ) × Sets bytes (Ok config)) }
     ensures fault { IfErr result (IsOfSettings path.now) }
 {
+    settings(rt.alloc(), read_file(rt, path)?.as_slice())
+}
+
+/// The bytes of a file.
+pub(crate) fn read_file<'a, R: Files + AllocGlobal>(
+    rt: &R,
+    path: &'a str,
+) -> Result<Vec<u8>, ServeFault<'a>>
+    ensures fault { IfErr result (IsUnread path.now) }
+{
     match fs::read(rt, path) {
-        Ok(bytes) => settings(rt.alloc(), bytes.as_slice()),
+        Ok(bytes) => Ok(bytes),
         Err(error) => Err(unread(path, error)),
     }
 }
 
-// The settings that a file's bytes set, or their first fault.
-fn settings<'a>(alloc: Global, bytes: &[u8]) -> Result<Config, ServeFault<'a>>
+/// A file that is there, opened to be read. A folder can be opened too, and is refused as one that can't be read.
+pub(crate) fn open_file<'a, R: Files<File = File>>(
+    rt: &R,
+    path: &'a str,
+) -> Result<File, ServeFault<'a>>
+    ensures fault { IfErr result (IsUnread path.now) }
+{
+    match File::open(rt, path) {
+        Ok(file) if is_folder(&file) => Err(ServeFault::CannotRead(path)),
+        Ok(file) => Ok(file),
+        Err(error) => Err(unread(path, error)),
+    }
+}
+
+fn is_folder(file: &File) -> bool {
+    match file.metadata() {
+        Ok(metadata) => metadata.is_dir(),
+        Err(_) => false,
+    }
+}
+
+/// The settings that a file's bytes set, or their first fault. A text that isn't UTF-8 isn't TOML.
+pub(crate) fn settings<'a>(alloc: Global, bytes: &[u8]) -> Result<Config, ServeFault<'a>>
     ensures fits { IfOk result (λ config. config_fits config ≡ true) }
     ensures value { IfOk result (λ config. Sets bytes.now (Ok config)) }
     ensures fault { IfErr result (IsOfBytes bytes.now) }
@@ -66,8 +97,8 @@ fn first_32<R: Read>(reader: &mut R) -> io::Result<[u8; 32]>
     Ok(seed)
 }
 
-// The fault of a file that can't be read.
-fn unread(path: &str, error: io::Error) -> ServeFault<'_>
+/// The fault of a file that can't be read.
+pub(crate) fn unread(path: &str, error: io::Error) -> ServeFault<'_>
     ensures fault { IsUnread path.now result }
 {
     if error.kind() == ErrorKind::OutOfMemory {

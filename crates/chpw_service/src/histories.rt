@@ -9,7 +9,7 @@ ghost use Rattle.chpw_service.specs.declared.fault.ServeFault.TheVariants.{Canno
 
 use crate::closing::{Left, Tally, close_desk};
 use crate::fault::ServeFault;
-use chpw_answer::NoGate;
+use crate::logging::Logging;
 use chpw_book::{Desk, DeskName, Pass, StartFault, UnnamedDesk};
 use chpw_journal::FileSink;
 use chpw_messages::Service;
@@ -23,9 +23,9 @@ use std::time::Clock;
 
 /// What is served with, at all desks.
 #[derive(Drop)]
-pub(crate) struct Hall {
+pub(crate) struct Hall<'l, R> {
     pub service: Service,
-    pub lobby: Lobby<NoGate>,
+    pub lobby: Lobby<Logging<'l, R>>,
     pub workers: u8,
     pub idle: Option<u16>,
     ghost some_workers: { (1 ≤ workers) × (workers ≤ 16) },
@@ -58,9 +58,10 @@ pub(crate) fn first_opening(table: Table, sink: FileSink<File>, workers: u8) -> 
 /// history is full, its desk is closed and the next one opens with the table that was closed.
 pub(crate) fn serve_histories<
     'a,
-    R: Threads + Wait + Clock + Print + AllocGlobal + Sync,
+    'l,
+    R: Threads + Wait + Clock + Print + Eprint + AllocGlobal + Sync,
     T: Clock + Sync,
->(rt: &R, time: &T, hall: &Hall, opening: Opening) -> Result<(), ServeFault<'a>>
+>(rt: &R, time: &T, hall: &Hall<'l, R>, opening: Opening) -> Result<(), ServeFault<'a>>
     requires workers { workers_of opening.unnamed ≡ hall.now.workers }
     ensures fault { IfErr result IsLate }
 {
@@ -78,10 +79,11 @@ pub(crate) fn serve_histories<
 // connections are left to serve.
 fn serve_history<
     'a,
+    'l,
     D: DeskName + Send + Sync,
-    R: Threads + Wait + Clock + Print + AllocGlobal + Sync,
+    R: Threads + Wait + Clock + Print + Eprint + AllocGlobal + Sync,
     T: Clock + Sync,
->(rt: &R, time: &T, hall: &Hall, opening: Opening) -> Result<Option<Opening>, ServeFault<'a>>
+>(rt: &R, time: &T, hall: &Hall<'l, R>, opening: Opening) -> Result<Option<Opening>, ServeFault<'a>>
     requires name { IsNamed opening.unnamed D.name D.parts D.book D.root D.workers }
     requires workers { workers_of opening.unnamed ≡ hall.now.workers }
     ensures workers { IfOk result (λ o. IfSome o (λ next.

@@ -1,14 +1,18 @@
-//! `serve`: the service on a port of this machine, from its files to the close of its desk.
+//! `serve`: the service on a port of this machine, from its files to the close of its desk; and `table`, what
+//! those files hold.
 #![tactic(auto)]
 
 mod closing;
 mod fault;
 mod files;
 mod histories;
+mod logging;
 mod raising;
 mod serving;
 mod starting;
+mod table;
 
 pub use fault::ServeFault;
 pub use files::{read_seed, read_settings};
 pub use serving::{serve, serve_by};
+pub use table::{tell_table, write_table};

@@ -5,15 +5,16 @@ ghost use Rattle.chpw_service.specs.Faults.{IsLate, IsOfService, told_as};
 ghost use Rattle.chpw_service.specs.Serving.{IsAskedFor};
 ghost use Rattle.chpw_service.specs.declared.fault.ServeFault.TheVariants.{CannotListen, Memory};
 
-use crate::fault::ServeFault;
+use crate::fault::{LateFault, ServeFault};
 use crate::files::{read_seed, read_settings};
 use crate::histories::{Hall, Opening, first_opening, serve_histories};
+use crate::logging::{Log, log_at, log_gates};
 use crate::raising::raised;
 use crate::starting::open_table;
 use chpw_invocation::ServeOptions;
 use chpw_journal::Journal;
 use chpw_messages::Service;
-use chpw_pool::{Lobby, MachineClock, Pool, PoolFault, Terms, no_gates};
+use chpw_pool::{Lobby, MachineClock, Pool, PoolFault, Terms};
 use std::alloc::Global;
 use std::fs::{File, Files};
 use std::net::{Ipv4Addr, Net, TcpListener, TcpStream};
@@ -22,10 +23,10 @@ use std::thread::{Threads, join};
 use std::time::Clock;
 
 /// Serves so many connections on 127.0.0.1, connection i (from 0) by worker i modulo their number,
-/// each worker one after the other. The configuration is read first, then the seed, then the
-/// journal; then the iteration count of new keys is raised where that is asked for, and then the port is
-/// listened at. A torn tail that was cut off the journal is told in a line
-/// on standard error. Printed are what came of the raise, `listening on 127.0.0.1:N` before a
+/// each worker one after the other. The configuration is read first, then the seed; then the log is opened
+/// where one is asked for, and then the journal is read; then the iteration count of new keys is raised where
+/// that is asked for, and then the port is listened at. A torn tail that was cut off the journal is told in a
+/// line on standard error. Printed are what came of the raise, `listening on 127.0.0.1:N` before a
 /// connection is accepted, and `entries N changes N` for each history: where one is full, its desk is
 /// closed, and the next one opens with the table that was closed, its used ids kept.
 pub fn serve<
@@ -63,6 +64,7 @@ pub fn serve_by<
 {
     let config = read_settings(rt, options.config)?;
     let seed = read_seed(rt, options.seed)?;
+    let log = log_at(rt, rt.alloc(), options.log)?;
     let Ok(service) = Service::of(rt.alloc(), &config) else {
         return Err(ServeFault::Memory);
     };
@@ -76,17 +78,19 @@ pub fn serve_by<
     tell_cut(rt, options.journal, cut_at);
     let opening = first_opening(table, sink, options.workers);
     let opening = raised(rt, opening, options.workers, &mut clock, options.raise)?;
-    serve_opened(rt, time, &options, service, seed, opening)
+    serve_opened(rt, time, &options, service, seed, log.as_ref(), opening)
 }
 
 // Serves what is opened, once the port is listened at.
 fn serve_opened<
     'a,
+    'l,
     R: Net<Listener = TcpListener, Stream = TcpStream>
         + Threads
         + Wait
         + Clock
         + Print
+        + Eprint
         + AllocGlobal
         + Sync,
     T: Clock + Sync,
@@ -96,6 +100,7 @@ fn serve_opened<
     options: &ServeOptions<'_>,
     service: Service,
     seed: [u8; 32],
+    log: Option<&'l Log<'l, R>>,
     opening: Opening,
 ) -> Result<(), ServeFault<'a>>
     requires workers { workers_of opening.unnamed ≡ options.now.workers }
@@ -103,7 +108,7 @@ fn serve_opened<
 {
     let listener = listen(rt, options.port)?;
     let terms = terms_of(options, seed);
-    let hall = hall_of(rt.alloc(), service, options, terms)?;
+    let hall = hall_of(rt.alloc(), service, options, terms, log)?;
     if println!(rt; "listening on 127.0.0.1:{}", options.port).is_err() {
         return Err(ServeFault::CannotPrint);
     }
@@ -141,18 +146,19 @@ fn terms_of(options: &ServeOptions<'_>, seed: [u8; 32]) -> Terms
 }
 
 // What is served with, at all desks.
-fn hall_of<'a>(
+fn hall_of<'a, 'l, R: Wait + Eprint>(
     alloc: Global,
     service: Service,
     options: &ServeOptions<'_>,
     terms: Terms,
-) -> Result<Hall, ServeFault<'a>>
+    log: Option<&'l Log<'l, R>>,
+) -> Result<Hall<'l, R>, ServeFault<'a>>
     ensures workers { IfOk result (λ hall. hall.workers ≡ options.now.workers) }
     ensures idle { IfOk result (λ hall. hall.idle ≡ terms.idle) }
     ensures fault { IfErr result (λ fault. fault ≡ Memory) }
 {
     let workers = options.workers;
-    let lobby = match no_gates(alloc, usize::from(workers)) {
+    let lobby = match log_gates(alloc, log, workers) {
         Err(_) => return Err(ServeFault::Memory),
         Ok(gates) => Lobby::of(alloc, terms.seed, gates),
     };
@@ -170,13 +176,14 @@ fn hall_of<'a>(
 // Accepts so many connections, while they are served at one desk after the other.
 fn serve_all<
     'a,
-    R: Net<Stream = TcpStream> + Threads + Wait + Clock + Print + AllocGlobal + Sync,
+    'l,
+    R: Net<Stream = TcpStream> + Threads + Wait + Clock + Print + Eprint + AllocGlobal + Sync,
     T: Clock + Sync,
 >(
     rt: &R,
     time: &T,
     listener: &TcpListener,
-    hall: &Hall,
+    hall: &Hall<'l, R>,
     opening: Opening,
     connections: u32,
 ) -> Result<(), ServeFault<'a>>
@@ -186,13 +193,14 @@ fn serve_all<
     let (pool, ended) = join(
         rt,
         || hall.lobby.receive(rt, listener, connections),
-        || -> Result<(), ServeFault>
+        || -> Result<(), LateFault>
             requires { workers_of opening.unnamed ≡ hall.now.workers }
-            ensures { IfErr result IsLate }
         { serve_or_desert(rt, time, listener, hall, opening) },
     );
-    ended?;
-    end(pool)
+    match ended {
+        Ok(()) => end(pool),
+        Err(late) => Err(late.fault()),
+    }
 }
 
 // Tells why the pool ended early.
@@ -210,24 +218,25 @@ fn end<'a>(pool: Pool) -> Result<(), ServeFault<'a>>
 
 // Serves at one desk after the other. After a fault nothing more is accepted.
 fn serve_or_desert<
-    'a,
-    R: Net<Stream = TcpStream> + Threads + Wait + Clock + Print + AllocGlobal + Sync,
+    'l,
+    R: Net<Stream = TcpStream> + Threads + Wait + Clock + Print + Eprint + AllocGlobal + Sync,
     T: Clock + Sync,
 >(
     rt: &R,
     time: &T,
     listener: &TcpListener,
-    hall: &Hall,
+    hall: &Hall<'l, R>,
     opening: Opening,
-) -> Result<(), ServeFault<'a>>
+) -> Result<(), LateFault>
     requires workers { workers_of opening.unnamed ≡ hall.now.workers }
-    ensures fault { IfErr result IsLate }
 {
-    let ended = serve_histories(rt, time, hall, opening);
-    if ended.is_err() {
-        hall.lobby.desert(rt, listener);
+    match serve_histories(rt, time, hall, opening) {
+        Ok(()) => Ok(()),
+        Err(fault) => {
+            hall.lobby.desert(rt, listener);
+            Err(LateFault::of(fault))
+        }
     }
-    ended
 }
 
 // The fault of a pool that ended early, as it is told.

@@ -4,7 +4,7 @@ use Rattle.clap.specs.Words.{App, Row, Text, app_of, is_simple, subcommand_of}
 use Rattle.clap.specs.Faults.{fault_of, is_simple_and_free}
 use Rattle.clap.specs.Kinds.{HasKind}
 use Rattle.chpw_invocation.specs.Program.{program}
-use Rattle.chpw_invocation.specs.Invocations.{AimsOld, AsksFor, IsRefusal}
+use Rattle.chpw_invocation.specs.Invocations.{AimsOld, AsksFor, IsRefusal, NamesNoForm, NamesNoRealm}
 use Rattle.chpw_invocation.proofs.matching.command_of.Goals as goal
 
 pub returns-in-Some-clause-asked : goal.returns-in-Some-clause-asked
@@ -36,9 +36,27 @@ returns-in-None-clause-refused c =
     let aims : AimsOld (subcommand_of program (map string_bytes c.args.words.now)) = subst AimsOld matched (c.aims_old.ensures.aims c.if-aims_old.true) in
     inr (none, inl (c.in_ok-error-in-None.ensures.kind, aims))
 
+pub returns-in-None-2-clause-refused : goal.returns-in-None-2-clause-refused
+returns-in-None-2-clause-refused c =
+    let is : app_of c.in_ok-program.program ≡ program = c.in_ok-program.ensures.shape in
+    let none : fault_of program (map string_bytes c.args.words.now) ≡ [] =
+    ap (λ (a : App). fault_of a (map string_bytes c.args.words.now)) (sym is) ∙ c.in_ok-matches.ensures.kinds (ap is_simple_and_free is) in
+    let matched = (c.in_ok-matches.ensures.ok.2 (ap is_simple is)).1 ∙ ap (λ (a : App). subcommand_of a (map string_bytes c.args.words.now)) is in
+    let names : NamesNoForm (subcommand_of program (map string_bytes c.args.words.now)) = subst NamesNoForm matched (c.names_no_form.ensures.names c.if-names_no_form.true) in
+    inr (none, inr (inl (c.in_ok-error-in-None-2.ensures.kind, names)))
+
+pub returns-in-None-3-clause-refused : goal.returns-in-None-3-clause-refused
+returns-in-None-3-clause-refused c =
+    let is : app_of c.in_ok-program.program ≡ program = c.in_ok-program.ensures.shape in
+    let none : fault_of program (map string_bytes c.args.words.now) ≡ [] =
+    ap (λ (a : App). fault_of a (map string_bytes c.args.words.now)) (sym is) ∙ c.in_ok-matches.ensures.kinds (ap is_simple_and_free is) in
+    let matched = (c.in_ok-matches.ensures.ok.2 (ap is_simple is)).1 ∙ ap (λ (a : App). subcommand_of a (map string_bytes c.args.words.now)) is in
+    let names : NamesNoRealm (subcommand_of program (map string_bytes c.args.words.now)) = subst NamesNoRealm matched (c.names_no_realm.ensures.names c.if-names_no_realm.true) in
+    inr (none, inr (inr (inl (c.in_ok-error-in-None-3.ensures.kind, names))))
+
 pub returns-clause-refused : goal.returns-clause-refused
 returns-clause-refused c =
     let is : app_of c.in_ok-program.program ≡ program = c.in_ok-program.ensures.shape in
     let none : fault_of program (map string_bytes c.args.words.now) ≡ [] =
     ap (λ (a : App). fault_of a (map string_bytes c.args.words.now)) (sym is) ∙ c.in_ok-matches.ensures.kinds (ap is_simple_and_free is) in
-    inr (none, inr c.in_ok-error-in-None-2.ensures.kind)
+    inr (none, inr (inr (inr c.in_ok-error-in-None-4.ensures.kind)))

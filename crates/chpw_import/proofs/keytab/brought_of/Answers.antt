@@ -1,0 +1,22 @@
+use mathlib.Core.Path.{fun_ext}
+use Rattle.std.proofs.Common.{◌∙◌, ap, Option, subst, List}
+use Rattle.chpw_import.specs.declared.slot.Slot.{Slot}
+use Rattle.chpw_import.specs.declared.slot.Found.{Found}
+use Rattle.krb_keytab.specs.declared.entry.KeytabEntry.{KeytabEntry}
+use Rattle.chpw_import.specs.Tables.{Holds}
+use Rattle.chpw_import.specs.Rows.{first_principals}
+use Rattle.chpw_import.proofs.keytab.brought_of.Goals as goal
+
+pub returns-clause-principals : goal.returns-clause-principals
+returns-clause-principals c =
+    let t = c.in_ok-table.table in
+    let realm = c.args.realm.now in
+    let es = c.args.entries.items in
+    let holds : Holds realm es t = subst (λ (zs : List KeytabEntry). Holds realm zs t) c.as_slice.ensures.value c.in_ok-table.ensures.value in
+    record {
+      names = t.newest.entries;
+      sorted = c.in_ok-principals.ensures.ordered;
+      versions = holds.newest;
+      first = c.in_ok-principals.ensures.value
+          ∙ ap (λ (keys : Slot → Option Found). first_principals keys c.args.iterations t.newest.entries) (fun_ext holds.found);
+    }

@@ -1,0 +1,11 @@
+//! `import` and `key`: keys that are brought in, as stanzas of a configuration on standard output.
+#![tactic(auto)]
+
+mod fault;
+mod keytab;
+mod output;
+mod password;
+
+pub use fault::KeysFault;
+pub use keytab::{tell_keytab, write_keytab};
+pub use password::{tell_password, write_password};

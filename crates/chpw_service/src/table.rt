@@ -1,0 +1,157 @@
+//! `table`: what is told of the table that is held.
+ghost use Rattle.std.specs.Prelude.{◌≡◌, ◌≢◌, ◌⊎◌, List, ℕ, Option, IfOk, IfErr, OnOk, Ok, true};
+ghost use Rattle.std.specs.Io.KnownBytes.{Appends};
+ghost use Rattle.chpw_config.specs.Settings.{settings_of};
+ghost use Rattle.chpw_rules.specs.declared.config.Config.{Config as Settings};
+ghost use Rattle.chpw_rules.specs.Fitting.{config_fits};
+ghost use Rattle.chpw_report.specs.Reports.{report as report_text};
+ghost use Rattle.chpw_held.specs.Configurations.{config_held};
+ghost use Rattle.chpw_held.specs.Held.{IsHeld};
+ghost use Rattle.chpw_journal.specs.declared.fault.RestoreFault.TheVariants.{Memory as NoMemory};
+ghost use Rattle.chpw_service.specs.Faults.{IsLate, IsOfBytes, IsOfJournal, IsOfRecords, Sets};
+ghost use Rattle.chpw_service.specs.Telling.{IsOfTable, IsTold, Tells};
+
+use crate::fault::ServeFault;
+use crate::files::{open_file, read_file, settings};
+use chpw_held::{HeldTable, held_from, write_configuration};
+use chpw_invocation::{TableForm, TableOptions};
+use chpw_journal::RestoreFault;
+use chpw_report::{Form, ReportFault, write_report};
+use chpw_rules::Config;
+use std::alloc::Global;
+use std::fs::{File, Files};
+use std::io::{self, Write};
+
+/// Tells the table that these files hold on standard output, and on standard error behind how many bytes of
+/// the journal a torn record stands. They are only read, and the journal also while a service has it.
+pub fn tell_table<'a, R: Files<File = File> + Print + Eprint + AllocGlobal>(
+    rt: &R,
+    options: TableOptions<'a>,
+) -> Result<(), ServeFault<'a>>
+    ensures fault { IfErr result (IsOfTable options.entry) }
+{
+    if let Some(behind) = write_table(rt, options, &mut io::writer(rt))? {
+        let _ = eprintln!(rt;
+            "{}: a torn record stands behind {behind} bytes",
+            options.journal
+        );
+    }
+    Ok(())
+}
+
+/// Writes what is told of the table that these files hold; behind how many bytes of the journal a torn record
+/// stands, where there is one. A folder, and a journal that isn't there, can't be read.
+pub fn write_table<'a, R: Files<File = File> + AllocGlobal, W: Write>(
+    rt: &R,
+    options: TableOptions<'a>,
+    writer: &mut W,
+) -> Result<Option<u64>, ServeFault<'a>>
+    ensures written { IfOk result (λ torn. (text : List ℕ) × Tells options.entry.form torn text
+        × Appends (W.contents writer.old) (W.contents writer.new) text) }
+    ensures fault { IfErr result (IsOfTable options.entry) }
+{
+    let alloc = rt.alloc();
+    let file = read_file(rt, options.config)?;
+    let bytes = file.as_slice();
+    let config = settings(alloc, bytes)?;
+    let Ok(realm) = config.realm.clone() else {
+        return Err(ServeFault::Memory);
+    };
+    let held = held_table(rt, config, options.journal)?;
+    tell(alloc, options.form, bytes, realm.as_slice(), &held, writer)?;
+    Ok(held.torn_behind)
+}
+
+// What is told in this form; the bytes of the configuration, and the realm that it sets.
+fn tell<'a, W: Write>(
+    alloc: Global,
+    form: TableForm,
+    bytes: &[u8],
+    realm: &[u8],
+    held: &HeldTable,
+    writer: &mut W,
+) -> Result<(), ServeFault<'a>>
+    ensures written { OnOk result ((text : List ℕ) × Appends (W.contents writer.old) (W.contents writer.new) text
+        × ((config : Settings) → Sets bytes.now (Ok config) → config.realm ≡ realm.now → IsTold form config held.now text)) }
+    ensures fault { IfErr result (λ fault. IsOfBytes bytes.now fault ⊎ IsLate fault) }
+{
+    match form {
+        TableForm::Lines => report(alloc, Form::Lines, realm, held, writer),
+        TableForm::Keys => report(alloc, Form::Keys, realm, held, writer),
+        TableForm::Configuration => {
+            // The same bytes again: the first configuration became the table.
+            configuration(alloc, settings(alloc, bytes)?, held, writer)
+        }
+    }
+}
+
+// The table with the changes of the journal in a file.
+#[tactic(auto, using(crate::proofs::FaultLemmas::unheld))]
+fn held_table<'a, R: Files<File = File> + AllocGlobal>(
+    rt: &R,
+    config: Config,
+    journal: &'a str,
+) -> Result<HeldTable, ServeFault<'a>>
+    requires fits { config_fits config ≡ true }
+    ensures held { IfOk result (λ held. (bytes : Option (List ℕ)) × IsHeld config bytes held) }
+    ensures fault { IfErr result (IsOfJournal journal.now) }
+{
+    let file = open_file(rt, journal)?;
+    match held_from(rt.alloc(), config, file) {
+        Ok(held) => Ok(held),
+        Err(fault) => Err(journal_fault(fault)),
+    }
+}
+
+fn journal_fault<'a>(fault: RestoreFault) -> ServeFault<'a>
+    requires fault { fault ≢ NoMemory → IsOfRecords fault }
+    ensures fault { (path : List ℕ) → IsOfJournal path result }
+{
+    match fault {
+        RestoreFault::Memory => ServeFault::Memory,
+        fault => ServeFault::Journal(fault),
+    }
+}
+
+fn report<'a, W: Write>(
+    alloc: Global,
+    form: Form,
+    realm: &[u8],
+    held: &HeldTable,
+    writer: &mut W,
+) -> Result<(), ServeFault<'a>>
+    ensures written { OnOk result (Appends (W.contents writer.old) (W.contents writer.new)
+        (report_text form realm.now held.now.table held.now.changes)) }
+    ensures fault { IfErr result IsLate }
+{
+    match write_report(alloc, form, realm, &held.table, held.changes, writer) {
+        Ok(()) => Ok(()),
+        Err(fault) => Err(late(fault)),
+    }
+}
+
+fn configuration<'a, W: Write>(
+    alloc: Global,
+    config: Config,
+    held: &HeldTable,
+    writer: &mut W,
+) -> Result<(), ServeFault<'a>>
+    ensures written { OnOk result ((text : List ℕ)
+        × Appends (W.contents writer.old) (W.contents writer.new) text
+        × (settings_of text ≡ Ok (config_held held.now.table.state config))) }
+    ensures fault { IfErr result IsLate }
+{
+    match write_configuration(alloc, config, &held.table, writer) {
+        Ok(()) => Ok(()),
+        Err(fault) => Err(late(fault)),
+    }
+}
+
+fn late<'a>(fault: ReportFault) -> ServeFault<'a>
+    ensures late { IsLate result }
+{
+    match fault {
+        ReportFault::Memory => ServeFault::Memory,
+        ReportFault::Write => ServeFault::CannotPrint,
+    }
+}

@@ -1,0 +1,39 @@
+//! Cases of chpw_keys and chpw_import, a line each on standard input, with the answer of each on standard
+//! output.
+//!
+//! - `keytab REALM ITERATIONS HEX`: what is written of the keytab with these bytes, its lines joined, and a
+//!   line for each entry that is left out; or its fault.
+//! - `cut REALM HEX`: what comes of each of its proper prefixes, behind the count of those prefixes and their
+//!   lengths.
+//! - `password REALM NAME ITERATIONS KVNO HEX`: what is written of the password in a file with these bytes,
+//!   or that there is none.
+//! - `-` is for no bytes.
+//! - A line that begins with `#`, or is empty, is passed on.
+#![tactic(auto)]
+
+mod keytabs;
+mod passwords;
+mod words;
+
+use case_lines::{Answers, print_answers};
+use std::alloc::Global;
+use std::io;
+
+#[derive(Drop)]
+struct Cases;
+
+impl Answers for Cases {
+    fn answer(&mut self, alloc: Global, case: &str) -> io::Result<String> {
+        let (kind, rest) = case.split_once(' ').unwrap_or((case, ""));
+        match kind {
+            "keytab" => keytabs::whole(alloc, rest),
+            "cut" => keytabs::cut(alloc, rest),
+            "password" => passwords::written(alloc, rest),
+            _ => Ok(String::from_str(alloc, "no such case")?),
+        }
+    }
+}
+
+fn main(rt: HostRuntime) -> io::Result<()> {
+    print_answers(&rt, &mut Cases)
+}

@@ -1,0 +1,50 @@
+//! The words of a case, and what is shown of a text.
+ghost use Rattle.std.specs.Prelude.{◌≤◌, IfOk};
+
+use chpw_keys::KeysFault;
+use hex::decode;
+use std::alloc::{AllocError, Global};
+use std::io::{self, Error, ErrorKind};
+
+/// The bytes of a word in hexadecimal, `-` for none.
+pub fn bytes(alloc: Global, word: &str) -> io::Result<Vec<u8>> {
+    let word = if word == "-" { "" } else { word };
+    decode(alloc, word).map_err(|_| Error::from(ErrorKind::InvalidInput))
+}
+
+/// A number from 1 on.
+pub fn count(word: &str) -> io::Result<u32>
+    ensures least { IfOk result (λ count. 1 ≤ count) }
+{
+    match word.parse() {
+        Ok(0) | Err(_) => Err(Error::from(ErrorKind::InvalidInput)),
+        Ok(count) => Ok(count),
+    }
+}
+
+/// What a fault says. Want of memory ends the program.
+pub fn said(alloc: Global, fault: KeysFault<'_>) -> io::Result<String> {
+    match fault {
+        KeysFault::Memory => Err(Error::from(ErrorKind::OutOfMemory)),
+        fault => Ok(fault.to_string(alloc)?),
+    }
+}
+
+/// The lines of a text with a space between them; `nothing` where there is none.
+pub fn joined(alloc: Global, text: &[u8]) -> Result<String, AllocError> {
+    let text = str::from_utf8(text).unwrap_or("no UTF-8");
+    let mut all = String::new(alloc);
+    for line in text.lines() {
+        if line.is_empty() {
+            continue;
+        }
+        if !all.is_empty() {
+            all.push_str(" ")?;
+        }
+        all.push_str(line)?;
+    }
+    if all.is_empty() {
+        all.push_str("nothing")?;
+    }
+    Ok(all)
+}
