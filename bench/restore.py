@@ -57,4 +57,5 @@ def main():
         print(f"restored {records} records over {principals} principals in {seconds:.1f} s", flush=True)
 
 
-main()
+if __name__ == "__main__":
+    main()

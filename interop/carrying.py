@@ -1,32 +1,24 @@
-"""Carries the new keys of a journal into the database of an MIT KDC, by into_mit.c."""
+"""Carries the service's table into the database of an MIT KDC, by into_mit.c."""
 
-from configuration import AES128, AES256
-from journal import read_journal
+import subprocess
+
 from realm import REALM, Failed
+
+LIBRARIES = "kadm5srv_mit", "kdb5", "krb5", "k5crypto"
 
 
 class Carrier:
-    """Knows which of the journal's records it has carried."""
+    """Runs `table --as keys` of a server, and gives what it prints to the program."""
 
-    def __init__(self, realm, journal):
+    def __init__(self, realm, server):
         self.realm = realm
-        self.journal = journal
-        self.program = realm.compiled("into_mit", "kadm5srv_mit", "krb5", "k5crypto")
-        self.carried = 0
+        files = ["--config", server.configuration, "--journal", server.journal]
+        self.table = [server.program, "table", *files, "--as", "keys"]
+        self.program = realm.compiled("into_mit", *LIBRARIES)
 
     def carry(self):
-        """The newest keys of each principal that was changed since: the KDC has no others then."""
-        records, _ = read_journal(self.journal.read_bytes())
-        newest = {record.name: record for record in records[self.carried :]}
-        if newest:
-            self.set(newest.values())
-        self.carried = len(records)
-
-    def set(self, records):
-        lines = []
-        for record in records:
-            for etype, key in (AES256, record.aes256), (AES128, record.aes128):
-                lines.append(f"{record.name} {record.kvno} {etype} {key.hex()}")
-        done = self.realm.run(self.realm.mit, [self.program, REALM], lines)
+        """The keys of each principal that was changed since: the KDC has no others then."""
+        lines = subprocess.run(self.table, capture_output=True, text=True, check=True).stdout
+        done = self.realm.run(self.realm.mit, [self.program, REALM], lines.splitlines())
         if done.returncode != 0:
             raise Failed(f"into_mit: {done.stdout}{done.stderr}")

@@ -1,5 +1,5 @@
 #!/usr/bin/env bash
-# Unpacks MIT Kerberos (KDC, kadmind, clients, library and headers) and Heimdal's clients from
+# Unpacks MIT Kerberos (KDC, kadmind, clients, library and headers) and Heimdal (KDC and clients) from
 # Debian's packages into FOLDER/mit and FOLDER/heimdal. Nothing is installed: the two conflict as
 # packages, and not as folders. The packages are those of the lists that `apt-get update` fetched.
 set -euo pipefail
@@ -13,17 +13,17 @@ fi
 mit=(krb5-kdc krb5-admin-server krb5-user krb5-multidev libkrb5-3 libk5crypto3 libkrb5support0
     libgssapi-krb5-2 libgssrpc4 libkdb5-10 libkadm5srv-mit12 libkadm5clnt-mit12 libverto1
     libverto-libev1 libev4 libcom-err2 libss2 libkeyutils1 comerr-dev)
-heimdal=(heimdal-clients libasn1-8-heimdal libgssapi3-heimdal libhcrypto5-heimdal libhdb9-heimdal
-    libheimbase1-heimdal libheimntlm0-heimdal libhx509-5-heimdal libkadm5clnt7-heimdal
-    libkadm5srv8-heimdal libkafs0-heimdal libkrb5-26-heimdal libotp0-heimdal libroken19-heimdal
-    libsl0-heimdal libwind0-heimdal liblmdb0 libcom-err2 libdb5.3 libsqlite3-0 libedit2 libbsd0
-    libmd0)
+heimdal=(heimdal-clients heimdal-kdc libkdc2-heimdal libcap-ng0 libasn1-8-heimdal libgssapi3-heimdal
+    libhcrypto5-heimdal libhdb9-heimdal libheimbase1-heimdal libheimntlm0-heimdal libhx509-5-heimdal
+    libkadm5clnt7-heimdal libkadm5srv8-heimdal libkafs0-heimdal libkrb5-26-heimdal libotp0-heimdal
+    libroken19-heimdal libsl0-heimdal libwind0-heimdal liblmdb0 libcom-err2 libdb5.3 libsqlite3-0
+    libedit2 libbsd0 libmd0)
 
-# unpack NAME PACKAGE..: into FOLDER/NAME, unless that is there already
+# unpack NAME PACKAGE..: into FOLDER/NAME, unless these are there already
 unpack() {
     local place=$folder/$1
     shift
-    if [[ -d $place ]]; then
+    if [[ -f $place/unpacked && $(<"$place/unpacked") == "$*" ]]; then
         return
     fi
     rm -rf "$place.new"
@@ -33,6 +33,8 @@ unpack() {
     for package in "$place.new/packages"/*.deb; do
         dpkg -x "$package" "$place.new"
     done
+    echo "$*" > "$place.new/unpacked"
+    rm -rf "$place"
     mv "$place.new" "$place"
 }
 

@@ -1,12 +1,12 @@
 #!/usr/bin/env python3
 """Kills the service in the midst of changes, and looks for each answered change in the journal.
 
-    kill.py [--server PROGRAM] [--runs N] [--clients N] [COMMAND WORD ..]
+    kill.py [--server PROGRAM] [--runs N] [--clients N] [--signal KILL|TERM] [COMMAND WORD ..]
 
 One journal grows over all N runs (100). In each, N clients (4) run the command again and again,
-each for a principal of its own and with another password each time, until `kill -9` ends the
-server at a moment drawn at random, up to half a second after the first answer. Then the server is
-started again on that journal. A change counts as answered where the command printed a line that
+each for a principal of its own and with another password each time, until `kill -9`, or the signal
+that is named, ends the server at a moment drawn at random, up to half a second after the first
+answer. Then the server is started again on that journal. A change counts as answered where the command printed a line that
 begins with `0 ` or `code 0 `. Each of those has to be in the journal: in order, version after
 version from 2 on, with the keys of its password. A client may have one more there from each run,
 the one whose answer was lost. What was in the journal before a run stays as it was.
@@ -25,6 +25,7 @@ import itertools
 import os
 import pathlib
 import random
+import signal
 import subprocess
 import sys
 import tempfile
@@ -103,8 +104,8 @@ class Changes(threading.Thread):
         }
 
 
-def killed(server, clients):
-    """Kills the server under the clients; what went wrong before."""
+def killed(server, clients, number):
+    """Ends the server under the clients by the signal; what went wrong before, or with its end."""
     server.start(connections=1_000_000)
     # into the next second: what is asked in the start's own is refused, 300 seconds ahead or not
     time.sleep(1.01 - time.time() % 1)
@@ -114,10 +115,17 @@ def killed(server, clients):
         time.sleep(0.001)
     time.sleep(random.uniform(0, LONGEST))
     early = [client for client in clients if not client.is_alive()]
-    server.end()
+    begun = time.monotonic()
+    status = server.stop(number)
+    seconds = time.monotonic() - begun
     for client in clients:
         client.join()
-    return [f"{client.name}'s command failed before the kill: {client.last}" for client in early]
+    faults = [f"{client.name}'s command failed before the kill: {client.last}" for client in early]
+    if status != 128 + number:
+        faults.append(f"it ended with status {status}")
+    if seconds > 1:
+        faults.append(f"it ended after {seconds:.1f} s")
+    return faults
 
 
 def restarted(server):
@@ -180,15 +188,16 @@ def wrong_in_journal(clients, before, after):
 
 
 class Total:
-    """What all runs found."""
+    """What all runs found; each is ended by this signal."""
 
-    def __init__(self):
+    def __init__(self, number):
+        self.number = number
         self.answered = self.tails = self.failed = 0
 
     def one_run(self, server, clients):
         """What is wrong, a line each."""
         before = server.journal.read_bytes() if server.journal.exists() else b""
-        faults = killed(server, clients)
+        faults = killed(server, clients, self.number)
         _, torn = read_journal(server.journal.read_bytes())
         faults += restarted(server)
         faults += wrong_in_journal(clients, before, server.journal.read_bytes())
@@ -198,10 +207,10 @@ class Total:
         return faults
 
 
-def all_runs(server, command, names, runs):
+def all_runs(server, command, names, runs, number):
     """Prints what is wrong, and the last lines."""
     environment = {**os.environ, "LD_PRELOAD": str(clock_ahead(server.journal.parent))}
-    total = Total()
+    total = Total(number)
     for run in range(1, runs + 1):
         clients = [Changes(server, command, name, run, environment) for name in names]
         for fault in total.one_run(server, clients):
@@ -217,6 +226,7 @@ def main():
     parser.add_argument("--server", default=PROGRAM)
     parser.add_argument("--runs", type=int, default=100)
     parser.add_argument("--clients", type=int, default=4)
+    parser.add_argument("--signal", choices=["KILL", "TERM"], default="KILL")
     parser.add_argument("command", nargs=argparse.REMAINDER)
     arguments = parser.parse_args()
     command = arguments.command or [str(arguments.server), *DEFAULT]
@@ -225,7 +235,8 @@ def main():
         server = Server(arguments.server, pathlib.Path(folder), WORKERS)
         write_configuration(server.configuration, names, iterations=ITERATIONS)
         try:
-            failed = all_runs(server, command, names, arguments.runs)
+            number = signal.Signals["SIG" + arguments.signal]
+            failed = all_runs(server, command, names, arguments.runs, number)
         finally:
             server.end()
     sys.exit(1 if failed else 0)

@@ -3,6 +3,7 @@
 import contextlib
 import os
 import pathlib
+import re
 import shutil
 import subprocess
 import tempfile
@@ -12,6 +13,10 @@ from ports import free_ports, is_open
 REALM = "EXAMPLE.COM"
 SERVICE = "kadmin/changepw"
 MASTER = "Master-pass1"
+# of a client's krb5.conf: it takes the KDC's clock for no better one than its own
+AHEAD = """\
+    kdc_timesync = 0
+    clockskew = 900"""
 HERE = pathlib.Path(__file__).resolve().parent
 
 
@@ -101,6 +106,9 @@ class Realm:
         master_key_type = aes256-cts-hmac-sha1-96
         supported_enctypes = aes256-cts-hmac-sha1-96:normal aes128-cts-hmac-sha1-96:normal
     }}
+[libdefaults]
+    # of the KDC: it reads the second alone, and a coarse clock's; a client's may be 300 ahead (ahead.c)
+    clockskew = 900
 [dbmodules]
     db_module_dir = {self.mit.plugins()}/kdb
 [logging]
@@ -135,6 +143,10 @@ class Realm:
             (self.folder / f"{project}-aes128.conf").write_text(
                 text.replace("[libdefaults]", weaker)
             )
+            # the same, for a client whose clock is ahead of the KDC's, and stays so
+            (self.folder / f"{project}-ahead.conf").write_text(
+                text.replace("[libdefaults]", "[libdefaults]\n" + AHEAD)
+            )
 
     # ---- programs
 
@@ -143,20 +155,24 @@ class Realm:
         return {
             **os.environ,
             "LC_ALL": "C",
+            "TZ": "UTC",
             "LD_LIBRARY_PATH": project.libraries,
             "KRB5_CONFIG": str(self.folder / f"{name}{variant}.conf"),
             "KRB5_KDC_PROFILE": str(self.folder / "kdc.conf"),
             "KRB5CCNAME": f"FILE:{self.folder}/cache-{name}",
         }
 
-    def run(self, project, command, lines=(), variant=""):
-        """Runs a program of the project without a terminal, the lines as its input."""
+    def run(self, project, command, lines=(), variant="", **more):
+        """Runs a program of the project without a terminal, the lines as its input.
+
+        `more` is of its environment.
+        """
         return subprocess.run(
             [project.program(command[0]), *command[1:]],
             input="".join(line + "\n" for line in lines),
             capture_output=True,
             text=True,
-            env=self.environment(project, variant),
+            env={**self.environment(project, variant), **more},
             start_new_session=True,
             timeout=60,
         )
@@ -193,6 +209,11 @@ class Realm:
         """MIT's own password server, on `kpasswd_port`."""
         self.start("kadmind", ["-nofork"], self.kpasswd_port)
 
+    def kvno(self, name):
+        """Which version the database has."""
+        done = self.run(self.mit, ["kadmin.local", "getprinc", name])
+        return max(map(int, re.findall(r"^Key: vno (\d+)", done.stdout, re.MULTILINE)), default=0)
+
     def keytab(self):
         """The bytes of a keytab with the keys of the service and of the principals."""
         path = self.folder / "realm.keytab"
@@ -211,7 +232,7 @@ class Realm:
         include = self.mit.folder / "usr/include"
         places = self.mit.libraries.split(":")
         subprocess.run(
-            ["gcc", "-std=c11", "-D_DEFAULT_SOURCE", "-Wall", "-Wextra", "-O1"]
+            ["gcc", "-std=c11", "-D_DEFAULT_SOURCE", "-Wall", "-Wextra", "-Werror", "-O1"]
             + [f"-I{include}", f"-I{include}/mit-krb5", "-o", program, HERE / f"{name}.c"]
             + [f"-L{place}/mit-krb5" for place in places]
             + [f"-l{library}" for library in libraries]

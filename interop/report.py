@@ -2,9 +2,13 @@
 
 
 class Report:
-    """Prints what was found, and counts what differs from what was wanted."""
+    """Prints what was found, and counts what differs from what was wanted.
 
-    def __init__(self):
+    `last` is the last line, with both numbers.
+    """
+
+    def __init__(self, last="cases {} failed {}"):
+        self.last = last
         self.cases = 0
         self.failed = 0
 
@@ -18,5 +22,5 @@ class Report:
 
     def status(self):
         """Prints the last line."""
-        print(f"cases {self.cases} failed {self.failed}")
+        print(self.last.format(self.cases, self.failed))
         return 1 if self.failed else 0

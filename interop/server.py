@@ -72,6 +72,12 @@ class Server:
             return "nothing: it waits for connections"
         return (out + errors).strip()
 
+    def stop(self, number):
+        """Sends it the signal; how it ended, as the shell says it."""
+        self.process.send_signal(number)
+        self.process.wait()
+        return 128 - self.process.returncode if self.process.returncode < 0 else self.process.returncode
+
     def end(self):
         """Kill -9, where it still runs."""
         if self.process is not None and self.process.poll() is None:

@@ -1,0 +1,228 @@
+#!/usr/bin/env python3
+"""What `import_cases` must print, worked out with nothing of ours but AES (changepw_client.py):
+
+    python3 interop/import_cases.py < crates/import_cases/stdin > crates/import_cases/stdout
+
+The layout is that of MIT's keytabs, format 0x0502; which keys a configuration can have, and in which order
+they stand, says docs/CONFIGURATION.md.
+"""
+import collections
+import struct
+import sys
+
+from changed_bytes import census
+from changepw_client import string_to_key
+
+SERVICE = (b"kadmin", b"changepw")
+LENGTHS = {18: 32, 17: 16}
+MOST_KEYS, MOST_PRINCIPALS = 16, 10_000
+PLAIN = {ord("\t"): "\\t", ord("\n"): "\\n", ord("\r"): "\\r", ord("\\"): "\\\\", ord('"'): '\\"', ord("'"): "\\'"}
+
+Entry = collections.namedtuple("Entry", "place realm name kvno etype key")
+
+
+class Fault(Exception):
+    pass
+
+
+class Fields:
+    """The fields of one record."""
+
+    def __init__(self, octets, place):
+        self.octets, self.place = octets, place
+
+    def take(self, size):
+        if size > len(self.octets):
+            raise Fault(f"a field of the record at {self.place} ends behind it")
+        taken, self.octets = self.octets[:size], self.octets[size:]
+        return taken
+
+    def number(self, size):
+        return int.from_bytes(self.take(size), "big")
+
+    def counted(self):
+        return self.take(self.number(2))
+
+
+def entry_of(octets, place):
+    fields = Fields(octets, place)
+    count = fields.number(2)
+    realm = fields.counted()
+    name = tuple(fields.counted() for _ in range(count))
+    fields.take(8)
+    kvno, etype, key = fields.number(1), fields.number(2), fields.counted()
+    if len(fields.octets) >= 4 and (longer := fields.number(4)):
+        kvno = longer
+    return Entry(place, realm, name, kvno, etype, key)
+
+
+def entries_of(octets):
+    if octets[:2] != b"\x05\x02":
+        raise Fault("no keytab of format 0x0502")
+    entries, place = [], 2
+    while place < len(octets):
+        if place + 4 > len(octets):
+            raise Fault(f"the record at {place} is cut off")
+        (size,) = struct.unpack_from(">i", octets, place)
+        if size == 0:
+            break
+        if size == -(2**31):
+            raise Fault(f"the length at {place} is -2147483648")
+        if place + 4 + abs(size) > len(octets):
+            raise Fault(f"the record at {place} is cut off")
+        if size > 0:
+            entries.append(entry_of(octets[place + 4 : place + 4 + size], place))
+        place += 4 + abs(size)
+    return entries
+
+
+def is_name(name):
+    try:
+        parts = [part.decode() for part in name]
+    except UnicodeDecodeError:
+        return False
+    return 1 <= len(name) <= 8 and all(1 <= len(p) <= 128 for p in name) and not any("/" in p for p in parts)
+
+
+def alone(entry, realm):
+    """Why an entry is left out by itself."""
+    if entry.realm != realm:
+        return "another realm"
+    if not is_name(entry.name):
+        return "a name has 1 to 8 components of 1 to 128 bytes, in UTF-8 and without a /"
+    if entry.kvno == 0:
+        return "a version is at least 1"
+    if entry.etype not in LENGTHS:
+        return "only 17 and 18 can be used"
+    if len(entry.key) != LENGTHS[entry.etype]:
+        return f"its key has {len(entry.key)} bytes"
+    return None
+
+
+def principal_keys(versions):
+    """The versions that count, from the newest on, and why the others don't."""
+    used, why, below = [], {}, None
+    reason = None
+    for kvno in sorted(versions, reverse=True):
+        if reason is None:
+            if below is not None and kvno != below:
+                reason = "behind a version that is missing or left out"
+                why[kvno] = reason
+                continue
+            if set(versions[kvno]) != {17, 18}:
+                lone = 35 - next(iter(versions[kvno]), 18)
+                why[kvno] = f"no key of etype {lone} has its kvno"
+                reason = "behind a version that is missing or left out"
+                continue
+            if len(used) == MOST_KEYS:
+                why[kvno] = "there are 16 keys already"
+                reason = "behind a version that is missing or left out"
+                continue
+            used.append(kvno)
+            below = kvno - 1
+        else:
+            why[kvno] = reason
+    return used, why
+
+
+def brought(octets, realm, iterations):
+    entries = entries_of(octets)
+    left, slots, repeated, newest = {}, {}, [], collections.defaultdict(set)
+    for index, entry in enumerate(entries):
+        reason = alone(entry, realm)
+        if reason:
+            left[index] = reason
+            if reason.startswith(("only", "its key")):
+                newest[entry.name].add(entry.kvno)
+            continue
+        newest[entry.name].add(entry.kvno)
+        slot = entry.name, entry.kvno, entry.etype
+        if slot in slots:
+            repeated.append((entry.name, -entry.kvno, -slots[slot]))
+        slots[slot] = index
+    for *_, index in sorted(repeated):
+        left[-index] = "a later entry has the same name, kvno and etype"
+    lines, service, count = [], [], 0
+    for name in sorted(newest):
+        versions = {kvno: {} for kvno in newest[name]}
+        for (who, kvno, etype), index in slots.items():
+            if who == name:
+                versions[kvno][etype] = index
+        if name == SERVICE:
+            for kvno in sorted(versions, reverse=True):
+                for etype in (18, 17):
+                    if etype in versions[kvno]:
+                        if len(service) == MOST_KEYS:
+                            left[versions[kvno][etype]] = "there are 16 keys already"
+                        else:
+                            service.append((kvno, etype, entries[versions[kvno][etype]].key))
+            continue
+        used, why = principal_keys(versions)
+        if used and count == MOST_PRINCIPALS:
+            used, why = [], dict.fromkeys(versions, "there are 10000 principals already")
+        for kvno, reason in why.items():
+            for index in versions[kvno].values():
+                left[index] = reason
+        if used:
+            count += 1
+            keys = [(kvno, entries[versions[kvno][17]].key, entries[versions[kvno][18]].key) for kvno in used]
+            lines += stanza(name, keys, iterations)
+    for kvno, etype, key in service:
+        lines += ["[[service.key]]", f"etype = {etype}", f'key = "{key.hex()}"', f"kvno = {kvno}"]
+    return lines, [told(entries[i], why) for i, why in left.items()]
+
+
+def stanza(name, keys, iterations):
+    lines = ["[[principal]]", f'name = "{b"/".join(name).decode()}"']
+    for kvno, aes128, aes256 in keys:
+        lines += ["[[principal.key]]", f'aes128 = "{aes128.hex()}"', f'aes256 = "{aes256.hex()}"']
+        lines += [f"iterations = {iterations}", f"kvno = {kvno}"]
+    return lines
+
+
+def escaped(octets):
+    return "".join(PLAIN.get(b, chr(b) if 32 <= b < 127 else f"\\x{b:02x}") for b in octets)
+
+
+def told(entry, why):
+    name = "/".join(map(escaped, entry.name))
+    return (f"at {entry.place}: left out: {name}@{escaped(entry.realm)}, kvno {entry.kvno}, "
+            f"etype {entry.etype}: {why}")
+
+
+def keytab(octets, realm, iterations):
+    try:
+        lines, left = brought(octets, realm.encode(), iterations)
+    except Fault as fault:
+        return f"keytab: {fault}"
+    return " | ".join([" ".join(lines) or "nothing", *left])
+
+
+def password(realm, name, iterations, kvno, octets):
+    parts = tuple(name.encode().split(b"/"))
+    if not is_name(parts):
+        return "no name"
+    word = octets[:-1] if octets.endswith(b"\n") else octets
+    if not word:
+        return "password: the password is empty"
+    salt = realm.encode() + b"".join(parts)
+    keys = [string_to_key(size, word, salt, iterations) for size in (16, 32)]
+    return " ".join(stanza(parts, [(kvno, *keys)], iterations))
+
+
+def octets_of(word):
+    return b"" if word == "-" else bytes.fromhex(word)
+
+
+def answer(case):
+    kind, *words, last = case.split(" ")
+    octets = octets_of(last)
+    if kind == "keytab":
+        return keytab(octets, words[0], int(words[1]))
+    if kind == "cut":
+        return census(keytab(octets[:n], words[0], 4096) for n in range(len(octets)))
+    return password(words[0], words[1], int(words[2]), int(words[3]), octets)
+
+
+for line in sys.stdin.read().split("\n")[:-1]:
+    print(line if line == "" or line.startswith("#") else answer(line))
