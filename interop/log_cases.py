@@ -68,7 +68,40 @@ def moment(seconds, micros):
     return time.isoformat(timespec="microseconds") + "Z"
 
 
+def held(seconds, micros, loopback, other):
+    return (f"{moment(seconds, micros)} worker - peer - client - target - code - error - kvno - "
+            f"text {int(loopback) + int(other)} more did not open: {loopback} from 127.0.0.0/8, {other} from elsewhere")
+
+
+def limited(words):
+    """Ten lines in any second; the others are told once the first of them is a second away, or at the end."""
+    shown, lines, others = "", [], []
+    for word in words:
+        time, _, peer = word.partition("@")
+        time = int(time)
+        if others and (abs(time - others[0][0]) >= 10**6 or len(others) == 10**6):
+            shown += told(others)
+            others = []
+        if len(lines) < 10 or abs(time - lines[-10]) >= 10**6:
+            lines.append(time)
+            shown += "+"
+        else:
+            others.append((time, ipaddress.IPv4Address(bytes.fromhex(peer))))
+            shown += "-"
+    return shown + (told(others) if others else "")
+
+
+def told(others):
+    here = sum(peer.is_loopback for _, peer in others)
+    return f"({here} {len(others) - here})"
+
+
 def answer(case):
+    first, *words = case.split(" ")
+    if first == "held":
+        return held(*words)
+    if first == "limit":
+        return limited(words)
     kind, seconds, micros, worker, peer, *rest = case.split(" ")
     client = asked = kvno = "-"
     if kind == "unopened":

@@ -44,3 +44,33 @@ pub front_joined : (a b c : List ℕ) (o : Outcome)
     → [] ++ a ++ codes " worker " ++ b ++ codes " peer " ++ c ++ 32 ∷ join_with_byte 32 (outcome_fields o)
     ≡ join_with_byte 32 (a ∷ codes "worker" ∷ b ∷ codes "peer" ∷ c ∷ outcome_fields o)
 front_joined a b c o = simp append_assoc refl
+
+-- ---- the line of what was held back
+
+pub held_joined : (a words : List ℕ)
+    → [] ++ a ++ codes " worker - peer - client - target - code - error - kvno - text " ++ words
+    ≡ join_with_byte 32 (a ∷ codes "worker" ∷ codes "-" ∷ codes "peer" ∷ codes "-" ∷ codes "client" ∷ codes "-"
+    ∷ codes "target" ∷ codes "-" ∷ codes "code" ∷ codes "-" ∷ codes "error" ∷ codes "-" ∷ codes "kvno" ∷ codes "-"
+    ∷ codes "text" ∷ words ∷ [])
+held_joined a words = simp append_assoc refl
+
+pub words_joined : (old a b c : List ℕ)
+    → old ++ a ++ codes " more did not open: " ++ b ++ codes " from 127.0.0.0/8, " ++ c ++ codes " from elsewhere"
+    ≡ old ++ (a ++ codes " more did not open: " ++ b ++ codes " from 127.0.0.0/8, " ++ c ++ codes " from elsewhere")
+words_joined old a b c = simp append_assoc refl
+
+both_printed : (front back : List ℕ) → are_printed front ≡ true → are_printed back ≡ true → are_printed (front ++ back) ≡ true
+both_printed front back h k =
+    list_all-append (is_in (range 0x20 0x7e)) front back ∙ and_from _ _ h k
+
+pub words_printed : (a b c : List ℕ) → are_printed a ≡ true → are_printed b ≡ true → are_printed c ≡ true
+    → are_printed (a ++ codes " more did not open: " ++ b ++ codes " from 127.0.0.0/8, " ++ c ++ codes " from elsewhere") ≡ true
+words_printed a b c h k l =
+    let one = codes " more did not open: " in
+    let two = codes " from 127.0.0.0/8, " in
+    let three = codes " from elsewhere" in
+    let p : are_printed (a ++ one) ≡ true = both_printed a one h refl in
+    let q : are_printed (a ++ one ++ b) ≡ true = both_printed (a ++ one) b p k in
+    let r : are_printed (a ++ one ++ b ++ two) ≡ true = both_printed (a ++ one ++ b) two q refl in
+    let s : are_printed (a ++ one ++ b ++ two ++ c) ≡ true = both_printed (a ++ one ++ b ++ two) c r l in
+    both_printed (a ++ one ++ b ++ two ++ c) three s refl

@@ -1,4 +1,6 @@
 pub mod Moments
 pub mod Lines
 pub mod Tellings
+pub mod Limits
+pub mod Summaries
 pub mod Laws

@@ -1,6 +1,6 @@
 -- A moment as it is printed (RFC 3339 section 5.6): `YYYY-MM-DDTHH:MM:SS.FFFFFFZ`, in UTC, with six
 -- digits of the second's fraction.
-use Rattle.std.specs.Prelude.{◌≡◌, ℕ, ◌/◌, ◌%◌, List, ◌++◌, codes, slice_range}
+use Rattle.std.specs.Prelude.{◌≡◌, ℕ, pos, ◌+ℤ◌, ◌*ℤ◌, ◌/◌, ◌%◌, List, ◌++◌, codes, slice_range}
 use Rattle.krb_elements.specs.Times.{IsTime, pair, time_octets}
 use Rattle.chpw_table.specs.declared.times.Moment.{Moment}
 
@@ -21,3 +21,7 @@ moment_text m = date_time (time_octets m.seconds) m.micros
 -- a text tells a moment: its date and time of day spell these seconds (RFC 4120 section 5.2.3)
 abbrev pub Tells : List ℕ → Moment → Type 0
 Tells text m = (time : List ℕ) × IsTime time m.seconds × (text ≡ date_time time m.micros)
+
+-- a moment in microseconds
+abbrev pub IsInMicros : ℕ → Moment → Type 0
+IsInMicros micros m = pos micros ≡ m.seconds *ℤ pos 1000000 +ℤ pos m.micros

@@ -1,12 +1,18 @@
 //! The text of a line in the service's log: one record for one message, as printed ASCII.
 #![tactic(auto)]
 
+mod held;
 pub mod laws;
+mod limit;
 mod line;
 mod moment;
 mod news;
+mod summing;
 mod writing;
 
-pub use line::Line;
+pub use held::Held;
+pub use limit::{Leave, Limit};
+pub use line::{Line, micros_of};
 pub use news::{Asked, News, Party};
+pub use summing::write_held;
 pub use writing::write_line;

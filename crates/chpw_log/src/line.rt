@@ -1,6 +1,7 @@
 //! What a line tells.
 ghost use Rattle.std.specs.Prelude.{◌<◌};
 ghost use Rattle.chpw_table.specs.Times.{IsMoment};
+ghost use Rattle.chpw_log.specs.Moments.{IsInMicros};
 
 use crate::news::News;
 use chpw_table::Moment;
@@ -16,4 +17,13 @@ pub struct Line<'a> {
     pub peer: [u8; 4],
     pub news: News<'a>,
     ghost range: { IsMoment moment × (moment.micros < 1000000) },
+}
+
+/// A moment in microseconds since 1970-01-01T00:00:00Z.
+pub fn micros_of(moment: Moment) -> u64
+    requires moment { IsMoment moment }
+    requires micros { moment.micros < 1000000 }
+    ensures value { IsInMicros result moment }
+{
+    moment.seconds as u64 * 1_000_000 + u64::from(moment.micros)
 }

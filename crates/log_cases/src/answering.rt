@@ -1,9 +1,12 @@
 //! The answers: the line of the log that a case makes, without its newline.
 
+ghost use Rattle.std.specs.Prelude.{◌≡◌, ◌<◌, true};
+ghost use Rattle.chpw_table.specs.Times.{IsMoment};
+
 use crate::fault::Fault;
 use crate::making::opened;
 use crate::words::{error_of, maybe_number, number, octets, text_of, verdict_of};
-use chpw_log::{Asked, Line, News, write_line};
+use chpw_log::{Asked, Held, Limit, Line, News, write_held, write_line};
 use chpw_table::{LAST_SECOND, Moment};
 use krb_protocol::Refusal;
 use std::alloc::Global;
@@ -19,6 +22,11 @@ struct Place {
 /// The answer to a case.
 pub fn answer(alloc: Global, case: &str) -> Result<String, Fault> {
     let words: Vec<&str> = case.split(' ').collect(alloc)?;
+    match words.as_slice() {
+        ["held", rest @ ..] => return held(alloc, rest),
+        ["limit", rest @ ..] => return limited(alloc, rest),
+        _ => {}
+    }
     let [kind, seconds, micros, worker, peer, rest @ ..] = words.as_slice() else {
         return Err(Fault::NoSuchCase);
     };
@@ -87,6 +95,64 @@ fn refusal(code: &str, error: &str, text: &str) -> Result<Refusal, Fault> {
     })
 }
 
+// SECONDS MICROS LOOPBACK OTHER
+fn held(alloc: Global, words: &[&str]) -> Result<String, Fault> {
+    let [seconds, micros, loopback, other] = words else {
+        return Err(Fault::NoSuchCase);
+    };
+    let moment = Moment {
+        seconds: number(seconds)?,
+        micros: number(micros)?,
+    };
+    let (loopback, other): (u32, u32) = (number(loopback)?, number(other)?);
+    if !is_moment(moment) || loopback > 1_000_000 || other > 1_000_000 - loopback {
+        return Err(Fault::NoSuchCase);
+    }
+    let held = Held {
+        loopback,
+        other,
+        since: 0,
+    };
+    line_of(alloc, write_held(alloc, moment, &held)?.as_slice())
+}
+
+// TIME@PEER ..: of each `+` where it has its line and else `-`, behind what is told before it; at last what is
+// left to tell.
+fn limited(alloc: Global, words: &[&str]) -> Result<String, Fault> {
+    let mut limit = Limit::new();
+    let mut text = String::new(alloc);
+    for word in words {
+        let Some((time, peer)) = word.split_once('@') else {
+            return Err(Fault::NoSuchCase);
+        };
+        let leave = limit.ask(number(time)?, octets(alloc, peer)?);
+        push_told(&mut text, leave.told)?;
+        text.push_str(if leave.line { "+" } else { "-" })?;
+    }
+    push_told(&mut text, limit.rest())?;
+    Ok(text)
+}
+
+fn push_told(text: &mut String, told: Option<Held>) -> Result<(), Fault> {
+    if let Some(
+        Held {
+            loopback,
+            other,
+            ..
+        },
+    ) = told
+    {
+        write!(text, "({loopback} {other})")?;
+    }
+    Ok(())
+}
+
+fn is_moment(moment: Moment) -> bool
+    ensures { result ≡ true → IsMoment moment × (moment.micros < 1000000) }
+{
+    moment.seconds >= 0 && moment.seconds <= LAST_SECOND && moment.micros < 1_000_000
+}
+
 // The line, whose last byte must be a newline.
 fn shown(alloc: Global, place: Place, news: News<'_>) -> Result<String, Fault> {
     let Place {
@@ -94,7 +160,7 @@ fn shown(alloc: Global, place: Place, news: News<'_>) -> Result<String, Fault> {
         worker,
         peer,
     } = place;
-    if moment.seconds < 0 || moment.seconds > LAST_SECOND || moment.micros >= 1_000_000 {
+    if !is_moment(moment) {
         return Err(Fault::NoSuchCase);
     }
     let line = Line {
@@ -103,8 +169,12 @@ fn shown(alloc: Global, place: Place, news: News<'_>) -> Result<String, Fault> {
         peer,
         news,
     };
-    let bytes = write_line(alloc, &line)?;
-    let Some((b'\n', text)) = bytes.as_slice().split_last() else {
+    line_of(alloc, write_line(alloc, &line)?.as_slice())
+}
+
+// A line without its newline.
+fn line_of(alloc: Global, line: &[u8]) -> Result<String, Fault> {
+    let Some((b'\n', text)) = line.split_last() else {
         return Ok(String::from_str(alloc, "(no newline)")?);
     };
     let text = str::from_utf8(text).unwrap_or("(no text)");

@@ -1,0 +1,71 @@
+-- Which messages that didn't open have a line of their own: ten in any one second. The others are counted.
+-- Times are microseconds.
+use Rattle.std.specs.Prelude.{ℕ, ◌+◌, ◌-◌, nat_le, List, [], ◌∷◌, Bool, true, false, not, ◌==◌, ◌&&◌, ◌||◌, if◌then◌else◌, Option, Some, None, take}
+use Rattle.chpw_log.specs.declared.held.Held.{Held}
+
+-- a second or more lies between two times
+abbrev pub is_apart : ℕ → ℕ → Bool
+is_apart one other = nat_le 1000000 (one - other) || nat_le 1000000 (other - one)
+
+-- ---- the lines
+
+-- no line yet; else when the last ten were, newest first
+abbrev pub no_lines : List (Option ℕ)
+no_lines = None ∷ None ∷ None ∷ None ∷ None ∷ None ∷ None ∷ None ∷ None ∷ None ∷ []
+
+abbrev pub is_gone : ℕ → Option ℕ → Bool
+is_gone now None = true
+is_gone now (Some line) = is_apart now line
+
+abbrev pub tenth : List (Option ℕ) → Option ℕ
+tenth (a ∷ b ∷ c ∷ d ∷ e ∷ f ∷ g ∷ h ∷ i ∷ j ∷ more) = j
+tenth lines = None
+
+-- a line may stand at this time: the tenth before it is a second away
+abbrev pub is_free : ℕ → List (Option ℕ) → Bool
+is_free now lines = is_gone now (tenth lines)
+
+abbrev pub lines_after : ℕ → List (Option ℕ) → List (Option ℕ)
+lines_after now lines = if is_free now lines then Some now ∷ take 9 lines else lines
+
+-- ---- the others
+
+-- how many from this machine, and how many from elsewhere; when the first came
+abbrev pub none_held : Held
+none_held = record { loopback = 0; other = 0; since = 0 }
+
+abbrev pub is_none_held : Held → Bool
+is_none_held h = (h.loopback == 0) && (h.other == 0)
+
+-- 127.0.0.0/8
+abbrev pub is_loopback : List ℕ → Bool
+is_loopback [] = false
+is_loopback (first ∷ more) = first == 127
+
+abbrev pub first_of : ℕ → Held → ℕ
+first_of now h = if is_none_held h then now else h.since
+
+abbrev pub one_more : ℕ → List ℕ → Held → Held
+one_more now peer h =
+    if is_loopback peer
+    then record { loopback = h.loopback + 1; other = h.other; since = first_of now h }
+    else record { loopback = h.loopback; other = h.other + 1; since = first_of now h }
+
+-- they are told once the first is a second away, or where they are a million
+abbrev pub is_due : ℕ → Held → Bool
+is_due now h = not (is_none_held h) && (is_apart now h.since || nat_le 1000000 (h.loopback + h.other))
+
+abbrev pub told_at : ℕ → Held → Option Held
+told_at now h = if is_due now h then Some h else None
+
+-- at the end they are told in any case
+abbrev pub rest_of : Held → Option Held
+rest_of h = if is_none_held h then None else Some h
+
+abbrev pub left_at : ℕ → Held → Held
+left_at now h = if is_due now h then none_held else h
+
+-- behind a message that came at this time from this peer
+abbrev pub held_after : ℕ → List ℕ → List (Option ℕ) → Held → Held
+held_after now peer lines h =
+    if is_free now lines then left_at now h else one_more now peer (left_at now h)

@@ -1,0 +1,12 @@
+//! Messages that have no line of their own.
+
+/// How many messages that didn't open were held back: they have no line of their own.
+#[derive(Clone, Copy, Drop)]
+pub struct Held {
+    /// Those from this machine, of 127.0.0.0/8.
+    pub loopback: u32,
+    /// Those from elsewhere.
+    pub other: u32,
+    /// When the first of them came, in microseconds.
+    pub since: u64,
+}

@@ -1,0 +1,169 @@
+//! How many messages that didn't open have a line of their own: so few that no flood of them fills a disk.
+ghost use Rattle.std.specs.Prelude.{◌≡◌, ◌+◌, ◌<◌, ◌≤◌, IfSome};
+ghost use Rattle.chpw_log.specs.Limits.{held_after, is_apart, is_due, is_free, is_gone, is_none_held, left_at, lines_after, no_lines, none_held, one_more, rest_of, told_at};
+
+use crate::held::Held;
+
+/// A second, in microseconds.
+const SECOND: u64 = 1_000_000;
+
+/// So many are told at once at the most.
+const MOST: u32 = 1_000_000;
+
+/// What is to be written of a message that didn't open.
+#[derive(Clone, Copy, Drop)]
+pub struct Leave {
+    /// First how many were held back, where that is to be told now.
+    pub told: Option<Held>,
+    /// Then the line of its own, where it has one.
+    pub line: bool,
+}
+
+/// Which messages that didn't open have a line of their own: ten in any one second. The others are counted,
+/// and their number is told once the first of them is a second old, and the count begins anew.
+#[derive(Clone, Copy, Drop)]
+pub struct Limit {
+    /// When the last ten lines were, newest first.
+    lines: [Option<u64>; 10],
+    held: Held,
+    ghost few: { held.loopback + held.other ≤ 1000000 },
+}
+
+impl Held {
+    // None.
+    fn none() -> Held
+        ensures value { result ≡ none_held }
+    {
+        Held {
+            loopback: 0,
+            other: 0,
+            since: 0,
+        }
+    }
+
+    fn is_none(&self) -> bool
+        ensures value { result ≡ is_none_held self.now }
+    {
+        self.loopback == 0 && self.other == 0
+    }
+
+    fn is_due(&self, now: u64) -> bool
+        requires few { self.now.loopback + self.now.other ≤ 1000000 }
+        ensures value { result ≡ is_due now self.now }
+    {
+        !self.is_none() && (are_apart(now, self.since) || self.loopback + self.other >= MOST)
+    }
+
+    // These and one from this peer.
+    fn with(self, now: u64, peer: [u8; 4]) -> Held
+        requires room { self.loopback + self.other < 1000000 }
+        ensures value { result ≡ one_more now peer self }
+    {
+        let since = if self.is_none() { now } else { self.since };
+        if peer[0] == 127 {
+            Held {
+                loopback: self.loopback + 1,
+                other: self.other,
+                since,
+            }
+        } else {
+            Held {
+                loopback: self.loopback,
+                other: self.other + 1,
+                since,
+            }
+        }
+    }
+}
+
+impl Limit {
+    /// No line was written and nothing held back.
+    pub fn new() -> Limit
+        ensures lines { result.lines ≡ no_lines }
+        ensures held { result.held ≡ none_held }
+    {
+        Limit {
+            lines: [None; 10],
+            held: Held::none(),
+        }
+    }
+
+    /// What is to be written of a message from this peer that didn't open, at this time in microseconds. Where
+    /// it has no line of its own it is counted.
+    pub fn ask(&mut self, now: u64, peer: [u8; 4]) -> Leave
+        ensures told { result.told ≡ told_at now self.old.held }
+        ensures few { IfSome result.told (λ held. held.loopback + held.other ≤ 1000000) }
+        ensures line { result.line ≡ is_free now self.old.lines }
+        ensures lines { self.new.lines ≡ lines_after now self.old.lines }
+        ensures held { self.new.held ≡ held_after now peer self.old.lines self.old.held }
+    {
+        let told = self.due(now);
+        let line = self.note(now);
+        if !line {
+            self.held = self.held.with(now, peer);
+        }
+        Leave { told, line }
+    }
+
+    /// How many were held back, where that is to be told at this time; they are counted anew then.
+    pub fn due(&mut self, now: u64) -> Option<Held>
+        ensures told { result ≡ told_at now self.old.held }
+        ensures few { IfSome result (λ held. held.loopback + held.other ≤ 1000000) }
+        ensures held { self.new.held ≡ left_at now self.old.held }
+        ensures room { self.new.held.loopback + self.new.held.other < 1000000 }
+        ensures lines { self.new.lines ≡ self.old.lines }
+    {
+        if !self.held.is_due(now) {
+            return None;
+        }
+        let told = self.held;
+        self.held = Held::none();
+        Some(told)
+    }
+
+    /// How many were held back and not told yet; they are counted anew then.
+    pub fn rest(&mut self) -> Option<Held>
+        ensures told { result ≡ rest_of self.old.held }
+        ensures few { IfSome result (λ held. held.loopback + held.other ≤ 1000000) }
+        ensures held { (self.new.held.loopback ≡ 0) × (self.new.held.other ≡ 0) }
+        ensures lines { self.new.lines ≡ self.old.lines }
+    {
+        if self.held.is_none() {
+            return None;
+        }
+        let told = self.held;
+        self.held = Held::none();
+        Some(told)
+    }
+
+    // Notes a line at this time, where it may stand; whether it may.
+    fn note(&mut self, now: u64) -> bool
+        ensures line { result ≡ is_free now self.old.lines }
+        ensures lines { self.new.lines ≡ lines_after now self.old.lines }
+        ensures held { self.new.held ≡ self.old.held }
+    {
+        let [a, b, c, d, e, f, g, h, i, tenth] = self.lines;
+        let free = is_past(now, tenth);
+        if free {
+            self.lines = [Some(now), a, b, c, d, e, f, g, h, i];
+        }
+        free
+    }
+}
+
+// Whether a line at this time has none a second before it.
+fn is_past(now: u64, line: Option<u64>) -> bool
+    ensures value { result ≡ is_gone now line }
+{
+    match line {
+        None => true,
+        Some(line) => are_apart(now, line),
+    }
+}
+
+// Whether a second or more lies between two times.
+fn are_apart(one: u64, other: u64) -> bool
+    ensures value { result ≡ is_apart one other }
+{
+    one.saturating_sub(other) >= SECOND || other.saturating_sub(one) >= SECOND
+}

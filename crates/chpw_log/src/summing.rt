@@ -1,0 +1,62 @@
+//! The line of the messages that have none of their own.
+ghost use Rattle.std.specs.Prelude.{◌≡◌, ◌+◌, ◌++◌, ◌<◌, ◌≤◌, codes, true, IfOk, OnOk};
+ghost use Rattle.std.specs.Fmt.{decimal};
+ghost use Rattle.chpw_printing.specs.Quoting.{are_printed};
+ghost use Rattle.chpw_table.specs.Times.{IsMoment};
+ghost use Rattle.chpw_log.specs.Lines.{IsRecord, are_fields};
+ghost use Rattle.chpw_log.specs.Summaries.{held_fields, held_line, held_words};
+
+use crate::held::Held;
+use crate::moment::put_moment;
+use chpw_printing::put_number;
+use chpw_table::Moment;
+use std::alloc::{AllocError, Global};
+
+/// The text of the line that tells how many messages were held back, its newline with it. It has the fields of
+/// every line, with `-` for all but the moment and the text.
+pub fn write_held(alloc: Global, moment: Moment, held: &Held) -> Result<Vec<u8>, AllocError>
+    requires moment { IsMoment moment }
+    requires micros { moment.micros < 1000000 }
+    requires few { held.now.loopback + held.now.other ≤ 1000000 }
+    ensures value { IfOk result (λ text. text.items ≡ held_line moment held.now) }
+    ensures fields { IfOk result (λ _. are_fields (held_fields moment held.now) ≡ true) }
+    ensures record { IfOk result (λ text. IsRecord text.items) }
+{
+    let mut text = Vec::new(alloc);
+    put_moment(&mut text, moment)?;
+    text.extend_from_slice(b" worker - peer - client - target - code - error - kvno - text ")?;
+    put_words(&mut text, held)?;
+    text.push(b'\n')?;
+    Ok(text)
+}
+
+// Puts the numbers at the end, in words.
+fn put_words(text: &mut Vec<u8>, held: &Held) -> Result<(), AllocError>
+    requires few { held.now.loopback + held.now.other ≤ 1000000 }
+    ensures value { OnOk result (text.new.items ≡ text.old.items ++ held_words held.now) }
+    ensures printed { OnOk result (are_printed (held_words held.now) ≡ true) }
+{
+    put_number(text, u64::from(total(held)))?;
+    put_kinds(text, held)?;
+    text.extend_from_slice(b" from elsewhere")?;
+    Ok(())
+}
+
+// Puts how many came from where at the end.
+fn put_kinds(text: &mut Vec<u8>, held: &Held) -> Result<(), AllocError>
+    ensures value { OnOk result (text.new.items ≡ text.old.items
+        ++ codes " more did not open: " ++ decimal held.now.loopback
+        ++ codes " from 127.0.0.0/8, " ++ decimal held.now.other) }
+{
+    text.extend_from_slice(b" more did not open: ")?;
+    put_number(text, u64::from(held.loopback))?;
+    text.extend_from_slice(b" from 127.0.0.0/8, ")?;
+    put_number(text, u64::from(held.other))
+}
+
+fn total(held: &Held) -> u32
+    requires few { held.now.loopback + held.now.other ≤ 1000000 }
+    ensures value { result ≡ held.now.loopback + held.now.other }
+{
+    held.loopback + held.other
+}
