@@ -1,0 +1,14 @@
+pub mod ComesLemmas
+pub mod ExpiryLemmas
+pub mod HeldLemmas
+pub mod HoldsLemmas
+pub mod LifeLemmas
+pub mod OrderLemmas
+pub mod PassLemmas
+pub mod PieceLemmas
+pub mod QueueLemmas
+pub mod ReadingLemmas
+pub mod RoomLemmas
+pub mod TakeLemmas
+pub mod TimeLemmas
+pub mod WaitLemmas

@@ -1,0 +1,56 @@
+-- That nothing is left that nothing can end.
+use Rattle.std.proofs.Common.{◌≡◌, ℕ, ◌+◌, ◌-◌, ◌≤◌, refl, ap, ◌∙◌, subst, arith, Bool, true, nat_le, Option, Some, None, IsSomeAnd, inl, inr, MatchBool}
+use Rattle.std.proofs.lemmas.Bool.Decides.{nat_tests}
+use Rattle.chpw_connections.specs.Stages.{Stage, reading, queued, answering, writing, lingering, abandoned, ended, failed, after, stage}
+use Rattle.chpw_connections.specs.Sets.{time_of, is_late, is_late_at, Passes, Comes}
+use Rattle.chpw_connections.specs.Times.{is_timed, EndsInTime, AllEndInTime, AllGoOnByTheirWorker}
+use Rattle.chpw_connections.specs.declared.bounds.Bounds.{Bounds}
+use Rattle.chpw_connections.specs.declared.connection.Connection.{Connection}
+
+has_time : (b : Bounds) (s : Stage) → is_timed s ≡ true → (most : ℕ) × (time_of b s ≡ Some most)
+has_time b (reading bytes) is = (b.idle, refl)
+has_time b (queued message) is = (b.wait, refl)
+has_time b answering is = absurd cc
+has_time b (writing left last) is = (b.idle, refl)
+has_time b lingering is = (b.linger, refl)
+has_time b abandoned is = absurd cc
+has_time b ended is = absurd cc
+
+timed_ends : (count : ℕ) (s : Stage) → is_timed s ≡ true → after count s failed ≡ ended
+timed_ends count (reading bytes) is = refl
+timed_ends count (queued message) is = refl
+timed_ends count answering is = absurd cc
+timed_ends count (writing left last) is = refl
+timed_ends count lingering is = refl
+timed_ends count abandoned is = absurd cc
+timed_ends count ended is = absurd cc
+
+module _ (b : Bounds) (c : Connection) (is : is_timed (stage c) ≡ true) (most : ℕ) (time : time_of b (stage c) ≡ Some most) where
+  late_then : (now : ℕ) → c.since + most ≤ now → is_late b now c ≡ true
+  late_then now then =
+      let enough : most ≤ now - c.since = omega arith in
+      let e : nat_le most (now - c.since) ≡ true = grind (arith, nat_tests) in
+      ap (λ (t : Option ℕ). is_late_at t (now - c.since)) time ∙ e
+
+  failed_ends : (new : Option Connection) → Comes 0 failed (Some c) new → IsSomeAnd new (λ d. stage d ≡ ended)
+  failed_ends None comes = comes
+  failed_ends (Some d) comes = comes.stage_is ∙ timed_ends c.answered (stage c) is
+
+  ends_then : (now : ℕ) (new : Option Connection) → c.since + most ≤ now → Passes b now (Some c) new → IsSomeAnd new (λ d. stage d ≡ ended)
+  ends_then now new then passes =
+      failed_ends new (subst (λ (t : Bool). MatchBool t (Comes 0 failed (Some c) new) (new ≡ Some c)) (late_then now then) passes)
+
+  ends_in_time : EndsInTime b c
+  ends_in_time = record { most = most; time = time; late = late_then; ends = ends_then }
+
+pub all_end_in_time : AllEndInTime
+all_end_in_time b c is = ends_in_time b c is (has_time b (stage c) is).0 (has_time b (stage c) is).1
+
+pub all_go_on_by_their_worker : AllGoOnByTheirWorker
+all_go_on_by_their_worker count (reading bytes) is differs = absurd cc
+all_go_on_by_their_worker count (queued message) is differs = absurd cc
+all_go_on_by_their_worker count answering is differs = ((λ reply last. inl refl), inl refl)
+all_go_on_by_their_worker count (writing left last) is differs = absurd cc
+all_go_on_by_their_worker count lingering is differs = absurd cc
+all_go_on_by_their_worker count abandoned is differs = ((λ reply last. inr refl), inr refl)
+all_go_on_by_their_worker count ended is differs = absurd (differs refl)

@@ -1,0 +1,23 @@
+use Rattle.std.proofs.Common.{◌∙◌, sym, inr, rules}
+use Rattle.chpw_connections.specs.Waiting.{lists_of}
+use Rattle.chpw_connections.specs.Queues.{queues_of}
+use Rattle.chpw_connections.proofs.HoldsLemmas.{front_leaves, others_stay}
+use Rattle.chpw_connections.proofs.set.Connections.take.Goals as goal
+
+pub returns-then-is_late-clause-others : goal.returns-then-is_late-clause-others
+returns-then-is_late-clause-others c other apart =
+    let old = c.args.self.now in
+    others_stay (lists_of old.queues) (queues_of c.fail.new.self) old.slots.connections c.args.worker c.in_ok-slot.slot other
+    c.in_ok-slot.ensures.some c.fail.ensures.leaves old.waiting apart
+
+pub returns-then-is_late-clause-none : goal.returns-then-is_late-clause-none
+returns-then-is_late-clause-none c =
+    let old = c.args.self.now in
+    inr record {
+      slot = c.in_ok-slot.slot;
+      first = front_leaves (lists_of old.queues) (queues_of c.fail.new.self) old.slots.connections c.args.worker c.in_ok-slot.slot
+          c.in_ok-slot.ensures.some c.fail.ensures.leaves old.waiting;
+      late = sym c.is_late.ensures.value ∙ c.if-is_late.true;
+      ends = c.fail.ensures.happens;
+      counted = search rules;
+    }

@@ -1,0 +1,28 @@
+-- What a set of connections holds.
+use Rattle.std.specs.Prelude.{◌≡◌, ℕ}
+use Rattle.slab.specs.Slab.{Slab}
+use Rattle.chpw_connections.specs.declared.bounds.Bounds.{Bounds}
+use Rattle.chpw_connections.specs.declared.connection.Connection.{Connection}
+use Rattle.chpw_connections.specs.declared.set.Connections.{Connections}
+
+-- the connections by their slots
+abbrev pub slots_of : Connections → Slab Connection
+slots_of c = c.slots.connections
+
+abbrev pub bounds_of : Connections → Bounds
+bounds_of c = c.bounds
+
+-- how many were accepted, and how many removed behind their end
+abbrev pub accepted_by : Connections → ℕ
+accepted_by c = c.accepted
+
+abbrev pub removed_by : Connections → ℕ
+removed_by c = c.removed
+
+-- how many ended with a message that had waited too long for its worker
+abbrev pub expired_by : Connections → ℕ
+expired_by c = c.expired
+
+pub record Counts (c : Connections) (accepted removed : ℕ) : Type 0 where
+  pub accepted_is : accepted_by c ≡ accepted
+  pub removed_is : removed_by c ≡ removed

@@ -1,0 +1,14 @@
+pub mod Expiry
+pub mod Held
+pub mod Holding
+pub mod Lives
+pub mod Messages
+pub mod Orders
+pub mod Queues
+pub mod Reading
+pub mod Room
+pub mod Sets
+pub mod Stages
+pub mod Times
+pub mod Todos
+pub mod Waiting

@@ -1,0 +1,100 @@
+-- The whole life of a connection: what came of it, what went to workers, what they replied, what was written.
+use Rattle.std.specs.Prelude.{◌≡◌, ℕ, ◌+◌, ◌≤◌, List, [], ◌∷◌, ◌++◌, length, take, All}
+use Rattle.chpw_connections.specs.Messages.{IsPiece}
+use Rattle.chpw_connections.specs.Stages.{Stage, reading, queued, answering, writing, lingering, abandoned, ended, Event, came, taken, replied, wrote, received, count_after, after}
+
+pub record Life : Type 0 where
+  pub came : List ℕ
+  pub handed : List (List ℕ)
+  pub replies : List (List ℕ)
+  pub written : List ℕ
+  -- the replies behind which it goes on
+  pub count : ℕ
+  pub stage : Stage
+
+-- one that was accepted just now
+abbrev pub accepted : Life
+accepted = record { came = []; handed = []; replies = []; written = []; count = 0; stage = reading [] }
+
+-- the bytes that an event brings
+abbrev pub came_by : Stage → Event → List ℕ
+came_by (reading bytes) (came more) = received bytes more
+came_by stage event = []
+
+-- the message that it hands to a worker
+abbrev pub handed_by : Stage → Event → List (List ℕ)
+handed_by (queued message) taken = message ∷ []
+handed_by stage event = []
+
+-- the reply that it brings
+abbrev pub replied_by : Stage → Event → List (List ℕ)
+replied_by answering (replied reply last) = reply ∷ []
+replied_by stage event = []
+
+-- the bytes that go out
+abbrev pub written_by : Stage → Event → List ℕ
+written_by (writing left last) (wrote n) = take n left
+written_by stage event = []
+
+-- what is behind an event
+abbrev pub behind : Life → Event → Life
+behind l e = record {
+  came = l.came ++ came_by l.stage e;
+  handed = l.handed ++ handed_by l.stage e;
+  replies = l.replies ++ replied_by l.stage e;
+  written = l.written ++ written_by l.stage e;
+  count = count_after l.count l.stage e;
+  stage = after l.count l.stage e;
+}
+
+abbrev pub life : Life → List Event → Life
+life l [] = l
+life l (e ∷ es) = life (behind l e) es
+
+abbrev pub joined : List (List ℕ) → List ℕ
+joined [] = []
+joined (x ∷ xs) = x ++ joined xs
+
+-- what came and wasn't handed on: of a connection that goes on what it reads or what waits
+abbrev pub IsHeld : Stage → List ℕ → Type 0
+IsHeld (reading bytes) rest = rest ≡ bytes
+IsHeld (queued message) rest = rest ≡ message
+IsHeld abandoned rest = Unit {0}
+IsHeld ended rest = Unit {0}
+IsHeld stage rest = rest ≡ []
+
+-- what was replied and isn't written: of a connection that goes on what it writes
+abbrev pub IsLeft : Stage → List ℕ → Type 0
+IsLeft (writing left last) rest = rest ≡ left
+IsLeft abandoned rest = Unit {0}
+IsLeft ended rest = Unit {0}
+IsLeft stage rest = rest ≡ []
+
+-- as many replies as messages, but for the one that is being answered, or was when the connection ended
+abbrev pub AreAnswered : Stage → ℕ → ℕ → Type 0
+AreAnswered answering handed replies = handed ≡ replies + 1
+AreAnswered abandoned handed replies = handed ≡ replies + 1
+AreAnswered lingering handed replies = (replies ≤ handed) × (handed ≤ replies + 1)
+AreAnswered ended handed replies = (replies ≤ handed) × (handed ≤ replies + 1)
+AreAnswered stage handed replies = handed ≡ replies
+
+-- whatever happened, in whatever order
+pub record IsOrderly (l : Life) : Type 0 where
+  pub rest : List ℕ
+  pub messages : l.came ≡ joined l.handed ++ rest
+  pub held : IsHeld l.stage rest
+  pub pieces : All IsPiece l.handed
+  pub left : List ℕ
+  pub replies : joined l.replies ≡ l.written ++ left
+  pub unwritten : IsLeft l.stage left
+  pub answered : AreAnswered l.stage (length l.handed) (length l.replies)
+  pub few : length l.handed ≤ 65536
+
+-- what goes to workers are the messages that came, in order, each once; what is written are their replies, in order,
+-- each once
+abbrev pub Orderly : Type 0
+Orderly = (events : List Event) → IsOrderly (life accepted events)
+
+-- behind its end nothing is handed on and nothing written
+abbrev pub Final : Type 0
+Final = (l : Life) (events : List Event) → l.stage ≡ ended → life l events ≡ l

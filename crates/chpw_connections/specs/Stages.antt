@@ -1,0 +1,112 @@
+-- Where a connection is, and what happens to it. Moments are milliseconds.
+use Rattle.std.specs.Prelude.{◌≡◌, ℕ, ◌+◌, ◌==◌, List, [], ◌++◌, length, take, drop, Bool, nat_le, ◌||◌, if◌then◌else◌}
+use Rattle.chpw_connections.specs.Messages.{wanted_behind}
+use Rattle.chpw_connections.specs.declared.connection.Phase.{Phase}
+use Rattle.chpw_connections.specs.declared.connection.Phase.TheVariants as phase
+use Rattle.chpw_connections.specs.declared.connection.Connection.{Connection}
+
+-- It reads these bytes of its next message; this message waits for a worker; a worker answers it; these bytes of its
+-- reply are left to write, behind which the connection ends or not; its last reply is out; it is gone while a worker
+-- still answers; it has ended
+pub data Stage : Type 0 where
+  reading : List ℕ → Stage
+  queued : List ℕ → Stage
+  answering : Stage
+  writing : List ℕ → Bool → Stage
+  lingering : Stage
+  abandoned : Stage
+  ended : Stage
+
+-- bytes came; its message went to a worker; the worker's reply, maybe the last, is to be written; the worker has
+-- none; so many bytes were written; the client closed its side, and all was read; it can't go on
+pub data Event : Type 0 where
+  came : List ℕ → Event
+  taken : Event
+  replied : List ℕ → Bool → Event
+  unanswered : Event
+  wrote : ℕ → Event
+  closed : Event
+  failed : Event
+
+-- of the bytes that come no more are read than are wanted
+abbrev pub received : List ℕ → List ℕ → List ℕ
+received bytes more = take (wanted_behind bytes) more
+
+-- a message that is whole waits for a worker
+abbrev pub read_to : List ℕ → Stage
+read_to bytes = if wanted_behind bytes == 0 then queued bytes else reading bytes
+
+abbrev pub is_over : List ℕ → Bool
+is_over bytes = length bytes == 0
+
+-- behind a whole reply the next message is read; behind the last one nothing
+abbrev pub written_to : List ℕ → Bool → Stage
+written_to left last =
+    if is_over left then (if last then lingering else reading []) else writing left last
+
+-- the 65,536th reply is the last
+abbrev pub is_last_reply : ℕ → Bool → Bool
+is_last_reply count last = last || nat_le 65535 count
+
+-- the stage after an event, behind so many replies
+abbrev pub after : ℕ → Stage → Event → Stage
+after count (reading bytes) (came more) = read_to (bytes ++ received bytes more)
+after count (reading bytes) closed = ended
+after count (reading bytes) failed = ended
+after count (queued message) taken = answering
+after count (queued message) failed = ended
+after count answering (replied reply last) = writing reply (is_last_reply count last)
+after count answering unanswered = lingering
+after count answering failed = abandoned
+after count (writing left last) (wrote n) = written_to (drop n left) last
+after count (writing left last) failed = ended
+after count lingering closed = ended
+after count lingering failed = ended
+after count abandoned (replied reply last) = ended
+after count abandoned unanswered = ended
+after count stage event = stage
+
+-- how many bytes may be read
+abbrev pub wanted_by : Stage → ℕ
+wanted_by (reading bytes) = wanted_behind bytes
+wanted_by stage = 0
+
+-- what is left to write
+abbrev pub left_of : Stage → List ℕ
+left_of (writing left last) = left
+left_of stage = []
+
+-- the replies behind which it goes on
+abbrev pub count_after : ℕ → Stage → Event → ℕ
+count_after count answering (replied reply last) = if is_last_reply count last then count else count + 1
+count_after count stage event = count
+
+-- since when it waits: a message for its worker from its last byte on, a reply from its first, the next message from
+-- the reply's last
+abbrev pub since_after : ℕ → ℕ → Stage → Event → ℕ
+since_after now since (reading bytes) (came more) =
+    if wanted_behind (bytes ++ received bytes more) == 0 then now else since
+since_after now since answering (replied reply last) = now
+since_after now since answering unanswered = now
+since_after now since (writing left last) (wrote n) = if is_over (drop n left) then now else since
+since_after now since stage event = since
+
+abbrev pub stage_of : Phase → Stage
+stage_of (phase.Reading bytes) = reading bytes.items
+stage_of (phase.Queued message) = queued message.items
+stage_of phase.Answering = answering
+stage_of (phase.Writing outgoing) = writing (drop outgoing.written outgoing.reply.items) outgoing.is_last
+stage_of phase.Lingering = lingering
+stage_of phase.Abandoned = abandoned
+stage_of phase.Ended = ended
+
+abbrev pub stage : Connection → Stage
+stage c = stage_of c.phase
+
+-- the same connection, after an event at this moment
+pub record Goes (now : ℕ) (old new : Connection) (event : Event) : Type 0 where
+  pub stage_is : stage new ≡ after old.answered (stage old) event
+  pub count_is : new.answered ≡ count_after old.answered (stage old) event
+  pub since_is : new.since ≡ since_after now old.since (stage old) event
+  pub number : new.number ≡ old.number
+  pub peer : new.peer ≡ old.peer

@@ -1,0 +1,289 @@
+//! What happens to one connection, from its accept to its end.
+ghost use Rattle.std.specs.Prelude.{◌≡◌, ◌+◌, ◌≤◌, [], length, IfSome, IfNone, None, IfOk, OnOk, OnErr, take, true};
+ghost use Rattle.chpw_connections.specs.Messages.{wanted_behind as wanted_of};
+ghost use Rattle.chpw_connections.specs.Reading.{is_unfinished};
+
+use crate::bounds::Bounds;
+use chpw_frame::LONGEST_MESSAGE;
+use std::alloc::{AllocError, Global};
+use std::mem;
+
+/// Messages of one connection, at the most.
+pub const MAX_MESSAGES: u32 = 65_536;
+
+/// The bytes of a message's length.
+const HEADER: usize = 4;
+
+/// Where a connection is.
+#[derive(Drop)]
+pub(crate) enum Phase {
+    /// These bytes of its next message have come.
+    Reading(Vec<u8>),
+    /// This message waits for its worker.
+    Queued(Vec<u8>),
+    /// A worker answers its message.
+    Answering,
+    /// This reply is being written.
+    Writing(Outgoing),
+    /// Its last reply is out, and what still comes is let go.
+    Lingering,
+    /// It is gone, and a worker still answers its message.
+    Abandoned,
+    /// It has ended.
+    Ended,
+}
+
+/// A reply, of which so many bytes are out.
+#[derive(Drop)]
+pub(crate) struct Outgoing {
+    pub reply: Vec<u8>,
+    pub written: usize,
+    /// Whether the connection ends behind it.
+    pub is_last: bool,
+}
+
+/// A connection. `since` is the moment of its accept, of its last whole message, or of its last reply, in
+/// milliseconds; `answered` counts the replies behind which it goes on.
+#[derive(Drop)]
+pub(crate) struct Connection {
+    pub number: u32,
+    pub peer: [u8; 4],
+    pub since: u64,
+    pub answered: u32,
+    pub phase: Phase,
+    // Where it reads a message, that isn't whole.
+    ghost unfinished: { is_unfinished phase ≡ true },
+}
+
+impl Connection {
+    ghost use Rattle.chpw_connections.specs.Holding.{held_by};
+    ghost use Rattle.chpw_connections.specs.Stages.{stage, stage_of, after, reading, queued, Goes, came, taken, replied, unanswered, wrote, closed, failed, wanted_by, left_of};
+    ghost use Rattle.chpw_connections.specs.Sets.{waits, is_late, queued_by};
+    ghost use Rattle.chpw_connections.specs.Waiting.{is_newly_queued};
+
+    /// One that was accepted just now.
+    pub fn accepted(alloc: Global, number: u32, peer: [u8; 4], now: u64) -> Connection
+        ensures stage { stage result ≡ reading [] }
+        ensures number { result.number ≡ number }
+        ensures peer { result.peer ≡ peer }
+        ensures answered { result.answered ≡ 0 }
+        ensures since { result.since ≡ now }
+        ensures nothing { held_by result.phase ≡ 0 }
+    {
+        Connection {
+            number,
+            peer,
+            since: now,
+            answered: 0,
+            phase: Phase::Reading(Vec::new(alloc)),
+        }
+    }
+
+    /// How many bytes of its message are still to come, as far as that is known: of a message whose length isn't
+    /// whole those of the length.
+    pub fn wanted(&self) -> usize
+        ensures value { result ≡ wanted_by (stage self.now) }
+    {
+        match &self.phase {
+            Phase::Reading(received) => wanted_behind(received),
+            _ => 0,
+        }
+    }
+
+    /// How many bytes it holds, of its message or of its reply.
+    pub fn held(&self) -> usize
+        ensures value { result ≡ held_by self.now.phase }
+    {
+        match &self.phase {
+            Phase::Reading(bytes) | Phase::Queued(bytes) => bytes.len(),
+            Phase::Writing(outgoing) => outgoing.reply.len(),
+            Phase::Answering | Phase::Lingering | Phase::Abandoned | Phase::Ended => 0,
+        }
+    }
+
+    /// Bytes came, of which those count that are wanted. Where the message is whole then, it is queued; whether it is.
+    /// Without memory for them the connection has ended.
+    pub fn receive(&mut self, bytes: &[u8], now: u64) -> Result<bool, AllocError>
+        ensures goes { OnOk result (Goes now self.old self.new (came bytes.now)) }
+        ensures ended { OnErr result (Goes 0 self.old self.new failed) }
+        ensures whole { IfOk result (λ whole. whole ≡ is_newly_queued (queued_by (stage self.old)) (queued_by (stage self.new))) }
+        ensures reading { OnErr result (queued_by (stage self.old) ≡ None) }
+        ensures held { held_by self.new.phase ≤ held_by self.old.phase + length bytes.now }
+    {
+        match mem::replace(&mut self.phase, Phase::Ended) {
+            Phase::Reading(mut received) => {
+                let fitting = at_most(bytes, wanted_behind(&received));
+                received.extend_from_slice(fitting)?;
+                if wanted_behind(&received) == 0 {
+                    self.since = now;
+                    self.phase = Phase::Queued(received);
+                    return Ok(true);
+                }
+                self.phase = Phase::Reading(received);
+                Ok(false)
+            }
+            other => {
+                self.phase = other;
+                Ok(false)
+            }
+        }
+    }
+
+    /// Its message goes to a worker.
+    pub fn take(&mut self) -> Option<Vec<u8>>
+        ensures goes { Goes 0 self.old self.new taken }
+        ensures held { held_by self.new.phase ≤ held_by self.old.phase }
+        ensures message { IfSome result (λ message. stage self.old ≡ queued message.items) }
+        ensures none { IfNone result (queued_by (stage self.old) ≡ None) }
+    {
+        match mem::replace(&mut self.phase, Phase::Answering) {
+            Phase::Queued(message) => Some(message),
+            other => {
+                self.phase = other;
+                None
+            }
+        }
+    }
+
+    /// The worker's reply is to be written; behind the last one the connection ends.
+    pub fn answer(&mut self, reply: Vec<u8>, is_last: bool, now: u64)
+        ensures goes { Goes now self.old self.new (replied reply.items is_last) }
+        ensures held { held_by self.new.phase ≤ held_by self.old.phase + length reply.items }
+    {
+        match self.phase {
+            Phase::Answering => {
+                let is_last = is_last || self.answered >= MAX_MESSAGES - 1;
+                if !is_last {
+                    self.answered += 1;
+                }
+                self.since = now;
+                self.phase = Phase::Writing(Outgoing {
+                    reply,
+                    written: 0,
+                    is_last,
+                });
+            }
+            Phase::Abandoned => self.phase = Phase::Ended,
+            _ => {}
+        }
+    }
+
+    /// The worker has no reply for it.
+    pub fn leave_unanswered(&mut self, now: u64)
+        ensures goes { Goes now self.old self.new unanswered }
+        ensures held { held_by self.new.phase ≤ held_by self.old.phase }
+    {
+        match self.phase {
+            Phase::Answering => {
+                self.since = now;
+                self.phase = Phase::Lingering;
+            }
+            Phase::Abandoned => self.phase = Phase::Ended,
+            _ => {}
+        }
+    }
+
+    /// What is left to write.
+    pub fn unwritten(&self) -> &[u8]
+        ensures value { result.now ≡ left_of (stage self.now) }
+    {
+        match &self.phase {
+            Phase::Writing(outgoing) if outgoing.written <= outgoing.reply.len() => {
+                &outgoing.reply[outgoing.written..]
+            }
+            _ => &[],
+        }
+    }
+
+    /// So many bytes of its reply went out. Behind a whole reply its next message is read.
+    pub fn wrote(&mut self, alloc: Global, count: usize, now: u64)
+        ensures goes { Goes now self.old self.new (wrote count) }
+        ensures held { held_by self.new.phase ≤ held_by self.old.phase }
+    {
+        if let Phase::Writing(outgoing) = &mut self.phase {
+            outgoing.written = outgoing.written.saturating_add(count);
+            if outgoing.written >= outgoing.reply.len() {
+                self.since = now;
+                self.phase = if outgoing.is_last {
+                    Phase::Lingering
+                } else {
+                    Phase::Reading(Vec::new(alloc))
+                };
+            }
+        }
+    }
+
+    /// The client closed its writing side, and all that it wrote was read.
+    pub fn input_ended(&mut self)
+        ensures goes { Goes 0 self.old self.new closed }
+        ensures held { held_by self.new.phase ≤ held_by self.old.phase }
+    {
+        if matches!(self.phase, Phase::Reading(_) | Phase::Lingering) {
+            self.phase = Phase::Ended;
+        }
+    }
+
+    /// It can't go on: a message that waits is dropped with it, a reply too.
+    pub fn fail(&mut self)
+        ensures goes { Goes 0 self.old self.new failed }
+        ensures held { held_by self.new.phase ≤ held_by self.old.phase }
+    {
+        self.phase = match self.phase {
+            Phase::Answering | Phase::Abandoned => Phase::Abandoned,
+            _ => Phase::Ended,
+        };
+    }
+
+    /// Whether its time is up, within these bounds.
+    pub fn is_late(&self, bounds: &Bounds, now: u64) -> bool
+        ensures value { result ≡ is_late bounds.now now self.now }
+    {
+        let waited = now.saturating_sub(self.since);
+        match self.phase {
+            Phase::Reading(_) | Phase::Writing(_) => waited >= bounds.idle,
+            Phase::Lingering => waited >= bounds.linger,
+            Phase::Queued(_) => waited >= bounds.wait,
+            Phase::Answering | Phase::Abandoned | Phase::Ended => false,
+        }
+    }
+
+    /// Whether it waits for its client: for a whole message, or for a reply to be taken.
+    pub fn waits_for_client(&self) -> bool
+        ensures value { result ≡ waits (stage self.now) }
+    {
+        matches!(
+            self.phase,
+            Phase::Reading(_) | Phase::Writing(_) | Phase::Lingering
+        )
+    }
+}
+
+/// As many of these bytes as are wanted, from the front.
+#[tactic(auto, using(crate::proofs::TakeLemmas::taken_whole))]
+pub(crate) fn at_most(bytes: &[u8], wanted: usize) -> &[u8]
+    ensures value { result.now ≡ take wanted bytes.now }
+{
+    if bytes.len() <= wanted {
+        bytes
+    } else {
+        &bytes[..wanted]
+    }
+}
+
+// How many bytes are wanted behind these of a message: the rest of its length, or of the message. Of a message that
+// is too long there is nothing but its length.
+fn wanted_behind(received: &[u8]) -> usize
+    ensures value { result ≡ wanted_of received.now }
+{
+    match received.split_first_chunk::<HEADER>() {
+        None => HEADER - received.len(),
+        Some((header, body)) => {
+            let length = u32::from_be_bytes(*header) as usize;
+            if length > LONGEST_MESSAGE {
+                0
+            } else {
+                length.saturating_sub(body.len())
+            }
+        }
+    }
+}

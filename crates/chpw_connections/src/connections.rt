@@ -1,0 +1,423 @@
+//! A set of connections, within bounds.
+ghost use Rattle.std.specs.Prelude.{MatchBool, ◌≡◌, ◌≢◌, ◌+◌, ◌<◌, ◌≤◌, ◌==◌, ℕ, not, nat_lt, true, false, IfSome, IfNone, IsSome, IfOk, Some, None, ◌⊎◌, ◌∷◌, ◌++◌, [], ◌%◌, length, drop, if◌then◌else◌, is_some};
+ghost use Rattle.slab.specs.Slab.{get, slab_len};
+ghost use Rattle.chpw_connections.specs.Holding.{held_in};
+ghost use Rattle.chpw_connections.specs.Stages.{came, taken, replied, unanswered, wrote, closed, failed};
+ghost use Rattle.chpw_connections.specs.Sets.{Happens, wanted_at, left_at, queued_at, is_late_in, Passes, is_lingering_in, is_ended_in, is_reading_in, is_answering_in, wanted_of, IsNew};
+ghost use Rattle.chpw_connections.specs.Room.{HappensWithRoom};
+ghost use Rattle.chpw_connections.specs.Expiry.{one_more, is_dropped_in, dropped_in, and_more};
+ghost use Rattle.chpw_connections.specs.Queues.{queues_of, queue_of, workers_of, DropsLate};
+ghost use Rattle.chpw_connections.specs.Waiting.{waits_for, in_time, Becomes, Leaves};
+ghost use Rattle.chpw_connections.specs.Held.{slots_of, accepted_by, removed_by, expired_by, bounds_of, Counts};
+
+use crate::bounds::Bounds;
+use crate::connection::{Connection, Phase, at_most};
+use crate::set::Connections;
+use crate::slots::Slots;
+use crate::waiting::Queues;
+use std::alloc::{AllocError, Global};
+use std::collections::VecDeque;
+
+/// A message for a worker, and whose it is.
+#[derive(Drop)]
+pub struct Taken {
+    pub slot: usize,
+    /// An IPv4 address, high byte first.
+    pub peer: [u8; 4],
+    /// Its length in four bytes, and then its bytes; of one that is too long its length alone.
+    pub message: Vec<u8>,
+}
+
+impl Connections {
+    /// None yet, for so many workers, but for one at least.
+    #[tactic(auto, using(crate::proofs::HoldsLemmas::holds_none))]
+    pub fn new(alloc: Global, bounds: Bounds, workers: usize) -> Result<Connections, AllocError>
+        ensures none { IfOk result (λ c. slab_len (slots_of c) ≡ 0) }
+        ensures counts { IfOk result (λ c. Counts c 0 0) }
+        ensures expired { IfOk result (λ c. expired_by c ≡ 0) }
+        ensures bounds { IfOk result (λ c. bounds_of c ≡ bounds) }
+        ensures workers { IfOk result (λ c. workers_of c ≡ (if workers == 0 then 1 else workers)) }
+        ensures empty { IfOk result (λ c. (worker : ℕ) → queue_of c worker ≡ []) }
+    {
+        Ok(Connections {
+            alloc,
+            bounds,
+            slots: Slots::new(alloc, bounds.connections)?,
+            queues: Queues::new(alloc, workers, bounds.connections)?,
+            changed: VecDeque::with_capacity(alloc, bounds.connections)?,
+            accepted: 0,
+            removed: 0,
+            expired: 0,
+        })
+    }
+
+    /// How many connections were accepted.
+    pub fn accepted(&self) -> u32
+        ensures value { result ≡ accepted_by self.now }
+        ensures counted { result ≡ removed_by self.now + slab_len (slots_of self.now) }
+    {
+        self.accepted
+    }
+
+    /// How many ended with a message that had waited too long for its worker, whether it was to be taken (`take`) or time
+    /// passed (`pass`): never told as more than 4,294,967,295.
+    pub fn expired(&self) -> u32
+        ensures value { result ≡ expired_by self.now }
+    {
+        self.expired
+    }
+
+    /// How many connections there are: never more than may be.
+    pub fn len(&self) -> usize
+        ensures value { result ≡ slab_len (slots_of self.now) }
+        ensures few { result ≤ (bounds_of self.now).connections }
+    {
+        self.slots.len()
+    }
+
+    /// Whether there are none.
+    pub fn is_empty(&self) -> bool
+        ensures value { result ≡ (slab_len (slots_of self.now) == 0) }
+    {
+        self.slots.len() == 0
+    }
+
+    /// Whether there are as many as may be.
+    pub fn is_full(&self) -> bool
+        ensures value { result ≡ not (nat_lt (slab_len (slots_of self.now)) (bounds_of self.now).connections) }
+    {
+        self.slots.len() >= self.bounds.connections
+    }
+
+    /// A connection of this peer was accepted: it is in this slot, which was free. None where there are as many as
+    /// may be, or after 4,294,967,295.
+    #[tactic(auto, using(crate::proofs::HoldsLemmas::holds_accepted))]
+    pub fn accept(&mut self, peer: [u8; 4], now: u64) -> Option<usize>
+        ensures accepted { IfSome result (λ slot. IsNew peer now (accepted_by self.old) (slots_of self.old) (slots_of self.new) slot) }
+        ensures counts { IfSome result (λ slot. Counts self.new (accepted_by self.old + 1) (removed_by self.old)) }
+        ensures expired { expired_by self.new ≡ expired_by self.old }
+        ensures queues { queues_of self.new ≡ queues_of self.old }
+        ensures unchanged { IfNone result (self.new ≡ self.old) }
+    {
+        if self.is_full() || self.accepted == u32::MAX {
+            return None;
+        }
+        let connection = Connection::accepted(self.alloc, self.accepted, peer, now);
+        let slot = self.slots.accept(connection);
+        self.accepted += 1;
+        Some(slot)
+    }
+
+    /// How many bytes may be read of a connection now; none of one whose message waits or is answered.
+    pub fn wanted(&self, slot: usize) -> usize
+        ensures value { result ≡ wanted_at (get (slots_of self.now) slot) }
+    {
+        self.slots.wanted(slot)
+    }
+
+    /// These bytes of a connection's message came, of which those count that are wanted. Where the message is whole with
+    /// them, it waits at the end of its worker's queue, and the worker is given: the connection's number, modulo how many
+    /// there are. Where they are more than may be held, the others that have waited for their clients the longest are
+    /// ended to make room, but none where they alone are more than may be held. Without room or memory for them the
+    /// connection is ended. Bytes for a free slot, and for a connection that wants none now, change nothing.
+    #[tactic(auto, using(crate::proofs::ComesLemmas::wanted_happens, crate::proofs::ReadingLemmas::unwanted_unread))]
+    pub fn receive(&mut self, slot: usize, bytes: &[u8], now: u64) -> Option<usize>
+        ensures queued { IfSome result (λ worker. HappensWithRoom now (slots_of self.old) (slots_of self.new) slot (came bytes.now)) }
+        ensures joins { IfSome result (λ worker. Becomes (queues_of self.old) (queues_of self.new) worker (queue_of self.old worker ++ slot ∷ [])) }
+        ensures worker { IfSome result (λ worker. IfSome (get (slots_of self.old) slot) (λ c. worker ≡ c.number % workers_of self.old)) }
+        ensures within { IfSome result (λ worker. worker < workers_of self.new) }
+        ensures waits { IfSome result (λ worker. waits_for (workers_of self.new) (get (slots_of self.new) slot) ≡ Some worker) }
+        ensures read { IfNone result (HappensWithRoom now (slots_of self.old) (slots_of self.new) slot (came bytes.now)
+            ⊎ HappensWithRoom 0 (slots_of self.old) (slots_of self.new) slot failed) }
+        ensures stays { IfNone result ((queues_of self.new ≡ queues_of self.old) ⊎ Leaves (queues_of self.old) (queues_of self.new) slot) }
+        ensures unread { is_reading_in (get (slots_of self.old) slot) ≡ false → (result ≡ None) × (self.new ≡ self.old) }
+        ensures unwanted { wanted_at (get (slots_of self.old) slot) ≡ 0 → (result ≡ None) × (self.new ≡ self.old) }
+        ensures enough { held_in (slots_of self.old) + length bytes.now ≤ (bounds_of self.old).bytes
+            → (other : ℕ) → other ≢ slot → get (slots_of self.new) other ≡ get (slots_of self.old) other }
+        ensures enough_wanted { held_in (slots_of self.old) + length (wanted_of (get (slots_of self.old) slot) bytes.now) ≤ (bounds_of self.old).bytes
+            → (other : ℕ) → other ≢ slot → get (slots_of self.new) other ≡ get (slots_of self.old) other }
+        ensures too_many { (bounds_of self.old).bytes < length (wanted_of (get (slots_of self.old) slot) bytes.now)
+            → (other : ℕ) → other ≢ slot → get (slots_of self.new) other ≡ get (slots_of self.old) other }
+        ensures workers { workers_of self.new ≡ workers_of self.old }
+        ensures counts { Counts self.new (accepted_by self.old) (removed_by self.old) }
+        ensures expired { expired_by self.new ≡ expired_by self.old }
+        ensures bounds { bounds_of self.new ≡ bounds_of self.old }
+    {
+        if !self.is_reading(slot) {
+            return None;
+        }
+        let wanted = at_most(bytes, self.slots.wanted(slot));
+        self.receive_wanted(slot, wanted, now)
+    }
+
+    // The same, of bytes that are all wanted.
+    #[tactic(auto, using(crate::proofs::RoomLemmas::happens_with_room))]
+    fn receive_wanted(&mut self, slot: usize, bytes: &[u8], now: u64) -> Option<usize>
+        ensures queued { IfSome result (λ worker. HappensWithRoom now (slots_of self.old) (slots_of self.new) slot (came bytes.now)) }
+        ensures joins { IfSome result (λ worker. Becomes (queues_of self.old) (queues_of self.new) worker (queue_of self.old worker ++ slot ∷ [])) }
+        ensures worker { IfSome result (λ worker. IfSome (get (slots_of self.old) slot) (λ c. worker ≡ c.number % workers_of self.old)) }
+        ensures within { IfSome result (λ worker. worker < workers_of self.new) }
+        ensures waits { IfSome result (λ worker. waits_for (workers_of self.new) (get (slots_of self.new) slot) ≡ Some worker) }
+        ensures read { IfNone result (HappensWithRoom now (slots_of self.old) (slots_of self.new) slot (came bytes.now)
+            ⊎ HappensWithRoom 0 (slots_of self.old) (slots_of self.new) slot failed) }
+        ensures stays { IfNone result ((queues_of self.new ≡ queues_of self.old) ⊎ Leaves (queues_of self.old) (queues_of self.new) slot) }
+        ensures enough { held_in (slots_of self.old) + length bytes.now ≤ (bounds_of self.old).bytes
+            → (other : ℕ) → other ≢ slot → get (slots_of self.new) other ≡ get (slots_of self.old) other }
+        ensures too_many { (bounds_of self.old).bytes < length bytes.now → (other : ℕ) → other ≢ slot → get (slots_of self.new) other ≡ get (slots_of self.old) other }
+        ensures workers { workers_of self.new ≡ workers_of self.old }
+        ensures counts { Counts self.new (accepted_by self.old) (removed_by self.old) }
+        ensures expired { expired_by self.new ≡ expired_by self.old }
+        ensures bounds { bounds_of self.new ≡ bounds_of self.old }
+    {
+        if !self.find_room(slot, bytes.len()) {
+            self.fail(slot);
+            return None;
+        }
+        let number = self.slots.number(slot)?;
+        let worker = self.queues.worker_of(number);
+        if !self.queues.reserve(worker) {
+            self.fail(slot);
+            return None;
+        }
+        match self.slots.receive(slot, bytes, now) {
+            Err(_) => {
+                self.note(slot);
+                None
+            }
+            Ok(false) => None,
+            Ok(true) => {
+                self.queues.put(worker, slot);
+                Some(worker)
+            }
+        }
+    }
+
+    /// The client closed its writing side, and all that it wrote was read.
+    #[tactic(auto, using(crate::proofs::HoldsLemmas::holds_quiet))]
+    pub fn input_ended(&mut self, slot: usize)
+        ensures happens { Happens 0 (slots_of self.old) (slots_of self.new) slot closed }
+        ensures counts { Counts self.new (accepted_by self.old) (removed_by self.old) }
+        ensures expired { expired_by self.new ≡ expired_by self.old }
+        ensures bounds { bounds_of self.new ≡ bounds_of self.old }
+        ensures queues { queues_of self.new ≡ queues_of self.old }
+    {
+        let can_end = self.is_reading(slot) || self.is_lingering(slot);
+        self.slots.input_ended(slot);
+        self.note_where(can_end, slot);
+    }
+
+    /// The connection can't go on. A message that waits is dropped with it.
+    pub fn fail(&mut self, slot: usize)
+        ensures happens { Happens 0 (slots_of self.old) (slots_of self.new) slot failed }
+        ensures counts { Counts self.new (accepted_by self.old) (removed_by self.old) }
+        ensures expired { expired_by self.new ≡ expired_by self.old }
+        ensures bounds { bounds_of self.new ≡ bounds_of self.old }
+        ensures leaves { Leaves (queues_of self.old) (queues_of self.new) slot }
+        ensures same { queued_at (get (slots_of self.old) slot) ≡ None → queues_of self.new ≡ queues_of self.old }
+    {
+        let can_fail = !self.is_gone(slot);
+        let number = self.slots.waiting_number(slot);
+        self.queues.leave(number, slot);
+        self.slots.fail(slot);
+        self.note_where(can_fail, slot);
+    }
+
+    /// What is left to write of a connection's reply.
+    pub fn unwritten(&self, slot: usize) -> &[u8]
+        ensures value { result.now ≡ left_at (get (slots_of self.now) slot) }
+    {
+        self.slots.unwritten(slot)
+    }
+
+    /// So many bytes of a connection's reply went out.
+    #[tactic(auto, using(crate::proofs::HoldsLemmas::holds_quiet))]
+    pub fn wrote(&mut self, slot: usize, count: usize, now: u64)
+        ensures happens { Happens now (slots_of self.old) (slots_of self.new) slot (wrote count) }
+        ensures counts { Counts self.new (accepted_by self.old) (removed_by self.old) }
+        ensures expired { expired_by self.new ≡ expired_by self.old }
+        ensures bounds { bounds_of self.new ≡ bounds_of self.old }
+        ensures queues { queues_of self.new ≡ queues_of self.old }
+    {
+        self.slots.wrote(self.alloc, slot, count, now);
+    }
+
+    /// Whether the last reply of a connection is out, and its end is waited for.
+    pub fn is_lingering(&self, slot: usize) -> bool
+        ensures value { result ≡ is_lingering_in (get (slots_of self.now) slot) }
+    {
+        match self.slots.get(slot) {
+            None => false,
+            Some(connection) => matches!(connection.phase, Phase::Lingering),
+        }
+    }
+
+    /// Whether a connection has ended: nothing is left but to remove it.
+    pub fn is_ended(&self, slot: usize) -> bool
+        ensures value { result ≡ is_ended_in (get (slots_of self.now) slot) }
+    {
+        match self.slots.get(slot) {
+            None => false,
+            Some(connection) => matches!(connection.phase, Phase::Ended),
+        }
+    }
+
+    /// Removes a connection that has ended; whether it had.
+    #[tactic(auto, using(crate::proofs::HoldsLemmas::holds_removed))]
+    pub fn remove(&mut self, slot: usize) -> bool
+        ensures value { result ≡ is_ended_in (get (slots_of self.old) slot) }
+        ensures removed { result ≡ true → Counts self.new (accepted_by self.old) (removed_by self.old + 1) }
+        ensures expired { expired_by self.new ≡ expired_by self.old }
+        ensures queues { queues_of self.new ≡ queues_of self.old }
+        ensures unchanged { result ≡ false → self.new ≡ self.old }
+    {
+        if !self.is_ended(slot) {
+            return false;
+        }
+        self.slots.remove(slot);
+        self.removed += 1;
+        true
+    }
+
+    /// The message at the front of a worker's queue, which is the one that has stood there the longest. None where none
+    /// waits, and where it has waited too long: its connection has ended then, and the next one may be taken.
+    pub fn take(&mut self, worker: usize, now: u64) -> Option<Taken>
+        ensures message { IfSome result (λ t. queued_at (get (slots_of self.old) t.slot) ≡ Some t.message.items) }
+        ensures in_time { IfSome result (λ t. is_late_in (bounds_of self.old) now (get (slots_of self.old) t.slot) ≡ false) }
+        ensures happens { IfSome result (λ t. Happens 0 (slots_of self.old) (slots_of self.new) t.slot taken) }
+        ensures peer { IfSome result (λ t. IfSome (get (slots_of self.old) t.slot) (λ c. t.peer ≡ c.peer)) }
+        ensures first { IfSome result (λ t. queue_of self.old worker ≡ t.slot ∷ queue_of self.new worker) }
+        ensures others { (other : ℕ) → other ≢ worker → queue_of self.new other ≡ queue_of self.old other }
+        ensures none { IfNone result (((queue_of self.old worker ≡ []) × (self.new ≡ self.old)) ⊎ DropsLate now self.old self.new worker) }
+        ensures workers { workers_of self.new ≡ workers_of self.old }
+        ensures counts { Counts self.new (accepted_by self.old) (removed_by self.old) }
+        ensures expired { IfSome result (λ t. expired_by self.new ≡ expired_by self.old) }
+        ensures bounds { bounds_of self.new ≡ bounds_of self.old }
+    {
+        let slot = self.queues.first(worker)?;
+        if self.is_late(slot, now) {
+            self.expired = self.expired.saturating_add(1);
+            self.fail(slot);
+            return None;
+        }
+        self.take_first(worker, slot)
+    }
+
+    // The message in the slot at the front of a worker's queue.
+    fn take_first(&mut self, worker: usize, slot: usize) -> Option<Taken>
+        requires first { queue_of self.old worker ≡ slot ∷ drop 1 (queue_of self.old worker) }
+        ensures some { IsSome result }
+        ensures message { IfSome result (λ t. queued_at (get (slots_of self.old) slot) ≡ Some t.message.items) }
+        ensures happens { IfSome result (λ t. (t.slot ≡ slot) × Happens 0 (slots_of self.old) (slots_of self.new) slot taken) }
+        ensures peer { IfSome result (λ t. IfSome (get (slots_of self.old) slot) (λ c. t.peer ≡ c.peer)) }
+        ensures becomes { Becomes (queues_of self.old) (queues_of self.new) worker (drop 1 (queue_of self.old worker)) }
+        ensures counts { Counts self.new (accepted_by self.old) (removed_by self.old) }
+        ensures expired { expired_by self.new ≡ expired_by self.old }
+        ensures bounds { bounds_of self.new ≡ bounds_of self.old }
+    {
+        let peer = self.slots.peer(slot);
+        let taken = self.slots.take(slot);
+        self.queues.drop_first(worker);
+        let message = taken?;
+        Some(Taken {
+            slot,
+            peer,
+            message,
+        })
+    }
+
+    /// A worker's reply to the message that it took; behind the last reply the connection ends. Where it is more than may
+    /// be held, the others that have waited for their clients the longest are ended to make room, but none where it alone
+    /// is more than may be held; without room for it it isn't sent, and the connection ends. For a connection that no
+    /// worker answers, or that is gone, no room is made: the reply is let go.
+    #[tactic(auto, using(crate::proofs::RoomLemmas::happens_with_room))]
+    pub fn answer(&mut self, slot: usize, reply: Vec<u8>, is_last: bool, now: u64)
+        ensures happens { HappensWithRoom now (slots_of self.old) (slots_of self.new) slot (replied reply.items is_last)
+            ⊎ HappensWithRoom now (slots_of self.old) (slots_of self.new) slot unanswered }
+        ensures enough { held_in (slots_of self.old) + length reply.items ≤ (bounds_of self.old).bytes
+            → Happens now (slots_of self.old) (slots_of self.new) slot (replied reply.items is_last) }
+        ensures too_much { (bounds_of self.old).bytes < length reply.items → Happens now (slots_of self.old) (slots_of self.new) slot unanswered }
+        ensures unwanted { is_answering_in (get (slots_of self.old) slot) ≡ false → Happens now (slots_of self.old) (slots_of self.new) slot unanswered }
+        ensures counts { Counts self.new (accepted_by self.old) (removed_by self.old) }
+        ensures expired { expired_by self.new ≡ expired_by self.old }
+        ensures bounds { bounds_of self.new ≡ bounds_of self.old }
+        ensures queues { queues_of self.new ≡ queues_of self.old }
+    {
+        if !self.is_answering(slot) {
+            self.leave_unanswered(slot, now);
+            return;
+        }
+        if !self.find_room(slot, reply.len()) {
+            self.leave_unanswered(slot, now);
+            return;
+        }
+        self.slots.answer(slot, reply, is_last, now);
+        self.note(slot);
+    }
+
+    /// A worker has no reply to the message that it took. The connection ends.
+    #[tactic(auto, using(crate::proofs::HoldsLemmas::holds_quiet))]
+    pub fn leave_unanswered(&mut self, slot: usize, now: u64)
+        ensures happens { Happens now (slots_of self.old) (slots_of self.new) slot unanswered }
+        ensures counts { Counts self.new (accepted_by self.old) (removed_by self.old) }
+        ensures expired { expired_by self.new ≡ expired_by self.old }
+        ensures bounds { bounds_of self.new ≡ bounds_of self.old }
+        ensures queues { queues_of self.new ≡ queues_of self.old }
+    {
+        let is_with_worker = self.is_with_worker(slot);
+        self.slots.leave_unanswered(slot, now);
+        self.note_where(is_with_worker, slot);
+    }
+
+    /// Ends the connections whose time is up; the others stay as they are, and so does the order of those that wait.
+    pub fn pass(&mut self, now: u64)
+        ensures passed { (slot : ℕ) → Passes (bounds_of self.old) now (get (slots_of self.old) slot) (get (slots_of self.new) slot) }
+        ensures workers { workers_of self.new ≡ workers_of self.old }
+        ensures counts { Counts self.new (accepted_by self.old) (removed_by self.old) }
+        ensures expired { expired_by self.new ≡ and_more (dropped_in (bounds_of self.old) now (slots_of self.old)) (expired_by self.old) }
+        ensures bounds { bounds_of self.new ≡ bounds_of self.old }
+        ensures queues { (worker : ℕ) → queue_of self.new worker ≡ in_time (bounds_of self.old) now (slots_of self.old) (queue_of self.old worker) }
+    {
+        for slot in 0..self.slots.capacity() {
+            self.pass_slot(slot, now);
+        }
+    }
+
+    // Ends the connection in a slot where its time is up.
+    fn pass_slot(&mut self, slot: usize, now: u64)
+        ensures passed { Passes (bounds_of self.old) now (get (slots_of self.old) slot) (get (slots_of self.new) slot) }
+        ensures others { (other : ℕ) → other ≢ slot → get (slots_of self.new) other ≡ get (slots_of self.old) other }
+        ensures workers { workers_of self.new ≡ workers_of self.old }
+        ensures counts { Counts self.new (accepted_by self.old) (removed_by self.old) }
+        ensures expired { expired_by self.new ≡ one_more (is_dropped_in (bounds_of self.old) now (get (slots_of self.old) slot)) (expired_by self.old) }
+        ensures bounds { bounds_of self.new ≡ bounds_of self.old }
+        ensures queues { MatchBool (is_late_in (bounds_of self.old) now (get (slots_of self.old) slot)) (Leaves (queues_of self.old) (queues_of self.new) slot) (queues_of self.new ≡ queues_of self.old) }
+    {
+        if self.is_late(slot, now) {
+            self.count_dropped(slot);
+            self.fail(slot);
+        }
+    }
+
+    // Counts the message of a connection that waits for a worker, if there is one.
+    fn count_dropped(&mut self, slot: usize)
+        ensures expired { expired_by self.new ≡ one_more (is_some (queued_at (get (slots_of self.old) slot))) (expired_by self.old) }
+        ensures slots { slots_of self.new ≡ slots_of self.old }
+        ensures queues { queues_of self.new ≡ queues_of self.old }
+        ensures counts { Counts self.new (accepted_by self.old) (removed_by self.old) }
+        ensures bounds { bounds_of self.new ≡ bounds_of self.old }
+    {
+        if self.is_waiting(slot) {
+            self.expired = self.expired.saturating_add(1);
+        }
+    }
+
+    // Whether the time of a slot's connection is up.
+    fn is_late(&self, slot: usize, now: u64) -> bool
+        ensures value { result ≡ is_late_in (bounds_of self.now) now (get (slots_of self.now) slot) }
+    {
+        match self.slots.get(slot) {
+            None => false,
+            Some(connection) => connection.is_late(&self.bounds, now),
+        }
+    }
+}

@@ -1,0 +1,70 @@
+//! Which slots wait for a worker, and which are to be looked at.
+ghost use Rattle.std.specs.Prelude.{◌≡◌, nat_lt, length};
+ghost use Rattle.chpw_connections.specs.Held.{slots_of, accepted_by, removed_by, expired_by, bounds_of, Counts};
+ghost use Rattle.chpw_connections.specs.Queues.{queues_of, queue_of, EachWaits};
+
+use crate::set::Connections;
+
+impl Connections {
+    /// Whether a message waits for a worker. Each that waits stands in its worker's queue, once.
+    pub fn has_message(&self, worker: usize) -> bool
+        ensures value { result ≡ nat_lt 0 (length (queue_of self.now worker)) }
+        ensures waiting { EachWaits self.now }
+    {
+        self.queues.has(worker)
+    }
+
+    // Whoever has the sockets is to look at a slot.
+    pub(crate) fn note(&mut self, slot: usize)
+        ensures slots { slots_of self.new ≡ slots_of self.old }
+        ensures queues { queues_of self.new ≡ queues_of self.old }
+        ensures counts { Counts self.new (accepted_by self.old) (removed_by self.old) }
+        ensures expired { expired_by self.new ≡ expired_by self.old }
+        ensures bounds { bounds_of self.new ≡ bounds_of self.old }
+    {
+        let _ = self.changed.push_back(slot);
+    }
+
+    // The same, where something changed for it.
+    pub(crate) fn note_where(&mut self, is_changed: bool, slot: usize)
+        ensures slots { slots_of self.new ≡ slots_of self.old }
+        ensures queues { queues_of self.new ≡ queues_of self.old }
+        ensures counts { Counts self.new (accepted_by self.old) (removed_by self.old) }
+        ensures expired { expired_by self.new ≡ expired_by self.old }
+        ensures bounds { bounds_of self.new ≡ bounds_of self.old }
+    {
+        if is_changed {
+            self.note(slot);
+        }
+    }
+
+    /// A slot to look at: its connection got its worker's reply, or the word that there is none; it has ended, or is gone
+    /// while a worker still answers; or `look_again` named it. Each is told once for each time that it came about, in
+    /// that order, as far as there was memory to note it. What `accept`, `receive`, `take` and `wrote` make of a connection
+    /// that doesn't end isn't told. Meanwhile the slot may be free, or another connection's: `todo` says what is to be done.
+    pub fn changed(&mut self) -> Option<usize>
+        ensures slots { slots_of self.new ≡ slots_of self.old }
+        ensures queues { queues_of self.new ≡ queues_of self.old }
+        ensures counts { Counts self.new (accepted_by self.old) (removed_by self.old) }
+        ensures expired { expired_by self.new ≡ expired_by self.old }
+        ensures bounds { bounds_of self.new ≡ bounds_of self.old }
+    {
+        self.changed.pop_front()
+    }
+
+    /// Whether there is a slot to look at.
+    pub fn has_changed(&self) -> bool {
+        !self.changed.is_empty()
+    }
+
+    /// There is more to do for the connection in a slot than was done for now.
+    pub fn look_again(&mut self, slot: usize)
+        ensures slots { slots_of self.new ≡ slots_of self.old }
+        ensures queues { queues_of self.new ≡ queues_of self.old }
+        ensures counts { Counts self.new (accepted_by self.old) (removed_by self.old) }
+        ensures expired { expired_by self.new ≡ expired_by self.old }
+        ensures bounds { bounds_of self.new ≡ bounds_of self.old }
+    {
+        self.note(slot);
+    }
+}

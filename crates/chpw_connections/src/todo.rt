@@ -1,0 +1,41 @@
+//! What whoever has the sockets is to do for a connection.
+ghost use Rattle.std.specs.Prelude.{◌≡◌};
+ghost use Rattle.slab.specs.Slab.{get};
+ghost use Rattle.chpw_connections.specs.Todos.{todo_in};
+ghost use Rattle.chpw_connections.specs.Held.{slots_of};
+
+use crate::connection::Phase;
+use crate::set::Connections;
+
+/// What is to be done for a connection.
+#[derive(Clone, Copy, PartialEq, Eq, Debug, Drop)]
+pub enum Todo {
+    /// At most so many bytes are to be read.
+    Read(usize),
+    /// What is left of its reply is to be written.
+    Write,
+    /// Its writing side is to be shut, and what still comes to be let go.
+    Linger,
+    /// Its socket is to be closed, and then it is to be removed.
+    Close,
+    /// Nothing, until its message is answered.
+    Wait,
+}
+
+impl Connections {
+    /// What is to be done for the connection in a slot.
+    pub fn todo(&self, slot: usize) -> Todo
+        ensures value { result ≡ todo_in (get (slots_of self.now) slot) }
+    {
+        let Some(connection) = self.slots.get(slot) else {
+            return Todo::Wait;
+        };
+        match &connection.phase {
+            Phase::Reading(_) => Todo::Read(connection.wanted()),
+            Phase::Writing(_) => Todo::Write,
+            Phase::Lingering => Todo::Linger,
+            Phase::Ended => Todo::Close,
+            Phase::Queued(_) | Phase::Answering | Phase::Abandoned => Todo::Wait,
+        }
+    }
+}

@@ -1,0 +1,77 @@
+//! What is done to no slot's connection in particular.
+
+use crate::script::Script;
+use crate::showing::{shown, slots_text};
+use crate::words::{address, no_case};
+use chpw_connections::{Taken, Todo};
+use std::io;
+
+/// More than any case here gives to look at.
+const LOOKS: usize = 10_000;
+
+impl Script {
+    /// `accept A.B.C.D`, `pass`, `room`, `look` or `show`.
+    pub fn whole(&mut self, kind: &str, words: &str, now: u64) -> io::Result<String> {
+        match kind {
+            "accept" => self.accepted(words, now),
+            "look" => self.looked(),
+            "show" => self.shown(),
+            "pass" => {
+                self.connections.pass(now);
+                Ok(String::from_str(self.alloc, "passed")?)
+            }
+            "room" if self.connections.make_room() => {
+                Ok(String::from_str(self.alloc, "made room")?)
+            }
+            "room" => Ok(String::from_str(self.alloc, "nobody waits")?),
+            _ => Err(no_case()),
+        }
+    }
+
+    fn accepted(&mut self, words: &str, now: u64) -> io::Result<String> {
+        let peer = address(self.alloc, words)?;
+        match self.connections.accept(peer, now) {
+            None => Ok(String::from_str(self.alloc, "no room")?),
+            Some(slot) => Ok(format!(in self.alloc; "slot {slot}")?),
+        }
+    }
+
+    /// The message that a worker takes, and whose it is.
+    pub fn taken(&mut self, worker: usize, now: u64) -> io::Result<String> {
+        let waits = self.connections.has_message(worker);
+        match self.connections.take(worker, now) {
+            Some(taken) => self.taken_told(&taken),
+            None if waits => Ok(String::from_str(self.alloc, "dropped")?),
+            None => Ok(String::from_str(self.alloc, "none")?),
+        }
+    }
+
+    fn taken_told(&self, taken: &Taken) -> io::Result<String> {
+        let slot = taken.slot;
+        let peer = taken.peer;
+        let [a, b, c, d] = peer;
+        let message = shown(self.alloc, &taken.message)?;
+        Ok(format!(in self.alloc; "slot {slot} from {a}.{b}.{c}.{d}: {message}")?)
+    }
+
+    /// The slots that are to be looked at, each once, where something is to be done that the socket doesn't tell.
+    fn looked(&mut self) -> io::Result<String> {
+        let mut slots = Vec::new(self.alloc);
+        for _ in 0..LOOKS {
+            let Some(slot) = self.connections.changed() else {
+                break;
+            };
+            let is_told = matches!(self.connections.todo(slot), Todo::Read(_) | Todo::Wait);
+            if !is_told && !slots.contains(&slot) {
+                slots.push(slot)?;
+            }
+        }
+        let more = if self.connections.has_changed() {
+            " and more"
+        } else {
+            ""
+        };
+        let slots = slots_text(self.alloc, &slots)?;
+        Ok(format!(in self.alloc; "look at {slots}{more}")?)
+    }
+}
