@@ -17,7 +17,6 @@ use Rattle.chpw_invocation.specs.declared.invocation.Invocation.TheVariants.{Dri
 use Rattle.chpw_invocation.specs.declared.invocation.TableForm.{TableForm}
 use Rattle.chpw_invocation.specs.declared.invocation.TableForm.TheVariants.{Lines, Configuration, Keys}
 use Rattle.chpw_invocation.specs.declared.invocation.TableOptions.{TableOptions}
-use Rattle.chpw_invocation.specs.declared.invocation.TheConstants.{LONGEST_IDLE, LONGEST_REALM, USUAL_COUNT}
 
 -- an option that has to be there has this value
 abbrev pub HasText : List Row → Text → Text → Type 0
@@ -40,11 +39,11 @@ HasNumberOr usual low high options name number =
 
 -- the realm is this, of 1 to 255 bytes
 abbrev pub HasRealm : List Row → Text → Type 0
-HasRealm options realm = HasText options (codes "realm") realm × (1 ≤ length realm) × (length realm ≤ LONGEST_REALM)
+HasRealm options realm = HasText options (codes "realm") realm × (1 ≤ length realm) × (length realm ≤ 255)
 
 -- a realm that is empty or longer
 abbrev pub LacksRealm : List Row → Type 0
-LacksRealm options = (realm : Text) × HasText options (codes "realm") realm × ((realm ≡ []) ⊎ (LONGEST_REALM < length realm))
+LacksRealm options = (realm : Text) × HasText options (codes "realm") realm × ((realm ≡ []) ⊎ (255 < length realm))
 
 -- a flag is given or isn't: clap matches true or false for it
 abbrev pub IsGiven : List Row → Text → Bool → Type 0
@@ -72,13 +71,13 @@ pub record AsksTable (options : List Row) (asked : TableOptions) : Type 0 where
 pub record AsksImport (options : List Row) (asked : ImportOptions) : Type 0 where
   pub keytab : HasText options (codes "keytab") asked.keytab.now
   pub realm : HasRealm options asked.realm.now
-  pub iterations : HasNumberOr USUAL_COUNT 1 16777216 options (codes "iterations") asked.iterations
+  pub iterations : HasNumberOr 4096 1 16777216 options (codes "iterations") asked.iterations
 
 pub record AsksKey (options : List Row) (asked : KeyOptions) : Type 0 where
   pub realm : HasRealm options asked.realm.now
   pub name : HasText options (codes "name") asked.name.now
   pub password_file : HasText options (codes "password-file") asked.password_file.now
-  pub iterations : HasNumberOr USUAL_COUNT 1 16777216 options (codes "iterations") asked.iterations
+  pub iterations : HasNumberOr 4096 1 16777216 options (codes "iterations") asked.iterations
   pub kvno : HasNumberOr 1 1 4294967295 options (codes "kvno") asked.kvno
 
 pub record AsksServe (options : List Row) (asked : ServeOptions) : Type 0 where
@@ -88,7 +87,9 @@ pub record AsksServe (options : List Row) (asked : ServeOptions) : Type 0 where
   pub port : HasNumber 1 65535 options (codes "port") asked.port
   pub workers : HasNumber 1 16 options (codes "workers") asked.workers
   pub connections : HasNumber 1 4294967295 options (codes "connections") asked.connections
-  pub idle : MayHaveNumber 1 LONGEST_IDLE options (codes "idle") asked.idle
+  pub idle : HasNumberOr 30 1 3600 options (codes "idle") asked.idle
+  pub clients : HasNumberOr 1024 1 65536 options (codes "clients") asked.clients
+  pub buffers : HasNumberOr 32 1 1024 options (codes "buffers") asked.buffers
   pub raise : MayHaveNumber 1 16777216 options (codes "raise") asked.raise
   pub log : option_map (λ file. file.now) asked.log ≡ first_of (codes "log") options
 

@@ -4,7 +4,6 @@ use Rattle.clap.specs.Walk.{Rule, Text}
 use Rattle.clap.specs.Simple.{new_rule}
 use Rattle.clap.specs.declared.builder.action.ArgAction.TheVariants.{Set, SetTrue}
 use Rattle.clap.specs.declared.builder.value_parser.ValueParser.TheVariants as parser
-use Rattle.chpw_invocation.specs.declared.invocation.TheConstants.{LONGEST_IDLE}
 
 -- `--NAME VALUE`
 abbrev pub optional : Text → Rule
@@ -36,7 +35,13 @@ abbrev pub connections : Rule
 connections = numbered (codes "connections") 4294967295
 
 abbrev pub idle : Rule
-idle = may_be_numbered (codes "idle") LONGEST_IDLE
+idle = may_be_numbered (codes "idle") 3600
+
+abbrev pub clients : Rule
+clients = may_be_numbered (codes "clients") 65536
+
+abbrev pub buffers : Rule
+buffers = may_be_numbered (codes "buffers") 1024
 
 abbrev pub raise : Rule
 raise = may_be_numbered (codes "raise") 16777216

@@ -1,9 +1,18 @@
 //! What a user asks the program for.
 ghost use Rattle.std.specs.Prelude.{◌≡◌, ◌≤◌, ℕ, Some, true, None, length};
-ghost use Rattle.chpw_invocation.specs.declared.invocation.TheConstants.{LONGEST_REALM};
 
 /// The greatest `--idle`, in seconds: an hour.
 pub const LONGEST_IDLE: u16 = 3600;
+
+/// After how many seconds of waiting for its client a connection is ended, where no `--idle` is given.
+pub const USUAL_IDLE: u16 = 30;
+
+/// How many connections are open at a time, where no `--clients` is given.
+pub const USUAL_CLIENTS: u32 = 1_024;
+
+/// How many MiB the messages and replies of all connections may hold together, where no `--buffers` is
+/// given.
+pub const USUAL_BUFFERS: u16 = 32;
 
 /// The iteration count of keys for which none is named (RFC 3962 section 4).
 pub const USUAL_COUNT: u32 = 4096;
@@ -49,14 +58,22 @@ pub struct ServeOptions<'a> {
     /// After how many connections it ends; at least 1.
     pub connections: u32,
     /// After how many seconds of waiting for its client a connection is ended, 1 to
-    /// [`LONGEST_IDLE`]; there is no limit where this is none.
-    pub idle: Option<u16>,
+    /// [`LONGEST_IDLE`]; [`USUAL_IDLE`], where none is given.
+    pub idle: u16,
+    /// How many connections are open at a time, 1 to 65,536; [`USUAL_CLIENTS`], where none is given.
+    pub clients: u32,
+    /// How many MiB the messages and replies of all connections may hold together, 1 to 1,024;
+    /// [`USUAL_BUFFERS`], where none is given.
+    pub buffers: u16,
     /// The iteration count that new keys are raised to before it listens, 1 to 16,777,216; none where
     /// it stays as it is.
     pub raise: Option<u32>,
     /// The file of the log; none where there is none.
     pub log: Option<&'a str>,
     ghost some_workers: { (1 ≤ workers) × (workers ≤ 16) },
+    ghost some_idle: { (1 ≤ idle) × (idle ≤ 3600) },
+    ghost some_clients: { (1 ≤ clients) × (clients ≤ 65536) },
+    ghost some_buffers: { (1 ≤ buffers) × (buffers ≤ 1024) },
     ghost some_count: { (count : ℕ) → raise ≡ Some count → (1 ≤ count) × (count ≤ 16777216) },
 }
 
@@ -91,7 +108,7 @@ pub struct ImportOptions<'a> {
     pub realm: &'a str,
     /// What the principals' keys were made with, 1 to 16,777,216; [`USUAL_COUNT`], where none is named.
     pub iterations: u32,
-    ghost some_realm: { (1 ≤ length realm.now) × (length realm.now ≤ LONGEST_REALM) },
+    ghost some_realm: { (1 ≤ length realm.now) × (length realm.now ≤ 255) },
     ghost some_count: { (1 ≤ iterations) × (iterations ≤ 16777216) },
 }
 
@@ -108,7 +125,7 @@ pub struct KeyOptions<'a> {
     pub iterations: u32,
     /// 1 to 4,294,967,295; 1, where none is named.
     pub kvno: u32,
-    ghost some_realm: { (1 ≤ length realm.now) × (length realm.now ≤ LONGEST_REALM) },
+    ghost some_realm: { (1 ≤ length realm.now) × (length realm.now ≤ 255) },
     ghost some_count: { (1 ≤ iterations) × (iterations ≤ 16777216) },
     ghost some_kvno: { 1 ≤ kvno },
 }

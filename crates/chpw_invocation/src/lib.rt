@@ -9,6 +9,6 @@ mod program;
 
 pub use invocation::{
     ClientOptions, ImportOptions, Invocation, KeyOptions, LONGEST_IDLE, LONGEST_REALM,
-    ServeOptions, TableForm, TableOptions, USUAL_COUNT,
+    ServeOptions, TableForm, TableOptions, USUAL_BUFFERS, USUAL_CLIENTS, USUAL_COUNT, USUAL_IDLE,
 };
 pub use matching::command_of;

@@ -7,7 +7,7 @@ ghost use Rattle.chpw_invocation.specs.Invocations.{AimsOld, AsksClient, AsksFor
 
 use crate::invocation::{
     ClientOptions, ImportOptions, Invocation, KeyOptions, LONGEST_IDLE, LONGEST_REALM,
-    ServeOptions, TableForm, TableOptions, USUAL_COUNT,
+    ServeOptions, TableForm, TableOptions, USUAL_BUFFERS, USUAL_CLIENTS, USUAL_COUNT, USUAL_IDLE,
 };
 use crate::program::program as new_program;
 use clap::error::ErrorKind;
@@ -180,6 +180,8 @@ fn serve_of<'a>(options: &ArgMatches<'a>) -> Option<ServeOptions<'a>>
         workers: workers_of(options)?,
         connections: connections_of(options)?,
         idle: idle_of(options)?,
+        clients: clients_of(options)?,
+        buffers: buffers_of(options)?,
         raise: raise_of(options)?,
         log: text_of(options, "log"),
     })
@@ -261,15 +263,43 @@ fn connections_of(options: &ArgMatches<'_>) -> Option<u32>
     }
 }
 
-// How long a connection waits for its client, where that is limited.
-fn idle_of(options: &ArgMatches<'_>) -> Option<Option<u16>>
-    ensures idle { IfSome result (MayHaveNumber 1 LONGEST_IDLE (rows_of (found_of options.now)) (codes "idle")) }
+// How long a connection waits for its client.
+fn idle_of(options: &ArgMatches<'_>) -> Option<u16>
+    ensures idle { IfSome result (HasNumberOr 30 1 3600 (rows_of (found_of options.now)) (codes "idle")) }
 {
     if text_of(options, "idle").is_none() {
-        return Some(None);
+        return Some(USUAL_IDLE);
     }
     match options.get_one::<u16>("idle") {
-        Some(idle) if 1 <= idle && idle <= LONGEST_IDLE => Some(Some(idle)),
+        Some(idle) if 1 <= idle && idle <= LONGEST_IDLE => Some(idle),
+        _ => None,
+    }
+}
+
+// How many connections are open at a time.
+fn clients_of(options: &ArgMatches<'_>) -> Option<u32>
+    ensures clients { IfSome result
+        (HasNumberOr 1024 1 65536 (rows_of (found_of options.now)) (codes "clients")) }
+{
+    if text_of(options, "clients").is_none() {
+        return Some(USUAL_CLIENTS);
+    }
+    match options.get_one::<u32>("clients") {
+        Some(clients) if 1 <= clients && clients <= 65_536 => Some(clients),
+        _ => None,
+    }
+}
+
+// How many MiB the messages and replies of all connections may hold.
+fn buffers_of(options: &ArgMatches<'_>) -> Option<u16>
+    ensures buffers { IfSome result
+        (HasNumberOr 32 1 1024 (rows_of (found_of options.now)) (codes "buffers")) }
+{
+    if text_of(options, "buffers").is_none() {
+        return Some(USUAL_BUFFERS);
+    }
+    match options.get_one::<u16>("buffers") {
+        Some(buffers) if 1 <= buffers && buffers <= 1_024 => Some(buffers),
         _ => None,
     }
 }
@@ -290,7 +320,7 @@ fn raise_of(options: &ArgMatches<'_>) -> Option<Option<u32>>
 // The iteration count of keys that were made elsewhere, or are made of a password.
 fn iterations_of(options: &ArgMatches<'_>) -> Option<u32>
     ensures iterations { IfSome result
-        (HasNumberOr USUAL_COUNT 1 16777216 (rows_of (found_of options.now)) (codes "iterations")) }
+        (HasNumberOr 4096 1 16777216 (rows_of (found_of options.now)) (codes "iterations")) }
 {
     if text_of(options, "iterations").is_none() {
         return Some(USUAL_COUNT);

@@ -2,7 +2,7 @@
 ghost use Rattle.std.specs.Prelude.{◌≡◌, false, pos};
 ghost use Rattle.clap.specs.Walk.{rule_of};
 ghost use Rattle.clap.specs.declared.builder.value_parser.ValueParser.TheVariants as parser;
-ghost use Rattle.chpw_invocation.specs.Options.{connections, flag, idle, iterations, kvno, optional, port, raise, required, workers};
+ghost use Rattle.chpw_invocation.specs.Options.{buffers, clients, connections, flag, idle, iterations, kvno, optional, port, raise, required, workers};
 
 use crate::invocation::LONGEST_IDLE;
 use clap::builder::ValueParser;
@@ -78,9 +78,23 @@ fn connection_count<'a>() -> ValueParser<'a>
 
 // 1 to an hour.
 fn idle_seconds<'a>() -> ValueParser<'a>
-    ensures { result ≡ parser.Signed (pos 1) (pos LONGEST_IDLE) }
+    ensures { result ≡ parser.Signed (pos 1) (pos 3600) }
 {
     value_parser!(u16).range(1..=i64::from(LONGEST_IDLE))
+}
+
+// 1 to 65,536.
+fn client_count<'a>() -> ValueParser<'a>
+    ensures { result ≡ parser.Signed (pos 1) (pos 65536) }
+{
+    value_parser!(u32).range(1..=65_536)
+}
+
+// 1 to 1,024.
+fn buffer_mebibytes<'a>() -> ValueParser<'a>
+    ensures { result ≡ parser.Signed (pos 1) (pos 1024) }
+{
+    value_parser!(u16).range(1..=1_024)
 }
 
 // 1 to 4294967295.
@@ -127,6 +141,22 @@ pub(crate) fn idle_option<'a>(alloc: Global, help: &'a str) -> Arg<'a>
     ensures local { result.global ≡ false }
 {
     optional_option(alloc, "idle", "SECONDS", help).value_parser(idle_seconds())
+}
+
+/// `--clients`, which may be left out.
+pub(crate) fn clients_option<'a>(alloc: Global, help: &'a str) -> Arg<'a>
+    ensures rule { rule_of result ≡ clients }
+    ensures local { result.global ≡ false }
+{
+    optional_option(alloc, "clients", "N", help).value_parser(client_count())
+}
+
+/// `--buffers`, which may be left out.
+pub(crate) fn buffers_option<'a>(alloc: Global, help: &'a str) -> Arg<'a>
+    ensures rule { rule_of result ≡ buffers }
+    ensures local { result.global ≡ false }
+{
+    optional_option(alloc, "buffers", "MEBIBYTES", help).value_parser(buffer_mebibytes())
 }
 
 /// `--raise`, which may be left out.

@@ -6,8 +6,9 @@ ghost use Rattle.clap.specs.Words.{app_of};
 ghost use Rattle.chpw_invocation.specs.Program as specs_of;
 
 use crate::options::{
-    connections_option, flag_option, idle_option, iterations_option, kvno_option, optional_option,
-    port_option, raise_option, required_option, workers_option,
+    buffers_option, clients_option, connections_option, flag_option, idle_option,
+    iterations_option, kvno_option, optional_option, port_option, raise_option, required_option,
+    workers_option,
 };
 use clap::{Arg, Command};
 use std::alloc::{AllocError, Global};
@@ -67,10 +68,14 @@ const AS_HELP: &str = "lines, configuration or keys [default: lines]";
 const SERVE: &str = "Serves so many connections on a port of this machine, and ends.";
 
 const SERVE_MORE: &str = "\
-Prints 'listening on 127.0.0.1:N' before the first connection is accepted, and at the end
-'entries N changes N': how many requests were decided, and how many of them changed a password.
-Connections go to the workers in turn; a client that is slow or silent holds up its own worker, for
-as long as --idle says.
+Prints 'listening on 127.0.0.1:N' before the first connection is accepted, and at the end, as behind
+each full history, 'entries N changes N': how many requests were decided, and how many of them
+changed a password.
+
+Connection i is answered by worker i modulo their number. No worker waits for a client: a message goes
+to its worker once it is whole. A client that is silent or slow holds its own place alone, for as long
+as --idle says. Where --clients or --buffers is reached, the connection that has waited for its client
+the longest is ended to make room.
 
 With --raise COUNT it first prints what came of it: 'raised COUNT', 'count not higher', 'journal failed'
 or 'history full'. It serves after each of them.
@@ -82,12 +87,17 @@ Example:
 const JOURNAL_HELP: &str =
     "The journal of accepted changes; made where it isn't there, else the keys are restored from it";
 
-const WORKERS_HELP: &str = "How many connections are served at a time, 1 to 16";
+const WORKERS_HELP: &str = "How many messages are answered at a time, 1 to 16";
 
 const CONNECTIONS_HELP: &str = "After how many connections the service ends, 1 to 4294967295";
 
 const IDLE_HELP: &str =
-    "A connection whose client is waited for longer is ended, after 1 to 3600 seconds [default: none is]";
+    "How many seconds a client may take for a whole message, or to read its reply, 1 to 3600 [default: 30]";
+
+const CLIENTS_HELP: &str = "How many connections are open at a time, 1 to 65536 [default: 1024]";
+
+const BUFFERS_HELP: &str =
+    "How many MiB the messages and replies of all connections may hold together, 1 to 1024 [default: 32]";
 
 const RAISE_HELP: &str =
     "Raises the iteration count of new keys first, to 1 to 16777216; keys that are held stay";
@@ -292,6 +302,8 @@ fn serve<'a>(alloc: Global) -> Result<Command<'a>, AllocError>
     let command = with_option(command, workers_option(alloc, WORKERS_HELP))?;
     let command = with_option(command, connections_option(alloc, CONNECTIONS_HELP))?;
     let command = with_option(command, idle_option(alloc, IDLE_HELP))?;
+    let command = with_option(command, clients_option(alloc, CLIENTS_HELP))?;
+    let command = with_option(command, buffers_option(alloc, BUFFERS_HELP))?;
     let command = with_option(command, raise_option(alloc, RAISE_HELP))?;
     let command = with_option(command, optional_option(alloc, "log", "FILE", LOG_HELP))?;
     Ok(command)

@@ -1,7 +1,7 @@
 //! The command `client`, with each of its options, against a service.
 use crate::client::ask;
 use crate::ending::Ending;
-use chpw_invocation::{ClientOptions, ServeOptions};
+use chpw_invocation::{ClientOptions, ServeOptions, USUAL_BUFFERS, USUAL_CLIENTS, USUAL_IDLE};
 use chpw_service::{ServeFault, serve};
 use std::fs::{File, Files};
 use std::io::{Read, Write};
@@ -176,7 +176,9 @@ fn serving<'a>(port: u16, connections: u32, log: &'a str) -> ServeOptions<'a> {
         port,
         workers: 2,
         connections,
-        idle: None,
+        idle: USUAL_IDLE,
+        clients: USUAL_CLIENTS,
+        buffers: USUAL_BUFFERS,
         raise: None,
         log: Some(log),
     }

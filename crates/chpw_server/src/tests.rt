@@ -23,6 +23,25 @@ const SERVE_LINE: &str =
     "chpw_server serve --config realm.toml --journal journal --seed seed --port 464 \
     --workers 4 --connections 1000";
 
+/// What stands behind the service's line, and the seconds, connections and MiB that it is then bounded to;
+/// none where it is refused.
+const BOUNDS: [(&str, Option<(u16, u32, u16)>); 11] = [
+    ("", Some((30, 1024, 32))),
+    (" --idle 1 --clients 1 --buffers 1", Some((1, 1, 1))),
+    (
+        " --idle=3600 --clients=65536 --buffers=1024",
+        Some((3600, 65_536, 1024)),
+    ),
+    (" --clients 64", Some((30, 64, 32))),
+    (" --idle 0", None),
+    (" --idle 3601", None),
+    (" --clients 0", None),
+    (" --clients 65537", None),
+    (" --buffers 0", None),
+    (" --buffers 1025", None),
+    (" --buffers=-1", None),
+];
+
 /// Counts to raise to that there are not.
 const NO_COUNTS: [&str; 4] = ["0", "16777217", "many", "-1"];
 
@@ -265,6 +284,22 @@ fn count_to_raise_to_is_read(rt: HostRuntime) -> Result<(), Fail> {
     for count in NO_COUNTS {
         let behind = format!(in rt.alloc(); " --raise={count}")?;
         assert!(rt; raise_of(rt.alloc(), &behind)?.is_none());
+    }
+    Ok(())
+}
+
+#[test]
+fn bounds_are_read(rt: HostRuntime) -> Result<(), Fail> {
+    for (behind, bounds) in BOUNDS {
+        let line = format!(in rt.alloc(); "{SERVE_LINE}{behind}")?;
+        let words = words(rt.alloc(), &line)?;
+        let read = match command_of(rt.alloc(), words.as_slice()) {
+            Ok(Invocation::Serve(options)) => {
+                Some((options.idle, options.clients, options.buffers))
+            }
+            _ => None,
+        };
+        assert!(rt; read == bounds);
     }
     Ok(())
 }

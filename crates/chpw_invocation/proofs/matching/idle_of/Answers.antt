@@ -1,4 +1,4 @@
-use Rattle.std.proofs.Common.{◌∙◌, sym, arith, codes}
+use Rattle.std.proofs.Common.{◌∙◌, sym, inr, arith, codes}
 use Rattle.std.specs.Str.Parse.{ParsesUnsigned, ExplainsUnsignedError, HasUnsignedDigitsIfOk}
 use Rattle.clap.specs.Words.{found_of, one_text}
 use Rattle.clap.proofs.WalkLemmas.{one_text-rows}
@@ -10,4 +10,4 @@ returns-in-Some c =
     let found = number_read (λ bs r. ParsesUnsigned 16 10 bs r × ExplainsUnsignedError 10 bs r × HasUnsignedDigitsIfOk bs r) (one_text (found_of c.args.options.now) (codes "idle")) c.get_one.result c.in-Some.idle
     (λ t n g. g.0.1) c.get_one.ensures.none c.get_one.ensures.value c.in-Some.is in
     let same = one_text-rows (found_of c.args.options.now) (codes "idle") in
-    record { idle = (found.0, sym same ∙ found.1, found.2, omega arith, omega arith) }
+    record { idle = inr (found.0, sym same ∙ found.1, found.2, omega arith, omega arith) }
