@@ -2,7 +2,7 @@
 -- other the listener can't go on.
 use Rattle.std.specs.Prelude.{ℤ, Bool, false, ◌||◌, Option, Some, None}
 use Rattle.std.specs.Ordering.{int_eq}
-use Rattle.chpw_pool.specs.declared.entrance.TheConstants.{EINTR, ENOMEM, ENFILE, EMFILE, ECONNABORTED, ENOBUFS}
+use Rattle.chpw_pool.specs.declared.accepting.TheConstants.{EINTR, ENOMEM, ENFILE, EMFILE, ECONNABORTED, ENOBUFS}
 
 abbrev pub is_passing : Option ℤ → Bool
 is_passing None = false

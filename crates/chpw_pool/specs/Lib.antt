@@ -1,5 +1,7 @@
 pub mod Accepting
+pub mod Bounded
 pub mod Clocks
-pub mod Lobbies
+pub mod Engines
 pub mod Pools
-pub mod Watching
+pub mod Steps
+pub mod Turns

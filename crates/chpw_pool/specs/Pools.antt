@@ -1,17 +1,15 @@
--- How many connections a pool has served that was to serve so many, whose, and how each is closed.
-use Rattle.std.specs.Prelude.{◌≡◌, ◌<◌, ℕ, List, [], ◌∷◌, Bool, true, false, Option, Some, None}
+-- How many connections a pool has served that was to serve so many, and whose.
+use Rattle.std.specs.Prelude.{◌≡◌, ◌<◌, ℕ, List, [], ◌∷◌, Option, Some, None, ◌⊎◌}
 use Rattle.std.specs.Net.Addr.{ipv4_octets}
 use Rattle.std.specs.Net.Socket.{v4_ip}
 use Rattle.std.specs.declared.net.socket_addr.SocketAddr.{SocketAddr}
 use Rattle.std.specs.declared.net.socket_addr.SocketAddr.TheVariants.{V4, V6}
-use Rattle.chpw_serve.specs.declared.serving.Ended.{Ended}
-use Rattle.chpw_serve.specs.declared.serving.Ended.TheVariants as end
 use Rattle.chpw_pool.specs.declared.pool.Pool.{Pool}
 use Rattle.chpw_pool.specs.declared.pool.PoolFault.{PoolFault}
 use Rattle.chpw_pool.specs.declared.pool.PoolFault.TheVariants.{Accept, Start, Memory}
 
 -- all, where nothing went wrong; else those before the listener couldn't go on, and none where a thread or
--- the lines are missing
+-- what watches the sockets is missing, or memory
 abbrev pub IsCount : ℕ → ℕ → Option PoolFault → Type 0
 IsCount wanted served None = served ≡ wanted
 IsCount wanted served (Some Accept) = served < wanted
@@ -26,9 +24,6 @@ abbrev pub peer_in : SocketAddr → List ℕ
 peer_in (V4 address) = ipv4_octets (v4_ip address)
 peer_in (V6 address) = 0 ∷ 0 ∷ 0 ∷ 0 ∷ []
 
--- at these ends the client may still write: it is the service that ends the connection
-abbrev pub stays_open : Ended → Bool
-stays_open end.TooLong = true
-stays_open end.Count = true
-stays_open end.Memory = true
-stays_open _ = false
+-- why an engine can't be made
+abbrev pub IsUnmade : PoolFault → Type 0
+IsUnmade fault = (fault ≡ Accept) ⊎ (fault ≡ Memory)

@@ -1,16 +1,21 @@
-//! A pool of workers at one desk, each of which serves its connections one after the other.
+//! A pool of workers at one desk. One thread, the reactor, has the listener and all sockets; the workers are lent
+//! one message after the other, and none of them waits for a client.
 #![tactic(auto)]
 
+mod accepting;
 mod clock;
-mod entrance;
-mod line;
-mod lobby;
+mod engine;
 mod pool;
-mod watch;
+mod reactor;
+mod sockets;
+mod state;
+mod terms;
 mod worker;
 
+pub use chpw_connections::Bounds;
 pub use clock::{MachineClock, machine_moment};
-pub use lobby::Lobby;
+pub use engine::Engine;
 pub use pool::{
-    NotStarted, Pool, PoolFault, Terms, no_gates, run_pool, run_pool_by, run_pool_with, run_shift,
+    NotStarted, Pool, PoolFault, no_gates, run_pool, run_pool_by, run_pool_with, run_shift,
 };
+pub use terms::Terms;

@@ -2,19 +2,20 @@
 ghost use Rattle.std.specs.Prelude.{◌≡◌, ◌<◌, length, vec_len, IfOk, None, Some};
 ghost use Rattle.rand_chacha.specs.ChaCha.{key_of};
 ghost use Rattle.chpw_serve.specs.WordStreams.{GivesFromTheFirst, stream_start};
-ghost use Rattle.chpw_pool.specs.Lobbies.{posts_of};
+ghost use Rattle.chpw_pool.specs.Engines.{workers_at};
 ghost use Rattle.chpw_pool.specs.Pools.{Ends};
 
 use crate::clock::MachineClock;
-use crate::lobby::Lobby;
-use crate::watch::Watch;
+use crate::engine::{Engine, outcome_of};
+use crate::terms::Terms;
 use crate::worker::{Worker, work};
 use chpw_answer::{Gate, Messages, NoGate};
 use chpw_book::{AtDesk, Desk, DeskName, Pass};
 use chpw_serve::WorkerWords;
 use chpw_table::JournalSink;
 use std::alloc::{AllocError, Global};
-use std::net::{OpenListener, TcpListener, TcpStream};
+use std::net::{Net, OpenListener, TcpListener, TcpStream};
+use std::os::fd::AsRawFd;
 use std::sync::Wait;
 use std::thread::Threads;
 use std::{thread, time};
@@ -22,7 +23,7 @@ use std::{thread, time};
 /// Why a pool ended early.
 #[derive(Clone, Copy, PartialEq, Eq, Debug, Drop)]
 pub enum PoolFault {
-    /// The listener couldn't go on.
+    /// The listener couldn't go on, or the system has no file for what watches the sockets.
     Accept,
     /// A worker's thread could not be started.
     Start,
@@ -33,42 +34,29 @@ pub enum PoolFault {
 /// What a pool did.
 #[derive(Clone, Copy, PartialEq, Eq, Debug, Drop)]
 pub struct Pool {
-    /// The connections that were accepted and handed to a worker, each served to its end.
+    /// The connections that were accepted, each until it ended.
     pub served: u32,
     pub fault: Option<PoolFault>,
 }
 
-/// What a pool is to do.
-#[derive(Clone, Copy, Drop)]
-pub struct Terms {
-    /// The seed of the random words.
-    pub seed: [u8; 32],
-    /// After how many connections it ends.
-    pub connections: u32,
-    /// After how many seconds a read or a write that waits is one that failed; at least 1, and without a
-    /// limit where there is none.
-    pub idle: Option<u16>,
-}
-
-/// What all workers share: the clock, the service, the desk, and how long they wait for a client.
+/// What all workers share: the clock, the service and the desk.
 #[derive(Drop)]
 struct Shared<'a, T: time::Clock, M, D: DeskName, S: JournalSink> {
     alloc: Global,
     time: &'a T,
     service: &'a M,
     desk: &'a Desk<D, S>,
-    idle: Option<u16>,
-    // Whether another desk follows where the history is full.
-    is_followed: bool,
+    // How many entries the history has room for; none where no other desk follows it.
+    room: Option<u32>,
 }
 
-/// Serves so many connections at a desk, connection i (from 0) by worker i modulo their number,
-/// each worker one after the other; a worker draws its words from the stream of its own number, and
-/// its moments from the machine's clock. At most 32 connections wait for a worker; while its line is
-/// full none is accepted. It returns when the connections are served, or, after a fault, those before
-/// it; each thread has ended then.
+/// Serves so many connections at a desk, the messages of connection i (from 0) by worker i modulo their number, one
+/// after the other; a worker draws its words from the stream of its own number, and its moments from the machine's
+/// clock. A connection's next message is read once the reply before it is out. It has the usual bounds
+/// (`Terms::usual`). It returns when each connection has ended, or, after a fault, those before it; each thread has
+/// ended then.
 pub fn run_pool<
-    R: Threads + Wait + time::Clock + Sync,
+    R: Threads + Wait + Net + time::Clock + Sync,
     M: Messages + Sync,
     D: DeskName + Send + Sync,
     S: JournalSink + Send,
@@ -85,13 +73,13 @@ pub fn run_pool<
     requires passes { 0 < length passes.old }
     ensures ends { Ends connections result }
 {
-    let terms = endless(seed, connections);
+    let terms = Terms::usual(seed, connections);
     run_pool_by(rt, alloc, rt, listener, service, desk, passes, terms)
 }
 
-/// The same with a gate for each worker.
+/// `run_pool` with a gate for each worker.
 pub fn run_pool_with<
-    R: Threads + Wait + time::Clock + Sync,
+    R: Threads + Wait + Net + time::Clock + Sync,
     M: Messages + Sync,
     D: DeskName + Send + Sync,
     S: JournalSink + Send,
@@ -116,25 +104,17 @@ pub fn run_pool_with<
         time: rt,
         service,
         desk,
-        idle: None,
-        is_followed: false,
+        room: None,
     };
-    run_gated(
-        rt,
-        &shared,
-        listener,
-        passes,
-        endless(seed, connections),
-        gates,
-    )
+    let terms = Terms::usual(seed, connections);
+    run_gated(rt, &shared, listener, passes, terms, gates)
 }
 
-/// The same as `run_pool` by any clock and at any listener, and with a limit on how long a read and a
-/// write may wait.
+/// `run_pool` by any clock, at any listener and within any bounds.
 pub fn run_pool_by<
-    R: Threads + Wait + time::Clock + Sync,
+    R: Threads + Wait + Net + time::Clock + Sync,
     T: time::Clock + Sync,
-    L: OpenListener<Stream = TcpStream>,
+    L: OpenListener<Stream = TcpStream> + AsRawFd,
     M: Messages + Sync,
     D: DeskName + Send + Sync,
     S: JournalSink + Send,
@@ -156,33 +136,24 @@ pub fn run_pool_by<
         time,
         service,
         desk,
-        idle: terms.idle,
-        is_followed: false,
+        room: None,
     };
     match no_gates(alloc, passes.len()) {
-        Err(_) => unserved(PoolFault::Memory),
+        Err(_) => unserved(PoolFault::Memory, terms.connections),
         Ok(gates) => run_gated(rt, &shared, listener, passes, terms, gates),
     }
 }
 
-// Without a limit on waiting.
-fn endless(seed: [u8; 32], connections: u32) -> Terms
-    ensures value { result ≡ record { seed = seed; connections = connections; idle = None } }
-{
-    Terms {
-        seed,
-        connections,
-        idle: None,
-    }
-}
-
 // No connection was accepted.
-fn unserved(fault: PoolFault) -> Pool
-    ensures value { result ≡ record { served = 0; fault = Some fault } }
+fn unserved(fault: PoolFault, connections: u32) -> Pool
+    ensures ends { Ends connections result }
 {
-    Pool {
-        served: 0,
-        fault: Some(fault),
+    match fault {
+        PoolFault::Accept => outcome_of(0, connections),
+        PoolFault::Start | PoolFault::Memory => Pool {
+            served: 0,
+            fault: Some(fault),
+        },
     }
 }
 
@@ -193,11 +164,11 @@ pub fn no_gates(alloc: Global, count: usize) -> Result<Vec<NoGate>, AllocError>
     Vec::from_elem(alloc, NoGate, count)
 }
 
-// A gate for each worker; they stay where the history is full.
+// A gate for each worker.
 fn run_gated<
-    R: Threads + Wait + time::Clock + Sync,
+    R: Threads + Wait + Net + time::Clock + Sync,
     T: time::Clock + Sync,
-    L: OpenListener<Stream = TcpStream>,
+    L: OpenListener<Stream = TcpStream> + AsRawFd,
     M: Messages + Sync,
     D: DeskName + Send + Sync,
     S: JournalSink + Send,
@@ -214,64 +185,25 @@ fn run_gated<
     requires gates { length gates.items ≡ length passes.old }
     ensures ends { Ends terms.connections result }
 {
-    match Lobby::of(shared.alloc, terms.seed, gates) {
-        Err(_) => unserved(PoolFault::Memory),
-        Ok(lobby) => run_posts(rt, shared, listener, &lobby, passes, terms.connections),
+    let connections = terms.connections;
+    match Engine::of(rt, shared.alloc, terms.seed, terms.bounds(), gates) {
+        Err(fault) => unserved(fault, connections),
+        Ok(engine) => {
+            match run_workers(rt, shared, &engine, passes, Some((listener, connections))) {
+                Err(NotStarted) => unserved(PoolFault::Start, connections),
+                Ok(()) => engine.outcome(rt, connections),
+            }
+        }
     }
-}
-
-// A thread for each worker, while this one accepts.
-fn run_posts<
-    R: Threads + Wait + time::Clock + Sync,
-    T: time::Clock + Sync,
-    L: OpenListener<Stream = TcpStream>,
-    M: Messages + Sync,
-    D: DeskName + Send + Sync,
-    S: JournalSink + Send,
-    G: Gate + Send + Drop,
->(
-    rt: &R,
-    shared: &Shared<'_, T, M, D, S>,
-    listener: &L,
-    lobby: &Lobby<G>,
-    passes: &mut [Pass<D>],
-    connections: u32,
-) -> Pool
-    ensures ends { Ends connections result }
-{
-    thread::scope(
-        thread::scope_env(),
-        rt,
-        move |scope| -> Pool
-            ensures { Ends connections result }
-        {
-            let mut started = true;
-            for (number, pass) in passes.iter_mut().enumerate() {
-                if scope
-                    .spawn(move || begin(rt, shared, lobby, number, pass))
-                    .is_err()
-                {
-                    started = false;
-                    break;
-                }
-            }
-            if started {
-                lobby.receive(rt, listener, connections)
-            } else {
-                lobby.close(rt);
-                unserved(PoolFault::Start)
-            }
-        },
-    )
 }
 
 /// A worker's thread could not be started.
 #[derive(Clone, Copy, PartialEq, Eq, Debug, Drop)]
 pub struct NotStarted;
 
-/// Serves the connections of a lobby at a desk, until no more come, or until the desk's history is full: a
-/// worker then takes no more connections. The one that it attends is told `history full` where it asks
-/// for something, and ended; the others wait for the next desk. After `NotStarted` none was served.
+/// Answers the messages of an engine's connections at a desk, until no more come, or until the desk's history has no
+/// room for one more entry: it has room for so many. The workers then finish the messages that they have, and the
+/// others wait for the next desk. After `NotStarted` none was answered.
 pub fn run_shift<
     R: Threads + Wait + time::Clock + Sync,
     T: time::Clock + Sync,
@@ -283,30 +215,30 @@ pub fn run_shift<
     rt: &R,
     alloc: Global,
     time: &T,
-    lobby: &Lobby<G>,
+    engine: &Engine<G>,
     service: &M,
     desk: &Desk<D, S>,
     passes: &mut [Pass<D>],
-    idle: Option<u16>,
+    room: u32,
 ) -> Result<(), NotStarted>
-    requires posts { posts_of lobby.now ≡ length passes.old }
+    requires workers { workers_at engine.now ≡ length passes.old }
 {
     let shared = Shared {
         alloc,
         time,
         service,
         desk,
-        idle,
-        is_followed: true,
+        room: Some(room),
     };
-    lobby.start(rt);
-    run_until_full(rt, &shared, lobby, passes)
+    engine.start(rt);
+    run_workers::<R, T, TcpListener, M, D, S, G>(rt, &shared, engine, passes, None)
 }
 
-// A thread for each worker, until no more connections come or the history is full.
-fn run_until_full<
+// A thread for each worker, while this one is the reactor where there is a listener. It returns once they have ended.
+fn run_workers<
     R: Threads + Wait + time::Clock + Sync,
     T: time::Clock + Sync,
+    L: OpenListener<Stream = TcpStream> + AsRawFd,
     M: Messages + Sync,
     D: DeskName + Send + Sync,
     S: JournalSink + Send,
@@ -314,27 +246,27 @@ fn run_until_full<
 >(
     rt: &R,
     shared: &Shared<'_, T, M, D, S>,
-    lobby: &Lobby<G>,
+    engine: &Engine<G>,
     passes: &mut [Pass<D>],
+    at: Option<(&L, u32)>,
 ) -> Result<(), NotStarted> {
     thread::scope(
         thread::scope_env(),
         rt,
         move |scope| -> Result<(), NotStarted> {
-            let mut started = Ok(());
             for (number, pass) in passes.iter_mut().enumerate() {
                 if scope
-                    .spawn(move || begin(rt, shared, lobby, number, pass))
+                    .spawn(move || begin(rt, shared, engine, number, pass))
                     .is_err()
                 {
-                    started = Err(NotStarted);
-                    break;
+                    engine.stop(rt);
+                    return Err(NotStarted);
                 }
             }
-            if started.is_err() {
-                lobby.stop(rt);
+            if let Some((listener, connections)) = at {
+                engine.react(rt, listener, connections);
             }
-            started
+            Ok(())
         },
     )
 }
@@ -347,8 +279,7 @@ fn words_of<D: DeskName>(seed: [u8; 32], pass: &Pass<D>) -> WorkerWords
     WorkerWords::new(seed, u64::from(pass.worker()))
 }
 
-// The worker of a pass, at the post with this number. Where the history is full, all workers of the lobby
-// go home, or none does.
+// The worker of a pass, with the queue, the gate and the words of this number.
 fn begin<
     'a,
     R: Wait + time::Clock,
@@ -360,40 +291,30 @@ fn begin<
 >(
     rt: &'a R,
     shared: &'a Shared<'a, T, M, D, S>,
-    lobby: &'a Lobby<G>,
+    engine: &'a Engine<G>,
     number: usize,
     pass: &'a mut Pass<D>,
 ) {
-    let Some(post) = lobby.posts.get(number) else {
+    let Some(post) = engine.posts.get(number) else {
         return;
     };
     let mut gate = post.gate.lock(rt);
     let words = match post.words.lock(rt).take() {
         Some(words) => words,
-        None => words_of(lobby.seed, pass),
+        None => words_of(engine.seed, pass),
     };
     let mut worker = Worker {
         alloc: shared.alloc,
         service: shared.service,
-        idle: shared.idle,
-        decider: Watch {
-            decider: AtDesk {
-                rt,
-                desk: shared.desk,
-                pass,
-            },
+        decider: AtDesk {
             rt,
-            lobby: if shared.is_followed {
-                Some(lobby)
-            } else {
-                None
-            },
-            is_over: false,
+            desk: shared.desk,
+            pass,
         },
         gate: &mut *gate,
         clock: MachineClock::new(shared.time),
         words,
     };
-    work(rt, &post.line, &mut worker);
+    work(rt, engine, number, shared.room, &mut worker);
     *post.words.lock(rt) = Some(worker.words);
 }

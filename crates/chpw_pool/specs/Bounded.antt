@@ -1,0 +1,14 @@
+-- The bounds of a pool's connections, in bytes and milliseconds.
+use Rattle.std.specs.Prelude.{ℕ, ◌*◌}
+use Rattle.chpw_connections.specs.declared.bounds.Bounds.{Bounds}
+use Rattle.chpw_pool.specs.declared.terms.Terms.{Terms}
+
+-- a message waits five seconds for its worker at the most, and an end a second
+abbrev pub bounds_asked : Terms → Bounds
+bounds_asked t = record {
+  connections = t.clients;
+  bytes = t.buffers * 1048576;
+  idle = t.idle * 1000;
+  wait = 5000;
+  linger = 1000;
+}

@@ -1,0 +1,33 @@
+-- What a read or a write at its socket does to a connection. The bytes that a reader has left, and those that a
+-- writer holds, are told where they are known.
+use Rattle.std.specs.Prelude.{◌≡◌, ℕ, ◌≤◌, List, length, take, Option, ◌⊎◌}
+use Rattle.std.specs.Io.KnownBytes.{Appends, Consumes, Keeps}
+use Rattle.slab.specs.Slab.{Slab, get}
+use Rattle.chpw_connections.specs.Stages.{came, wrote, closed, failed}
+use Rattle.chpw_connections.specs.Sets.{Happens, wanted_at, left_at}
+use Rattle.chpw_connections.specs.Room.{HappensWithRoom}
+use Rattle.chpw_connections.specs.declared.connection.Connection.{Connection}
+
+-- these bytes were read, no more than were wanted, and came to the connection; without room or memory for them it
+-- ended
+pub record Takes (now : ℕ) (old new : Slab Connection) (slot : ℕ) (before after : Option (List ℕ)) : Type 0 where
+  pub bytes : List ℕ
+  pub few : length bytes ≤ wanted_at (get old slot)
+  pub read : Consumes before after bytes
+  pub happens : HappensWithRoom now old new slot (came bytes) ⊎ HappensWithRoom 0 old new slot failed
+
+-- nothing was read: the other side has ended, the socket has failed, or nothing has come
+pub record TakesNone (old new : Slab Connection) (slot : ℕ) (before after : Option (List ℕ)) : Type 0 where
+  pub kept : Keeps before after
+  pub happens : Happens 0 old new slot closed ⊎ (Happens 0 old new slot failed ⊎ (new ≡ old))
+
+-- so many of the bytes that are left of its reply were written, from the front
+pub record Gives (now : ℕ) (old new : Slab Connection) (slot : ℕ) (before after : Option (List ℕ)) : Type 0 where
+  pub count : ℕ
+  pub written : Appends before after (take count (left_at (get old slot)))
+  pub happens : Happens now old new slot (wrote count)
+
+-- nothing was written: the socket has failed, or takes nothing for now
+pub record GivesNone (old new : Slab Connection) (slot : ℕ) (before after : Option (List ℕ)) : Type 0 where
+  pub kept : Keeps before after
+  pub happens : Happens 0 old new slot failed ⊎ (new ≡ old)

@@ -1,0 +1,26 @@
+-- What a worker answers to one message, and when a history is full behind it.
+use Rattle.std.specs.Prelude.{◌≡◌, ℕ, ◌+◌, ◌-◌, List, Bool, true, false, Option, Some, None, IsSomeAnd, nat_le, length, slice_get}
+use Rattle.chpw_serve.specs.declared.serving.Ended.{Ended}
+use Rattle.chpw_serve.specs.declared.serving.Ended.TheVariants as end
+use Rattle.chpw_table.specs.declared.history.Receipt.{Receipt}
+use Rattle.chpw_pool.specs.declared.worker.Reply.{Reply}
+
+abbrev pub IsReplyWith : List ℕ → Bool → Option Reply → Type 0
+IsReplyWith bytes last reply = IsSomeAnd reply (λ r. (r.bytes.items ≡ bytes) × (r.is_last ≡ last))
+
+-- what goes out of these bytes, written for a message whose stream ended so: behind a message that was too long the
+-- connection ends; a reply that isn't whole doesn't go out
+abbrev pub IsReplyBehind : Ended → List ℕ → Option Reply → Type 0
+IsReplyBehind end.Input bytes reply = IsReplyWith bytes false reply
+IsReplyBehind end.TooLong bytes reply = IsReplyWith bytes true reply
+IsReplyBehind e bytes reply = reply ≡ None
+
+-- this receipt is of the last of so many entries
+abbrev pub is_last_of : Option Receipt → Option ℕ → Bool
+is_last_of None room = false
+is_last_of (Some r) None = false
+is_last_of (Some r) (Some room) = nat_le room (r.position + 1)
+
+-- the newest of these receipts is
+abbrev pub fills_at : List Receipt → Option ℕ → Bool
+fills_at receipts room = is_last_of (slice_get receipts (length receipts - 1)) room

@@ -1,0 +1,211 @@
+//! What the reactor and the workers share.
+ghost use Rattle.std.specs.Prelude.{◌≡◌, ◌<◌, ◌≤◌, ◌/◌, ◌^◌, vec_len, IfOk, IfErr};
+ghost use Rattle.std.specs.Duration.{as_nanos};
+ghost use Rattle.chpw_pool.specs.Engines.{workers_at};
+ghost use Rattle.chpw_pool.specs.Pools.{Ends, IsUnmade};
+
+use crate::pool::{Pool, PoolFault};
+use crate::sockets::{Selector, Sockets};
+use crate::state::State;
+use crate::worker::Reply;
+use chpw_connections::{Bounds, Connections, Taken};
+use chpw_serve::WorkerWords;
+use mio::Waker;
+use std::alloc::{AllocError, Global};
+use std::net::Net;
+use std::sync::{Condvar, Mutex, MutexGuard, Wait};
+use std::time::{Clock, Duration};
+
+/// Where a worker waits for its messages, with its gate and its words. The words go on from one desk to the next,
+/// so that the worker draws each once; before the first desk there are none.
+#[derive(Drop)]
+pub(crate) struct Post<G> {
+    came: Condvar,
+    pub gate: Mutex<G>,
+    pub words: Mutex<Option<WorkerWords>>,
+}
+
+/// The connections of a service, the queues of its workers, and the sockets. It lasts longer than a desk: messages
+/// that wait when a desk is closed are answered at the next one.
+#[derive(Drop)]
+pub struct Engine<G> {
+    pub(crate) posts: Vec<Post<G>>,
+    pub(crate) seed: [u8; 32],
+    pub(crate) state: Mutex<State>,
+    pub(crate) selector: Mutex<Selector>,
+    pub(crate) sockets: Mutex<Sockets>,
+    waker: Waker,
+}
+
+impl<G: Drop> Engine<G> {
+    /// One for the worker of each of these gates, of which there is one at least; the words of each worker are the
+    /// seed's stream of its number. `Accept` where the system has no file for it, `Memory` where a growth is refused.
+    pub fn of<R: Net>(
+        rt: &R,
+        alloc: Global,
+        seed: [u8; 32],
+        bounds: Bounds,
+        gates: Vec<G>,
+    ) -> Result<Engine<G>, PoolFault>
+        requires gates { 0 < vec_len gates }
+        ensures workers { IfOk result (λ engine. workers_at engine ≡ vec_len gates) }
+        ensures seed { IfOk result (λ engine. engine.seed ≡ seed) }
+        ensures fault { IfErr result IsUnmade }
+    {
+        let Ok(connections) = Connections::new(alloc, bounds, gates.len()) else {
+            return Err(PoolFault::Memory);
+        };
+        let Ok(posts) = posts(alloc, gates) else {
+            return Err(PoolFault::Memory);
+        };
+        let (selector, waker) = Selector::new(rt, alloc)?;
+        let sockets = Sockets::new(alloc, &selector, bounds.connections)?;
+        Ok(Engine {
+            posts,
+            seed,
+            state: Mutex::new(State::new(connections)),
+            selector: Mutex::new(selector),
+            sockets: Mutex::new(sockets),
+            waker,
+        })
+    }
+}
+
+fn posts<G: Drop>(alloc: Global, gates: Vec<G>) -> Result<Vec<Post<G>>, AllocError>
+    ensures { IfOk result (λ v. vec_len v ≡ vec_len gates) }
+{
+    let mut posts = Vec::with_capacity(alloc, gates.len())?;
+    for gate in gates {
+        posts.push(Post {
+            came: Condvar::new(),
+            gate: Mutex::new(gate),
+            words: Mutex::new(None),
+        })?;
+    }
+    Ok(posts)
+}
+
+/// The moment of the machine's clock that doesn't go back, in milliseconds.
+pub(crate) fn milliseconds<R: Clock>(rt: &R) -> u64 {
+    match rt.monotonic() {
+        Ok(since) => whole_milliseconds(since),
+        Err(_) => 0,
+    }
+}
+
+// How many whole milliseconds there are in it, as far as they can be told.
+fn whole_milliseconds(since: Duration) -> u64
+    ensures value { as_nanos since / 1000000 < 2 ^ 64 → result ≡ as_nanos since / 1000000 }
+{
+    u64::try_from(since.as_millis()).unwrap_or(u64::MAX)
+}
+
+impl<G> Engine<G> {
+    /// The next message of a worker, as soon as there is one; none where none come any more, or the worker is to take
+    /// none for now.
+    pub(crate) fn next<R: Wait + Clock>(&self, rt: &R, worker: usize) -> Option<Taken> {
+        let post = self.posts.get(worker)?;
+        for _ in rt.forever() {
+            let mut state = post
+                .came
+                .wait_while(rt, self.state.lock(rt), |state| state.is_idle(worker));
+            if let Some(taken) = state.take(worker, milliseconds(rt)) {
+                return Some(taken);
+            }
+            if state.is_stopped || state.is_over {
+                return None;
+            }
+            self.wake();
+        }
+        None
+    }
+
+    /// The reply to a worker's message goes out, or there is none and the connection ends.
+    pub(crate) fn answer<R: Wait + Clock>(&self, rt: &R, slot: usize, reply: Option<Reply>) {
+        let now = milliseconds(rt);
+        let mut state = self.state.lock(rt);
+        match reply {
+            Some(Reply { bytes, is_last }) => state.connections.answer(slot, bytes, is_last, now),
+            None => state.connections.leave_unanswered(slot, now),
+        }
+        MutexGuard::unlock(state);
+        self.wake();
+    }
+
+    // The reactor has something to look at.
+    fn wake(&self) {
+        let _ = self.waker.wake();
+    }
+
+    /// A worker has a message.
+    pub(crate) fn call(&self, worker: usize) {
+        if let Some(post) = self.posts.get(worker) {
+            post.came.notify_one();
+        }
+    }
+
+    // All workers look up.
+    fn call_all(&self) {
+        for post in &self.posts {
+            post.came.notify_one();
+        }
+    }
+
+    /// The workers take messages.
+    pub(crate) fn start<R: Wait>(&self, rt: &R) {
+        self.state.lock(rt).is_stopped = false;
+    }
+
+    /// The workers take no more messages until the next start.
+    pub(crate) fn stop<R: Wait>(&self, rt: &R) {
+        self.state.lock(rt).is_stopped = true;
+        self.call_all();
+    }
+
+    /// No message comes any more.
+    pub(crate) fn finish<R: Wait>(&self, rt: &R) {
+        self.state.lock(rt).is_over = true;
+        self.call_all();
+    }
+
+    /// Nobody answers any more: the reactor ends, and with it all connections.
+    pub fn desert<R: Wait>(&self, rt: &R) {
+        self.state.lock(rt).is_deserted = true;
+        self.wake();
+    }
+
+    /// Whether no message comes any more.
+    pub fn is_over<R: Wait>(&self, rt: &R) -> bool {
+        self.state.lock(rt).is_over
+    }
+
+    /// How many messages waited too long for their worker and were dropped.
+    pub fn expired<R: Wait>(&self, rt: &R) -> u32 {
+        self.state.lock(rt).connections.expired()
+    }
+
+    /// What the reactor did, once it has ended, where it was to serve so many connections.
+    pub fn outcome<R: Wait>(&self, rt: &R, wanted: u32) -> Pool
+        ensures ends { Ends wanted result }
+    {
+        outcome_of(self.state.lock(rt).connections.accepted(), wanted)
+    }
+}
+
+/// So many connections were accepted. Where they are fewer than was wanted, the listener couldn't go on.
+pub(crate) fn outcome_of(accepted: u32, wanted: u32) -> Pool
+    ensures ends { Ends wanted result }
+    ensures served { accepted ≤ wanted → result.served ≡ accepted }
+{
+    if accepted < wanted {
+        Pool {
+            served: accepted,
+            fault: Some(PoolFault::Accept),
+        }
+    } else {
+        Pool {
+            served: wanted,
+            fault: None,
+        }
+    }
+}

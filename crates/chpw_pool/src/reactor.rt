@@ -1,0 +1,306 @@
+//! The reactor: one thread that has the listener and all sockets, and never waits for one of them alone.
+
+use crate::accepting::is_passing;
+use crate::engine::{Engine, milliseconds};
+use crate::sockets::{LISTENER, Selector, Sockets};
+use crate::state::Progress;
+use crate::worker::peer_of;
+use chpw_connections::Todo;
+use mio::event::Event;
+use mio::unix::SourceFd;
+use mio::{Events, Interest, Token};
+use std::io::ErrorKind;
+use std::net::{OpenListener, SocketAddr, TcpStream};
+use std::os::fd::AsRawFd;
+use std::sync::Wait;
+use std::time::{Clock, Duration};
+
+/// After how many milliseconds the connections whose time is up are looked for, and an accept that failed is tried
+/// again.
+const TICK: u64 = 100;
+
+/// After how many milliseconds a reactor without connections looks round.
+const REST: u64 = 1_000;
+
+/// How many connections are accepted before the others are looked at again.
+const ACCEPTS: u32 = 64;
+
+/// How many steps a connection makes before the others are looked at again.
+const STEPS: u32 = 64;
+
+/// Whether a connection may be accepted.
+#[derive(Clone, Copy, PartialEq, Eq, Debug, Drop)]
+enum Accepting {
+    /// There may be one.
+    Ready,
+    /// There is none before the listener is reported.
+    Waiting,
+    /// An accept failed, and is tried again at this moment.
+    Paused(u64),
+    /// The listener can't go on.
+    Failed,
+}
+
+/// What happens at the sockets is told to the connections, and what they want is done.
+#[derive(Drop)]
+struct Reactor<'a, R, L, G> {
+    rt: &'a R,
+    engine: &'a Engine<G>,
+    sockets: &'a mut Sockets,
+    listener: &'a L,
+    /// How many connections it accepts.
+    connections: u32,
+    accepting: Accepting,
+    /// A connection for which there is no room yet.
+    pending: Option<(TcpStream, SocketAddr)>,
+    /// When the connections whose time is up were looked for.
+    looked: u64,
+}
+
+impl<G> Engine<G> {
+    /// Accepts so many connections, or as many as the listener can; reads their messages and hands them to the
+    /// workers, connection i (from 0) to worker i modulo their number; and writes the replies. It returns once each
+    /// connection has ended, or the engine is deserted. Then no message comes any more.
+    pub fn react<R: Wait + Clock, L: OpenListener<Stream = TcpStream> + AsRawFd>(
+        &self,
+        rt: &R,
+        listener: &L,
+        connections: u32,
+    ) {
+        let mut selector = self.selector.lock(rt);
+        let mut sockets = self.sockets.lock(rt);
+        let mut reactor = Reactor {
+            rt,
+            engine: self,
+            sockets: &mut *sockets,
+            listener,
+            connections,
+            accepting: Accepting::Ready,
+            pending: None,
+            looked: milliseconds(rt),
+        };
+        reactor.listen();
+        reactor.run(&mut *selector);
+        self.finish(rt);
+    }
+}
+
+impl<'a, R: Wait + Clock, L: OpenListener<Stream = TcpStream> + AsRawFd, G> Reactor<'a, R, L, G> {
+    // Has the listener reported.
+    fn listen(&mut self) {
+        let descriptor = self.listener.as_raw_fd();
+        let is_watched = self.listener.set_nonblocking(true).is_ok()
+            && self
+                .sockets
+                .registry
+                .register(&mut SourceFd(&descriptor), LISTENER, Interest::READABLE)
+                .is_ok();
+        if !is_watched {
+            self.accepting = Accepting::Failed;
+        }
+    }
+
+    // Looks at what is ready, until there is nothing left to do.
+    fn run(&mut self, selector: &mut Selector) {
+        let rt = self.rt;
+        let Selector { poll, events } = selector;
+        for _ in rt.forever() {
+            if self.is_done() {
+                return;
+            }
+            let patience = Some(Duration::from_millis(self.patience()));
+            if poll.poll(events, patience).is_err() {
+                return;
+            }
+            self.look_at_events(events);
+            self.look_at_changed();
+            self.accept();
+            self.look_for_late();
+        }
+    }
+
+    // Whether nothing is left to do, or nobody is there to answer.
+    fn is_done(&self) -> bool {
+        let state = self.engine.state.lock(self.rt);
+        let has_all = state.connections.accepted() >= self.connections
+            || matches!(self.accepting, Accepting::Failed);
+        state.is_deserted || (has_all && state.connections.is_empty())
+    }
+
+    // How long to wait for the next event.
+    fn patience(&self) -> u64 {
+        let state = self.engine.state.lock(self.rt);
+        if state.connections.has_changed() || self.can_accept(state.connections.accepted()) {
+            0
+        } else if state.connections.is_empty() && matches!(self.accepting, Accepting::Waiting) {
+            REST
+        } else {
+            TICK
+        }
+    }
+
+    // Whether a connection more may be there, where so many were accepted.
+    fn can_accept(&self, accepted: u32) -> bool {
+        accepted < self.connections
+            && self.pending.is_none()
+            && matches!(self.accepting, Accepting::Ready)
+    }
+
+    // Each socket that was reported.
+    fn look_at_events(&mut self, events: &Events) {
+        for event in events.iter() {
+            self.look_at(event);
+        }
+    }
+
+    fn look_at(&mut self, event: &Event) {
+        let Token(slot) = event.token();
+        if event.token() == LISTENER {
+            if self.accepting == Accepting::Waiting {
+                self.accepting = Accepting::Ready;
+            }
+        } else if slot < self.sockets.by_slot.len() {
+            if event.is_error() {
+                self.look_for_error(slot);
+            }
+            self.drive(slot);
+        }
+    }
+
+    // A connection whose socket has failed ends, and a message of it that waits is dropped.
+    fn look_for_error(&mut self, slot: usize) {
+        if let Some(Some(socket)) = self.sockets.by_slot.get(slot) {
+            if !matches!(socket.stream.take_error(), Ok(None)) {
+                self.engine.state.lock(self.rt).connections.fail(slot);
+            }
+        }
+    }
+
+    // The connections that workers answered, and those that ended.
+    fn look_at_changed(&mut self) {
+        for _ in 0..self.sockets.by_slot.len() {
+            let changed = self.engine.state.lock(self.rt).connections.changed();
+            match changed {
+                None => return,
+                Some(slot) => self.drive(slot),
+            }
+        }
+    }
+
+    // Ends the connections whose time is up, once in a while.
+    fn look_for_late(&mut self) {
+        let now = milliseconds(self.rt);
+        if now.saturating_sub(self.looked) < TICK {
+            return;
+        }
+        self.looked = now;
+        if let Accepting::Paused(until) = self.accepting {
+            if until <= now {
+                self.accepting = Accepting::Ready;
+            }
+        }
+        self.engine.state.lock(self.rt).connections.pass(now);
+        for slot in 0..self.sockets.by_slot.len() {
+            if self.is_to_be_looked_at(slot) {
+                self.drive(slot);
+            }
+        }
+    }
+
+    // Whether there is something to be done for a connection though nothing came of it.
+    fn is_to_be_looked_at(&self, slot: usize) -> bool {
+        match self.engine.state.lock(self.rt).todo(slot) {
+            Todo::Write | Todo::Linger | Todo::Close => true,
+            Todo::Read(_) | Todo::Wait => false,
+        }
+    }
+
+    // Does what is to be done for a connection, as far as its socket goes along.
+    fn drive(&mut self, slot: usize) {
+        for _ in 0..STEPS {
+            if self.step(slot) == Progress::None {
+                return;
+            }
+        }
+        self.engine.state.lock(self.rt).connections.look_again(slot);
+    }
+
+    // One step of it.
+    fn step(&mut self, slot: usize) -> Progress {
+        let now = milliseconds(self.rt);
+        let mut state = self.engine.state.lock(self.rt);
+        let progress = self.sockets.step(&mut state, slot, now);
+        if let Progress::Queued(worker) = progress {
+            self.engine.call(worker);
+        }
+        progress
+    }
+
+    // Accepts what is there.
+    fn accept(&mut self) {
+        for _ in 0..ACCEPTS {
+            let accepted = self.engine.state.lock(self.rt).connections.accepted();
+            if self.pending.is_none() && self.can_accept(accepted) {
+                self.pending = self.next();
+            }
+            match self.pending.take() {
+                None => return,
+                Some((stream, address)) => {
+                    if !self.admit(stream, address) {
+                        return;
+                    }
+                }
+            }
+        }
+    }
+
+    // The next connection of the listener.
+    fn next(&mut self) -> Option<(TcpStream, SocketAddr)> {
+        match self.listener.accept() {
+            Ok(accepted) => return Some(accepted),
+            Err(error) if error.kind() == ErrorKind::WouldBlock => {
+                self.accepting = Accepting::Waiting;
+            }
+            Err(error) if is_passing(&error) => {
+                let until = milliseconds(self.rt).saturating_add(TICK);
+                self.accepting = Accepting::Paused(until);
+            }
+            Err(_) => self.accepting = Accepting::Failed,
+        }
+        None
+    }
+
+    // Admits a connection. Where there are as many as may be, the one that has waited for its client the longest ends
+    // to make room; where none waits for its client, the new one is kept until there is room.
+    fn admit(&mut self, stream: TcpStream, address: SocketAddr) -> bool {
+        if self.make_room() {
+            self.look_at_changed();
+        }
+        let now = milliseconds(self.rt);
+        let peer = peer_of(address);
+        let admitted = self
+            .engine
+            .state
+            .lock(self.rt)
+            .connections
+            .accept(peer, now);
+        match admitted {
+            None => {
+                self.pending = Some((stream, address));
+                false
+            }
+            Some(slot) => {
+                if !self.sockets.put(slot, stream) {
+                    self.engine.state.lock(self.rt).connections.fail(slot);
+                }
+                self.drive(slot);
+                true
+            }
+        }
+    }
+
+    fn make_room(&self) -> bool {
+        let mut state = self.engine.state.lock(self.rt);
+        state.connections.is_full() && state.connections.make_room()
+    }
+}

@@ -1,0 +1,152 @@
+//! The sockets of the connections.
+ghost use Rattle.std.specs.Prelude.{◌≡◌, IfErr};
+ghost use Rattle.chpw_pool.specs.Pools.{IsUnmade};
+
+use crate::pool::PoolFault;
+use crate::state::{Progress, State};
+use chpw_connections::Todo;
+use mio::net::TcpStream;
+use mio::{Events, Interest, Poll, Registry, Token, Waker};
+use std::alloc::{AllocError, Global};
+use std::net::{self, Net, Shutdown};
+
+/// The listener's events.
+pub(crate) const LISTENER: Token = Token(usize::MAX);
+
+/// Those of a worker that has something for the reactor.
+pub(crate) const WAKER: Token = Token(usize::MAX - 1);
+
+/// How many events are taken at once.
+const EVENTS: usize = 256;
+
+/// How many bytes are read at once.
+const BUFFER: usize = 16_384;
+
+/// A connection's socket.
+#[derive(Drop)]
+pub(crate) struct Socket {
+    pub stream: TcpStream,
+    /// Whether the writing side is shut.
+    pub is_shut: bool,
+}
+
+impl Socket {
+    /// Shuts the writing side, the first time.
+    pub fn shut(&mut self) {
+        if !self.is_shut {
+            self.is_shut = true;
+            let _ = self.stream.shutdown(Shutdown::Write);
+        }
+    }
+}
+
+/// What tells which sockets are ready.
+#[derive(Drop)]
+pub(crate) struct Selector {
+    pub poll: Poll,
+    pub events: Events,
+}
+
+impl Selector {
+    /// One that watches nothing yet, and what ends a wait of its.
+    pub fn new<R: Net>(rt: &R, alloc: Global) -> Result<(Selector, Waker), PoolFault>
+        ensures fault { IfErr result IsUnmade }
+    {
+        let Ok(events) = Events::with_capacity(alloc, EVENTS) else {
+            return Err(PoolFault::Memory);
+        };
+        let Ok(poll) = Poll::new(rt) else {
+            return Err(PoolFault::Accept);
+        };
+        let Ok(waker) = Waker::new(poll.registry(), WAKER) else {
+            return Err(PoolFault::Accept);
+        };
+        Ok((Selector { poll, events }, waker))
+    }
+}
+
+/// The sockets by their connections' slots, and what watches them.
+#[derive(Drop)]
+pub(crate) struct Sockets {
+    pub registry: Registry,
+    pub by_slot: Vec<Option<Socket>>,
+    pub buffer: Vec<u8>,
+}
+
+impl Sockets {
+    /// None yet, for so many connections.
+    pub fn new(alloc: Global, selector: &Selector, connections: usize) -> Result<Sockets, PoolFault>
+        ensures fault { IfErr result IsUnmade }
+    {
+        let Ok(by_slot) = no_sockets(alloc, connections) else {
+            return Err(PoolFault::Memory);
+        };
+        let Ok(buffer) = Vec::from_elem(alloc, 0, BUFFER) else {
+            return Err(PoolFault::Memory);
+        };
+        let Ok(registry) = selector.poll.registry().try_clone() else {
+            return Err(PoolFault::Accept);
+        };
+        Ok(Sockets {
+            registry,
+            by_slot,
+            buffer,
+        })
+    }
+
+    /// The socket of a connection that was accepted just now, which doesn't wait from now on; whether it is watched.
+    pub fn put(&mut self, slot: usize, stream: net::TcpStream) -> bool {
+        let is_set = stream.set_nonblocking(true).is_ok();
+        let _ = stream.set_nodelay(true);
+        let mut stream = TcpStream::from_std(stream);
+        let both = Interest::READABLE | Interest::WRITABLE;
+        let is_watched = self
+            .registry
+            .register(&mut stream, Token(slot), both)
+            .is_ok();
+        match self.by_slot.get_mut(slot) {
+            None => false,
+            Some(place) => {
+                *place = Some(Socket {
+                    stream,
+                    is_shut: false,
+                });
+                is_set && is_watched
+            }
+        }
+    }
+
+    /// Does what is to be done for a connection, in one call of its socket.
+    pub fn step(&mut self, state: &mut State, slot: usize, now: u64) -> Progress {
+        let Sockets {
+            by_slot,
+            buffer,
+            ..
+        } = self;
+        let Some(place) = by_slot.get_mut(slot) else {
+            return Progress::None;
+        };
+        match (state.todo(slot), place) {
+            (Todo::Read(_), Some(socket)) => state.read(slot, &mut socket.stream, buffer, now),
+            (Todo::Write, Some(socket)) => state.write(slot, &mut socket.stream, now),
+            (Todo::Linger, Some(socket)) => {
+                socket.shut();
+                state.drain(slot, &mut socket.stream, buffer)
+            }
+            (Todo::Close, place) => {
+                *place = None;
+                let _ = state.connections.remove(slot);
+                Progress::None
+            }
+            _ => Progress::None,
+        }
+    }
+}
+
+fn no_sockets(alloc: Global, count: usize) -> Result<Vec<Option<Socket>>, AllocError> {
+    let mut sockets = Vec::with_capacity(alloc, count)?;
+    for _ in 0..count {
+        sockets.push(None)?;
+    }
+    Ok(sockets)
+}

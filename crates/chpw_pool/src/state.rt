@@ -1,0 +1,167 @@
+//! The connections, as reactor and workers see them under their lock.
+
+ghost use Rattle.std.specs.Prelude.{◌≡◌, ◌⊎◌, IfSome, Some, None, true, false};
+ghost use Rattle.slab.specs.Slab.{get};
+ghost use Rattle.chpw_connections.specs.Held.{slots_of, bounds_of};
+ghost use Rattle.chpw_connections.specs.Sets.{Happens, queued_at, is_late_in};
+ghost use Rattle.chpw_connections.specs.Stages.{came, taken, failed};
+ghost use Rattle.chpw_connections.specs.Room.{HappensWithRoom};
+ghost use Rattle.chpw_pool.specs.Steps.{Takes, TakesNone, Gives, GivesNone};
+ghost use Rattle.chpw_pool.specs.declared.state.Progress.TheVariants as progress;
+
+use chpw_connections::{Connections, Taken, Todo};
+use std::io::{ErrorKind, Read, Write};
+
+/// The connections, and whether workers are to take messages.
+#[derive(Drop)]
+pub(crate) struct State {
+    pub connections: Connections,
+    /// The workers take no message until the next desk.
+    pub is_stopped: bool,
+    /// No message comes any more.
+    pub is_over: bool,
+    /// Nobody is there to answer any more.
+    pub is_deserted: bool,
+}
+
+/// What came of a read or a write.
+#[derive(Clone, Copy, PartialEq, Eq, Debug, Drop)]
+pub(crate) enum Progress {
+    /// Something happened, and more may be done at once.
+    Some,
+    /// A message is whole: it waits for this worker.
+    Queued(usize),
+    /// Nothing can be done before the socket is reported again.
+    None,
+}
+
+impl State {
+    /// No connections yet.
+    pub fn new(connections: Connections) -> State {
+        State {
+            connections,
+            is_stopped: false,
+            is_over: false,
+            is_deserted: false,
+        }
+    }
+
+    /// Whether a worker has nothing to do yet.
+    pub fn is_idle(&self, worker: usize) -> bool
+        ensures stopped { self.now.is_stopped ≡ true → result ≡ false }
+        ensures over { self.now.is_over ≡ true → result ≡ false }
+    {
+        !self.is_stopped && !self.is_over && !self.connections.has_message(worker)
+    }
+
+    /// The next message for a worker; none where it is to take none, or the next one waited too long.
+    pub fn take(&mut self, worker: usize, now: u64) -> Option<Taken>
+        ensures stopped { self.old.is_stopped ≡ true → (result ≡ None) × (self.new ≡ self.old) }
+        ensures message { IfSome result (λ t. queued_at (get (slots_of self.old.connections) t.slot) ≡ Some t.message.items) }
+        ensures in_time { IfSome result (λ t. is_late_in (bounds_of self.old.connections) now (get (slots_of self.old.connections) t.slot) ≡ false) }
+        ensures happens { IfSome result (λ t. Happens 0 (slots_of self.old.connections) (slots_of self.new.connections) t.slot taken) }
+        ensures peer { IfSome result (λ t. IfSome (get (slots_of self.old.connections) t.slot) (λ c. t.peer ≡ c.peer)) }
+    {
+        if self.is_stopped {
+            return None;
+        }
+        self.connections.take(worker, now)
+    }
+
+    /// Reads what is wanted of a connection's message, as far as it is there and the buffer takes it.
+    pub fn read<I: Read>(
+        &mut self,
+        slot: usize,
+        reader: &mut I,
+        buffer: &mut [u8],
+        now: u64,
+    ) -> Progress
+        ensures read { Takes now (slots_of self.old.connections) (slots_of self.new.connections) slot
+            (I.remaining reader.old) (I.remaining reader.new)
+            ⊎ TakesNone (slots_of self.old.connections) (slots_of self.new.connections) slot
+            (I.remaining reader.old) (I.remaining reader.new) }
+    {
+        let most = buffer.len().min(self.connections.wanted(slot));
+        if most == 0 {
+            return Progress::None;
+        }
+        match reader.read(&mut buffer[..most]) {
+            Ok(0) => {
+                self.connections.input_ended(slot);
+                Progress::Some
+            }
+            Ok(count) => self.receive(slot, &buffer[..count], now),
+            Err(error) => self.stumble(slot, error.kind()),
+        }
+    }
+
+    // These bytes came.
+    fn receive(&mut self, slot: usize, bytes: &[u8], now: u64) -> Progress
+        ensures happens { HappensWithRoom now (slots_of self.old.connections) (slots_of self.new.connections) slot (came bytes.now)
+            ⊎ HappensWithRoom 0 (slots_of self.old.connections) (slots_of self.new.connections) slot failed }
+    {
+        match self.connections.receive(slot, bytes, now) {
+            Some(worker) => Progress::Queued(worker),
+            None => Progress::Some,
+        }
+    }
+
+    /// Writes what is left of a connection's reply, as far as the socket takes it.
+    pub fn write<W: Write>(&mut self, slot: usize, writer: &mut W, now: u64) -> Progress
+        ensures written { Gives now (slots_of self.old.connections) (slots_of self.new.connections) slot
+            (W.contents writer.old) (W.contents writer.new)
+            ⊎ GivesNone (slots_of self.old.connections) (slots_of self.new.connections) slot
+            (W.contents writer.old) (W.contents writer.new) }
+    {
+        let left = self.connections.unwritten(slot);
+        if left.is_empty() {
+            self.connections.wrote(slot, 0, now);
+            return Progress::Some;
+        }
+        match writer.write(left) {
+            Ok(0) => {
+                self.connections.fail(slot);
+                Progress::Some
+            }
+            Ok(count) => {
+                self.connections.wrote(slot, count, now);
+                Progress::Some
+            }
+            Err(error) => self.stumble(slot, error.kind()),
+        }
+    }
+
+    /// Reads what a client still sends behind its last reply, and lets it go.
+    pub fn drain<I: Read>(&mut self, slot: usize, reader: &mut I, buffer: &mut [u8]) -> Progress {
+        match reader.read(buffer) {
+            Ok(0) => {
+                self.connections.input_ended(slot);
+                Progress::Some
+            }
+            Ok(_) => Progress::Some,
+            Err(error) => self.stumble(slot, error.kind()),
+        }
+    }
+
+    // A read or a write failed: one that would have waited is tried again once the socket is reported, one that a
+    // signal interrupted at once; at any other fault the connection ends.
+    fn stumble(&mut self, slot: usize, kind: ErrorKind) -> Progress
+        ensures happens { Happens 0 (slots_of self.old.connections) (slots_of self.new.connections) slot failed
+            ⊎ (slots_of self.new.connections ≡ slots_of self.old.connections) }
+        ensures blocked { result ≡ progress.None → slots_of self.new.connections ≡ slots_of self.old.connections }
+    {
+        match kind {
+            ErrorKind::WouldBlock => Progress::None,
+            ErrorKind::Interrupted => Progress::Some,
+            _ => {
+                self.connections.fail(slot);
+                Progress::Some
+            }
+        }
+    }
+
+    /// What is to be done for a connection.
+    pub fn todo(&self, slot: usize) -> Todo {
+        self.connections.todo(slot)
+    }
+}
