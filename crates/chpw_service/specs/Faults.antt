@@ -79,6 +79,10 @@ abbrev pub IsOfLog : Option (Bor (List ℕ)) → ServeFault → Type 0
 IsOfLog None fault = ⊥
 IsOfLog (Some path) fault = IsUnlogged path.now fault
 
+-- of a log or journal that is another file of the start: it can't be written
+abbrev pub IsOfClash : ServeOptions → ServeFault → Type 0
+IsOfClash o fault = IsOfLog o.log fault ⊎ IsOfJournal o.journal.now fault
+
 -- once the files are read
 abbrev pub IsLate : ServeFault → Type 0
 IsLate CannotListen = Unit {0}

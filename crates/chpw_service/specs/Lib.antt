@@ -1,6 +1,9 @@
 pub mod Faults
 pub mod Following
 pub mod Opening
+pub mod Notices
+pub mod Places
+pub mod Sheets
 pub mod Serving
 pub mod Tallies
 pub mod Raised

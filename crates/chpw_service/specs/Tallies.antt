@@ -1,5 +1,6 @@
 -- What a service's last line counts.
-use Rattle.std.specs.Prelude.{◌≡◌, ℕ, ◌<◌, List, length}
+use Rattle.std.specs.Prelude.{◌≡◌, ℕ, ◌<◌, List, ◌++◌, codes, length}
+use Rattle.std.specs.Fmt.{decimal}
 use Rattle.chpw_table.specs.State.{State}
 use Rattle.chpw_table.specs.Agreement.{Held, Agrees}
 use Rattle.chpw_table.specs.History.{IsLegal, outcome}
@@ -10,6 +11,10 @@ use Rattle.chpw_book.specs.Stored.{Stored, Replays}
 use Rattle.chpw_book.specs.Closing.{HasCalls, IsRefusal, is_full}
 use Rattle.chpw_book.specs.declared.closing.CloseFault.{CloseFault}
 use Rattle.chpw_service.specs.declared.closing.Tally.{Tally}
+
+-- the line that tells what a history was
+abbrev pub tally_line : Tally → List ℕ
+tally_line t = codes "entries " ++ decimal t.entries ++ codes " changes " ++ decimal t.changes
 
 -- the entries and changes of a history that the one-thread machine replays from the opening to this table, in
 -- which each worker's calls are the receipts that its pass has

@@ -8,13 +8,26 @@ ghost use Rattle.chpw_service.specs.declared.fault.ServeFault.TheVariants.{Canno
 use crate::fault::ServeFault;
 use chpw_book::{CloseRefused, Closed, Desk, DeskName, Pass};
 use chpw_table::{Entry, JournalSink, Table};
+use std::fmt;
 use std::sync::Wait;
 
-/// What a service did: its entries, and how many of them are changes.
+/// What a service did: its entries, and how many of them are changes; displayed as the line that tells it.
 #[derive(Clone, Copy, Drop)]
 pub(crate) struct Tally {
     pub entries: usize,
     pub changes: usize,
+}
+
+impl fmt::Display for Tally {
+    ghost use Rattle.std.specs.Prelude.{Some};
+    ghost use Rattle.chpw_service.specs.Tallies.{tally_line};
+
+    ghost output = { λ tally. Some (tally_line tally) };
+
+    fn fmt<W: fmt::Write>(&self, f: &mut fmt::Formatter<W>) -> fmt::Result {
+        let Tally { entries, changes } = self;
+        write!(f, "entries {entries} changes {changes}")
+    }
 }
 
 /// What a desk leaves that is closed. The sink has room for one failure more, or the table is broken.

@@ -1,8 +1,8 @@
 //! One history after the other.
-ghost use Rattle.std.specs.Prelude.{◌≡◌, ◌≤◌, ◌<◌, ◌-◌, ◌^◌, IfOk, IfErr, IfSome, false, length};
+ghost use Rattle.std.specs.Prelude.{◌≡◌, ◌≤◌, ◌<◌, ◌-◌, ◌^◌, IfOk, IfErr, IfSome, OnErr, false, true, length};
 ghost use Rattle.chpw_fronts.specs.Pens.{opening_state};
 ghost use Rattle.chpw_book.specs.Starting.{IsNamed, table_of, workers_of};
-ghost use Rattle.chpw_pool.specs.Lobbies.{posts_of};
+ghost use Rattle.chpw_pool.specs.Engines.{workers_at};
 ghost use Rattle.chpw_service.specs.Faults.{IsLate};
 ghost use Rattle.chpw_service.specs.Following.{IsFollowed, reopened};
 ghost use Rattle.chpw_service.specs.declared.fault.ServeFault.TheVariants.{CannotPrint, Memory};
@@ -10,10 +10,11 @@ ghost use Rattle.chpw_service.specs.declared.fault.ServeFault.TheVariants.{Canno
 use crate::closing::{Left, Tally, close_desk};
 use crate::fault::ServeFault;
 use crate::logging::Logging;
+use crate::notices::{Notice, is_first, unreported};
 use chpw_book::{Desk, DeskName, Pass, StartFault, UnnamedDesk};
 use chpw_journal::FileSink;
 use chpw_messages::Service;
-use chpw_pool::{Lobby, run_shift};
+use chpw_pool::{Engine, run_shift};
 use chpw_table::{JournalSink, Table};
 use std::fs::File;
 use std::marker::Brand;
@@ -25,11 +26,12 @@ use std::time::Clock;
 #[derive(Drop)]
 pub(crate) struct Hall<'l, R> {
     pub service: Service,
-    pub lobby: Lobby<Logging<'l, R>>,
+    pub engine: Engine<Logging<'l, R>>,
     pub workers: u8,
-    pub idle: Option<u16>,
+    /// How many entries a history has at the most.
+    pub max_entries: u32,
     ghost some_workers: { (1 ≤ workers) × (workers ≤ 16) },
-    ghost posts: { posts_of lobby ≡ workers },
+    ghost queues: { workers_at engine ≡ workers },
 }
 
 /// What a desk opens with. The sink has room for one failure more, or the table is broken.
@@ -54,7 +56,7 @@ pub(crate) fn first_opening(table: Table, sink: FileSink<File>, workers: u8) -> 
     }
 }
 
-/// Serves the connections of the hall's lobby at one desk after the other, until no more come. Where a
+/// Answers the messages of the engine's connections at one desk after the other, until no more come. Where a
 /// history is full, its desk is closed and the next one opens with the table that was closed.
 pub(crate) fn serve_histories<
     'a,
@@ -66,8 +68,12 @@ pub(crate) fn serve_histories<
     ensures fault { IfErr result IsLate }
 {
     let mut opening = opening;
+    let mut reported = Reported {
+        is_lost: false,
+        expired: 0,
+    };
     for _ in rt.forever() {
-        match serve_history::<Brand, R, T>(rt, time, hall, opening)? {
+        match serve_history::<Brand, R, T>(rt, time, hall, opening, &mut reported)? {
             None => return Ok(()),
             Some(next) => opening = next,
         }
@@ -75,15 +81,30 @@ pub(crate) fn serve_histories<
     Ok(())
 }
 
+/// What was reported on standard error so far.
+#[derive(Clone, Copy, Drop)]
+struct Reported {
+    /// That a line can't be printed.
+    is_lost: bool,
+    /// How many messages had waited too long for their worker.
+    expired: u32,
+}
+
 // Serves at a desk of this name, closes it and prints what it did. What the next desk opens with, where
-// connections are left to serve.
+// messages may still come.
 fn serve_history<
     'a,
     'l,
     D: DeskName + Send + Sync,
     R: Threads + Wait + Clock + Print + Eprint + AllocGlobal + Sync,
     T: Clock + Sync,
->(rt: &R, time: &T, hall: &Hall<'l, R>, opening: Opening) -> Result<Option<Opening>, ServeFault<'a>>
+>(
+    rt: &R,
+    time: &T,
+    hall: &Hall<'l, R>,
+    opening: Opening,
+    reported: &mut Reported,
+) -> Result<Option<Opening>, ServeFault<'a>>
     requires name { IsNamed opening.unnamed D.name D.parts D.book D.root D.workers }
     requires workers { workers_of opening.unnamed ≡ hall.now.workers }
     ensures workers { IfOk result (λ o. IfSome o (λ next.
@@ -99,18 +120,20 @@ fn serve_history<
         rt,
         rt.alloc(),
         time,
-        &hall.lobby,
+        &hall.engine,
         &hall.service,
         &desk,
         &mut passes,
-        hall.idle,
+        hall.max_entries,
     );
     let Left { tally, table, sink } = close_desk(rt, desk, passes)?;
-    print_tally(rt, tally)?;
+    let over = hall.engine.is_over(rt);
+    report_expired(rt, hall.engine.expired(rt), &mut reported.expired);
+    tell_tally(rt, tally, over || served.is_err(), &mut reported.is_lost)?;
     if served.is_err() {
         return Err(ServeFault::Memory);
     }
-    if hall.lobby.is_over(rt) {
+    if over {
         return Ok(None);
     }
     Ok(Some(next_opening(table, sink, hall.workers)?))
@@ -128,12 +151,42 @@ pub(crate) fn start_desk<D: DeskName, R: Wait + AllocGlobal>(
     Desk::start(rt, rt.alloc(), unnamed, sink)
 }
 
+// Reports how many messages more had waited too long for their worker.
+fn report_expired<R: Eprint>(rt: &R, expired: u32, reported: &mut u32) {
+    let more = unreported(expired, reported);
+    if more > 0 {
+        let _ = eprintln!(rt; "{}", Notice::Expired(more));
+    }
+}
+
+// Prints what was done. After the last history it is a fault where that can't be printed; after another one
+// the line is lost, and the first time that is told on standard error.
+fn tell_tally<'a, R: Print + Eprint>(
+    rt: &R,
+    tally: Tally,
+    last: bool,
+    lost: &mut bool,
+) -> Result<(), ServeFault<'a>>
+    ensures fault { IfErr result (λ fault. fault ≡ CannotPrint) }
+    ensures last { OnErr result (last ≡ true) }
+{
+    match print_tally(rt, tally) {
+        Ok(()) => Ok(()),
+        Err(fault) if last => Err(fault),
+        Err(_) => {
+            if is_first(lost) {
+                let _ = eprintln!(rt; "{}", Notice::OutputLost);
+            }
+            Ok(())
+        }
+    }
+}
+
 // What was done, as a line.
 fn print_tally<'a, R: Print>(rt: &R, tally: Tally) -> Result<(), ServeFault<'a>>
     ensures fault { IfErr result (λ fault. fault ≡ CannotPrint) }
 {
-    let Tally { entries, changes } = tally;
-    match println!(rt; "entries {entries} changes {changes}") {
+    match println!(rt; "{tally}") {
         Ok(()) => Ok(()),
         Err(_) => Err(ServeFault::CannotPrint),
     }

@@ -7,8 +7,11 @@ mod fault;
 mod files;
 mod histories;
 mod logging;
+mod notices;
+mod places;
 mod raising;
 mod serving;
+mod sheets;
 mod starting;
 mod table;
 

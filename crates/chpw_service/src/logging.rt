@@ -1,27 +1,43 @@
 //! The log of a service: what came of each message, a line each.
-ghost use Rattle.std.specs.Prelude.{◌≡◌, not, true, vec_len, IfOk, IfErr};
-ghost use Rattle.chpw_service.specs.Faults.{IsOfLog, IsUnlogged};
+ghost use Rattle.std.specs.Prelude.{◌+◌, ◌≤◌, ◌≡◌, ◌<◌, vec_len, IfOk, IfErr};
+ghost use Rattle.std.specs.Option.{ForSome};
+ghost use Rattle.chpw_table.specs.Times.{IsMoment};
+ghost use Rattle.chpw_service.specs.Faults.{IsOfClash, IsOfLog, IsUnlogged};
 
 use crate::fault::ServeFault;
+use crate::notices::{Notice, is_first};
+use crate::places::keep_apart;
+use crate::sheets::Sheet;
 use chpw_answer::{Gate, Spot};
-use chpw_log::{Asked, Line, News, write_line};
-use chpw_table::{Event, Moment, Opened, Receipt};
+use chpw_invocation::ServeOptions;
+use chpw_log::{Asked, Held, Limit, Line, News, micros_of, write_held, write_line};
+use chpw_table::{Event, Moment, Opened, Receipt, Verdict};
 use krb_protocol::Refusal;
 use std::alloc::{AllocError, Global};
-use std::fs::{File, Files, OpenOptions};
-use std::io::{ErrorKind, Write};
-use std::os::unix::fs::OpenOptionsExt;
+use std::fs::{File, Files};
+use std::io::{self, ErrorKind};
 use std::sync::{Mutex, Wait};
 
-/// A file that lines are appended to, each by the worker whose message it tells of, before that message is
-/// answered. The desk's lock is free then.
+/// What is told of a service while it runs: in its log, where there is one, a line for each message that opened,
+/// and for ten a second of the others, by the worker that answers it and before it is answered. The desk's lock
+/// is free then.
 ///
 /// A line that can't be written is lost, and the service goes on: what stands of it, or an empty line, shows
-/// where. The first time that is told on standard error, too.
+/// where. The first time that is told on standard error, too; and so is the first change that the journal did
+/// not take.
 #[derive(Drop)]
 pub(crate) struct Log<'l, R> {
     rt: &'l R,
     alloc: Global,
+    journal: &'l str,
+    /// Whether it was told that the journal failed.
+    failed: Mutex<bool>,
+    book: Option<Book<'l>>,
+}
+
+// The log at a path.
+#[derive(Drop)]
+struct Book<'l> {
     path: &'l str,
     end: Mutex<End>,
 }
@@ -29,106 +45,156 @@ pub(crate) struct Log<'l, R> {
 // Where the next line goes.
 #[derive(Drop)]
 struct End {
-    file: File,
-    /// Whether the last line wasn't written, or only in part.
-    torn: bool,
+    sheet: Sheet,
+    limit: Limit,
     /// Whether a loss was told.
     told: bool,
 }
 
-impl End {
-    // Appends a line; whether it stands there whole.
-    fn append(&mut self, line: &[u8]) -> bool
-        ensures told { self.new.told ≡ self.old.told }
-    {
-        if self.torn && self.file.write_all(b"\n").is_err() {
-            return false;
-        }
-        self.torn = self.file.write_all(line).is_err();
-        !self.torn
-    }
-
-    // Notes that a line was lost; whether that is to be told.
-    fn lose(&mut self) -> bool
-        ensures once { result ≡ not self.old.told }
-        ensures told { self.new.told ≡ true }
-    {
-        let first = !self.told;
-        self.told = true;
-        first
-    }
-}
-
-/// The log in the file at a path, if there is to be one. Where there is no file it is made, readable and
-/// writable by its owner alone.
-pub(crate) fn log_at<'l, 'a: 'l, R: Files<File = File>>(
+/// The log of a service with these options. A log or a journal that is another file of the start is refused
+/// before anything is opened to be written.
+pub(crate) fn log_of<'l, 'a: 'l, R: Files<File = File>>(
     rt: &'l R,
     alloc: Global,
+    options: &ServeOptions<'a>,
+) -> Result<Log<'l, R>, ServeFault<'a>>
+    ensures fault { IfErr result (IsOfClash options.now) }
+{
+    keep_apart(rt, options)?;
+    let book = book_at(rt, options.log)?;
+    // A log that was made just now can be the journal by another name.
+    keep_apart(rt, options)?;
+    Ok(Log {
+        rt,
+        alloc,
+        journal: options.journal,
+        failed: Mutex::new(false),
+        book,
+    })
+}
+
+fn book_at<'l, 'a: 'l, R: Files<File = File>>(
+    rt: &R,
     path: Option<&'a str>,
-) -> Result<Option<Log<'l, R>>, ServeFault<'a>>
+) -> Result<Option<Book<'l>>, ServeFault<'a>>
     ensures fault { IfErr result (IsOfLog path.entry) }
 {
     match path {
         None => Ok(None),
-        Some(path) => Ok(Some(opened(rt, alloc, path)?)),
+        Some(path) => match Sheet::at(rt, path) {
+            Ok(sheet) => Ok(Some(Book {
+                path,
+                end: Mutex::new(End {
+                    sheet,
+                    limit: Limit::new(),
+                    told: false,
+                }),
+            })),
+            Err(error) => Err(unlogged(path, error)),
+        },
     }
 }
 
-fn opened<'l, 'a: 'l, R: Files<File = File>>(
-    rt: &'l R,
-    alloc: Global,
-    path: &'a str,
-) -> Result<Log<'l, R>, ServeFault<'a>>
-    ensures fault { IfErr result (IsUnlogged path.now) }
+fn unlogged(path: &str, error: io::Error) -> ServeFault<'_>
+    ensures fault { IsUnlogged path.now result }
 {
-    let mut how = OpenOptions::new();
-    how.append(true).create(true).mode(0o600);
-    match how.open(rt, path) {
-        Ok(file) => Ok(Log {
-            rt,
-            alloc,
-            path,
-            end: Mutex::new(End {
-                file,
-                torn: false,
-                told: false,
-            }),
-        }),
-        Err(error) if error.kind() == ErrorKind::OutOfMemory => Err(ServeFault::Memory),
-        Err(_) => Err(ServeFault::CannotWrite(path)),
+    if error.kind() == ErrorKind::OutOfMemory {
+        ServeFault::Memory
+    } else {
+        ServeFault::CannotWrite(path)
     }
 }
 
 impl<R: Wait + Eprint> Log<'_, R> {
-    // Appends the line with this content.
-    fn put(&self, line: &Line<'_>) {
-        let lost = match write_line(self.alloc, line) {
-            Ok(bytes) => self.append(bytes.as_slice()),
-            Err(_) => self.end.lock(self.rt).lose(),
-        };
-        if lost {
-            let _ = eprintln!(self.rt; "{}: a line of the log is lost, and maybe more", self.path);
+    /// Appends the line that tells what was held back and not told yet. It is the last one.
+    pub(crate) fn end(&self, now: Moment)
+        requires moment { IsMoment now }
+        requires micros { now.micros < 1000000 }
+    {
+        if let Some(book) = &self.book {
+            let held = book.end.lock(self.rt).limit.rest();
+            self.put_held(book, now, held);
         }
     }
 
-    // Appends these bytes; whether a first loss is to be told.
-    fn append(&self, line: &[u8]) -> bool {
-        let mut end = self.end.lock(self.rt);
-        !end.append(line) && end.lose()
+    // Appends the line of a message that opened.
+    fn put(&self, line: &Line<'_>) {
+        if let Some(book) = &self.book {
+            let held = book.end.lock(self.rt).limit.due(micros_of(line.moment));
+            self.put_held(book, line.moment, held);
+            self.put_line(book, line);
+        }
+    }
+
+    // Appends the line of a message that didn't open, where it has one of its own.
+    fn put_unopened(&self, line: &Line<'_>) {
+        if let Some(book) = &self.book {
+            let now = micros_of(line.moment);
+            let leave = book.end.lock(self.rt).limit.ask(now, line.peer);
+            self.put_held(book, line.moment, leave.told);
+            if leave.line {
+                self.put_line(book, line);
+            }
+        }
+    }
+
+    fn put_held(&self, book: &Book<'_>, now: Moment, held: Option<Held>)
+        requires moment { IsMoment now }
+        requires micros { now.micros < 1000000 }
+        requires few { ForSome held (λ held. held.loopback + held.other ≤ 1000000) }
+    {
+        if let Some(held) = held {
+            self.put_text(book, write_held(self.alloc, now, &held));
+        }
+    }
+
+    fn put_line(&self, book: &Book<'_>, line: &Line<'_>) {
+        self.put_text(book, write_line(self.alloc, line));
+    }
+
+    // Appends the text of a line. Where there is none, since memory was refused, the line is lost.
+    fn put_text(&self, book: &Book<'_>, text: Result<Vec<u8>, AllocError>) {
+        let lost = match text {
+            Ok(text) => book.append(self.rt, text.as_slice()),
+            Err(_) => is_first(&mut book.end.lock(self.rt).told),
+        };
+        if lost {
+            self.tell(Notice::LogLost(book.path));
+        }
+    }
+
+    // Tells that the journal failed, the first time.
+    fn tell_failed(&self) {
+        let first = is_first(&mut *self.failed.lock(self.rt));
+        if first {
+            self.tell(Notice::JournalFailed(self.journal));
+        }
+    }
+
+    fn tell(&self, notice: Notice<'_>) {
+        let _ = eprintln!(self.rt; "{notice}");
     }
 }
 
-/// What a worker passes with its messages: the log, if there is one.
+impl Book<'_> {
+    // Appends these bytes; whether a first loss is to be told.
+    fn append<R: Wait + Eprint>(&self, rt: &R, line: &[u8]) -> bool {
+        let mut end = self.end.lock(rt);
+        !end.sheet.append(rt, line) && is_first(&mut end.told)
+    }
+}
+
+/// What a worker passes with its messages.
 #[derive(Drop)]
 pub(crate) struct Logging<'l, R> {
-    log: Option<&'l Log<'l, R>>,
+    log: &'l Log<'l, R>,
     worker: u8,
 }
 
 /// One for each worker.
 pub(crate) fn log_gates<'l, R>(
     alloc: Global,
-    log: Option<&'l Log<'l, R>>,
+    log: &'l Log<'l, R>,
     workers: u8,
 ) -> Result<Vec<Logging<'l, R>>, AllocError>
     ensures count { IfOk result (λ gates. vec_len gates ≡ workers) }
@@ -145,8 +211,11 @@ impl<R: Wait + Eprint> Gate for Logging<'_, R> {
 
     // A raise is no message's.
     fn decided(&mut self, peer: [u8; 4], now: Moment, receipt: &Receipt, kvno: Option<u32>) {
-        if let (Some(log), Event::Ask { opened, verdict }) = (self.log, &receipt.entry.event) {
-            log.put(&Line {
+        if let Event::Ask { opened, verdict } = &receipt.entry.event {
+            if matches!(verdict, Verdict::Broken) {
+                self.log.tell_failed();
+            }
+            self.log.put(&Line {
                 moment: now,
                 worker: self.worker,
                 peer,
@@ -160,19 +229,23 @@ impl<R: Wait + Eprint> Gate for Logging<'_, R> {
     }
 
     fn refused(&mut self, peer: [u8; 4], now: Moment, opened: Option<&Opened>, refusal: &Refusal) {
-        if let Some(log) = self.log {
-            log.put(&Line {
-                moment: now,
-                worker: self.worker,
+        let (moment, worker) = (now, self.worker);
+        match opened {
+            Some(opened) => self.log.put(&Line {
+                moment,
+                worker,
                 peer,
-                news: match opened {
-                    Some(opened) => News::Full {
-                        asked: Asked::of(opened),
-                        refusal,
-                    },
-                    None => News::Unopened { refusal },
+                news: News::Full {
+                    asked: Asked::of(opened),
+                    refusal,
                 },
-            });
+            }),
+            None => self.log.put_unopened(&Line {
+                moment,
+                worker,
+                peer,
+                news: News::Unopened { refusal },
+            }),
         }
     }
 }

@@ -1,29 +1,31 @@
 //! The service on a port.
 ghost use Rattle.std.specs.Prelude.{◌≡◌, ◌≤◌, IfOk, IfErr, IfSome, None, OnOk};
 ghost use Rattle.chpw_book.specs.Starting.{workers_of};
+ghost use Rattle.chpw_pool.specs.Engines.{workers_at};
 ghost use Rattle.chpw_service.specs.Faults.{IsLate, IsOfService, told_as};
 ghost use Rattle.chpw_service.specs.Serving.{IsAskedFor};
-ghost use Rattle.chpw_service.specs.declared.fault.ServeFault.TheVariants.{CannotListen, Memory};
+ghost use Rattle.chpw_service.specs.declared.fault.ServeFault.TheVariants.{CannotListen};
 
 use crate::fault::{LateFault, ServeFault};
 use crate::files::{read_seed, read_settings};
 use crate::histories::{Hall, Opening, first_opening, serve_histories};
-use crate::logging::{Log, log_at, log_gates};
+use crate::logging::{Log, Logging, log_gates, log_of};
 use crate::raising::raised;
 use crate::starting::open_table;
 use chpw_invocation::ServeOptions;
 use chpw_journal::Journal;
 use chpw_messages::Service;
-use chpw_pool::{Lobby, MachineClock, Pool, PoolFault, Terms};
+use chpw_pool::{Engine, MachineClock, Pool, PoolFault, Terms};
+use chpw_serve::Clock as _;
 use std::alloc::Global;
 use std::fs::{File, Files};
 use std::net::{Ipv4Addr, Net, TcpListener, TcpStream};
 use std::sync::Wait;
-use std::thread::{Threads, join};
+use std::thread::{self, Threads};
 use std::time::Clock;
 
-/// Serves so many connections on 127.0.0.1, connection i (from 0) by worker i modulo their number,
-/// each worker one after the other. The configuration is read first, then the seed; then the log is opened
+/// Serves so many connections on 127.0.0.1, the messages of connection i (from 0) by worker i modulo their number,
+/// one after the other. The configuration is read first, then the seed; then the log is opened
 /// where one is asked for, and then the journal is read; then the iteration count of new keys is raised where
 /// that is asked for, and then the port is listened at. A torn tail that was cut off the journal is told in a
 /// line on standard error. Printed are what came of the raise, `listening on 127.0.0.1:N` before a
@@ -64,10 +66,11 @@ pub fn serve_by<
 {
     let config = read_settings(rt, options.config)?;
     let seed = read_seed(rt, options.seed)?;
-    let log = log_at(rt, rt.alloc(), options.log)?;
+    let log = log_of(rt, rt.alloc(), &options)?;
     let Ok(service) = Service::of(rt.alloc(), &config) else {
         return Err(ServeFault::Memory);
     };
+    let max_entries = config.max_entries;
     let mut clock = MachineClock::new(time);
     let Journal {
         table,
@@ -78,7 +81,19 @@ pub fn serve_by<
     tell_cut(rt, options.journal, cut_at);
     let opening = first_opening(table, sink, options.workers);
     let opening = raised(rt, opening, options.workers, &mut clock, options.raise)?;
-    serve_opened(rt, time, &options, service, seed, log.as_ref(), opening)
+    let terms = terms_of(&options, seed);
+    let ended = serve_opened(
+        rt,
+        time,
+        &options,
+        service,
+        terms,
+        max_entries,
+        &log,
+        opening,
+    );
+    log.end(clock.now());
+    ended
 }
 
 // Serves what is opened, once the port is listened at.
@@ -99,16 +114,22 @@ fn serve_opened<
     time: &T,
     options: &ServeOptions<'_>,
     service: Service,
-    seed: [u8; 32],
-    log: Option<&'l Log<'l, R>>,
+    terms: Terms,
+    max_entries: u32,
+    log: &'l Log<'l, R>,
     opening: Opening,
 ) -> Result<(), ServeFault<'a>>
     requires workers { workers_of opening.unnamed ≡ options.now.workers }
     ensures fault { IfErr result IsLate }
 {
     let listener = listen(rt, options.port)?;
-    let terms = terms_of(options, seed);
-    let hall = hall_of(rt.alloc(), service, options, terms, log)?;
+    let engine = engine_of(rt, rt.alloc(), options.workers, &terms, log)?;
+    let hall = Hall {
+        service,
+        engine,
+        workers: options.workers,
+        max_entries,
+    };
     if println!(rt; "listening on 127.0.0.1:{}", options.port).is_err() {
         return Err(ServeFault::CannotPrint);
     }
@@ -141,39 +162,34 @@ fn terms_of(options: &ServeOptions<'_>, seed: [u8; 32]) -> Terms
     Terms {
         seed,
         connections: options.connections,
+        clients: options.clients,
+        buffers: options.buffers,
         idle: options.idle,
     }
 }
 
-// What is served with, at all desks.
-fn hall_of<'a, 'l, R: Wait + Eprint>(
+// What has the connections, with a queue for each worker.
+fn engine_of<'a, 'l, R: Net + Wait + Eprint>(
+    rt: &R,
     alloc: Global,
-    service: Service,
-    options: &ServeOptions<'_>,
-    terms: Terms,
-    log: Option<&'l Log<'l, R>>,
-) -> Result<Hall<'l, R>, ServeFault<'a>>
-    ensures workers { IfOk result (λ hall. hall.workers ≡ options.now.workers) }
-    ensures idle { IfOk result (λ hall. hall.idle ≡ terms.idle) }
-    ensures fault { IfErr result (λ fault. fault ≡ Memory) }
+    workers: u8,
+    terms: &Terms,
+    log: &'l Log<'l, R>,
+) -> Result<Engine<Logging<'l, R>>, ServeFault<'a>>
+    requires some_workers { 1 ≤ workers }
+    ensures workers { IfOk result (λ engine. workers_at engine ≡ workers) }
+    ensures fault { IfErr result IsLate }
 {
-    let workers = options.workers;
-    let lobby = match log_gates(alloc, log, workers) {
-        Err(_) => return Err(ServeFault::Memory),
-        Ok(gates) => Lobby::of(alloc, terms.seed, gates),
-    };
-    match lobby {
+    match log_gates(alloc, log, workers) {
         Err(_) => Err(ServeFault::Memory),
-        Ok(lobby) => Ok(Hall {
-            service,
-            lobby,
-            workers,
-            idle: terms.idle,
-        }),
+        Ok(gates) => match Engine::of(rt, alloc, terms.seed, terms.bounds(), gates) {
+            Err(fault) => Err(told(fault)),
+            Ok(engine) => Ok(engine),
+        },
     }
 }
 
-// Accepts so many connections, while they are served at one desk after the other.
+// The reactor in a thread of its own, while the messages are answered at one desk after the other.
 fn serve_all<
     'a,
     'l,
@@ -190,15 +206,24 @@ fn serve_all<
     requires workers { workers_of opening.unnamed ≡ hall.now.workers }
     ensures fault { IfErr result IsLate }
 {
-    let (pool, ended) = join(
+    let ended = thread::scope(
+        thread::scope_env(),
         rt,
-        || hall.lobby.receive(rt, listener, connections),
-        || -> Result<(), LateFault>
+        move |scope| -> Result<(), LateFault>
             requires { workers_of opening.unnamed ≡ hall.now.workers }
-        { serve_or_desert(rt, time, listener, hall, opening) },
+        {
+            let engine = &hall.engine;
+            if scope
+                .spawn(move || engine.react(rt, listener, connections))
+                .is_err()
+            {
+                return Err(LateFault::Memory);
+            }
+            serve_or_desert(rt, time, hall, opening)
+        },
     );
     match ended {
-        Ok(()) => end(pool),
+        Ok(()) => end(hall.engine.outcome(rt, connections)),
         Err(late) => Err(late.fault()),
     }
 }
@@ -216,24 +241,18 @@ fn end<'a>(pool: Pool) -> Result<(), ServeFault<'a>>
     }
 }
 
-// Serves at one desk after the other. After a fault nothing more is accepted.
+// Serves at one desk after the other. After a fault nobody is there to answer, and all connections end.
 fn serve_or_desert<
     'l,
-    R: Net<Stream = TcpStream> + Threads + Wait + Clock + Print + Eprint + AllocGlobal + Sync,
+    R: Threads + Wait + Clock + Print + Eprint + AllocGlobal + Sync,
     T: Clock + Sync,
->(
-    rt: &R,
-    time: &T,
-    listener: &TcpListener,
-    hall: &Hall<'l, R>,
-    opening: Opening,
-) -> Result<(), LateFault>
+>(rt: &R, time: &T, hall: &Hall<'l, R>, opening: Opening) -> Result<(), LateFault>
     requires workers { workers_of opening.unnamed ≡ hall.now.workers }
 {
     match serve_histories(rt, time, hall, opening) {
         Ok(()) => Ok(()),
         Err(fault) => {
-            hall.lobby.desert(rt, listener);
+            hall.engine.desert(rt);
             Err(LateFault::of(fault))
         }
     }

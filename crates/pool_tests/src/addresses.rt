@@ -9,6 +9,7 @@ use krb_keys::Key;
 use std::alloc::Global;
 use std::io;
 use std::net::{Ipv4Addr, Net, OpenListener, SocketAddr, SocketAddrV4, TcpListener, TcpStream};
+use std::os::fd::{AsRawFd, RawFd};
 use std::process::Abort;
 use std::test::Fail;
 
@@ -77,6 +78,16 @@ impl OpenListener for FromElsewhere<'_> {
             stream,
             SocketAddr::V4(SocketAddrV4::new(ip, address.port())),
         ))
+    }
+
+    fn set_nonblocking(&self, nonblocking: bool) -> io::Result<()> {
+        self.listener.set_nonblocking(nonblocking)
+    }
+}
+
+impl AsRawFd for FromElsewhere<'_> {
+    fn as_raw_fd(&self) -> RawFd {
+        self.listener.as_raw_fd()
     }
 }
 

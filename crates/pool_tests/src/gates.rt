@@ -39,21 +39,38 @@ pub struct SecondFirst<'a, R: Wait + Clock + Abort> {
 impl<R: Wait + Clock + Abort> Gate for SecondFirst<'_, R> {
     fn at(&mut self, spot: Spot) {
         match (spot, self.is_first) {
-            (Spot::Opened, true) => self.hold(),
+            (Spot::Opened, true) => {
+                wait_for(self.rt, self.answered, "the second worker didn't answer")
+            }
             (Spot::Answered, false) => *self.answered.lock(self.rt) = true,
             _ => {}
         }
     }
 }
 
-impl<R: Wait + Clock + Abort> SecondFirst<'_, R> {
-    fn hold(&self) {
-        for _ in 0..TURNS {
-            if *self.answered.lock(self.rt) {
-                return;
-            }
-            thread::sleep(self.rt, Duration::from_millis(1));
+/// Holds a worker before its decision until it is told to go on. After too many turns the test fails.
+#[derive(Drop)]
+pub struct UntilTold<'a, R: Wait + Clock + Abort> {
+    pub rt: &'a R,
+    pub is_told: &'a Mutex<bool>,
+}
+
+impl<R: Wait + Clock + Abort> Gate for UntilTold<'_, R> {
+    fn at(&mut self, spot: Spot) {
+        match spot {
+            Spot::Opened => wait_for(self.rt, self.is_told, "nobody told the worker to go on"),
+            Spot::Answered => {}
         }
-        panic!(self.rt; "the second worker didn't answer");
     }
+}
+
+// Waits until it is so.
+fn wait_for<R: Wait + Clock + Abort>(rt: &R, it: &Mutex<bool>, otherwise: &str) {
+    for _ in 0..TURNS {
+        if *it.lock(rt) {
+            return;
+        }
+        thread::sleep(rt, Duration::from_millis(1));
+    }
+    panic!(rt; "{otherwise}");
 }

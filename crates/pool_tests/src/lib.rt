@@ -7,9 +7,15 @@ mod addresses;
 #[cfg(test)]
 mod answers;
 #[cfg(test)]
+mod crowds;
+#[cfg(test)]
 mod gates;
 #[cfg(test)]
+mod given_up;
+#[cfg(test)]
 mod limits;
+#[cfg(test)]
+mod logs;
 #[cfg(test)]
 mod overtaken;
 #[cfg(test)]
@@ -18,6 +24,8 @@ mod pools;
 mod raises;
 #[cfg(test)]
 mod realm;
+#[cfg(test)]
+mod rollovers;
 #[cfg(test)]
 mod services;
 #[cfg(test)]

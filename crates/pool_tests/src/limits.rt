@@ -7,6 +7,7 @@ use chpw_pool::{PoolFault, Terms};
 use std::alloc::Global;
 use std::io::{self, Error, Read, Write};
 use std::net::{Net, OpenListener, Shutdown, SocketAddr, TcpListener, TcpStream};
+use std::os::fd::{AsRawFd, RawFd};
 use std::process::Abort;
 use std::sync::atomic::{AtomicU64, Ordering};
 use std::test::Fail;
@@ -28,6 +29,16 @@ impl OpenListener for Failing<'_> {
             Some(fault) => Err(Error::from_raw_os_error(*fault)),
             None => self.listener.accept(),
         }
+    }
+
+    fn set_nonblocking(&self, nonblocking: bool) -> io::Result<()> {
+        self.listener.set_nonblocking(nonblocking)
+    }
+}
+
+impl AsRawFd for Failing<'_> {
+    fn as_raw_fd(&self) -> RawFd {
+        self.listener.as_raw_fd()
     }
 }
 
@@ -77,15 +88,39 @@ impl<R: Net<Stream = TcpStream> + Abort> Clients<R> for Nobody {
     fn ask(&self, _rt: &R, _alloc: Global, _port: u16) {}
 }
 
-// A listener that doesn't wait refuses where no connection is there.
+// A listener that can't go on, though nobody came.
+#[derive(Drop)]
+struct Broken<'a> {
+    listener: &'a TcpListener,
+}
+
+impl OpenListener for Broken<'_> {
+    type Stream = TcpStream;
+
+    fn accept(&self) -> io::Result<(TcpStream, SocketAddr)> {
+        Err(Error::from_raw_os_error(22))
+    }
+
+    fn set_nonblocking(&self, nonblocking: bool) -> io::Result<()> {
+        self.listener.set_nonblocking(nonblocking)
+    }
+}
+
+impl AsRawFd for Broken<'_> {
+    fn as_raw_fd(&self) -> RawFd {
+        self.listener.as_raw_fd()
+    }
+}
+
 #[test]
 fn nothing_to_accept(rt: HostRuntime) -> Result<(), Fail> {
     let listener = TcpListener::bind(&rt, ("127.0.0.1", 0u16))?;
     let port = listener.local_addr()?.port();
-    listener.set_nonblocking(true)?;
     let site = Site {
         time: &rt,
-        listener: &listener,
+        listener: &Broken {
+            listener: &listener,
+        },
         port,
         workers: 1,
         terms: terms(2),
@@ -95,7 +130,7 @@ fn nothing_to_accept(rt: HostRuntime) -> Result<(), Fail> {
     Ok(())
 }
 
-// One keeps silent, and is in the way of another until its connection is ended.
+// One keeps silent until its connection is ended; another one is answered before.
 #[derive(Drop)]
 struct Behind {
     sent: Sent,
@@ -122,7 +157,7 @@ fn a_silent_connection_is_ended(rt: HostRuntime) -> Result<(), Fail> {
         port,
         workers: 1,
         terms: Terms {
-            idle: Some(1),
+            idle: 1,
             ..terms(2)
         },
     };

@@ -11,7 +11,6 @@ use chpw_service::serve_by;
 use chpw_table::Moment;
 use std::alloc::Global;
 use std::fs;
-use std::io::Read;
 use std::net::{Net, TcpListener, TcpStream};
 use std::process::Abort;
 use std::test::Fail;
@@ -20,7 +19,7 @@ use std::time::{Clock, Duration};
 use test_realm::name;
 
 /// Alice and bob, and the key of the requests' tickets, behind the line `[service]`.
-const SETTINGS: &str = "\
+pub const SETTINGS: &str = "\
 realm = 'EXAMPLE.COM'
 [[service.key]]
 kvno = 3
@@ -54,13 +53,10 @@ const CONFIG_FILE: &str = "services.toml";
 const QUIET: &[u8] = b"code 3 error 37 clock skew too great";
 
 /// When the first run starts.
-const START: u64 = 1_000_100;
+pub const START: u64 = 1_000_100;
 
 /// How a request is refused that was decided before.
 const REPLAYED: &[u8] = b"code 3 error 34 request replayed";
-
-/// How a request is answered for which the history has no room.
-const FULL: &[u8] = b"code 2 error 60 history full";
 
 fn write_config(rt: &HostRuntime) -> Result<(), Fail> {
     let config = format!(in rt.alloc(); "[service]\n{SETTINGS}")?;
@@ -77,14 +73,16 @@ fn options<'a>(seed: &'a str, journal: &'a str, port: u16) -> ServeOptions<'a> {
         port,
         workers: 1,
         connections: 1,
-        idle: Some(10),
+        idle: 10,
+        clients: 1024,
+        buffers: 32,
         raise: None,
         log: None,
     }
 }
 
-// A connection to a service that is starting. A read that waits 10 seconds fails.
-fn connect_soon<R: Net<Stream = TcpStream> + Clock + Abort>(rt: &R, port: u16) -> TcpStream {
+/// A connection to a service that is starting. A read that waits 10 seconds fails.
+pub fn connect_soon<R: Net<Stream = TcpStream> + Clock + Abort>(rt: &R, port: u16) -> TcpStream {
     for _ in 0..1000 {
         if let Ok(stream) = TcpStream::connect(rt, ("127.0.0.1", port)) {
             let limit = Some(Duration::from_secs(10));
@@ -96,7 +94,7 @@ fn connect_soon<R: Net<Stream = TcpStream> + Clock + Abort>(rt: &R, port: u16) -
     panic!(rt; "no service");
 }
 
-fn moment(seconds: u64) -> Moment
+pub fn moment(seconds: u64) -> Moment
     requires { seconds < 2 ^ 63 }
 {
     Moment {
@@ -105,8 +103,8 @@ fn moment(seconds: u64) -> Moment
     }
 }
 
-// Asks for these in turn over one connection, each at its second, and is answered so.
-fn ask_in_turn<R: Net<Stream = TcpStream> + Clock + Abort>(
+/// Asks for these in turn over one connection, each at its second, and is answered so.
+pub fn ask_in_turn<R: Net<Stream = TcpStream> + Clock + Abort>(
     rt: &R,
     alloc: Global,
     clock: &SetClock,
@@ -173,7 +171,9 @@ fn raising<'a>(port: u16, raises: bool) -> ServeOptions<'a> {
         port,
         workers: 1,
         connections: 1,
-        idle: Some(10),
+        idle: 10,
+        clients: 1024,
+        buffers: 32,
         raise: count_of(raises),
         log: None,
     }
@@ -247,9 +247,9 @@ fn answered<R: Abort>(
     reply
 }
 
-// Fills a history of two and asks once more, while another client waits. Once the first connection is ended,
-// the other one is served with the next history. The replies to the first request and to the third are
-// sealed under the same keys, and have the same moment in their AP-REPs: they differ where their words do.
+// Fills a history of two and asks once more: over the same connection, and the next history answers. It knows what
+// the former one had decided. The replies to the first request and to the third are sealed under the same keys, and
+// have the same moment in their AP-REPs: they differ where their words do.
 fn ask_beyond_the_end<R: Net<Stream = TcpStream> + Clock + Abort>(
     rt: &R,
     alloc: Global,
@@ -260,10 +260,7 @@ fn ask_beyond_the_end<R: Net<Stream = TcpStream> + Clock + Abort>(
     let other = connect_soon(rt, port);
     let one = answered(rt, alloc, &stream, first, CHANGED);
     let _ = answered(rt, alloc, &stream, second, CHANGED);
-    let _ = answered(rt, alloc, &stream, third, FULL);
-    let mut end = [0];
-    assert!(rt; matches!((&mut &stream).read(&mut end), Ok(0)));
-    let two = answered(rt, alloc, &other, third, CHANGED);
+    let two = answered(rt, alloc, &stream, third, CHANGED);
     let _ = answered(rt, alloc, &other, first, REPLAYED);
     let one = split_reply(&one).ok().expect(rt, "a reply");
     let two = split_reply(&two).ok().expect(rt, "a reply");
@@ -291,7 +288,9 @@ fn a_full_history_and_the_next(rt: HostRuntime) -> Result<(), Fail> {
         port,
         workers: 1,
         connections: 2,
-        idle: Some(10),
+        idle: 10,
+        clients: 1024,
+        buffers: 32,
         raise: None,
         log: None,
     };

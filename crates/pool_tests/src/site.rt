@@ -12,6 +12,7 @@ use chpw_pool::{Pool, Terms, machine_moment, run_pool_by};
 use std::alloc::Global;
 use std::marker::Brand;
 use std::net::{Net, OpenListener, TcpListener, TcpStream};
+use std::os::fd::AsRawFd;
 use std::process::Abort;
 use std::sync::Wait;
 use std::test::Fail;
@@ -48,20 +49,16 @@ pub struct Site<'a, T: Clock, L: OpenListener<Stream = TcpStream>> {
     ghost some: { (1 ≤ workers) × (workers ≤ 16) },
 }
 
-/// So many connections, without a limit of time.
+/// So many connections, with the bounds that are usual.
 pub fn terms(connections: u32) -> Terms {
-    Terms {
-        seed: [7; 32],
-        connections,
-        idle: None,
-    }
+    Terms::usual([7; 32], connections)
 }
 
 /// Runs the pool beside its clients, and all connections are served.
 pub fn serve_all<
     R: Machine,
     T: Clock + Sync,
-    L: OpenListener<Stream = TcpStream> + Sync,
+    L: OpenListener<Stream = TcpStream> + AsRawFd + Sync,
     K: Clients<R> + Sync,
 >(rt: &R, alloc: Global, site: &Site<'_, T, L>, clients: &K) -> Result<(), Fail> {
     let pool = run(rt, alloc, site, clients)?;
@@ -73,7 +70,7 @@ pub fn serve_all<
 pub fn run<
     R: Machine,
     T: Clock + Sync,
-    L: OpenListener<Stream = TcpStream> + Sync,
+    L: OpenListener<Stream = TcpStream> + AsRawFd + Sync,
     K: Clients<R> + Sync,
 >(rt: &R, alloc: Global, site: &Site<'_, T, L>, clients: &K) -> Result<Pool, Fail> {
     let (service, table) = opening(alloc, 100)?;
@@ -85,7 +82,7 @@ fn run_at<
     D: DeskName + Send + Sync,
     R: Machine,
     T: Clock + Sync,
-    L: OpenListener<Stream = TcpStream> + Sync,
+    L: OpenListener<Stream = TcpStream> + AsRawFd + Sync,
     K: Clients<R> + Sync,
 >(
     rt: &R,

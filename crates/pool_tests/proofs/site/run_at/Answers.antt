@@ -17,8 +17,8 @@ use Rattle.chpw_journal.specs.contracts.memory_sink.MemorySinkJournalSink.TheImp
 use Rattle.chpw_journal.proofs.memory_sink.MemorySink.TheSendSync as memory
 use Rattle.chpw_messages.specs.contracts.service.Service as Service
 use Rattle.chpw_messages.proofs.service.Service.TheSendSync as service
-use Rattle.chpw_pool.specs.contracts.pool.Terms as Terms
-use Rattle.chpw_pool.proofs.pool.Terms.TheSendSync as terms
+use Rattle.chpw_pool.specs.contracts.terms.Terms as Terms
+use Rattle.chpw_pool.proofs.terms.Terms.TheSendSync as terms
 use Rattle.pool_tests.proofs.SendLemmas.{eight_send}
 use Rattle.pool_tests.proofs.site.run_at.Goals as goal
 

@@ -1,0 +1,23 @@
+-- What the lines of a log are appended to.
+use Rattle.std.specs.Prelude.{ℕ, ◌==◌, List, [], ◌∷◌, ◌++◌, Bool, true, false, not, ◌&&◌, Option, Some, None, if◌then◌else◌}
+use Rattle.chpw_service.specs.declared.sheets.Kind.{Kind}
+use Rattle.chpw_service.specs.declared.sheets.Kind.TheVariants.{Missing, File, Device, Other}
+
+-- a log can be here
+abbrev pub is_taken : Kind → Bool
+is_taken Missing = true
+is_taken File = true
+is_taken Device = true
+is_taken Other = false
+
+abbrev pub is_newline : Option ℕ → Bool
+is_newline None = false
+is_newline (Some byte) = byte == 10
+
+-- a file of so many bytes, of which this is the last, ends within a line
+abbrev pub is_begun : ℕ → Option ℕ → Bool
+is_begun length last = not (length == 0) && not (is_newline last)
+
+-- a line, behind the end of one that isn't whole
+abbrev pub ended : Bool → List ℕ → List ℕ
+ended torn line = if torn then 10 ∷ line else line

@@ -1,0 +1,63 @@
+//! What a service that goes on tells on standard error, each once.
+ghost use Rattle.std.specs.Prelude.{◌≡◌, ◌-◌, max, not, true};
+
+use std::fmt;
+
+/// What went wrong, displayed as the line that reports it.
+#[derive(Clone, Copy, Drop)]
+pub(crate) enum Notice<'a> {
+    /// A line of the log at this path is lost.
+    LogLost(&'a str),
+    /// The journal at this path failed.
+    JournalFailed(&'a str),
+    /// A line on standard output is lost.
+    OutputLost,
+    /// So many messages more had waited too long for their worker.
+    Expired(u32),
+}
+
+impl fmt::Display for Notice<'_> {
+    ghost use Rattle.std.specs.Prelude.{Some};
+    ghost use Rattle.chpw_service.specs.Notices.{notice_line};
+
+    ghost output = { λ notice. Some (notice_line notice) };
+
+    fn fmt<W: fmt::Write>(&self, f: &mut fmt::Formatter<W>) -> fmt::Result {
+        match self {
+            Notice::LogLost(log) => write!(f, "{log}: a line of the log is lost, and maybe more"),
+            Notice::JournalFailed(journal) => {
+                write!(
+                    f,
+                    "{journal}: journal failed: no change is taken until a restart"
+                )
+            }
+            Notice::OutputLost => { f.write_str("standard output: a line is lost, and maybe more") }
+            Notice::Expired(count) => {
+                write!(
+                    f,
+                    "messages dropped that waited 5 seconds for a worker: {count}"
+                )
+            }
+        }
+    }
+}
+
+/// Notes what is told once; whether it is to be told.
+pub(crate) fn is_first(told: &mut bool) -> bool
+    ensures once { result ≡ not told.old }
+    ensures told { told.new ≡ true }
+{
+    let first = !*told;
+    *told = true;
+    first
+}
+
+/// How many there are more than were reported; all of them count as reported then.
+pub(crate) fn unreported(count: u32, reported: &mut u32) -> u32
+    ensures more { result ≡ count - reported.old }
+    ensures reported { reported.new ≡ max reported.old count }
+{
+    let more = count.saturating_sub(*reported);
+    *reported = count.max(*reported);
+    more
+}

@@ -1,0 +1,140 @@
+//! What the lines of a log are appended to.
+ghost use Rattle.std.specs.Prelude.{◌≡◌, true};
+ghost use Rattle.std.specs.Io.KnownBytes.{Appends};
+ghost use Rattle.chpw_service.specs.Sheets.{ended, is_begun, is_taken};
+
+use std::fs::{self, File, Files, OpenOptions};
+use std::io::{self, ErrorKind, Write};
+use std::os::unix::fs::{FileExt, FileTypeExt, OpenOptionsExt};
+use std::str;
+
+/// What stands at a path.
+#[derive(Clone, Copy, Drop)]
+pub(crate) enum Kind {
+    /// Nothing that can be looked at.
+    Missing,
+    /// A regular file.
+    File,
+    /// A character device.
+    Device,
+    /// A folder, a pipe, a socket or a disk.
+    Other,
+}
+
+/// Where lines go.
+#[derive(Drop)]
+pub(crate) enum Output {
+    File(File),
+    StandardError,
+}
+
+/// An output, and whether the line that it ends with isn't whole.
+#[derive(Drop)]
+pub(crate) struct Sheet {
+    output: Output,
+    torn: bool,
+}
+
+impl Sheet {
+    /// The file at a path, or standard error for `-`. Where there is no file it is made, readable and writable
+    /// by its owner alone. A pipe would make its openers wait, and is refused before it is opened.
+    pub(crate) fn at<R: Files<File = File>>(rt: &R, path: &str) -> io::Result<Sheet> {
+        if path == "-" {
+            return Ok(Sheet {
+                output: Output::StandardError,
+                torn: false,
+            });
+        }
+        if !takes_lines(kind_of(rt, path)) {
+            return Err(io::Error::from(ErrorKind::InvalidInput));
+        }
+        let mut how = OpenOptions::new();
+        how.append(true).create(true).mode(0o600);
+        let file = how.open(rt, path)?;
+        let torn = is_torn(rt, path, &file);
+        Ok(Sheet {
+            output: Output::File(file),
+            torn,
+        })
+    }
+
+    /// Appends a line, behind a newline where the last one isn't whole; whether it stands there whole.
+    pub(crate) fn append<R: Eprint>(&mut self, rt: &R, line: &[u8]) -> bool {
+        let whole = match &mut self.output {
+            Output::File(file) => write_line(file, self.torn, line),
+            Output::StandardError => print_line(rt, self.torn, line),
+        };
+        self.torn = !whole;
+        whole
+    }
+}
+
+fn kind_of<R: Files>(rt: &R, path: &str) -> Kind {
+    let Ok(metadata) = fs::metadata(rt, path) else {
+        return Kind::Missing;
+    };
+    let kind = metadata.file_type();
+    if kind.is_file() {
+        Kind::File
+    } else if kind.is_char_device() {
+        Kind::Device
+    } else {
+        Kind::Other
+    }
+}
+
+// Whether a log can be there.
+fn takes_lines(kind: Kind) -> bool
+    ensures value { result ≡ is_taken kind }
+{
+    match kind {
+        Kind::Missing | Kind::File | Kind::Device => true,
+        Kind::Other => false,
+    }
+}
+
+// Whether the last line of an open file isn't whole. Where its last byte can't be read it may not be.
+fn is_torn<R: Files<File = File>>(rt: &R, path: &str, file: &File) -> bool {
+    let length = match file.metadata() {
+        Ok(metadata) => metadata.len(),
+        Err(_) => 0,
+    };
+    begins_torn(length, last_byte(rt, path, length))
+}
+
+// Whether a file of so many bytes, of which this is the last, ends within a line.
+fn begins_torn(length: u64, last: Option<u8>) -> bool
+    ensures value { result ≡ is_begun length last }
+{
+    length != 0 && last != Some(b'\n')
+}
+
+// The last byte of a file of this length.
+fn last_byte<R: Files<File = File>>(rt: &R, path: &str, length: u64) -> Option<u8> {
+    let place = length.checked_sub(1)?;
+    let file = File::open(rt, path).ok()?;
+    let mut last = [0];
+    match file.read_at(&mut last, place) {
+        Ok(1) => Some(last[0]),
+        _ => None,
+    }
+}
+
+// Writes a line, behind a newline where one is wanted; whether it is written whole.
+fn write_line<W: Write>(writer: &mut W, torn: bool, line: &[u8]) -> bool
+    ensures whole { result ≡ true
+        → Appends (W.contents writer.old) (W.contents writer.new) (ended torn line.now) }
+{
+    if torn && writer.write_all(b"\n").is_err() {
+        return false;
+    }
+    writer.write_all(line).is_ok()
+}
+
+// The same on standard error.
+fn print_line<R: Eprint>(rt: &R, torn: bool, line: &[u8]) -> bool {
+    if torn && rt.eprint("\n").is_err() {
+        return false;
+    }
+    rt.eprint(str::from_utf8(line).unwrap_or("\n")).is_ok()
+}

@@ -1,0 +1,35 @@
+use mir.Syntax.{named}
+use denote.Param.{param}
+use denote.Param.Send.{sendable, shr_send, mut_send, shr_sync}
+use denote.Struct.Field.{shr_ref_field}
+use Rattle.std.specs.contracts.alloc.Global as Global
+use Rattle.std.proofs.alloc.Global.TheSendSync as global
+use Rattle.std.specs.contracts.vec.Vec as Vec
+use Rattle.std.specs.contracts.impls.GlobalAllocator.TheImpl as allocator
+use Rattle.std.proofs.Crossing
+use Rattle.std.proofs.vec.Vec.TheSendSync as vec
+use Rattle.std.specs.contracts.net.tcp.TcpListener as TcpListener
+use Rattle.std.proofs.net.tcp.TcpListener.TheSendSync as listener
+use Rattle.chpw_book.specs.contracts.pass.Pass as Pass
+use Rattle.chpw_book.specs.contracts.desk.Desk as Desk
+use Rattle.chpw_book.proofs.pass.Pass.TheSendSync as pass
+use Rattle.chpw_book.proofs.SendLemmas.{desk_sync}
+use Rattle.chpw_journal.specs.contracts.memory_sink.MemorySink as MemorySink
+use Rattle.chpw_journal.specs.contracts.memory_sink.MemorySinkJournalSink.TheImpl as sink
+use Rattle.chpw_journal.proofs.memory_sink.MemorySink.TheSendSync as memory
+use Rattle.chpw_messages.specs.contracts.service.Service as Service
+use Rattle.chpw_messages.proofs.service.Service.TheSendSync as service
+use Rattle.pool_tests.specs.contracts.gates.UntilTold as UntilTold
+use Rattle.pool_tests.proofs.gates.UntilTold.TheSendSync as gate
+use Rattle.pool_tests.proofs.SendLemmas.{seven_send}
+use Rattle.pool_tests.proofs.given_up.held_pool.Goals as goal
+
+pub join-requires-send-F : goal.join-requires-send-F
+join-requires-send-F g c κs within =
+    let desk = Desk.the_row (param 0 g.row.D) MemorySink.the_row g.D.DeskName g.D.Ledger g.D.ListName sink.ghosts in
+    let passes = Vec.the_row (Pass.the_row (param 0 g.row.D) g.D.DeskName g.D.Ledger g.D.ListName) Global.the_row allocator.ghosts in
+    let gates = Vec.the_row (UntilTold.the_row (record { mir = named 7; lft = κs.1.1.1.1.1.1.1.0 }) (param 1 g.row.R)) Global.the_row allocator.ghosts in
+    let place = (shr_ref_field (record { mir = named 9; lft = κs.1.1.1.1.1.1.1.1.1.0 }) (param 1 g.row.R) tt).row in
+    seven_send _ _ _ _ gates _ _ _ _ _ (mut_send _ _ passes (search (vec.the_send, pass.the_send, global.the_send, Crossing.crosses, sendable) depth 20)) (search (vec.the_send, gate.the_send, global.the_send, Crossing.crosses, sendable) depth 20)
+    (shr_send _ _ place (shr_sync _ _ (param 1 g.row.R) (search sendable))) (shr_send _ _ Global.the_row (search (global.the_sync, sendable))) (shr_send _ _ TcpListener.the_row (search (listener.the_sync, sendable)))
+    (shr_send _ _ Service.the_row (search (service.the_sync, sendable))) (shr_send _ _ desk (search (desk_sync, memory.the_send, sendable)))

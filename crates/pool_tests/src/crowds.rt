@@ -1,0 +1,216 @@
+//! Clients beside one another: silent, slow, many, and more than may be.
+use crate::realm::CHANGED;
+use crate::site::{
+    Clients, Machine, Site, connect, expect_line, reply, requests, send, serve_all, terms,
+};
+use chpw_client::Sent;
+use chpw_pool::Terms;
+use std::alloc::Global;
+use std::io::{ErrorKind, Read, Write};
+use std::net::{Net, Shutdown, TcpListener, TcpStream};
+use std::process::Abort;
+use std::test::Fail;
+use std::thread;
+use std::time::{Clock, Duration, Instant};
+
+// A pool of so many workers on these terms, beside these clients.
+fn beside<R: Machine, K: Clients<R> + Sync>(
+    rt: &R,
+    alloc: Global,
+    workers: u8,
+    terms: Terms,
+    clients: &K,
+) -> Result<(), Fail> {
+    assert!(rt; 1 <= workers && workers <= 16);
+    let listener = TcpListener::bind(rt, ("127.0.0.1", 0u16))?;
+    let port = listener.local_addr()?.port();
+    let site = Site {
+        time: rt,
+        listener: &listener,
+        port,
+        workers,
+        terms,
+    };
+    serve_all(rt, alloc, &site, clients)
+}
+
+// Whether the service ends a connection without an answer.
+fn is_ended(mut stream: &TcpStream) -> bool {
+    match stream.read(&mut [0; 1]) {
+        Ok(count) => count == 0,
+        Err(error) => error.kind() == ErrorKind::ConnectionReset,
+    }
+}
+
+// Silent clients, a half message, and one that asks behind them all at the only worker. They leave when it has its
+// answer.
+#[derive(Drop)]
+struct BehindSilentOnes {
+    sent: Sent,
+}
+
+impl<R: Net<Stream = TcpStream> + Abort> Clients<R> for BehindSilentOnes {
+    fn ask(&self, rt: &R, alloc: Global, port: u16) {
+        let mut silent = Vec::new(alloc);
+        for number in 0..33u8 {
+            let stream = connect(rt, port);
+            if number % 2 == 0 {
+                assert!(rt; (&stream).write_all(&[0, 0, 1, 0, 1]).is_ok());
+            }
+            silent.push(stream).ok().expect(rt, "memory");
+        }
+        let stream = connect(rt, port);
+        send(rt, &stream, self.sent.message.as_slice());
+        expect_line(rt, alloc, &self.sent, &stream, CHANGED);
+    }
+}
+
+#[test]
+fn thirty_four_connections_at_one_worker(rt: HostRuntime) -> Result<(), Fail> {
+    let (sent, _) = requests(&rt, rt.alloc())?;
+    beside(&rt, rt.alloc(), 1, terms(34), &BehindSilentOnes { sent })
+}
+
+// One sends a byte each tenth of a second, and is ended after a second as a whole; another is answered meanwhile.
+#[derive(Drop)]
+struct BesideOneThatDrips {
+    sent: Sent,
+}
+
+impl<R: Net<Stream = TcpStream> + Clock + Abort> Clients<R> for BesideOneThatDrips {
+    fn ask(&self, rt: &R, alloc: Global, port: u16) {
+        let slow = connect(rt, port);
+        let start = Instant::now(rt).ok().expect(rt, "a clock");
+        assert!(rt; (&slow).write_all(&[0, 0, 255, 255]).is_ok());
+        let mut taken = 0u32;
+        for turn in 0..40u8 {
+            if (&slow).write_all(&[0]).is_err() {
+                break;
+            }
+            taken = u32::from(turn);
+            thread::sleep(rt, Duration::from_millis(100));
+            if turn == 2 {
+                let stream = connect(rt, port);
+                send(rt, &stream, self.sent.message.as_slice());
+                expect_line(rt, alloc, &self.sent, &stream, CHANGED);
+            }
+        }
+        let spent = start.elapsed(rt).ok().expect(rt, "a clock");
+        assert!(rt;
+            is_ended(&slow) || taken < 39,
+            "a connection that drips goes on"
+        );
+        assert!(rt; spent < Duration::from_secs(5));
+    }
+}
+
+#[test]
+fn a_client_that_drips(rt: HostRuntime) -> Result<(), Fail> {
+    let (sent, _) = requests(&rt, rt.alloc())?;
+    let terms = Terms {
+        idle: 1,
+        ..terms(2)
+    };
+    beside(&rt, rt.alloc(), 1, terms, &BesideOneThatDrips { sent })
+}
+
+// Two may be there at a time: for the third the first one ends, which has waited the longest.
+#[derive(Drop)]
+struct OneTooMany {
+    one: Sent,
+    two: Sent,
+}
+
+impl<R: Net<Stream = TcpStream> + Abort> Clients<R> for OneTooMany {
+    fn ask(&self, rt: &R, alloc: Global, port: u16) {
+        let first = connect(rt, port);
+        let second = connect(rt, port);
+        // An answer shows that both are there.
+        send(rt, &second, self.one.message.as_slice());
+        expect_line(rt, alloc, &self.one, &second, CHANGED);
+        let third = connect(rt, port);
+        send(rt, &third, self.two.message.as_slice());
+        expect_line(rt, alloc, &self.two, &third, CHANGED);
+        assert!(rt; is_ended(&first));
+        send(rt, &second, &[0, 6, 0xff, 0x80, 0, 0]);
+        let _ = reply(rt, alloc, &second);
+    }
+}
+
+#[test]
+fn more_clients_than_may_be(rt: HostRuntime) -> Result<(), Fail> {
+    let (one, two) = requests(&rt, rt.alloc())?;
+    let terms = Terms {
+        clients: 2,
+        ..terms(3)
+    };
+    beside(&rt, rt.alloc(), 1, terms, &OneTooMany { one, two })
+}
+
+// Twenty clients have each announced 65,535 bytes and sent all of them but one: that is more than a MiB, so those
+// that have waited the longest are ended.
+#[derive(Drop)]
+struct TooMuchAtOnce {
+    sent: Sent,
+}
+
+impl<R: Net<Stream = TcpStream> + Abort> Clients<R> for TooMuchAtOnce {
+    fn ask(&self, rt: &R, alloc: Global, port: u16) {
+        let mut held = Vec::new(alloc);
+        for _ in 0..20u8 {
+            let stream = connect(rt, port);
+            assert!(rt; (&stream).write_all(&[0, 0, 255, 255]).is_ok());
+            for _ in 0..63u8 {
+                if (&stream).write_all(&[0; 1024]).is_err() {
+                    break;
+                }
+            }
+            held.push(stream).ok().expect(rt, "memory");
+        }
+        let stream = connect(rt, port);
+        send(rt, &stream, self.sent.message.as_slice());
+        expect_line(rt, alloc, &self.sent, &stream, CHANGED);
+        assert!(rt; held.first().is_some_and(|first| is_ended(first)));
+    }
+}
+
+#[test]
+fn more_bytes_than_may_be(rt: HostRuntime) -> Result<(), Fail> {
+    let (sent, _) = requests(&rt, rt.alloc())?;
+    let terms = Terms {
+        buffers: 1,
+        ..terms(21)
+    };
+    beside(&rt, rt.alloc(), 1, terms, &TooMuchAtOnce { sent })
+}
+
+// One sends many messages, and reads no answer until another one has its own.
+#[derive(Drop)]
+struct OneThatReadsNothing {
+    sent: Sent,
+}
+
+const UNREAD: u32 = 300;
+
+impl<R: Net<Stream = TcpStream> + Abort> Clients<R> for OneThatReadsNothing {
+    fn ask(&self, rt: &R, alloc: Global, port: u16) {
+        let first = connect(rt, port);
+        let second = connect(rt, port);
+        for _ in 0..UNREAD {
+            send(rt, &first, &[0, 6, 0xff, 0x80, 0, 0]);
+        }
+        send(rt, &second, self.sent.message.as_slice());
+        expect_line(rt, alloc, &self.sent, &second, CHANGED);
+        assert!(rt; first.shutdown(Shutdown::Write).is_ok());
+        for _ in 0..UNREAD {
+            let _ = reply(rt, alloc, &first);
+        }
+        assert!(rt; is_ended(&first));
+    }
+}
+
+#[test]
+fn a_client_that_reads_late(rt: HostRuntime) -> Result<(), Fail> {
+    let (sent, _) = requests(&rt, rt.alloc())?;
+    beside(&rt, rt.alloc(), 1, terms(2), &OneThatReadsNothing { sent })
+}
