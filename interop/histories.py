@@ -5,14 +5,17 @@
 
 `serve` takes 1,000 decisions into a history (max_entries = 1000). Four clients change their passwords
 until 3,200 requests were decided, and ask in between what is refused: a password of theirs again, and
-an earlier message again. Each has a principal of its own, and sends five messages at once over a
-connection that it opens anew now and then, and wherever the service has ended it. What wasn't
-answered, or was answered `history full`, it sends again.
+an earlier message again. Each has a principal of its own, and sends five messages at once. Two keep
+one connection from the first message to the last, the others open a new one now and then. What was
+answered `history full` is sent again, over the same connection.
 
-Each message has to be decided once and answered once. The service prints `entries 1000 changes N` for
-each full history, and at the end the same of the last one; it goes on without a quiet time; what was
-accepted in the first history is a replay in each later one. All accepted changes, and no others, are in
-the journal, in order, with versions and keys. The last line is `cases N failed N`.
+A full history ends no connection. What comes behind its last entry is decided in the next one; only
+what its workers had under way may be told `history full`, one message of each. Each other message has
+to be decided once and answered once, as what the client was answered before has it. The service prints
+`entries 1000 changes N` for each full history, and at the end the same of the last one; it goes on
+without a quiet time; what was accepted in the first history is a replay in each later one. All accepted
+changes, and no others, are in the journal, in order, with versions and keys. The last line is
+`cases N failed N`.
 """
 
 import argparse
@@ -35,9 +38,10 @@ CLIENTS = 4
 WORKERS = 4
 ITERATIONS = 16
 CONNECTIONS = 1_000
-AT_ONCE = 5
-# messages over one connection
+# messages over one connection of a client that opens new ones
 A_CONNECTION = 20
+# newest keys of which no password may be taken again, as the configuration has it
+DEPTH = 3
 # answers `history full` to one client: with more of them no history follows
 MOST_FULL = 100
 
@@ -68,14 +72,17 @@ class Doors:
 class Client(threading.Thread):
     """Asks for changes, and counts what was decided."""
 
-    def __init__(self, name, doors):
+    def __init__(self, name, doors, a_connection):
         super().__init__()
         self.name = name
         self.doors = doors
+        # messages over one connection; over the only one where it is none
+        self.a_connection = a_connection
         self.connection = None
         self.sent_here = 0
         self.asked = 0
-        # passwords of the changes that were accepted, in order
+        # numbers of the requests that were decided, and passwords of the changes that were accepted, in order
+        self.numbers = set()
         self.changed = []
         self.decided = self.full = self.ended = 0
         self.wrong = []
@@ -95,50 +102,54 @@ class Client(threading.Thread):
         self.connection = None
 
     def request(self, password):
+        """A request, and the password that it asks for."""
         self.asked += 1
-        return asking.request_now(self.name, password, self.asked)
+        return asking.request_now(self.name, password, self.asked), password
 
     def five(self):
-        """Requests with what each is to be answered, and the password where that is a change."""
-        passwords = [f"{self.name}-Pass{self.asked + number}" for number in range(3)]
-        changes = [(self.request(password), CHANGED, password) for password in passwords]
+        """Three changes, the last one's password again, and the second one again."""
+        changes = [self.request(f"{self.name}-Pass{self.asked + 1}") for _ in range(3)]
         self.first = self.first or changes[0][0]
-        used = self.request(passwords[-1]), USED, None
-        replay = changes[1][0], REPLAYED, None
-        return [*changes, used, replay]
+        return [*changes, self.request(changes[-1][1]), changes[1]]
 
-    def ask(self, wanted):
-        """Until each was decided: what follows one that wasn't wasn't, either."""
-        while wanted:
-            if self.connection is None or self.sent_here >= A_CONNECTION:
+    def ask(self, requests):
+        """Until each was decided."""
+        while requests:
+            if self.connection is None or self.a_connection and self.sent_here >= self.a_connection:
                 self.leave()
                 self.connection, self.sent_here = self.doors.open(), 0
-            self.connection.send(*(request for request, _, _ in wanted))
-            self.sent_here += len(wanted)
-            wanted = self.hear(wanted)
+            self.connection.send(*(request for request, _ in requests))
+            self.sent_here += len(requests)
+            requests = self.hear(requests)
 
-    def hear(self, wanted):
+    def hear(self, requests):
         """Those that weren't decided."""
         left = []
-        for request, answer, password in wanted:
+        for request, password in requests:
             reply = self.connection.reply() if self.connection else None
-            told = asking.said(request, reply) if reply else None
-            if told is None and self.connection:
+            if reply is None and self.connection:
                 self.ended += 1
                 self.leave()
+            told = asking.said(request, reply) if reply else None
             if told is None or told == FULL:
                 self.full += told == FULL
-                left.append((request, answer, password))
-                continue
-            self.note(told, answer, password)
-        if self.full > MOST_FULL:
-            raise ValueError(f"{self.full} times {FULL}")
+                left.append((request, password))
+            else:
+                self.note(request.cusec, password, told)
+        if self.full + self.ended > MOST_FULL:
+            raise ValueError(f"{self.full} times {FULL}, {self.ended} connections ended")
         return left
 
-    def note(self, told, answer, password):
+    def note(self, number, password, told):
+        """What a request was told, beside what it is to be told after those before it."""
+        if number in self.numbers:
+            wanted = REPLAYED
+        else:
+            wanted = USED if password in self.changed[-DEPTH:] else CHANGED
         self.decided += 1
-        if told != answer:
-            self.wrong.append(f"{self.name}: {told} and not {answer}")
+        self.numbers.add(number)
+        if told != wanted:
+            self.wrong.append(f"{self.name}: {told} and not {wanted}")
         if told == CHANGED:
             self.changed.append(password)
 
@@ -153,7 +164,7 @@ class Histories(threading.Thread):
         self.clients = clients
         self.lines = []
         self.told = []
-        self.full = 0
+        self.full = self.ended = 0
 
     def run(self):
         for line in self.server.process.stdout:
@@ -165,16 +176,17 @@ class Histories(threading.Thread):
                     self.told.append(repr(fault))
 
     def tell_again(self):
-        """What the first message is told; until it is decided."""
-        while True:
-            connection = self.doors.open()
+        """What the first message is told; over one connection until it is decided."""
+        connection = self.doors.open()
+        told = FULL
+        while told == FULL and self.full <= MOST_FULL:
             connection.send(self.clients[0].first)
             reply = connection.reply()
-            connection.close()
-            told = asking.said(self.clients[0].first, reply) if reply else FULL
+            told = asking.said(self.clients[0].first, reply) if reply else None
             self.full += told == FULL
-            if told != FULL or self.full > MOST_FULL:
-                return told
+            self.ended += told is None
+        connection.close()
+        return told
 
 
 def keys_of(name, password):
@@ -200,7 +212,7 @@ def cases(report, server):
     )
     server.start(connections=CONNECTIONS)
     doors = Doors(server.port)
-    clients = [Client(name, doors) for name in names]
+    clients = [Client(name, doors, A_CONNECTION if number % 2 else None) for number, name in enumerate(names)]
     histories = Histories(server, doors, clients)
     for thread in [*clients, histories]:
         thread.start()
@@ -214,8 +226,9 @@ def cases(report, server):
 
 def tell(report, server, clients, histories):
     full = sum(client.full for client in clients) + histories.full
-    ended = sum(client.ended for client in clients)
-    print(f"{full} answers `history full`, {ended} connections ended early")
+    most = WORKERS * HISTORIES
+    report.tell(f"{full} answers `history full`, at the most {most}", full <= most, True)
+    report.tell("connections that the service ended", sum(client.ended for client in clients) + histories.ended, 0)
     report.tell("what was answered otherwise", [it for c in clients for it in c.wrong], [])
     report.tell("told again in later histories", histories.told, [REPLAYED] * HISTORIES)
     words = [line.split() for line in histories.lines]
