@@ -70,7 +70,8 @@ def full_disk(report, server):
     answers = [change(server, number) for number in range(6)]
     wanted = ["code 0 password changed"] * 3 + ["code 2 journal failed"] * 3
     report.tell("six changes and a disk for three", answers, wanted)
-    report.tell("serve's last line", server.last_words(), "entries 6 changes 3")
+    failed = f"{server.journal}: journal failed: no change is taken until a restart"
+    report.tell("serve's last line", server.last_words(), f"entries 6 changes 3\n{failed}")
     records, torn = read_journal(server.journal.read_bytes())
     report.tell("in the journal", ([r.kvno for r in records], len(torn)), ([2, 3, 4], 20))
     server.start(connections=1)

@@ -13,22 +13,20 @@ use std::test::Fail;
 use std::thread;
 use std::time::{Clock, Duration, Instant};
 
-// A pool of so many workers on these terms, beside these clients.
+// A pool of one worker on these terms, beside these clients.
 fn beside<R: Machine, K: Clients<R> + Sync>(
     rt: &R,
     alloc: Global,
-    workers: u8,
+    listener: &TcpListener,
     terms: Terms,
     clients: &K,
 ) -> Result<(), Fail> {
-    assert!(rt; 1 <= workers && workers <= 16);
-    let listener = TcpListener::bind(rt, ("127.0.0.1", 0u16))?;
     let port = listener.local_addr()?.port();
     let site = Site {
         time: rt,
-        listener: &listener,
+        listener,
         port,
-        workers,
+        workers: 1,
         terms,
     };
     serve_all(rt, alloc, &site, clients)
@@ -68,7 +66,14 @@ impl<R: Net<Stream = TcpStream> + Abort> Clients<R> for BehindSilentOnes {
 #[test]
 fn thirty_four_connections_at_one_worker(rt: HostRuntime) -> Result<(), Fail> {
     let (sent, _) = requests(&rt, rt.alloc())?;
-    beside(&rt, rt.alloc(), 1, terms(34), &BehindSilentOnes { sent })
+    let listener = TcpListener::bind(&rt, ("127.0.0.1", 0u16))?;
+    beside(
+        &rt,
+        rt.alloc(),
+        &listener,
+        terms(34),
+        &BehindSilentOnes { sent },
+    )
 }
 
 // One sends a byte each tenth of a second, and is ended after a second as a whole; another is answered meanwhile.
@@ -107,11 +112,18 @@ impl<R: Net<Stream = TcpStream> + Clock + Abort> Clients<R> for BesideOneThatDri
 #[test]
 fn a_client_that_drips(rt: HostRuntime) -> Result<(), Fail> {
     let (sent, _) = requests(&rt, rt.alloc())?;
+    let listener = TcpListener::bind(&rt, ("127.0.0.1", 0u16))?;
     let terms = Terms {
         idle: 1,
         ..terms(2)
     };
-    beside(&rt, rt.alloc(), 1, terms, &BesideOneThatDrips { sent })
+    beside(
+        &rt,
+        rt.alloc(),
+        &listener,
+        terms,
+        &BesideOneThatDrips { sent },
+    )
 }
 
 // Two may be there at a time: for the third the first one ends, which has waited the longest.
@@ -140,11 +152,12 @@ impl<R: Net<Stream = TcpStream> + Abort> Clients<R> for OneTooMany {
 #[test]
 fn more_clients_than_may_be(rt: HostRuntime) -> Result<(), Fail> {
     let (one, two) = requests(&rt, rt.alloc())?;
+    let listener = TcpListener::bind(&rt, ("127.0.0.1", 0u16))?;
     let terms = Terms {
         clients: 2,
         ..terms(3)
     };
-    beside(&rt, rt.alloc(), 1, terms, &OneTooMany { one, two })
+    beside(&rt, rt.alloc(), &listener, terms, &OneTooMany { one, two })
 }
 
 // Twenty clients have each announced 65,535 bytes and sent all of them but one: that is more than a MiB, so those
@@ -177,11 +190,12 @@ impl<R: Net<Stream = TcpStream> + Abort> Clients<R> for TooMuchAtOnce {
 #[test]
 fn more_bytes_than_may_be(rt: HostRuntime) -> Result<(), Fail> {
     let (sent, _) = requests(&rt, rt.alloc())?;
+    let listener = TcpListener::bind(&rt, ("127.0.0.1", 0u16))?;
     let terms = Terms {
         buffers: 1,
         ..terms(21)
     };
-    beside(&rt, rt.alloc(), 1, terms, &TooMuchAtOnce { sent })
+    beside(&rt, rt.alloc(), &listener, terms, &TooMuchAtOnce { sent })
 }
 
 // One sends many messages, and reads no answer until another one has its own.
@@ -212,5 +226,12 @@ impl<R: Net<Stream = TcpStream> + Abort> Clients<R> for OneThatReadsNothing {
 #[test]
 fn a_client_that_reads_late(rt: HostRuntime) -> Result<(), Fail> {
     let (sent, _) = requests(&rt, rt.alloc())?;
-    beside(&rt, rt.alloc(), 1, terms(2), &OneThatReadsNothing { sent })
+    let listener = TcpListener::bind(&rt, ("127.0.0.1", 0u16))?;
+    beside(
+        &rt,
+        rt.alloc(),
+        &listener,
+        terms(2),
+        &OneThatReadsNothing { sent },
+    )
 }

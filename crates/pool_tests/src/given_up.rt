@@ -12,7 +12,7 @@ use chpw_messages::Service;
 use chpw_pool::{Pool, run_pool_with};
 use std::alloc::Global;
 use std::marker::Brand;
-use std::net::{TcpListener, TcpStream};
+use std::net::TcpListener;
 use std::sync::Mutex;
 use std::test::Fail;
 use std::thread::{self, join};
@@ -20,30 +20,28 @@ use std::time::Duration;
 
 const ROOM: usize = 1000;
 
-/// How a client gives its request up while the only worker is held.
-#[derive(Clone, Copy, PartialEq, Eq, Debug, Drop)]
-enum GivenUp {
-    /// It resets its connection.
-    Reset,
-    /// It waits, for longer than a message may.
-    Late,
-}
-
 #[test]
 fn a_reset_connection(rt: HostRuntime) -> Result<(), Fail> {
-    given_up(&rt, rt.alloc(), GivenUp::Reset)
+    let listener = TcpListener::bind(&rt, ("127.0.0.1", 0u16))?;
+    given_up(&rt, rt.alloc(), &listener, 0)
 }
 
 #[test]
 fn a_message_that_waits_too_long(rt: HostRuntime) -> Result<(), Fail> {
-    given_up(&rt, rt.alloc(), GivenUp::Late)
+    let listener = TcpListener::bind(&rt, ("127.0.0.1", 0u16))?;
+    given_up(&rt, rt.alloc(), &listener, 5_500)
 }
 
-fn given_up<R: Machine>(rt: &R, alloc: Global, how: GivenUp) -> Result<(), Fail> {
+// Alice waits for so many milliseconds before she gives her request up.
+fn given_up<R: Machine>(
+    rt: &R,
+    alloc: Global,
+    listener: &TcpListener,
+    patience: u64,
+) -> Result<(), Fail> {
     let (service, table) = opening(alloc, 100)?;
-    let listener = TcpListener::bind(rt, ("127.0.0.1", 0u16))?;
     let unnamed = UnnamedDesk::of(table, 1);
-    let pool = held_pool::<Brand, R>(rt, alloc, unnamed, &service, &listener, how)?;
+    let pool = held_pool::<Brand, R>(rt, alloc, unnamed, &service, listener, patience)?;
     assert!(rt; pool.served == 3 && pool.fault.is_none());
     Ok(())
 }
@@ -56,7 +54,7 @@ fn held_pool<D: DeskName + Send + Sync, R: Machine>(
     unnamed: UnnamedDesk,
     service: &Service,
     listener: &TcpListener,
-    how: GivenUp,
+    patience: u64,
 ) -> Result<Pool, Fail>
     requires name { IsNamed unnamed D.name D.parts D.book D.root D.workers }
     requires workers { workers_of unnamed ≡ 1 }
@@ -89,19 +87,20 @@ fn held_pool<D: DeskName + Send + Sync, R: Machine>(
                 gates,
             )
         },
-        || ask(rt, alloc, port, told, how, [&alice, &bob]),
+        || ask(rt, alloc, port, told, patience, [&alice, &bob]),
     );
     desk.abandon(rt);
     Ok(pool)
 }
 
-// Alice has an answer unread, so that her end is a reset.
+// Alice has an answer unread, so that her end is a reset. Her message is dropped with her connection, or before, where
+// it has waited for five seconds.
 fn ask<R: Machine>(
     rt: &R,
     alloc: Global,
     port: u16,
     is_told: &Mutex<bool>,
-    how: GivenUp,
+    patience: u64,
     [alice, bob]: [&Sent; 2],
 ) {
     let first = connect(rt, port);
@@ -112,23 +111,12 @@ fn ask<R: Machine>(
     thread::sleep(rt, Duration::from_millis(300));
     send(rt, &first, alice.message.as_slice());
     thread::sleep(rt, Duration::from_millis(300));
-    give_up(rt, first, how);
+    thread::sleep(rt, Duration::from_millis(patience));
+    drop(first);
+    thread::sleep(rt, Duration::from_millis(300));
     *is_told.lock(rt) = true;
     expect_line(rt, alloc, bob, &second, CHANGED);
     let third = connect(rt, port);
     send(rt, &third, alice.message.as_slice());
     expect_line(rt, alloc, alice, &third, CHANGED);
-}
-
-fn give_up<R: Machine>(rt: &R, stream: TcpStream, how: GivenUp) {
-    match how {
-        GivenUp::Reset => {
-            drop(stream);
-            thread::sleep(rt, Duration::from_millis(300));
-        }
-        GivenUp::Late => {
-            thread::sleep(rt, Duration::from_millis(5_500));
-            drop(stream);
-        }
-    }
 }

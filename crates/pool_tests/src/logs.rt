@@ -162,26 +162,56 @@ fn one_file_twice(rt: HostRuntime) -> Result<(), Fail> {
     Ok(())
 }
 
-// A pipe, whose opener would wait, and a folder are no logs. Standard error and /dev/null are.
-#[test]
-fn a_log_that_is_no_file(rt: HostRuntime) -> Result<(), Fail> {
-    let files = Site {
+// Files with this log.
+fn no_file(log: &str) -> Site<'_> {
+    Site {
         config: "no_file.toml",
         seed: "no_file.seed",
         journal: "no_file.journal",
-        log: "no_file.log",
-    };
-    prepare(&rt, &files)?;
-    let alloc = rt.alloc();
-    let (reader, writer) = io::pipe(&rt)?;
-    let pipe = format!(in alloc; "/dev/fd/{}", writer.as_raw_fd())?;
-    for log in [".", pipe.as_str()] {
-        assert_eq!(rt; unwritten(&rt, Site { log, ..files }), log);
+        log,
     }
-    assert!(rt; fs::metadata(&rt, files.journal).is_err());
+}
+
+// Whether a service ends since it can't write this log.
+fn is_refused<
+    R: Files<File = File>
+        + Net<Listener = TcpListener, Stream = TcpStream>
+        + Threads
+        + Wait
+        + Clock
+        + Print
+        + Eprint
+        + AllocGlobal
+        + Sync,
+>(rt: &R, log: &str) -> bool {
+    unwritten(rt, no_file(log)) == log
+}
+
+// A pipe, whose opener would wait, and a folder are no logs.
+#[test]
+fn a_log_that_is_no_file(rt: HostRuntime) -> Result<(), Fail> {
+    let _port = prepare(&rt, &no_file("no_file.log"))?;
+    let (reader, writer) = io::pipe(&rt)?;
+    let pipe = format!(in rt.alloc(); "/dev/fd/{}", writer.as_raw_fd())?;
+    assert!(rt; is_refused(&rt, "."));
+    assert!(rt; is_refused(&rt, pipe.as_str()));
+    assert!(rt; fs::metadata(&rt, "no_file.journal").is_err());
     drop(reader);
+    Ok(())
+}
+
+// Standard error and /dev/null are.
+#[test]
+fn a_log_on_a_device(rt: HostRuntime) -> Result<(), Fail> {
+    let alloc = rt.alloc();
     let sent = request(&rt, alloc, "alice", moment(START), "New-pass2")?;
     for log in ["-", "/dev/null"] {
+        let files = Site {
+            config: "device.toml",
+            seed: "device.seed",
+            journal: "device.journal",
+            log: "device.log",
+        };
         let port = prepare(&rt, &files)?;
         let clock = SetClock::new(START);
         let (served, ()) = join(
