@@ -63,7 +63,7 @@ impl<G: Drop> Engine<G> {
         Ok(Engine {
             posts,
             seed,
-            state: Mutex::new(State::new(connections)),
+            state: Mutex::new(State::new(connections, bounds.bytes)),
             selector: Mutex::new(selector),
             sockets: Mutex::new(sockets),
             waker,

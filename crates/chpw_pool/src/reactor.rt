@@ -199,19 +199,29 @@ impl<'a, R: Wait + Clock, L: OpenListener<Stream = TcpStream> + AsRawFd, G> Reac
                 self.accepting = Accepting::Ready;
             }
         }
-        self.engine.state.lock(self.rt).connections.pass(now);
+        let is_short = self.pass(now);
         for slot in 0..self.sockets.by_slot.len() {
-            if self.is_to_be_looked_at(slot) {
+            if self.is_to_be_looked_at(slot, is_short) {
                 self.drive(slot);
             }
         }
     }
 
+    // Time passes for all connections. Whether a message wasn't read for want of room.
+    fn pass(&self, now: u64) -> bool {
+        let mut state = self.engine.state.lock(self.rt);
+        state.connections.pass(now);
+        let is_short = state.is_short;
+        state.is_short = false;
+        is_short
+    }
+
     // Whether there is something to be done for a connection though nothing came of it.
-    fn is_to_be_looked_at(&self, slot: usize) -> bool {
+    fn is_to_be_looked_at(&self, slot: usize, is_short: bool) -> bool {
         match self.engine.state.lock(self.rt).todo(slot) {
             Todo::Write | Todo::Linger | Todo::Close => true,
-            Todo::Read(_) | Todo::Wait => false,
+            Todo::Read(_) => is_short,
+            Todo::Wait => false,
         }
     }
 

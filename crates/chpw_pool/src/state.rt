@@ -1,9 +1,10 @@
 //! The connections, as reactor and workers see them under their lock.
 
-ghost use Rattle.std.specs.Prelude.{◌≡◌, ◌⊎◌, IfSome, Some, None, true, false};
+ghost use Rattle.std.specs.Prelude.{◌≡◌, ◌≤◌, ◌<◌, ◌/◌, ◌⊎◌, IfSome, Some, None, true, false};
+ghost use Rattle.chpw_connections.specs.Holding.{held_in};
 ghost use Rattle.slab.specs.Slab.{get};
 ghost use Rattle.chpw_connections.specs.Held.{slots_of, bounds_of};
-ghost use Rattle.chpw_connections.specs.Sets.{Happens, queued_at, is_late_in};
+ghost use Rattle.chpw_connections.specs.Sets.{Happens, queued_at, is_late_in, wanted_at};
 ghost use Rattle.chpw_connections.specs.Stages.{came, taken, failed};
 ghost use Rattle.chpw_connections.specs.Room.{HappensWithRoom};
 ghost use Rattle.chpw_pool.specs.Steps.{Takes, TakesNone, Gives, GivesNone};
@@ -22,7 +23,15 @@ pub(crate) struct State {
     pub is_over: bool,
     /// Nobody is there to answer any more.
     pub is_deserted: bool,
+    /// Half of the bytes that connections may hold together.
+    pub half: usize,
+    /// Whether a large message wasn't read since the others hold so much.
+    pub is_short: bool,
 }
+
+/// More bytes than this make a large message. Large ones have half of the room to themselves and no more: so they
+/// don't crowd out those that clients send.
+const LARGE: usize = 4_096;
 
 /// What came of a read or a write.
 #[derive(Clone, Copy, PartialEq, Eq, Debug, Drop)]
@@ -36,13 +45,17 @@ pub(crate) enum Progress {
 }
 
 impl State {
-    /// No connections yet.
-    pub fn new(connections: Connections) -> State {
+    /// No connections yet, which may hold so many bytes.
+    pub fn new(connections: Connections, bytes: usize) -> State
+        ensures half { result.half ≡ bytes / 2 }
+    {
         State {
             connections,
             is_stopped: false,
             is_over: false,
             is_deserted: false,
+            half: bytes / 2,
+            is_short: false,
         }
     }
 
@@ -68,7 +81,8 @@ impl State {
         self.connections.take(worker, now)
     }
 
-    /// Reads what is wanted of a connection's message, as far as it is there and the buffer takes it.
+    /// Reads what is wanted of a connection's message, as far as it is there and the buffer takes it. A large message
+    /// is left where it is while all of them hold half of what they may.
     pub fn read<I: Read>(
         &mut self,
         slot: usize,
@@ -80,9 +94,16 @@ impl State {
             (I.remaining reader.old) (I.remaining reader.new)
             ⊎ TakesNone (slots_of self.old.connections) (slots_of self.new.connections) slot
             (I.remaining reader.old) (I.remaining reader.new) }
+        ensures large { 4096 < wanted_at (get (slots_of self.old.connections) slot) → self.old.half ≤ held_in (slots_of self.old.connections)
+            → slots_of self.new.connections ≡ slots_of self.old.connections }
     {
-        let most = buffer.len().min(self.connections.wanted(slot));
+        let wanted = self.connections.wanted(slot);
+        let most = buffer.len().min(wanted);
         if most == 0 {
+            return Progress::None;
+        }
+        if wanted > LARGE && self.connections.held() >= self.half {
+            self.is_short = true;
             return Progress::None;
         }
         match reader.read(&mut buffer[..most]) {
