@@ -160,8 +160,40 @@ fn more_clients_than_may_be(rt: HostRuntime) -> Result<(), Fail> {
     beside(&rt, rt.alloc(), &listener, terms, &OneTooMany { one, two })
 }
 
-// Twenty clients have each announced 65,535 bytes and sent all of them but one: that is more than a MiB, so those
-// that have waited the longest are ended.
+// So many clients have each announced so many bytes and sent all of them but one.
+fn almost<R: Net<Stream = TcpStream> + Abort>(
+    rt: &R,
+    alloc: Global,
+    port: u16,
+    clients: u16,
+    bytes: u16,
+) -> Vec<TcpStream> {
+    let mut held = Vec::new(alloc);
+    for _ in 0..clients {
+        let stream = connect(rt, port);
+        send_almost(&stream, bytes);
+        held.push(stream).ok().expect(rt, "memory");
+    }
+    held
+}
+
+// A message of so many bytes but for the last one, as far as the service takes it.
+fn send_almost(mut stream: &TcpStream, bytes: u16) {
+    if stream.write_all(&u32::from(bytes).to_be_bytes()).is_err() {
+        return;
+    }
+    let zeros = [0; 1024];
+    let mut left = usize::from(bytes).saturating_sub(1);
+    for _ in 0..64u8 {
+        let count = left.min(zeros.len());
+        if stream.write_all(&zeros[..count]).is_err() {
+            return;
+        }
+        left -= count;
+    }
+}
+
+// They hold more than a MiB together, so those that have waited the longest are ended.
 #[derive(Drop)]
 struct TooMuchAtOnce {
     sent: Sent,
@@ -169,17 +201,7 @@ struct TooMuchAtOnce {
 
 impl<R: Net<Stream = TcpStream> + Abort> Clients<R> for TooMuchAtOnce {
     fn ask(&self, rt: &R, alloc: Global, port: u16) {
-        let mut held = Vec::new(alloc);
-        for _ in 0..20u8 {
-            let stream = connect(rt, port);
-            assert!(rt; (&stream).write_all(&[0, 0, 255, 255]).is_ok());
-            for _ in 0..63u8 {
-                if (&stream).write_all(&[0; 1024]).is_err() {
-                    break;
-                }
-            }
-            held.push(stream).ok().expect(rt, "memory");
-        }
+        let held = almost(rt, alloc, port, 280, 4_096);
         let stream = connect(rt, port);
         send(rt, &stream, self.sent.message.as_slice());
         expect_line(rt, alloc, &self.sent, &stream, CHANGED);
@@ -193,9 +215,36 @@ fn more_bytes_than_may_be(rt: HostRuntime) -> Result<(), Fail> {
     let listener = TcpListener::bind(&rt, ("127.0.0.1", 0u16))?;
     let terms = Terms {
         buffers: 1,
-        ..terms(21)
+        ..terms(281)
     };
     beside(&rt, rt.alloc(), &listener, terms, &TooMuchAtOnce { sent })
+}
+
+// Large messages that aren't whole hold half of the MiB, so there is room for another client's.
+#[derive(Drop)]
+struct ManyLargeOnes {
+    sent: Sent,
+}
+
+impl<R: Net<Stream = TcpStream> + Abort> Clients<R> for ManyLargeOnes {
+    fn ask(&self, rt: &R, alloc: Global, port: u16) {
+        let held = almost(rt, alloc, port, 20, 65_535);
+        let stream = connect(rt, port);
+        send(rt, &stream, self.sent.message.as_slice());
+        expect_line(rt, alloc, &self.sent, &stream, CHANGED);
+        drop(held);
+    }
+}
+
+#[test]
+fn large_messages_leave_room(rt: HostRuntime) -> Result<(), Fail> {
+    let (sent, _) = requests(&rt, rt.alloc())?;
+    let listener = TcpListener::bind(&rt, ("127.0.0.1", 0u16))?;
+    let terms = Terms {
+        buffers: 1,
+        ..terms(21)
+    };
+    beside(&rt, rt.alloc(), &listener, terms, &ManyLargeOnes { sent })
 }
 
 // One sends many messages, and reads no answer until another one has its own.
