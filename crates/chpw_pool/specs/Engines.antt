@@ -4,4 +4,4 @@ use Rattle.chpw_pool.specs.declared.engine.Engine.{Engine}
 
 -- how many workers it has queues for
 abbrev pub workers_at : {G : Type 0} → Engine G → ℕ
-workers_at engine = vec_len engine.posts
+workers_at engine = vec_len engine.workers

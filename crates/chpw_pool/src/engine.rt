@@ -19,7 +19,7 @@ use std::time::{Clock, Duration};
 /// Where a worker waits for its messages, with its gate and its words. The words go on from one desk to the next,
 /// so that the worker draws each once; before the first desk there are none.
 #[derive(Drop)]
-pub(crate) struct Post<G> {
+pub(crate) struct WorkerSlot<G> {
     came: Condvar,
     pub gate: Mutex<G>,
     pub words: Mutex<Option<WorkerWords>>,
@@ -29,7 +29,7 @@ pub(crate) struct Post<G> {
 /// that wait when a desk is closed are answered at the next one.
 #[derive(Drop)]
 pub struct Engine<G> {
-    pub(crate) posts: Vec<Post<G>>,
+    pub(crate) workers: Vec<WorkerSlot<G>>,
     pub(crate) seed: [u8; 32],
     pub(crate) state: Mutex<State>,
     pub(crate) selector: Mutex<Selector>,
@@ -55,13 +55,13 @@ impl<G: Drop> Engine<G> {
         let Ok(connections) = Connections::new(alloc, bounds, gates.len()) else {
             return Err(PoolFault::Memory);
         };
-        let Ok(posts) = posts(alloc, gates) else {
+        let Ok(workers) = worker_slots(alloc, gates) else {
             return Err(PoolFault::Memory);
         };
         let (selector, waker) = Selector::new(rt, alloc)?;
         let sockets = Sockets::new(alloc, &selector, bounds.connections)?;
         Ok(Engine {
-            posts,
+            workers,
             seed,
             state: Mutex::new(State::new(connections, bounds.bytes)),
             selector: Mutex::new(selector),
@@ -71,18 +71,18 @@ impl<G: Drop> Engine<G> {
     }
 }
 
-fn posts<G: Drop>(alloc: Global, gates: Vec<G>) -> Result<Vec<Post<G>>, AllocError>
+fn worker_slots<G: Drop>(alloc: Global, gates: Vec<G>) -> Result<Vec<WorkerSlot<G>>, AllocError>
     ensures { IfOk result (λ v. vec_len v ≡ vec_len gates) }
 {
-    let mut posts = Vec::with_capacity(alloc, gates.len())?;
+    let mut slots = Vec::with_capacity(alloc, gates.len())?;
     for gate in gates {
-        posts.push(Post {
+        slots.push(WorkerSlot {
             came: Condvar::new(),
             gate: Mutex::new(gate),
             words: Mutex::new(None),
         })?;
     }
-    Ok(posts)
+    Ok(slots)
 }
 
 /// The moment of the machine's clock that doesn't go back, in milliseconds.
@@ -104,9 +104,9 @@ impl<G> Engine<G> {
     /// The next message of a worker, as soon as there is one; none where none come any more, or the worker is to take
     /// none for now.
     pub(crate) fn next<R: Wait + Clock>(&self, rt: &R, worker: usize) -> Option<Taken> {
-        let post = self.posts.get(worker)?;
+        let slot = self.workers.get(worker)?;
         for _ in rt.forever() {
-            let mut state = post
+            let mut state = slot
                 .came
                 .wait_while(rt, self.state.lock(rt), |state| state.is_idle(worker));
             if let Some(taken) = state.take(worker, milliseconds(rt)) {
@@ -139,15 +139,15 @@ impl<G> Engine<G> {
 
     /// A worker has a message.
     pub(crate) fn call(&self, worker: usize) {
-        if let Some(post) = self.posts.get(worker) {
-            post.came.notify_one();
+        if let Some(slot) = self.workers.get(worker) {
+            slot.came.notify_one();
         }
     }
 
     // All workers look up.
     fn call_all(&self) {
-        for post in &self.posts {
-            post.came.notify_one();
+        for slot in &self.workers {
+            slot.came.notify_one();
         }
     }
 

@@ -295,11 +295,11 @@ fn begin<
     number: usize,
     pass: &'a mut Pass<D>,
 ) {
-    let Some(post) = engine.posts.get(number) else {
+    let Some(slot) = engine.workers.get(number) else {
         return;
     };
-    let mut gate = post.gate.lock(rt);
-    let words = match post.words.lock(rt).take() {
+    let mut gate = slot.gate.lock(rt);
+    let words = match slot.words.lock(rt).take() {
         Some(words) => words,
         None => words_of(engine.seed, pass),
     };
@@ -316,5 +316,5 @@ fn begin<
         words,
     };
     work(rt, engine, number, shared.room, &mut worker);
-    *post.words.lock(rt) = Some(worker.words);
+    *slot.words.lock(rt) = Some(worker.words);
 }
