@@ -29,8 +29,8 @@ pub(crate) struct State {
     pub is_short: bool,
 }
 
-/// More bytes than this make a large message. Large ones have half of the room to themselves and no more: so they
-/// don't crowd out those that clients send.
+/// Of what has more bytes than this to come nothing is read while all connections hold half of what they may: so a
+/// flood of large messages leaves room for short ones.
 const LARGE: usize = 4_096;
 
 /// What came of a read or a write.
