@@ -10,6 +10,7 @@ import sys
 
 LONGEST = 65535
 REPLIES = 65536
+LARGEST_SMALL = 4096
 READING, QUEUED, ANSWERING, WRITING, LINGERING, ABANDONED, ENDED = range(7)
 
 
@@ -32,6 +33,10 @@ class Connection:
         if self.stage in (READING, QUEUED):
             return len(self.message)
         return len(self.reply) if self.stage == WRITING else 0
+
+    def size(self):
+        """All bytes of its message, as far as its length has come, or of its reply."""
+        return self.held() + self.wanted()
 
     def left(self):
         return self.reply[self.out:] if self.stage == WRITING else b""
@@ -90,36 +95,39 @@ class Machine:
         c.stage = ENDED
         self.look(c)
 
-    def longest(self, besides=None, holding=False):
+    def longest(self, waiting):
         """Who has waited for its client the longest; of two that have waited as long the one in the lower slot."""
-        waiting = [c for c in self.connections if c.waits_for_client() and c is not besides]
-        if holding:
-            waiting = [c for c in waiting if c.held()]
         return min(waiting, key=lambda c: (c.since, c.slot), default=None)
 
     def make_room(self):
-        c = self.longest()
+        c = self.longest([c for c in self.connections if c.waits_for_client()])
         if c:
             self.fail(c)
         return c is not None
 
-    def find_room(self, c, count):
-        """To end one that holds no bytes makes no room for bytes; nobody is ended for what can never fit."""
-        if count > self.size:
+    def find_room(self, c, count, most, least=0):
+        """To end one that holds no bytes makes no room for bytes; nobody is ended where it isn't enough."""
+        others = [d for d in self.connections if d is not c and d.waits_for_client() and d.held() and d.size() > least]
+        if self.held() - sum(d.held() for d in others) + count > most:
             return False
-        while self.held() + count > self.size:
-            other = self.longest(besides=c, holding=True)
-            if other is None:
-                return False
+        while self.held() + count > most:
+            other = self.longest(others)
+            others.remove(other)
             self.fail(other)
         return True
+
+    def find_room_to_read(self, c, count):
+        """Large messages have half of the bytes, at the cost of one another; others have three quarters."""
+        if c and c.size() > LARGEST_SMALL:
+            return self.find_room(c, count, self.size // 2, LARGEST_SMALL)
+        return self.find_room(c, count, self.size - self.size // 4)
 
     def receive(self, c, octets, now):
         """The number of the worker where the message is whole now."""
         more = octets[:c.wanted()]
         if not more:
             return None
-        if not self.find_room(c, len(more)):
+        if not self.find_room(c, len(more), self.size):
             self.fail(c)
             return None
         c.message += more
@@ -154,7 +162,7 @@ class Machine:
             self.look(c)
         if c.stage != ANSWERING:
             return
-        if not self.find_room(c, len(reply)):
+        if not self.find_room(c, len(reply), self.size):
             self.leave_unanswered(c, now)
             return
         c.go(WRITING, now)
@@ -310,6 +318,8 @@ def of_one(machine, kind, slot, rest, now):
         return f"{count} of {len(octets)} read, {received(c, worker)}"
     if kind == "push":
         return received(c, machine.receive(c, bytes_of(rest), now) if c else None)
+    if kind == "find":
+        return "has room" if machine.find_room_to_read(c, int(rest)) else "no room"
     if kind == "rounds":
         return rounds(machine, c, int(rest), now)
     if kind == "remove":

@@ -48,9 +48,9 @@ wanted_comes now (Some c) None more comes = absurd comes
 wanted_comes now (Some c) (Some d) more comes =
     goes_too now c d (came (take (wanted_by (stage c)) more)) (came more) (wanted_same now c.answered c.since (stage c) more) comes
 
-pub wanted_happens : (now : ℕ) (old new : Slab Connection) (slot : ℕ) (more : List ℕ)
-    → HappensWithRoom now old new slot (came (wanted_of (get old slot) more)) → HappensWithRoom now old new slot (came more)
-wanted_happens now old new slot more happens = record {
+pub wanted_happens : (least now : ℕ) (old new : Slab Connection) (slot : ℕ) (more : List ℕ)
+    → HappensWithRoom least now old new slot (came (wanted_of (get old slot) more)) → HappensWithRoom least now old new slot (came more)
+wanted_happens least now old new slot more happens = record {
   here = wanted_comes now (get old slot) (get new slot) more happens.here;
   others = happens.others;
   order = happens.order;

@@ -18,7 +18,7 @@ same_sum f d none (x ∷ xs) (y ∷ ys) same =
     omega (arith, ap f (same 0), sum_by-cons f x xs, sum_by-cons f y ys, same_sum f d none xs ys (λ j. same (suc j)))
 
 -- lists that differ in one place
-changed_sum : {X : Type 0} (f : X → ℕ) (d : X) → f d ≡ 0 → (xs ys : List X) (i : ℕ) → ((j : ℕ) → j ≢ i → get_or ys j d ≡ get_or xs j d)
+pub changed_sum : {X : Type 0} (f : X → ℕ) (d : X) → f d ≡ 0 → (xs ys : List X) (i : ℕ) → ((j : ℕ) → j ≢ i → get_or ys j d ≡ get_or xs j d)
     → sum_by f ys + f (get_or xs i d) ≡ sum_by f xs + f (get_or ys i d)
 changed_sum f d none [] [] zero same = refl
 changed_sum f d none [] (y ∷ ys) zero same =

@@ -11,7 +11,7 @@ use Rattle.chpw_connections.specs.Stages.{Stage, reading, queued, answering, wri
 use Rattle.chpw_connections.specs.Holding.{held_by}
 use Rattle.chpw_connections.specs.Messages.{wanted_behind}
 use Rattle.chpw_connections.specs.Sets.{queued_by, queued_at, Comes, Happens, waits, waits_since, is_ended, is_ended_in, IsLongest}
-use Rattle.chpw_connections.specs.Room.{holds_since, IsLongestBesides}
+use Rattle.chpw_connections.specs.Room.{gives_way_since, size_of, IsLongestBesides}
 use Rattle.chpw_connections.specs.Waiting.{queue_in, waits_for, times, times_for, Holds, Becomes, Leaves, without, is_newly_queued}
 use Rattle.chpw_connections.specs.declared.connection.Connection.{Connection}
 use Rattle.chpw_connections.proofs.QueueLemmas.{number, times_head, times_behind, times_push_same, times_push_other, times_without, times_without_other, without_none, without_head}
@@ -245,21 +245,22 @@ client_none (Some c) since is = by_stage (stage c) is
 pub longest_not_queued : (slots : Slab Connection) (slot : ℕ) → IsLongest slots slot → queued_at (get slots slot) ≡ None
 longest_not_queued slots slot is = client_none (get slots slot) is.0 is.1
 
-held_waits : (o : Option Connection) (since : ℕ) → holds_since o ≡ Some since → waits_since o ≡ Some since
-held_waits None since is = is
-held_waits (Some c) since is = by_tests (waits (stage c)) (nat_lt 0 (held_by c.phase)) is
+held_waits : (least : ℕ) (o : Option Connection) (since : ℕ) → gives_way_since least o ≡ Some since → waits_since o ≡ Some since
+held_waits least None since is = is
+held_waits least (Some c) since is = by_tests (waits (stage c)) (nat_lt 0 (held_by c.phase) && nat_lt least (size_of c)) is
   where
-    by_tests : (a b : Bool) → cond a (cond b (Some c.since) None) None ≡ Some since → cond a (Some c.since) None ≡ Some since
+    by_tests : (a b : Bool) → cond (a && b) (Some c.since) None ≡ Some since → cond a (Some c.since) None ≡ Some since
     by_tests true true e = e
     by_tests true false e = absurd cc
     by_tests false b e = e
 
-pub longest_besides_not_queued : (slots : Slab Connection) (besides slot : ℕ) → IsLongestBesides slots (Some besides) slot → queued_at (get slots slot) ≡ None
-longest_besides_not_queued slots besides slot is = by_test (slot == besides) is.1
+pub longest_besides_not_queued : (slots : Slab Connection) (besides least slot : ℕ) → IsLongestBesides slots (Some besides) least slot
+    → queued_at (get slots slot) ≡ None
+longest_besides_not_queued slots besides least slot is = by_test (slot == besides) is.1
   where
-    by_test : (t : Bool) → cond t None (holds_since (get slots slot)) ≡ Some is.0 → queued_at (get slots slot) ≡ None
+    by_test : (t : Bool) → cond t None (gives_way_since least (get slots slot)) ≡ Some is.0 → queued_at (get slots slot) ≡ None
     by_test true e = absurd cc
-    by_test false e = client_none (get slots slot) is.0 (held_waits (get slots slot) is.0 e)
+    by_test false e = client_none (get slots slot) is.0 (held_waits least (get slots slot) is.0 e)
 
 -- bytes that made no message whole
 came_for : (workers now : ℕ) (more : List ℕ) (old new : Option Connection) → Comes now (came more) old new

@@ -1,5 +1,6 @@
 pub mod ComesLemmas
 pub mod ExpiryLemmas
+pub mod GivenLemmas
 pub mod HeldLemmas
 pub mod HoldsLemmas
 pub mod LifeLemmas

@@ -1,5 +1,5 @@
 //! What happens to one connection, from its accept to its end.
-ghost use Rattle.std.specs.Prelude.{◌≡◌, ◌+◌, ◌≤◌, [], length, IfSome, IfNone, None, IfOk, OnOk, OnErr, take, true};
+ghost use Rattle.std.specs.Prelude.{◌≡◌, ◌+◌, ◌≤◌, [], length, IfSome, IfNone, None, IfOk, OnOk, OnErr, take, true, nat_lt};
 ghost use Rattle.chpw_connections.specs.Messages.{wanted_behind as wanted_of};
 ghost use Rattle.chpw_connections.specs.Reading.{is_unfinished};
 
@@ -60,6 +60,7 @@ impl Connection {
     ghost use Rattle.chpw_connections.specs.Stages.{stage, stage_of, after, reading, queued, Goes, came, taken, replied, unanswered, wrote, closed, failed, wanted_by, left_of};
     ghost use Rattle.chpw_connections.specs.Sets.{waits, is_late, queued_by};
     ghost use Rattle.chpw_connections.specs.Waiting.{is_newly_queued};
+    ghost use Rattle.chpw_connections.specs.Room.{size_of, gives_way as gives_way_of};
 
     /// One that was accepted just now.
     pub fn accepted(alloc: Global, number: u32, peer: [u8; 4], now: u64) -> Connection
@@ -255,6 +256,21 @@ impl Connection {
             self.phase,
             Phase::Reading(_) | Phase::Writing(_) | Phase::Lingering
         )
+    }
+
+    /// Whether its message, with what is still to come of it, or its reply has more than so many bytes.
+    pub fn is_longer_than(&self, least: usize) -> bool
+        ensures value { result ≡ nat_lt least (size_of self.now) }
+    {
+        let held = self.held();
+        held > least || self.wanted() > least - held
+    }
+
+    /// Whether it is to be ended where room for bytes is made, of those with more than so many.
+    pub fn gives_way(&self, least: usize) -> bool
+        ensures value { result ≡ gives_way_of least self.now }
+    {
+        self.waits_for_client() && self.held() > 0 && self.is_longer_than(least)
     }
 }
 

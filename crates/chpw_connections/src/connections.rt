@@ -4,7 +4,7 @@ ghost use Rattle.slab.specs.Slab.{get, slab_len};
 ghost use Rattle.chpw_connections.specs.Holding.{held_in};
 ghost use Rattle.chpw_connections.specs.Stages.{came, taken, replied, unanswered, wrote, closed, failed};
 ghost use Rattle.chpw_connections.specs.Sets.{Happens, wanted_at, left_at, queued_at, is_late_in, Passes, is_lingering_in, is_ended_in, is_reading_in, is_answering_in, wanted_of, IsNew};
-ghost use Rattle.chpw_connections.specs.Room.{HappensWithRoom};
+ghost use Rattle.chpw_connections.specs.Room.{HappensWithRoom, has_room_besides};
 ghost use Rattle.chpw_connections.specs.Expiry.{one_more, is_dropped_in, dropped_in, and_more};
 ghost use Rattle.chpw_connections.specs.Queues.{queues_of, queue_of, workers_of, DropsLate};
 ghost use Rattle.chpw_connections.specs.Waiting.{waits_for, in_time, Becomes, Leaves};
@@ -117,18 +117,18 @@ impl Connections {
 
     /// These bytes of a connection's message came, of which those count that are wanted. Where the message is whole with
     /// them, it waits at the end of its worker's queue, and the worker is given: the connection's number, modulo how many
-    /// there are. Where they are more than may be held, the others that have waited for their clients the longest are
-    /// ended to make room, but none where they alone are more than may be held. Without room or memory for them the
+    /// there are. Where they are more than may be held, the others that hold bytes and have waited for their clients the
+    /// longest are ended to make room, but nobody where that isn't enough. Without room or memory for them the
     /// connection is ended. Bytes for a free slot, and for a connection that wants none now, change nothing.
     #[tactic(auto, using(crate::proofs::ComesLemmas::wanted_happens, crate::proofs::ReadingLemmas::unwanted_unread))]
     pub fn receive(&mut self, slot: usize, bytes: &[u8], now: u64) -> Option<usize>
-        ensures queued { IfSome result (λ worker. HappensWithRoom now (slots_of self.old) (slots_of self.new) slot (came bytes.now)) }
+        ensures queued { IfSome result (λ worker. HappensWithRoom 0 now (slots_of self.old) (slots_of self.new) slot (came bytes.now)) }
         ensures joins { IfSome result (λ worker. Becomes (queues_of self.old) (queues_of self.new) worker (queue_of self.old worker ++ slot ∷ [])) }
         ensures worker { IfSome result (λ worker. IfSome (get (slots_of self.old) slot) (λ c. worker ≡ c.number % workers_of self.old)) }
         ensures within { IfSome result (λ worker. worker < workers_of self.new) }
         ensures waits { IfSome result (λ worker. waits_for (workers_of self.new) (get (slots_of self.new) slot) ≡ Some worker) }
-        ensures read { IfNone result (HappensWithRoom now (slots_of self.old) (slots_of self.new) slot (came bytes.now)
-            ⊎ HappensWithRoom 0 (slots_of self.old) (slots_of self.new) slot failed) }
+        ensures read { IfNone result (HappensWithRoom 0 now (slots_of self.old) (slots_of self.new) slot (came bytes.now)
+            ⊎ HappensWithRoom 0 0 (slots_of self.old) (slots_of self.new) slot failed) }
         ensures stays { IfNone result ((queues_of self.new ≡ queues_of self.old) ⊎ Leaves (queues_of self.old) (queues_of self.new) slot) }
         ensures unread { is_reading_in (get (slots_of self.old) slot) ≡ false → (result ≡ None) × (self.new ≡ self.old) }
         ensures unwanted { wanted_at (get (slots_of self.old) slot) ≡ 0 → (result ≡ None) × (self.new ≡ self.old) }
@@ -136,7 +136,7 @@ impl Connections {
             → (other : ℕ) → other ≢ slot → get (slots_of self.new) other ≡ get (slots_of self.old) other }
         ensures enough_wanted { held_in (slots_of self.old) + length (wanted_of (get (slots_of self.old) slot) bytes.now) ≤ (bounds_of self.old).bytes
             → (other : ℕ) → other ≢ slot → get (slots_of self.new) other ≡ get (slots_of self.old) other }
-        ensures too_many { (bounds_of self.old).bytes < length (wanted_of (get (slots_of self.old) slot) bytes.now)
+        ensures too_many { has_room_besides (bounds_of self.old).bytes 0 (slots_of self.old) slot (length (wanted_of (get (slots_of self.old) slot) bytes.now)) ≡ false
             → (other : ℕ) → other ≢ slot → get (slots_of self.new) other ≡ get (slots_of self.old) other }
         ensures workers { workers_of self.new ≡ workers_of self.old }
         ensures counts { Counts self.new (accepted_by self.old) (removed_by self.old) }
@@ -153,23 +153,25 @@ impl Connections {
     // The same, of bytes that are all wanted.
     #[tactic(auto, using(crate::proofs::RoomLemmas::happens_with_room))]
     fn receive_wanted(&mut self, slot: usize, bytes: &[u8], now: u64) -> Option<usize>
-        ensures queued { IfSome result (λ worker. HappensWithRoom now (slots_of self.old) (slots_of self.new) slot (came bytes.now)) }
+        ensures queued { IfSome result (λ worker. HappensWithRoom 0 now (slots_of self.old) (slots_of self.new) slot (came bytes.now)) }
         ensures joins { IfSome result (λ worker. Becomes (queues_of self.old) (queues_of self.new) worker (queue_of self.old worker ++ slot ∷ [])) }
         ensures worker { IfSome result (λ worker. IfSome (get (slots_of self.old) slot) (λ c. worker ≡ c.number % workers_of self.old)) }
         ensures within { IfSome result (λ worker. worker < workers_of self.new) }
         ensures waits { IfSome result (λ worker. waits_for (workers_of self.new) (get (slots_of self.new) slot) ≡ Some worker) }
-        ensures read { IfNone result (HappensWithRoom now (slots_of self.old) (slots_of self.new) slot (came bytes.now)
-            ⊎ HappensWithRoom 0 (slots_of self.old) (slots_of self.new) slot failed) }
+        ensures read { IfNone result (HappensWithRoom 0 now (slots_of self.old) (slots_of self.new) slot (came bytes.now)
+            ⊎ HappensWithRoom 0 0 (slots_of self.old) (slots_of self.new) slot failed) }
         ensures stays { IfNone result ((queues_of self.new ≡ queues_of self.old) ⊎ Leaves (queues_of self.old) (queues_of self.new) slot) }
         ensures enough { held_in (slots_of self.old) + length bytes.now ≤ (bounds_of self.old).bytes
             → (other : ℕ) → other ≢ slot → get (slots_of self.new) other ≡ get (slots_of self.old) other }
-        ensures too_many { (bounds_of self.old).bytes < length bytes.now → (other : ℕ) → other ≢ slot → get (slots_of self.new) other ≡ get (slots_of self.old) other }
+        ensures too_many { has_room_besides (bounds_of self.old).bytes 0 (slots_of self.old) slot (length bytes.now) ≡ false
+            → (other : ℕ) → other ≢ slot → get (slots_of self.new) other ≡ get (slots_of self.old) other }
         ensures workers { workers_of self.new ≡ workers_of self.old }
         ensures counts { Counts self.new (accepted_by self.old) (removed_by self.old) }
         ensures expired { expired_by self.new ≡ expired_by self.old }
         ensures bounds { bounds_of self.new ≡ bounds_of self.old }
     {
-        if !self.find_room(slot, bytes.len()) {
+        let most = self.bounds.bytes;
+        if !self.find_room(slot, bytes.len(), most, 0) {
             self.fail(slot);
             return None;
         }
@@ -326,16 +328,20 @@ impl Connections {
     }
 
     /// A worker's reply to the message that it took; behind the last reply the connection ends. Where it is more than may
-    /// be held, the others that have waited for their clients the longest are ended to make room, but none where it alone
-    /// is more than may be held; without room for it it isn't sent, and the connection ends. For a connection that no
+    /// be held, the others that hold bytes and have waited for their clients the longest are ended to make room, but nobody
+    /// where that isn't enough; without room for it it isn't sent, and the connection ends. For a connection that no
     /// worker answers, or that is gone, no room is made: the reply is let go.
     #[tactic(auto, using(crate::proofs::RoomLemmas::happens_with_room))]
     pub fn answer(&mut self, slot: usize, reply: Vec<u8>, is_last: bool, now: u64)
-        ensures happens { HappensWithRoom now (slots_of self.old) (slots_of self.new) slot (replied reply.items is_last)
-            ⊎ HappensWithRoom now (slots_of self.old) (slots_of self.new) slot unanswered }
+        ensures happens { HappensWithRoom 0 now (slots_of self.old) (slots_of self.new) slot (replied reply.items is_last)
+            ⊎ HappensWithRoom 0 now (slots_of self.old) (slots_of self.new) slot unanswered }
         ensures enough { held_in (slots_of self.old) + length reply.items ≤ (bounds_of self.old).bytes
             → Happens now (slots_of self.old) (slots_of self.new) slot (replied reply.items is_last) }
-        ensures too_much { (bounds_of self.old).bytes < length reply.items → Happens now (slots_of self.old) (slots_of self.new) slot unanswered }
+        ensures sent { has_room_besides (bounds_of self.old).bytes 0 (slots_of self.old) slot (length reply.items) ≡ true
+            → is_answering_in (get (slots_of self.old) slot) ≡ true
+            → HappensWithRoom 0 now (slots_of self.old) (slots_of self.new) slot (replied reply.items is_last) }
+        ensures too_much { has_room_besides (bounds_of self.old).bytes 0 (slots_of self.old) slot (length reply.items) ≡ false
+            → Happens now (slots_of self.old) (slots_of self.new) slot unanswered }
         ensures unwanted { is_answering_in (get (slots_of self.old) slot) ≡ false → Happens now (slots_of self.old) (slots_of self.new) slot unanswered }
         ensures counts { Counts self.new (accepted_by self.old) (removed_by self.old) }
         ensures expired { expired_by self.new ≡ expired_by self.old }
@@ -346,7 +352,8 @@ impl Connections {
             self.leave_unanswered(slot, now);
             return;
         }
-        if !self.find_room(slot, reply.len()) {
+        let most = self.bounds.bytes;
+        if !self.find_room(slot, reply.len(), most, 0) {
             self.leave_unanswered(slot, now);
             return;
         }

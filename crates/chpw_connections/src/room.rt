@@ -3,11 +3,15 @@ ghost use Rattle.std.specs.Prelude.{◌≡◌, ◌+◌, ◌≤◌, ◌<◌, ℕ,
 ghost use Rattle.chpw_connections.specs.Holding.{held_in};
 ghost use Rattle.chpw_connections.specs.Stages.{failed};
 ghost use Rattle.chpw_connections.specs.Sets.{Happens, IsLongest, NobodyWaits};
-ghost use Rattle.chpw_connections.specs.Room.{MakesRoom};
+ghost use Rattle.slab.specs.Slab.{get};
+ghost use Rattle.chpw_connections.specs.Room.{MakesRoom, is_large_in, read_within, least_for, has_room_besides};
 ghost use Rattle.chpw_connections.specs.Queues.{queues_of};
 ghost use Rattle.chpw_connections.specs.Held.{slots_of, accepted_by, removed_by, expired_by, bounds_of, Counts};
 
 use crate::set::Connections;
+
+/// A message of more bytes is a large one.
+const LARGEST_SMALL: usize = 4_096;
 
 impl Connections {
     /// How many bytes of messages and replies they hold together: never more than may be.
@@ -38,52 +42,89 @@ impl Connections {
         }
     }
 
-    // Makes room for so many more bytes of a connection; whether there is. Others are ended only where there is none, and
-    // where it could be enough.
-    #[tactic(auto, using(crate::proofs::RoomLemmas::room_start))]
-    pub(crate) fn find_room(&mut self, slot: usize, count: usize) -> bool
-        ensures makes_room { MakesRoom (slots_of self.old) (slots_of self.new) slot }
-        ensures room { result ≡ true → held_in (slots_of self.new) + count ≤ (bounds_of self.new).bytes }
-        ensures fits { result ≡ true → held_in (slots_of self.new) + count < 2 ^ 64 }
-        ensures enough { held_in (slots_of self.old) + count ≤ (bounds_of self.old).bytes → (result ≡ true) × (slots_of self.new ≡ slots_of self.old) }
-        ensures too_many { (bounds_of self.old).bytes < count → (result ≡ false) × (slots_of self.new ≡ slots_of self.old) }
+    /// Makes room to read so many more bytes of a connection's message; whether there is room. Bytes of a message of more
+    /// than 4,096 are read as far as half of the bytes that may be held aren't exceeded, and others as far as three
+    /// quarters aren't: so large messages leave room for small ones, and messages for replies. Where there is none, those
+    /// that have waited for their clients the longest are ended until there is, of those that hold bytes; for a large
+    /// message only those with another large one. Where that wouldn't be enough, nobody is ended.
+    pub fn find_room_to_read(&mut self, slot: usize, count: usize) -> bool
+        ensures makes_room { MakesRoom (least_for (is_large_in (get (slots_of self.old) slot))) (slots_of self.old) (slots_of self.new) slot }
+        ensures value { result ≡ has_room_besides (read_within (bounds_of self.old) (is_large_in (get (slots_of self.old) slot)))
+            (least_for (is_large_in (get (slots_of self.old) slot))) (slots_of self.old) slot count }
+        ensures room { result ≡ true → held_in (slots_of self.new) + count ≤ read_within (bounds_of self.old) (is_large_in (get (slots_of self.old) slot)) }
+        ensures enough { held_in (slots_of self.old) + count ≤ read_within (bounds_of self.old) (is_large_in (get (slots_of self.old) slot))
+            → slots_of self.new ≡ slots_of self.old }
+        ensures none { result ≡ false → slots_of self.new ≡ slots_of self.old }
         ensures counts { Counts self.new (accepted_by self.old) (removed_by self.old) }
         ensures expired { expired_by self.new ≡ expired_by self.old }
         ensures bounds { bounds_of self.new ≡ bounds_of self.old }
         ensures queues { queues_of self.new ≡ queues_of self.old }
     {
-        self.has_room_for(count) || count <= self.bounds.bytes && self.put_out_for(slot, count)
+        let bytes = self.bounds.bytes;
+        if self.is_large(slot) {
+            self.find_room(slot, count, bytes / 2, LARGEST_SMALL)
+        } else {
+            self.find_room(slot, count, bytes - bytes / 4, 0)
+        }
     }
 
-    // Whether so many more bytes may be held.
-    fn has_room_for(&self, count: usize) -> bool
-        ensures value { result ≡ not (nat_lt (bounds_of self.now).bytes (held_in (slots_of self.now) + count)) }
-        ensures fits { result ≡ true → held_in (slots_of self.now) + count < 2 ^ 64 }
+    /// Whether the message of the connection in a slot has more than 4,096 bytes, as far as its length has come.
+    pub fn is_large(&self, slot: usize) -> bool
+        ensures value { result ≡ is_large_in (get (slots_of self.now) slot) }
     {
-        self.bounds.bytes - self.slots.held >= count
+        match self.slots.get(slot) {
+            None => false,
+            Some(connection) => connection.is_longer_than(LARGEST_SMALL),
+        }
     }
 
-    // Ends others that wait for their clients, the longest first, until so many more bytes may be held; whether they
-    // may.
-    #[tactic(auto, using(crate::proofs::RoomLemmas::room_start, crate::proofs::RoomLemmas::room_next))]
-    fn put_out_for(&mut self, slot: usize, count: usize) -> bool
-        ensures makes_room { MakesRoom (slots_of self.old) (slots_of self.new) slot }
-        ensures room { result ≡ true → held_in (slots_of self.new) + count ≤ (bounds_of self.new).bytes }
+    // Makes room for so many more bytes of a connection, so that all hold no more than `most`; whether there is. Where
+    // there is none, others are ended that hold bytes, of messages or replies of more than `least`, if that is enough.
+    pub(crate) fn find_room(&mut self, slot: usize, count: usize, most: usize, least: usize) -> bool
+        ensures makes_room { MakesRoom least (slots_of self.old) (slots_of self.new) slot }
+        ensures value { result ≡ has_room_besides most least (slots_of self.old) slot count }
+        ensures room { result ≡ true → held_in (slots_of self.new) + count ≤ most }
         ensures fits { result ≡ true → held_in (slots_of self.new) + count < 2 ^ 64 }
+        ensures enough { held_in (slots_of self.old) + count ≤ most → (result ≡ true) × (slots_of self.new ≡ slots_of self.old) }
+        ensures none { result ≡ false → slots_of self.new ≡ slots_of self.old }
         ensures counts { Counts self.new (accepted_by self.old) (removed_by self.old) }
         ensures expired { expired_by self.new ≡ expired_by self.old }
         ensures bounds { bounds_of self.new ≡ bounds_of self.old }
         ensures queues { queues_of self.new ≡ queues_of self.old }
     {
-        for _ in 0..self.slots.len() {
-            match self.slots.longest_besides(Some(slot)) {
-                None => return false,
+        if self.has_room_for(count, most) {
+            return true;
+        }
+        let staying = self.slots.staying_besides(slot, least);
+        if count > most || staying > most - count {
+            return false;
+        }
+        self.put_out_for(slot, count, most, least);
+        true
+    }
+
+    // Whether so many more bytes may be held within a bound.
+    fn has_room_for(&self, count: usize, most: usize) -> bool
+        ensures value { result ≡ not (nat_lt most (held_in (slots_of self.now) + count)) }
+    {
+        count <= most && self.slots.held <= most - count
+    }
+
+    // Ends others that give way, those that have waited the longest first, until so many more bytes may be held.
+    fn put_out_for(&mut self, slot: usize, count: usize, most: usize, least: usize)
+        requires enough { has_room_besides most least (slots_of self.old) slot count ≡ true }
+        ensures makes_room { MakesRoom least (slots_of self.old) (slots_of self.new) slot }
+        ensures room { held_in (slots_of self.new) + count ≤ most }
+        ensures counts { Counts self.new (accepted_by self.old) (removed_by self.old) }
+        ensures expired { expired_by self.new ≡ expired_by self.old }
+        ensures bounds { bounds_of self.new ≡ bounds_of self.old }
+        ensures queues { queues_of self.new ≡ queues_of self.old }
+    {
+        while !self.has_room_for(count, most) {
+            match self.slots.longest_besides(Some(slot), least) {
+                None => return,
                 Some(other) => self.fail(other),
             }
-            if self.has_room_for(count) {
-                return true;
-            }
         }
-        false
     }
 }

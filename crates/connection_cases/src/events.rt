@@ -16,6 +16,7 @@ impl Script {
                     .receive(slot, &bytes(self.alloc, rest)?, now);
                 return self.received(slot, worker);
             }
+            "find" => return self.room_found(slot, number(rest)?),
             "rounds" => return self.rounds(slot, number(rest)?, now),
             "remove" => return self.removed(slot),
             "answer" => self.answered(slot, rest, now)?,
@@ -58,6 +59,15 @@ impl Script {
             None => self.state(slot),
             Some(worker) => Ok(format!(in self.alloc; "message for worker {worker}")?),
         }
+    }
+
+    fn room_found(&mut self, slot: usize, count: usize) -> io::Result<String> {
+        let word = if self.connections.find_room_to_read(slot, count) {
+            "has room"
+        } else {
+            "no room"
+        };
+        Ok(String::from_str(self.alloc, word)?)
     }
 
     // `HEX`, or `HEX last`

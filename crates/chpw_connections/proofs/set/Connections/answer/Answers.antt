@@ -1,7 +1,12 @@
-use Rattle.std.proofs.Common.{refl}
+use Rattle.std.proofs.Common.{refl, inl, subst, sym}
 use Rattle.chpw_connections.specs.Stages.{replied}
 use Rattle.chpw_connections.specs.Waiting.{lists_of}
 use Rattle.chpw_connections.proofs.HoldsLemmas.{holds_quiet}
+use Rattle.chpw_connections.proofs.RoomLemmas.{happens_with_room}
+use Rattle.chpw_connections.specs.Held.{slots_of}
+use Rattle.chpw_connections.specs.Sets.{Happens}
+use Rattle.slab.specs.Slab.{Slab}
+use Rattle.chpw_connections.specs.declared.connection.Connection.{Connection}
 use Rattle.chpw_connections.proofs.set.Connections.answer.Goals as goal
 
 pub invariant_of-self-clause-waiting : goal.invariant_of-self-clause-waiting
@@ -9,3 +14,10 @@ invariant_of-self-clause-waiting c =
     let old = c.find_room.new.self in
     holds_quiet (lists_of old.queues) c.args.now old.slots.connections c.answer.new.self.connections c.args.slot
     (replied c.args.reply.items c.args.is_last) refl c.answer.ensures.happens old.waiting
+
+pub returns-clause-happens : goal.returns-clause-happens
+returns-clause-happens c =
+    inl (happens_with_room 0 c.args.now (slots_of c.args.self.now) (slots_of c.find_room.new.self) (slots_of c.note.new.self) c.args.slot
+    (replied c.args.reply.items c.args.is_last) c.find_room.ensures.makes_room
+    (subst (λ (s : Slab Connection). Happens c.args.now (slots_of c.find_room.new.self) s c.args.slot (replied c.args.reply.items c.args.is_last))
+    (sym c.note.ensures.slots) c.answer.ensures.happens))

@@ -2,23 +2,24 @@ use Rattle.std.proofs.Common.{rules, ◌∙◌}
 use Rattle.chpw_connections.specs.Held.{slots_of}
 use Rattle.chpw_connections.proofs.HoldsLemmas.{longest_besides_not_queued}
 use Rattle.chpw_connections.proofs.RoomLemmas.{room_next}
+use Rattle.chpw_connections.proofs.GivenLemmas.{room_stays, fewer_held, nobody_room}
 use Rattle.chpw_connections.proofs.set.Connections.put_out_for.Goals as goal
 
-pub returns-then-has_room_for-clause-makes_room : goal.returns-then-has_room_for-clause-makes_room
-returns-then-has_room_for-clause-makes_room c =
-    room_next (slots_of c.args.self.now) (slots_of c.loop.self) (slots_of c.fail.new.self) c.args.slot c.in-Some.other
-    c.loop.invariant.makes_room c.in-Some.ensures.found c.fail.ensures.happens
-
-pub loop-preserved : goal.loop-preserved
-loop-preserved c = record {
-  makes_room = room_next (slots_of c.args.self.now) (slots_of c.loop.self) (slots_of c.fail.new.self) c.args.slot c.in-Some.other
-      c.loop.invariant.makes_room c.in-Some.ensures.found c.fail.ensures.happens;
+pub loop-self-preserved : goal.loop-self-preserved
+loop-self-preserved c = record {
+  makes_room = room_next c.args.least (slots_of c.args.self.now) (slots_of c.loop-self.self) (slots_of c.fail.new.self) c.args.slot c.in-Some.other
+      c.loop-self.invariant.makes_room c.in-Some.ensures.found c.fail.ensures.happens;
+  enough = room_stays c.args.most c.args.least c.args.count (slots_of c.loop-self.self) (slots_of c.fail.new.self) c.args.slot c.in-Some.other
+      c.in-Some.ensures.found c.fail.ensures.happens c.loop-self.invariant.enough;
   counts = search rules;
   expired = search rules;
   bounds = search rules;
-  queues = c.fail.ensures.same (longest_besides_not_queued (slots_of c.loop.self) c.args.slot c.in-Some.other c.in-Some.ensures.found) ∙ c.loop.invariant.queues;
+  queues = c.fail.ensures.same (longest_besides_not_queued (slots_of c.loop-self.self) c.args.slot c.args.least c.in-Some.other c.in-Some.ensures.found) ∙ c.loop-self.invariant.queues;
 }
 
-pub returns-then-has_room_for-clause-queues : goal.returns-then-has_room_for-clause-queues
-returns-then-has_room_for-clause-queues c =
-    c.fail.ensures.same (longest_besides_not_queued (slots_of c.loop.self) c.args.slot c.in-Some.other c.in-Some.ensures.found) ∙ c.loop.invariant.queues
+pub loop-self-smaller : goal.loop-self-smaller
+loop-self-smaller c = fewer_held c.args.least (slots_of c.loop-self.self) (slots_of c.fail.new.self) c.args.slot c.in-Some.other c.in-Some.ensures.found c.fail.ensures.happens
+
+pub returns-in-None-clause-room : goal.returns-in-None-clause-room
+returns-in-None-clause-room c =
+    nobody_room c.args.most c.args.least (slots_of c.loop-self.self) c.args.slot c.args.count c.in-None.ensures.none c.loop-self.invariant.enough

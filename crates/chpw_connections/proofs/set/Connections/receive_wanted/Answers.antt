@@ -1,6 +1,12 @@
-use Rattle.std.proofs.Common.{◌≡◌, ℕ, ◌%◌, List, ◌∷◌, ◌++◌, [], length, ◌∙◌, ap, sym, subst}
+use Rattle.std.proofs.Common.{◌≡◌, ℕ, ◌%◌, List, ◌∷◌, ◌++◌, [], length, ◌∙◌, ap, sym, subst, inl, inr}
 use Rattle.chpw_connections.specs.Waiting.{lists_of, queue_in, Holds, Becomes}
 use Rattle.chpw_connections.proofs.HoldsLemmas.{holds_failed_quietly, holds_came, holds_joined}
+use Rattle.chpw_connections.proofs.RoomLemmas.{happens_with_room}
+use Rattle.chpw_connections.specs.Stages.{came, failed}
+use Rattle.chpw_connections.specs.Held.{slots_of}
+use Rattle.chpw_connections.specs.Sets.{Happens}
+use Rattle.slab.specs.Slab.{Slab}
+use Rattle.chpw_connections.specs.declared.connection.Connection.{Connection}
 use Rattle.chpw_connections.proofs.set.Connections.receive_wanted.Goals as goal
 
 pub invariant_of-self-in-Err-clause-waiting : goal.invariant_of-self-in-Err-clause-waiting
@@ -30,3 +36,19 @@ invariant_of-self-in-Ok-true-clause-waiting c =
     holds_joined queues joined c.args.now n old.slots.connections c.receive.new.self.connections c.args.slot c.args.bytes.now
     (subst (λ (w : ℕ). Becomes queues joined w (queue_in queues w ++ c.args.slot ∷ [])) is c.put.ensures.becomes)
     c.in-Ok-true.ensures.happens (sym c.in_ok-number.ensures.value) (sym c.in-Ok-true.ensures.whole ∙ c.in-Ok-true.field-0-test) waiting
+
+pub returns-then-not-reserve-clause-read : goal.returns-then-not-reserve-clause-read
+returns-then-not-reserve-clause-read c =
+    inr (happens_with_room 0 0 (slots_of c.args.self.now) (slots_of c.find_room.new.self) (slots_of c.fail-then-not-reserve.new.self) c.args.slot failed
+    c.find_room.ensures.makes_room c.fail-then-not-reserve.ensures.happens)
+
+pub returns-in-Err-clause-read : goal.returns-in-Err-clause-read
+returns-in-Err-clause-read c =
+    inr (happens_with_room 0 0 (slots_of c.args.self.now) (slots_of c.find_room.new.self) (slots_of c.note.new.self) c.args.slot failed
+    c.find_room.ensures.makes_room
+    (subst (λ (s : Slab Connection). Happens 0 (slots_of c.find_room.new.self) s c.args.slot failed) (sym c.note.ensures.slots) c.in-Err.ensures.ended))
+
+pub returns-in-Ok-false-clause-read : goal.returns-in-Ok-false-clause-read
+returns-in-Ok-false-clause-read c =
+    inl (happens_with_room 0 c.args.now (slots_of c.args.self.now) (slots_of c.find_room.new.self) c.receive.new.self.connections c.args.slot
+    (came c.args.bytes.now) c.find_room.ensures.makes_room c.in-Ok-false.ensures.happens)

@@ -1,0 +1,160 @@
+-- What the ends of those that give way would let go of.
+use Rattle.std.proofs.Common.{◌≡◌, ◌≢◌, ℕ, zero, suc, ◌+◌, ◌<◌, ◌≤◌, List, [], ◌∷◌, length, take, refl, sym, ◌∙◌, ap, arith, Bool, true, false, ◌&&◌, nat_lt, not, cond, Option, Some, None, get_or}
+use Rattle.std.specs.List.{sum_by}
+use Rattle.std.proofs.Math.Logic.{⊎_elim}
+use Rattle.std.proofs.lemmas.Bool.{cases_lt}
+use Rattle.std.proofs.lemmas.Bool.Decides.{nat_tests}
+use Rattle.std.proofs.lemmas.List.{get_or_past, take_all}
+use Rattle.std.proofs.lemmas.List.Sums.{sum_by-cons, sum_by_more, sum_by-take-le, get_or-le-sum_by, sum_by-le-sum_by}
+use Rattle.slab.specs.Slab.{Slab, get}
+use Rattle.chpw_connections.specs.Stages.{failed, stage, stage_of, ended}
+use Rattle.chpw_connections.specs.Holding.{held_by, held_at, held_in}
+use Rattle.chpw_connections.specs.Sets.{waits, Comes, Happens}
+use Rattle.chpw_connections.specs.Room.{size_of, gives_way, gives_way_at, gives_way_since, given_at, given_in, staying_besides, has_room_besides, IsLongestBesides, NobodyWaitsBesides}
+use Rattle.chpw_connections.specs.declared.connection.Phase.{Phase}
+use Rattle.chpw_connections.specs.declared.connection.Phase.TheVariants as phase
+use Rattle.chpw_connections.specs.declared.connection.Connection.{Connection}
+use Rattle.chpw_connections.proofs.HeldLemmas.{changed_sum}
+use Rattle.chpw_connections.proofs.RoomLemmas.{waits_from, ends_waiting, and_left, besides_other, besides_same}
+
+-- what is let go of was held
+pub given_le : (least : ℕ) (o : Option Connection) → given_at least o ≤ held_at o
+given_le least None = omega arith
+given_le least (Some c) = by_test (gives_way least c)
+  where
+    by_test : (t : Bool) → cond t (held_by c.phase) 0 ≤ held_by c.phase
+    by_test true = omega arith
+    by_test false = omega arith
+
+-- how many of the slots below this one
+abbrev pub given_below : ℕ → Slab Connection → ℕ → ℕ
+given_below least slots n = sum_by (given_at least) (take n slots.slots)
+
+pub given_next : (least : ℕ) (slots : Slab Connection) (n : ℕ) → given_below least slots (n + 1) ≡ given_below least slots n + given_at least (get slots n)
+given_next least slots n =
+    ⊎_elim
+    (λ (lt : n < length slots.slots). sum_by_more (given_at least) slots.slots n None lt)
+    (λ (past : length slots.slots ≤ n).
+    let over : length slots.slots ≤ n + 1 = omega arith in
+    let none : given_at least (get slots n) ≡ 0 = ap (given_at least) (get_or_past slots.slots n None past) in
+    let whole = ap (sum_by (given_at least)) (take_all (n + 1) slots.slots over) in
+    let before = ap (sum_by (given_at least)) (take_all n slots.slots past) in
+    omega arith)
+    (cases_lt n (length slots.slots))
+
+pub given_all : (least : ℕ) (slots : Slab Connection) (n : ℕ) → length slots.slots ≤ n → given_below least slots n ≡ given_in least slots
+given_all least slots n few = ap (sum_by (given_at least)) (take_all n slots.slots few)
+
+pub given_below_le : (least : ℕ) (slots : Slab Connection) (n : ℕ) → given_below least slots n ≤ given_in least slots
+given_below_le least slots n = sum_by-take-le (given_at least) slots.slots n
+
+pub given_in_le : (least : ℕ) (slots : Slab Connection) → given_in least slots ≤ held_in slots
+given_in_le least slots = sum_by-le-sum_by (given_at least) held_at slots.slots (given_le least)
+
+pub given_here_le : (least : ℕ) (slots : Slab Connection) (slot : ℕ) → given_at least (get slots slot) ≤ given_in least slots
+given_here_le least slots slot =
+    ⊎_elim
+    (λ (lt : slot < length slots.slots). get_or-le-sum_by (given_at least) slots.slots slot None lt)
+    (λ (past : length slots.slots ≤ slot).
+    let none : given_at least (get slots slot) ≡ 0 = ap (given_at least) (get_or_past slots.slots slot None past) in
+    omega arith)
+    (cases_lt slot (length slots.slots))
+
+no_sum : {X : Type 0} (f : X → ℕ) (d : X) → (xs : List X) → ((j : ℕ) → f (get_or xs j d) ≡ 0) → sum_by f xs ≡ 0
+no_sum f d [] none = refl
+no_sum f d (x ∷ xs) none = omega (arith, sum_by-cons f x xs, none 0, no_sum f d xs (λ j. none (suc j)))
+
+-- where nobody else gives way, the ends of all are the end of one
+one_sum : {X : Type 0} (f : X → ℕ) (d : X) → f d ≡ 0 → (xs : List X) (i : ℕ) → ((j : ℕ) → j ≢ i → f (get_or xs j d) ≡ 0) → sum_by f xs ≡ f (get_or xs i d)
+one_sum f d none [] i others = sym none
+one_sum f d none (x ∷ xs) zero others =
+    omega (arith, sum_by-cons f x xs, no_sum f d xs (λ j. others (suc j) (λ e. absurd (cc))))
+one_sum f d none (x ∷ xs) (suc i) others =
+    omega (arith, sum_by-cons f x xs, others 0 (λ e. absurd (cc)), one_sum f d none xs i (λ j differs. others (suc j) (λ e. differs (cc))))
+
+gives_none : (least : ℕ) (o : Option Connection) → gives_way_since least o ≡ None → given_at least o ≡ 0
+gives_none least None is = refl
+gives_none least (Some c) is = by_test (gives_way least c) is
+  where
+    by_test : (t : Bool) → cond t (Some c.since) None ≡ None → cond t (held_by c.phase) 0 ≡ 0
+    by_test true e = absurd cc
+    by_test false e = refl
+
+pub nobody_gives : (least : ℕ) (slots : Slab Connection) (slot : ℕ) → NobodyWaitsBesides slots (Some slot) least
+    → given_in least slots ≡ given_at least (get slots slot)
+nobody_gives least slots slot nobody =
+    one_sum (given_at least) None refl slots.slots slot
+    (λ j differs. gives_none least (get slots j) (sym (besides_other slots least slot j differs) ∙ nobody j))
+
+-- then all is held that would stay
+pub nobody_room : (most least : ℕ) (slots : Slab Connection) (slot count : ℕ) → NobodyWaitsBesides slots (Some slot) least
+    → has_room_besides most least slots slot count ≡ true → held_in slots + count ≤ most
+nobody_room most least slots slot count nobody enough =
+    let all = nobody_gives least slots slot nobody in
+    let stays : staying_besides least slots slot ≡ held_in slots = omega arith in
+    grind (arith, nat_tests)
+
+-- who gives way lets go of all that it holds, and that is something
+gives_held : (least : ℕ) (o : Option Connection) → gives_way_at least o ≡ true → (given_at least o ≡ held_at o) × (0 < held_at o)
+gives_held least None is = absurd cc
+gives_held least (Some c) is = (
+  ap (λ (t : Bool). cond t (held_by c.phase) 0) is,
+  holds_some (waits (stage c)) (nat_lt least (size_of c)) is,
+)
+  where
+    holds_some : (a b : Bool) → (a && (nat_lt 0 (held_by c.phase) && b)) ≡ true → 0 < held_by c.phase
+    holds_some true b e = let some = and_left (nat_lt 0 (held_by c.phase)) b e in grind (arith, nat_tests)
+    holds_some false b e = absurd cc
+
+-- what has ended holds nothing
+ended_empty : (p : Phase) → stage_of p ≡ ended → held_by p ≡ 0
+ended_empty (phase.Reading bytes) e = absurd cc
+ended_empty (phase.Queued message) e = absurd cc
+ended_empty phase.Answering e = refl
+ended_empty (phase.Writing outgoing) e = absurd cc
+ended_empty phase.Lingering e = refl
+ended_empty phase.Abandoned e = refl
+ended_empty phase.Ended e = refl
+
+lets_go : (least : ℕ) (old new : Option Connection) → gives_way_at least old ≡ true → Comes 0 failed old new
+    → (held_at new ≡ 0) × (given_at least new ≡ 0)
+lets_go least None new is comes = absurd cc
+lets_go least (Some c) None is comes = absurd comes
+lets_go least (Some c) (Some d) is comes =
+    let waited : waits (stage c) ≡ true = and_left (waits (stage c)) (nat_lt 0 (held_by c.phase) && nat_lt least (size_of c)) is in
+    let over : stage d ≡ ended = comes.stage_is ∙ ends_waiting c.answered (stage c) waited in
+    let none : held_by d.phase ≡ 0 = ended_empty d.phase over in
+    let few : given_at least (Some d) ≤ held_by d.phase = given_le least (Some d) in
+    (none, omega arith)
+
+-- one that gives way is ended: less is held, and as much would stay
+module _ (least : ℕ) (mid new : Slab Connection) (slot other : ℕ) (is : IsLongestBesides mid (Some slot) least other)
+    (happens : Happens 0 mid new other failed) where
+  apart : other ≢ slot
+  apart = λ same. absurd (let none = besides_same mid least slot other same in let found = is.1 in cc)
+
+  gives : gives_way_at least (get mid other) ≡ true
+  gives = waits_from least (get mid other) is.0 (sym (besides_other mid least slot other apart) ∙ is.1)
+
+  held_less : held_in new + held_at (get mid other) ≡ held_in mid
+  held_less =
+      let gone = lets_go least (get mid other) (get new other) gives happens.here in
+      omega (arith, changed_sum held_at None refl mid.slots new.slots other happens.others, gone.0)
+
+  given_less : given_in least new + held_at (get mid other) ≡ given_in least mid
+  given_less =
+      let gone = lets_go least (get mid other) (get new other) gives happens.here in
+      omega (arith, changed_sum (given_at least) None refl mid.slots new.slots other happens.others, gone.1, (gives_held least (get mid other) gives).0)
+
+  pub fewer_held : held_in new < held_in mid
+  fewer_held = omega (arith, held_less, (gives_held least (get mid other) gives).1)
+
+  pub stays_same : staying_besides least new slot ≡ staying_besides least mid slot
+  stays_same =
+      let here : given_at least (get new slot) ≡ given_at least (get mid slot) = ap (given_at least) (happens.others slot (λ e. apart (sym e))) in
+      omega (arith, held_less, given_less, here, given_here_le least new slot, given_in_le least new)
+
+pub room_stays : (most least count : ℕ) (mid new : Slab Connection) (slot other : ℕ) → IsLongestBesides mid (Some slot) least other
+    → Happens 0 mid new other failed → has_room_besides most least mid slot count ≡ true → has_room_besides most least new slot count ≡ true
+room_stays most least count mid new slot other is happens enough =
+    ap (λ (k : ℕ). not (nat_lt most (k + count))) (stays_same least mid new slot other is happens) ∙ enough
