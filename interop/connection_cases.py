@@ -105,29 +105,31 @@ class Machine:
             self.fail(c)
         return c is not None
 
-    def find_room(self, c, count, most, least=0):
-        """To end one that holds no bytes makes no room for bytes; nobody is ended where it isn't enough."""
-        others = [d for d in self.connections if d is not c and d.waits_for_client() and d.held() and d.size() > least]
-        if self.held() - sum(d.held() for d in others) + count > most:
+    def others(self, c, least):
+        """Who gives way to this one: to end one that holds no bytes makes no room for bytes."""
+        return [d for d in self.connections if d is not c and d.waits_for_client() and d.held() and d.size() > least]
+
+    def could_have_room(self, c, count, most, least):
+        return self.held() - sum(d.held() for d in self.others(c, least)) + count <= most
+
+    def find_room(self, c, count, most, least):
+        """Nobody is ended where it isn't enough."""
+        if not self.could_have_room(c, count, most, least):
             return False
         while self.held() + count > most:
-            other = self.longest(others)
-            others.remove(other)
-            self.fail(other)
+            self.fail(self.longest(self.others(c, least)))
         return True
 
-    def find_room_to_read(self, c, count):
+    def to_read(self, c):
         """Large messages have half of the bytes, at the cost of one another; others have three quarters."""
-        if c and c.size() > LARGEST_SMALL:
-            return self.find_room(c, count, self.size // 2, LARGEST_SMALL)
-        return self.find_room(c, count, self.size - self.size // 4)
+        return (self.size // 2, LARGEST_SMALL) if c and c.size() > LARGEST_SMALL else (self.size - self.size // 4, 0)
 
     def receive(self, c, octets, now):
         """The number of the worker where the message is whole now."""
         more = octets[:c.wanted()]
         if not more:
             return None
-        if not self.find_room(c, len(more), self.size):
+        if not self.find_room(c, len(more), *self.to_read(c)):
             self.fail(c)
             return None
         c.message += more
@@ -162,7 +164,7 @@ class Machine:
             self.look(c)
         if c.stage != ANSWERING:
             return
-        if not self.find_room(c, len(reply), self.size):
+        if not self.find_room(c, len(reply), self.size, 0):
             self.leave_unanswered(c, now)
             return
         c.go(WRITING, now)
@@ -318,8 +320,8 @@ def of_one(machine, kind, slot, rest, now):
         return f"{count} of {len(octets)} read, {received(c, worker)}"
     if kind == "push":
         return received(c, machine.receive(c, bytes_of(rest), now) if c else None)
-    if kind == "find":
-        return "has room" if machine.find_room_to_read(c, int(rest)) else "no room"
+    if kind == "has":
+        return "has room" if machine.could_have_room(c, int(rest), *machine.to_read(c)) else "no room"
     if kind == "rounds":
         return rounds(machine, c, int(rest), now)
     if kind == "remove":

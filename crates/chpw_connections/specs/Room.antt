@@ -92,3 +92,9 @@ read_within b large = if large then b.bytes / 2 else b.bytes - b.bytes / 4
 -- a large message is read at the cost of other large ones alone
 abbrev pub least_for : Bool → ℕ
 least_for large = if large then largest_small else 0
+
+-- so many more bytes of the message in a slot could be read
+abbrev pub has_room_to_read : Bounds → Slab Connection → ℕ → ℕ → Bool
+has_room_to_read b slots slot count =
+    let large = is_large_in (get slots slot) in
+    has_room_besides (read_within b large) (least_for large) slots slot count

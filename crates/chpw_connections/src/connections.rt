@@ -4,7 +4,7 @@ ghost use Rattle.slab.specs.Slab.{get, slab_len};
 ghost use Rattle.chpw_connections.specs.Holding.{held_in};
 ghost use Rattle.chpw_connections.specs.Stages.{came, taken, replied, unanswered, wrote, closed, failed};
 ghost use Rattle.chpw_connections.specs.Sets.{Happens, wanted_at, left_at, queued_at, is_late_in, Passes, is_lingering_in, is_ended_in, is_reading_in, is_answering_in, wanted_of, IsNew};
-ghost use Rattle.chpw_connections.specs.Room.{HappensWithRoom, has_room_besides};
+ghost use Rattle.chpw_connections.specs.Room.{HappensWithRoom, has_room_besides, has_room_to_read as has_room_to_read_in, read_within, least_for, is_large_in};
 ghost use Rattle.chpw_connections.specs.Expiry.{one_more, is_dropped_in, dropped_in, and_more};
 ghost use Rattle.chpw_connections.specs.Queues.{queues_of, queue_of, workers_of, DropsLate};
 ghost use Rattle.chpw_connections.specs.Waiting.{waits_for, in_time, Becomes, Leaves};
@@ -117,26 +117,27 @@ impl Connections {
 
     /// These bytes of a connection's message came, of which those count that are wanted. Where the message is whole with
     /// them, it waits at the end of its worker's queue, and the worker is given: the connection's number, modulo how many
-    /// there are. Where they are more than may be held, the others that hold bytes and have waited for their clients the
-    /// longest are ended to make room, but nobody where that isn't enough. Without room or memory for them the
-    /// connection is ended. Bytes for a free slot, and for a connection that wants none now, change nothing.
+    /// there are. Where there is no room for them (`has_room_to_read`), others are ended that hold bytes, those that
+    /// have waited for their clients the longest first: of a large message only those with another large one, and nobody
+    /// where that isn't enough. Without room or memory for them the connection is ended. Bytes for a free slot, and for a connection that wants none now, change nothing.
     #[tactic(auto, using(crate::proofs::ComesLemmas::wanted_happens, crate::proofs::ReadingLemmas::unwanted_unread))]
     pub fn receive(&mut self, slot: usize, bytes: &[u8], now: u64) -> Option<usize>
-        ensures queued { IfSome result (λ worker. HappensWithRoom 0 now (slots_of self.old) (slots_of self.new) slot (came bytes.now)) }
+        ensures queued { IfSome result (λ worker. HappensWithRoom (least_for (is_large_in (get (slots_of self.old) slot))) now (slots_of self.old) (slots_of self.new) slot (came bytes.now)) }
         ensures joins { IfSome result (λ worker. Becomes (queues_of self.old) (queues_of self.new) worker (queue_of self.old worker ++ slot ∷ [])) }
         ensures worker { IfSome result (λ worker. IfSome (get (slots_of self.old) slot) (λ c. worker ≡ c.number % workers_of self.old)) }
         ensures within { IfSome result (λ worker. worker < workers_of self.new) }
         ensures waits { IfSome result (λ worker. waits_for (workers_of self.new) (get (slots_of self.new) slot) ≡ Some worker) }
-        ensures read { IfNone result (HappensWithRoom 0 now (slots_of self.old) (slots_of self.new) slot (came bytes.now)
-            ⊎ HappensWithRoom 0 0 (slots_of self.old) (slots_of self.new) slot failed) }
+        ensures read { IfNone result (HappensWithRoom (least_for (is_large_in (get (slots_of self.old) slot))) now (slots_of self.old) (slots_of self.new) slot (came bytes.now)
+            ⊎ HappensWithRoom (least_for (is_large_in (get (slots_of self.old) slot))) 0 (slots_of self.old) (slots_of self.new) slot failed) }
         ensures stays { IfNone result ((queues_of self.new ≡ queues_of self.old) ⊎ Leaves (queues_of self.old) (queues_of self.new) slot) }
         ensures unread { is_reading_in (get (slots_of self.old) slot) ≡ false → (result ≡ None) × (self.new ≡ self.old) }
         ensures unwanted { wanted_at (get (slots_of self.old) slot) ≡ 0 → (result ≡ None) × (self.new ≡ self.old) }
-        ensures enough { held_in (slots_of self.old) + length bytes.now ≤ (bounds_of self.old).bytes
+        ensures enough { held_in (slots_of self.old) + length bytes.now ≤ read_within (bounds_of self.old) (is_large_in (get (slots_of self.old) slot))
             → (other : ℕ) → other ≢ slot → get (slots_of self.new) other ≡ get (slots_of self.old) other }
-        ensures enough_wanted { held_in (slots_of self.old) + length (wanted_of (get (slots_of self.old) slot) bytes.now) ≤ (bounds_of self.old).bytes
+        ensures enough_wanted { held_in (slots_of self.old) + length (wanted_of (get (slots_of self.old) slot) bytes.now)
+            ≤ read_within (bounds_of self.old) (is_large_in (get (slots_of self.old) slot))
             → (other : ℕ) → other ≢ slot → get (slots_of self.new) other ≡ get (slots_of self.old) other }
-        ensures too_many { has_room_besides (bounds_of self.old).bytes 0 (slots_of self.old) slot (length (wanted_of (get (slots_of self.old) slot) bytes.now)) ≡ false
+        ensures too_many { has_room_to_read_in (bounds_of self.old) (slots_of self.old) slot (length (wanted_of (get (slots_of self.old) slot) bytes.now)) ≡ false
             → (other : ℕ) → other ≢ slot → get (slots_of self.new) other ≡ get (slots_of self.old) other }
         ensures workers { workers_of self.new ≡ workers_of self.old }
         ensures counts { Counts self.new (accepted_by self.old) (removed_by self.old) }
@@ -153,25 +154,24 @@ impl Connections {
     // The same, of bytes that are all wanted.
     #[tactic(auto, using(crate::proofs::RoomLemmas::happens_with_room))]
     fn receive_wanted(&mut self, slot: usize, bytes: &[u8], now: u64) -> Option<usize>
-        ensures queued { IfSome result (λ worker. HappensWithRoom 0 now (slots_of self.old) (slots_of self.new) slot (came bytes.now)) }
+        ensures queued { IfSome result (λ worker. HappensWithRoom (least_for (is_large_in (get (slots_of self.old) slot))) now (slots_of self.old) (slots_of self.new) slot (came bytes.now)) }
         ensures joins { IfSome result (λ worker. Becomes (queues_of self.old) (queues_of self.new) worker (queue_of self.old worker ++ slot ∷ [])) }
         ensures worker { IfSome result (λ worker. IfSome (get (slots_of self.old) slot) (λ c. worker ≡ c.number % workers_of self.old)) }
         ensures within { IfSome result (λ worker. worker < workers_of self.new) }
         ensures waits { IfSome result (λ worker. waits_for (workers_of self.new) (get (slots_of self.new) slot) ≡ Some worker) }
-        ensures read { IfNone result (HappensWithRoom 0 now (slots_of self.old) (slots_of self.new) slot (came bytes.now)
-            ⊎ HappensWithRoom 0 0 (slots_of self.old) (slots_of self.new) slot failed) }
+        ensures read { IfNone result (HappensWithRoom (least_for (is_large_in (get (slots_of self.old) slot))) now (slots_of self.old) (slots_of self.new) slot (came bytes.now)
+            ⊎ HappensWithRoom (least_for (is_large_in (get (slots_of self.old) slot))) 0 (slots_of self.old) (slots_of self.new) slot failed) }
         ensures stays { IfNone result ((queues_of self.new ≡ queues_of self.old) ⊎ Leaves (queues_of self.old) (queues_of self.new) slot) }
-        ensures enough { held_in (slots_of self.old) + length bytes.now ≤ (bounds_of self.old).bytes
+        ensures enough { held_in (slots_of self.old) + length bytes.now ≤ read_within (bounds_of self.old) (is_large_in (get (slots_of self.old) slot))
             → (other : ℕ) → other ≢ slot → get (slots_of self.new) other ≡ get (slots_of self.old) other }
-        ensures too_many { has_room_besides (bounds_of self.old).bytes 0 (slots_of self.old) slot (length bytes.now) ≡ false
+        ensures too_many { has_room_to_read_in (bounds_of self.old) (slots_of self.old) slot (length bytes.now) ≡ false
             → (other : ℕ) → other ≢ slot → get (slots_of self.new) other ≡ get (slots_of self.old) other }
         ensures workers { workers_of self.new ≡ workers_of self.old }
         ensures counts { Counts self.new (accepted_by self.old) (removed_by self.old) }
         ensures expired { expired_by self.new ≡ expired_by self.old }
         ensures bounds { bounds_of self.new ≡ bounds_of self.old }
     {
-        let most = self.bounds.bytes;
-        if !self.find_room(slot, bytes.len(), most, 0) {
+        if !self.find_room_to_read(slot, bytes.len()) {
             self.fail(slot);
             return None;
         }

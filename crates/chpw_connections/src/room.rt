@@ -4,7 +4,7 @@ ghost use Rattle.chpw_connections.specs.Holding.{held_in};
 ghost use Rattle.chpw_connections.specs.Stages.{failed};
 ghost use Rattle.chpw_connections.specs.Sets.{Happens, IsLongest, NobodyWaits};
 ghost use Rattle.slab.specs.Slab.{get};
-ghost use Rattle.chpw_connections.specs.Room.{MakesRoom, is_large_in, read_within, least_for, has_room_besides};
+ghost use Rattle.chpw_connections.specs.Room.{MakesRoom, is_large_in, read_within, least_for, has_room_besides, has_room_to_read as has_room_to_read_in};
 ghost use Rattle.chpw_connections.specs.Queues.{queues_of};
 ghost use Rattle.chpw_connections.specs.Held.{slots_of, accepted_by, removed_by, expired_by, bounds_of, Counts};
 
@@ -42,16 +42,37 @@ impl Connections {
         }
     }
 
-    /// Makes room to read so many more bytes of a connection's message; whether there is room. Bytes of a message of more
-    /// than 4,096 are read as far as half of the bytes that may be held aren't exceeded, and others as far as three
-    /// quarters aren't: so large messages leave room for small ones, and messages for replies. Where there is none, those
-    /// that have waited for their clients the longest are ended until there is, of those that hold bytes; for a large
-    /// message only those with another large one. Where that wouldn't be enough, nobody is ended.
-    pub fn find_room_to_read(&mut self, slot: usize, count: usize) -> bool
+    /// Whether there is room to read so many more bytes of a connection's message. Bytes of a message of more than 4,096 are
+    /// read as far as half of the bytes that may be held aren't exceeded, and others as far as three quarters aren't: so
+    /// large messages leave room for small ones, and messages for replies. There is room too where `receive` would make it,
+    /// and where there is none, it would end the connection itself.
+    pub fn has_room_to_read(&self, slot: usize, count: usize) -> bool
+        ensures value { result ≡ has_room_to_read_in (bounds_of self.now) (slots_of self.now) slot count }
+    {
+        let (most, least) = self.room_to_read(slot);
+        self.has_room_for(count, most) || self.could_make_room(slot, count, most, least)
+    }
+
+    // How many bytes all may hold with those of a connection's message, and from how many on others give way to it.
+    fn room_to_read(&self, slot: usize) -> (usize, usize)
+        ensures most { result.0 ≡ read_within (bounds_of self.now) (is_large_in (get (slots_of self.now) slot)) }
+        ensures least { result.1 ≡ least_for (is_large_in (get (slots_of self.now) slot)) }
+    {
+        let bytes = self.bounds.bytes;
+        if self.is_large(slot) {
+            (bytes / 2, LARGEST_SMALL)
+        } else {
+            (bytes - bytes / 4, 0)
+        }
+    }
+
+    // Makes room to read so many more bytes of a connection's message; whether there is.
+    pub(crate) fn find_room_to_read(&mut self, slot: usize, count: usize) -> bool
         ensures makes_room { MakesRoom (least_for (is_large_in (get (slots_of self.old) slot))) (slots_of self.old) (slots_of self.new) slot }
-        ensures value { result ≡ has_room_besides (read_within (bounds_of self.old) (is_large_in (get (slots_of self.old) slot)))
-            (least_for (is_large_in (get (slots_of self.old) slot))) (slots_of self.old) slot count }
+        ensures value { result ≡ has_room_to_read_in (bounds_of self.old) (slots_of self.old) slot count }
         ensures room { result ≡ true → held_in (slots_of self.new) + count ≤ read_within (bounds_of self.old) (is_large_in (get (slots_of self.old) slot)) }
+        ensures within { result ≡ true → held_in (slots_of self.new) + count ≤ (bounds_of self.new).bytes }
+        ensures fits { result ≡ true → held_in (slots_of self.new) + count < 2 ^ 64 }
         ensures enough { held_in (slots_of self.old) + count ≤ read_within (bounds_of self.old) (is_large_in (get (slots_of self.old) slot))
             → slots_of self.new ≡ slots_of self.old }
         ensures none { result ≡ false → slots_of self.new ≡ slots_of self.old }
@@ -60,12 +81,8 @@ impl Connections {
         ensures bounds { bounds_of self.new ≡ bounds_of self.old }
         ensures queues { queues_of self.new ≡ queues_of self.old }
     {
-        let bytes = self.bounds.bytes;
-        if self.is_large(slot) {
-            self.find_room(slot, count, bytes / 2, LARGEST_SMALL)
-        } else {
-            self.find_room(slot, count, bytes - bytes / 4, 0)
-        }
+        let (most, least) = self.room_to_read(slot);
+        self.find_room(slot, count, most, least)
     }
 
     /// Whether the message of the connection in a slot has more than 4,096 bytes, as far as its length has come.
@@ -95,8 +112,7 @@ impl Connections {
         if self.has_room_for(count, most) {
             return true;
         }
-        let staying = self.slots.staying_besides(slot, least);
-        if count > most || staying > most - count {
+        if !self.could_make_room(slot, count, most, least) {
             return false;
         }
         self.put_out_for(slot, count, most, least);
@@ -108,6 +124,13 @@ impl Connections {
         ensures value { result ≡ not (nat_lt most (held_in (slots_of self.now) + count)) }
     {
         count <= most && self.slots.held <= most - count
+    }
+
+    // Whether so many more bytes of a connection could be held within a bound if all that give way to it had ended.
+    fn could_make_room(&self, slot: usize, count: usize, most: usize, least: usize) -> bool
+        ensures value { result ≡ has_room_besides most least (slots_of self.now) slot count }
+    {
+        count <= most && self.slots.staying_besides(slot, least) <= most - count
     }
 
     // Ends others that give way, those that have waited the longest first, until so many more bytes may be held.

@@ -1,12 +1,13 @@
 -- What a read or a write at its socket does to a connection. The bytes that a reader has left, and those that a
 -- writer holds, are told where they are known.
-use Rattle.std.specs.Prelude.{◌≡◌, ℕ, ◌≤◌, List, length, take, Option, ◌⊎◌}
+use Rattle.std.specs.Prelude.{◌≡◌, ℕ, ◌≤◌, List, length, take, Option, Bool, true, if◌then◌else◌, ◌⊎◌}
 use Rattle.std.specs.Io.KnownBytes.{Appends, Consumes, Keeps}
 use Rattle.slab.specs.Slab.{Slab, get}
 use Rattle.chpw_connections.specs.Stages.{came, wrote, closed, failed}
 use Rattle.chpw_connections.specs.Sets.{Happens, wanted_at, left_at}
-use Rattle.chpw_connections.specs.Room.{HappensWithRoom}
+use Rattle.chpw_connections.specs.Room.{HappensWithRoom, least_for, is_large_in}
 use Rattle.chpw_connections.specs.declared.connection.Connection.{Connection}
+use Rattle.chpw_pool.specs.declared.state.Shortage.{Shortage}
 
 -- these bytes were read, no more than were wanted, and came to the connection; without room or memory for them it
 -- ended
@@ -14,7 +15,8 @@ pub record Takes (now : ℕ) (old new : Slab Connection) (slot : ℕ) (before af
   pub bytes : List ℕ
   pub few : length bytes ≤ wanted_at (get old slot)
   pub read : Consumes before after bytes
-  pub happens : HappensWithRoom now old new slot (came bytes) ⊎ HappensWithRoom 0 old new slot failed
+  pub happens : HappensWithRoom (least_for (is_large_in (get old slot))) now old new slot (came bytes)
+      ⊎ HappensWithRoom (least_for (is_large_in (get old slot))) 0 old new slot failed
 
 -- nothing was read: the other side has ended, the socket has failed, or nothing has come
 pub record TakesNone (old new : Slab Connection) (slot : ℕ) (before after : Option (List ℕ)) : Type 0 where
@@ -31,3 +33,7 @@ pub record Gives (now : ℕ) (old new : Slab Connection) (slot : ℕ) (before af
 pub record GivesNone (old new : Slab Connection) (slot : ℕ) (before after : Option (List ℕ)) : Type 0 where
   pub kept : Keeps before after
   pub happens : Happens 0 old new slot failed ⊎ (new ≡ old)
+
+-- no room for messages of this kind
+abbrev pub short_of : Bool → Shortage → Shortage
+short_of large s = if large then record s { of_large = true } else record s { of_small = true }

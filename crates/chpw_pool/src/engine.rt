@@ -63,7 +63,7 @@ impl<G: Drop> Engine<G> {
         Ok(Engine {
             workers,
             seed,
-            state: Mutex::new(State::new(connections, bounds.bytes)),
+            state: Mutex::new(State::new(connections)),
             selector: Mutex::new(selector),
             sockets: Mutex::new(sockets),
             waker,

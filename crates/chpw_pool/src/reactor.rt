@@ -3,13 +3,14 @@
 use crate::accepting::is_passing;
 use crate::engine::{Engine, milliseconds};
 use crate::sockets::{LISTENER, Selector, Sockets};
-use crate::state::Progress;
+use crate::state::{Progress, Shortage};
 use crate::worker::peer_of;
 use chpw_connections::Todo;
 use mio::event::Event;
 use mio::unix::SourceFd;
 use mio::{Events, Interest, Token};
 use std::io::ErrorKind;
+use std::mem;
 use std::net::{OpenListener, SocketAddr, TcpStream};
 use std::os::fd::AsRawFd;
 use std::sync::Wait;
@@ -55,6 +56,8 @@ struct Reactor<'a, R, L, G> {
     pending: Option<(TcpStream, SocketAddr)>,
     /// When the connections whose time is up were looked for.
     looked: u64,
+    /// The slot at which the next round over all begins.
+    first: usize,
 }
 
 impl<G> Engine<G> {
@@ -78,6 +81,7 @@ impl<G> Engine<G> {
             accepting: Accepting::Ready,
             pending: None,
             looked: milliseconds(rt),
+            first: 0,
         };
         reactor.listen();
         reactor.run(&mut *selector);
@@ -199,28 +203,44 @@ impl<'a, R: Wait + Clock, L: OpenListener<Stream = TcpStream> + AsRawFd, G> Reac
                 self.accepting = Accepting::Ready;
             }
         }
-        let is_short = self.pass(now);
-        for slot in 0..self.sockets.by_slot.len() {
-            if self.is_to_be_looked_at(slot, is_short) {
+        let had = self.pass(now);
+        self.look_round(had.is_any());
+    }
+
+    // Time passes for all connections, and a round begins: what there was no room for in the last one.
+    fn pass(&self, now: u64) -> Shortage {
+        let mut state = self.engine.state.lock(self.rt);
+        state.connections.pass(now);
+        mem::take(&mut state.shortage)
+    }
+
+    // Looks at each connection for which there is something to be done though nothing came of it. The next round begins
+    // at the one for which there was no room in this one, so that all get room in turn.
+    fn look_round(&mut self, reads: bool) {
+        let slots = self.sockets.by_slot.len();
+        let first = self.first;
+        let mut is_short = false;
+        for slot in (first..slots).chain(0..first.min(slots)) {
+            if self.is_to_be_looked_at(slot, reads) {
                 self.drive(slot);
+                if !is_short && self.is_short() {
+                    is_short = true;
+                    self.first = slot;
+                }
             }
         }
     }
 
-    // Time passes for all connections. Whether a message wasn't read for want of room.
-    fn pass(&self, now: u64) -> bool {
-        let mut state = self.engine.state.lock(self.rt);
-        state.connections.pass(now);
-        let is_short = state.is_short;
-        state.is_short = false;
-        is_short
+    // Whether there was no room for a message in this round.
+    fn is_short(&self) -> bool {
+        self.engine.state.lock(self.rt).shortage.is_any()
     }
 
-    // Whether there is something to be done for a connection though nothing came of it.
-    fn is_to_be_looked_at(&self, slot: usize, is_short: bool) -> bool {
+    // Whether there is something to be done for a connection though nothing came of it; to read, where there was no room.
+    fn is_to_be_looked_at(&self, slot: usize, reads: bool) -> bool {
         match self.engine.state.lock(self.rt).todo(slot) {
             Todo::Write | Todo::Linger | Todo::Close => true,
-            Todo::Read(_) => is_short,
+            Todo::Read(_) => reads,
             Todo::Wait => false,
         }
     }

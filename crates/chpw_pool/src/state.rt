@@ -1,13 +1,12 @@
 //! The connections, as reactor and workers see them under their lock.
 
-ghost use Rattle.std.specs.Prelude.{◌≡◌, ◌≤◌, ◌<◌, ◌/◌, ◌⊎◌, IfSome, Some, None, true, false};
-ghost use Rattle.chpw_connections.specs.Holding.{held_in};
+ghost use Rattle.std.specs.Prelude.{◌≡◌, ◌⊎◌, ◌||◌, IfSome, Some, None, true, false, if◌then◌else◌};
 ghost use Rattle.slab.specs.Slab.{get};
 ghost use Rattle.chpw_connections.specs.Held.{slots_of, bounds_of};
 ghost use Rattle.chpw_connections.specs.Sets.{Happens, queued_at, is_late_in, wanted_at};
 ghost use Rattle.chpw_connections.specs.Stages.{came, taken, failed};
-ghost use Rattle.chpw_connections.specs.Room.{HappensWithRoom};
-ghost use Rattle.chpw_pool.specs.Steps.{Takes, TakesNone, Gives, GivesNone};
+ghost use Rattle.chpw_connections.specs.Room.{HappensWithRoom, least_for, is_large_in, has_room_to_read};
+ghost use Rattle.chpw_pool.specs.Steps.{Takes, TakesNone, Gives, GivesNone, short_of};
 ghost use Rattle.chpw_pool.specs.declared.state.Progress.TheVariants as progress;
 
 use chpw_connections::{Connections, Taken, Todo};
@@ -23,15 +22,48 @@ pub(crate) struct State {
     pub is_over: bool,
     /// Nobody is there to answer any more.
     pub is_deserted: bool,
-    /// Half of the bytes that connections may hold together.
-    pub half: usize,
-    /// Whether a large message wasn't read since the others hold so much.
-    pub is_short: bool,
+    /// For what there was no room in this round.
+    pub shortage: Shortage,
 }
 
-/// Of what has more bytes than this to come nothing is read while all connections hold half of what they may: so a
-/// flood of large messages leaves room for short ones.
-const LARGE: usize = 4_096;
+/// Whether a message wasn't read for want of room. Others of its kind wait with it for the next round, so that all get
+/// room in turn.
+#[derive(Clone, Copy, PartialEq, Eq, Debug, Default, Drop)]
+pub(crate) struct Shortage {
+    pub of_large: bool,
+    pub of_small: bool,
+}
+
+impl Shortage {
+    /// Whether there is one for messages of this kind.
+    fn is_for(self, is_large: bool) -> bool
+        ensures value { result ≡ (if is_large then self.of_large else self.of_small) }
+    {
+        if is_large {
+            self.of_large
+        } else {
+            self.of_small
+        }
+    }
+
+    /// There is one for messages of this kind from now on.
+    fn begin(&mut self, is_large: bool)
+        ensures value { self.new ≡ short_of is_large self.old }
+    {
+        if is_large {
+            self.of_large = true;
+        } else {
+            self.of_small = true;
+        }
+    }
+
+    /// Whether there is any.
+    pub fn is_any(self) -> bool
+        ensures value { result ≡ (self.of_large || self.of_small) }
+    {
+        self.of_large || self.of_small
+    }
+}
 
 /// What came of a read or a write.
 #[derive(Clone, Copy, PartialEq, Eq, Debug, Drop)]
@@ -45,17 +77,14 @@ pub(crate) enum Progress {
 }
 
 impl State {
-    /// No connections yet, which may hold so many bytes.
-    pub fn new(connections: Connections, bytes: usize) -> State
-        ensures half { result.half ≡ bytes / 2 }
-    {
+    /// These connections, which workers may serve.
+    pub fn new(connections: Connections) -> State {
         State {
             connections,
             is_stopped: false,
             is_over: false,
             is_deserted: false,
-            half: bytes / 2,
-            is_short: false,
+            shortage: Shortage::default(),
         }
     }
 
@@ -81,8 +110,8 @@ impl State {
         self.connections.take(worker, now)
     }
 
-    /// Reads what is wanted of a connection's message, as far as it is there and the buffer takes it. A large message
-    /// is left where it is while all of them hold half of what they may.
+    /// Reads what is wanted of a connection's message, as far as it is there, the buffer takes it and there is room. Where
+    /// there is none it is left where it is.
     pub fn read<I: Read>(
         &mut self,
         slot: usize,
@@ -94,16 +123,9 @@ impl State {
             (I.remaining reader.old) (I.remaining reader.new)
             ⊎ TakesNone (slots_of self.old.connections) (slots_of self.new.connections) slot
             (I.remaining reader.old) (I.remaining reader.new) }
-        ensures large { 4096 < wanted_at (get (slots_of self.old.connections) slot) → self.old.half ≤ held_in (slots_of self.old.connections)
-            → slots_of self.new.connections ≡ slots_of self.old.connections }
     {
-        let wanted = self.connections.wanted(slot);
-        let most = buffer.len().min(wanted);
-        if most == 0 {
-            return Progress::None;
-        }
-        if wanted > LARGE && self.connections.held() >= self.half {
-            self.is_short = true;
+        let most = buffer.len().min(self.connections.wanted(slot));
+        if most == 0 || !self.may_read(slot, most) {
             return Progress::None;
         }
         match reader.read(&mut buffer[..most]) {
@@ -116,10 +138,26 @@ impl State {
         }
     }
 
+    // Whether so many bytes of a connection's message may be read; none where there was no room for one of its kind in
+    // this round.
+    fn may_read(&mut self, slot: usize, count: usize) -> bool
+        ensures room { result ≡ true → has_room_to_read (bounds_of self.old.connections) (slots_of self.old.connections) slot count ≡ true }
+        ensures shortage { self.new.shortage ≡ (if result then self.old.shortage else short_of (is_large_in (get (slots_of self.old.connections) slot)) self.old.shortage) }
+        ensures same { self.new.connections ≡ self.old.connections }
+    {
+        let is_large = self.connections.is_large(slot);
+        let may_read =
+            !self.shortage.is_for(is_large) && self.connections.has_room_to_read(slot, count);
+        if !may_read {
+            self.shortage.begin(is_large);
+        }
+        may_read
+    }
+
     // These bytes came.
     fn receive(&mut self, slot: usize, bytes: &[u8], now: u64) -> Progress
-        ensures happens { HappensWithRoom now (slots_of self.old.connections) (slots_of self.new.connections) slot (came bytes.now)
-            ⊎ HappensWithRoom 0 (slots_of self.old.connections) (slots_of self.new.connections) slot failed }
+        ensures happens { HappensWithRoom (least_for (is_large_in (get (slots_of self.old.connections) slot))) now (slots_of self.old.connections) (slots_of self.new.connections) slot (came bytes.now)
+            ⊎ HappensWithRoom (least_for (is_large_in (get (slots_of self.old.connections) slot))) 0 (slots_of self.old.connections) (slots_of self.new.connections) slot failed }
     {
         match self.connections.receive(slot, bytes, now) {
             Some(worker) => Progress::Queued(worker),

@@ -16,7 +16,7 @@ impl Script {
                     .receive(slot, &bytes(self.alloc, rest)?, now);
                 return self.received(slot, worker);
             }
-            "find" => return self.room_found(slot, number(rest)?),
+            "has" => return self.room(slot, number(rest)?),
             "rounds" => return self.rounds(slot, number(rest)?, now),
             "remove" => return self.removed(slot),
             "answer" => self.answered(slot, rest, now)?,
@@ -61,8 +61,8 @@ impl Script {
         }
     }
 
-    fn room_found(&mut self, slot: usize, count: usize) -> io::Result<String> {
-        let word = if self.connections.find_room_to_read(slot, count) {
+    fn room(&self, slot: usize, count: usize) -> io::Result<String> {
+        let word = if self.connections.has_room_to_read(slot, count) {
             "has room"
         } else {
             "no room"

@@ -5,27 +5,28 @@ use Rattle.chpw_connections.proofs.RoomLemmas.{happens_with_room}
 use Rattle.chpw_connections.specs.Stages.{came, failed}
 use Rattle.chpw_connections.specs.Held.{slots_of}
 use Rattle.chpw_connections.specs.Sets.{Happens}
-use Rattle.slab.specs.Slab.{Slab}
+use Rattle.slab.specs.Slab.{Slab, get}
+use Rattle.chpw_connections.specs.Room.{least_for, is_large_in}
 use Rattle.chpw_connections.specs.declared.connection.Connection.{Connection}
 use Rattle.chpw_connections.proofs.set.Connections.receive_wanted.Goals as goal
 
 pub invariant_of-self-in-Err-clause-waiting : goal.invariant_of-self-in-Err-clause-waiting
 invariant_of-self-in-Err-clause-waiting c =
-    let old = c.find_room.new.self in
+    let old = c.find_room_to_read.new.self in
     subst (λ (q : List (List ℕ)). Holds q c.receive.new.self.connections) (sym c.reserve.ensures.same)
     (holds_failed_quietly (lists_of old.queues) 0 old.slots.connections c.receive.new.self.connections c.args.slot
     c.in-Err.ensures.reading c.in-Err.ensures.ended old.waiting)
 
 pub invariant_of-self-in-Ok-false-clause-waiting : goal.invariant_of-self-in-Ok-false-clause-waiting
 invariant_of-self-in-Ok-false-clause-waiting c =
-    let old = c.find_room.new.self in
+    let old = c.find_room_to_read.new.self in
     subst (λ (q : List (List ℕ)). Holds q c.receive.new.self.connections) (sym c.reserve.ensures.same)
     (holds_came (lists_of old.queues) c.args.now old.slots.connections c.receive.new.self.connections c.args.slot c.args.bytes.now
     c.in-Ok-false.ensures.happens (sym c.in-Ok-false.ensures.whole ∙ c.in-Ok-false.field-0-test) old.waiting)
 
 pub invariant_of-self-in-Ok-true-clause-waiting : goal.invariant_of-self-in-Ok-true-clause-waiting
 invariant_of-self-in-Ok-true-clause-waiting c =
-    let old = c.find_room.new.self in
+    let old = c.find_room_to_read.new.self in
     let queues = lists_of c.reserve.new.self in
     let joined = lists_of c.put.new.self in
     let n = c.in_ok-number.number in
@@ -39,16 +40,16 @@ invariant_of-self-in-Ok-true-clause-waiting c =
 
 pub returns-then-not-reserve-clause-read : goal.returns-then-not-reserve-clause-read
 returns-then-not-reserve-clause-read c =
-    inr (happens_with_room 0 0 (slots_of c.args.self.now) (slots_of c.find_room.new.self) (slots_of c.fail-then-not-reserve.new.self) c.args.slot failed
-    c.find_room.ensures.makes_room c.fail-then-not-reserve.ensures.happens)
+    inr (happens_with_room (least_for (is_large_in (get (slots_of c.args.self.now) c.args.slot))) 0 (slots_of c.args.self.now) (slots_of c.find_room_to_read.new.self) (slots_of c.fail-then-not-reserve.new.self) c.args.slot failed
+    c.find_room_to_read.ensures.makes_room c.fail-then-not-reserve.ensures.happens)
 
 pub returns-in-Err-clause-read : goal.returns-in-Err-clause-read
 returns-in-Err-clause-read c =
-    inr (happens_with_room 0 0 (slots_of c.args.self.now) (slots_of c.find_room.new.self) (slots_of c.note.new.self) c.args.slot failed
-    c.find_room.ensures.makes_room
-    (subst (λ (s : Slab Connection). Happens 0 (slots_of c.find_room.new.self) s c.args.slot failed) (sym c.note.ensures.slots) c.in-Err.ensures.ended))
+    inr (happens_with_room (least_for (is_large_in (get (slots_of c.args.self.now) c.args.slot))) 0 (slots_of c.args.self.now) (slots_of c.find_room_to_read.new.self) (slots_of c.note.new.self) c.args.slot failed
+    c.find_room_to_read.ensures.makes_room
+    (subst (λ (s : Slab Connection). Happens 0 (slots_of c.find_room_to_read.new.self) s c.args.slot failed) (sym c.note.ensures.slots) c.in-Err.ensures.ended))
 
 pub returns-in-Ok-false-clause-read : goal.returns-in-Ok-false-clause-read
 returns-in-Ok-false-clause-read c =
-    inl (happens_with_room 0 c.args.now (slots_of c.args.self.now) (slots_of c.find_room.new.self) c.receive.new.self.connections c.args.slot
-    (came c.args.bytes.now) c.find_room.ensures.makes_room c.in-Ok-false.ensures.happens)
+    inl (happens_with_room (least_for (is_large_in (get (slots_of c.args.self.now) c.args.slot))) c.args.now (slots_of c.args.self.now) (slots_of c.find_room_to_read.new.self) c.receive.new.self.connections c.args.slot
+    (came c.args.bytes.now) c.find_room_to_read.ensures.makes_room c.in-Ok-false.ensures.happens)
