@@ -8,6 +8,7 @@ use chpw_invocation::ServeOptions;
 use chpw_service::serve_by;
 use std::alloc::Global;
 use std::fs;
+use std::io::Write;
 use std::net::{Net, TcpListener, TcpStream};
 use std::process::Abort;
 use std::test::Fail;
@@ -30,7 +31,9 @@ fn ask_all<R: Net<Stream = TcpStream> + Clock + Abort>(
     alloc: Global,
     port: u16,
     requests: &[Sent],
+    is_flooded: bool,
 ) {
+    let unread = is_flooded.then(|| flood(rt, alloc, port));
     let mut streams = Vec::new(alloc);
     for _ in requests {
         streams
@@ -44,6 +47,30 @@ fn ask_all<R: Net<Stream = TcpStream> + Clock + Abort>(
     for (sent, stream) in requests.iter().zip(streams.iter()) {
         expect_change(rt, alloc, stream, sent);
     }
+    drop(unread);
+}
+
+// A client that sends as many messages as its socket takes, and reads no answer.
+fn flood<R: Net<Stream = TcpStream> + Clock + Abort>(
+    rt: &R,
+    alloc: Global,
+    port: u16,
+) -> TcpStream {
+    let stream = connect_soon(rt, port);
+    assert!(rt; stream.set_nonblocking(true).is_ok());
+    let mut messages = Vec::new(alloc);
+    for _ in 0..100u8 {
+        messages
+            .extend_from_slice(&[0, 0, 0, 6, 0, 6, 0xff, 0x80, 0, 0])
+            .ok()
+            .expect(rt, "memory");
+    }
+    for _ in 0..400u32 {
+        if (&stream).write_all(&messages).is_err() {
+            break;
+        }
+    }
+    stream
 }
 
 fn expect_change<R: Abort>(rt: &R, alloc: Global, stream: &TcpStream, sent: &Sent) {
@@ -71,28 +98,32 @@ fn request_of<R: Abort>(rt: &R, alloc: Global, number: u8) -> Result<Sent, Fail>
     )
 }
 
-// Sixteen workers and histories of five entries.
-#[test]
-fn histories_amid_sixteen_workers(rt: HostRuntime) -> Result<(), Fail> {
+// So many workers and histories of five entries; maybe beside a client that reads nothing.
+fn histories(
+    rt: &HostRuntime,
+    [config, journal, seed]: [&str; 3],
+    workers: u8,
+    is_flooded: bool,
+) -> Result<(), Fail> {
     let alloc = rt.alloc();
-    let config = format!(in alloc; "[service]\nmax_entries = 5\n{SETTINGS}")?;
-    fs::write(&rt, "amid.toml", config.as_bytes())?;
-    fs::write(&rt, "amid.seed", [1; 32].as_slice())?;
-    let _ = fs::remove_file(&rt, "amid.journal");
+    let text = format!(in alloc; "[service]\nmax_entries = 5\n{SETTINGS}")?;
+    fs::write(rt, config, text.as_bytes())?;
+    fs::write(rt, seed, [1; 32].as_slice())?;
+    let _ = fs::remove_file(rt, journal);
     let mut requests = Vec::new(alloc);
     for number in 0..CLIENTS {
-        requests.push(request_of(&rt, alloc, number)?)?;
+        requests.push(request_of(rt, alloc, number)?)?;
     }
-    let listener = TcpListener::bind(&rt, ("127.0.0.1", 0u16))?;
+    let listener = TcpListener::bind(rt, ("127.0.0.1", 0u16))?;
     let port = listener.local_addr()?.port();
     drop(listener);
     let options = ServeOptions {
-        config: "amid.toml",
-        journal: "amid.journal",
-        seed: "amid.seed",
+        config,
+        journal,
+        seed,
         port,
-        workers: 16,
-        connections: u32::from(CLIENTS),
+        workers,
+        connections: u32::from(CLIENTS) + u32::from(is_flooded),
         idle: 10,
         clients: 1024,
         buffers: 32,
@@ -101,11 +132,21 @@ fn histories_amid_sixteen_workers(rt: HostRuntime) -> Result<(), Fail> {
     };
     let clock = SetClock::new(START);
     let (served, ()) = join(
-        &rt,
-        || serve_by(&rt, &clock, options).is_ok(),
-        || ask_all(&rt, alloc, port, requests.as_slice()),
+        rt,
+        || serve_by(rt, &clock, options).is_ok(),
+        || ask_all(rt, alloc, port, requests.as_slice(), is_flooded),
     );
     assert!(rt; served);
-    assert_eq!(rt; fs::read(&rt, "amid.journal")?.len(), 12 * 66 + 12 * 64);
+    assert_eq!(rt; fs::read(rt, journal)?.len(), 12 * 66 + 12 * 64);
     Ok(())
+}
+
+#[test]
+fn histories_amid_sixteen_workers(rt: HostRuntime) -> Result<(), Fail> {
+    histories(&rt, ["amid.toml", "amid.journal", "amid.seed"], 16, false)
+}
+
+#[test]
+fn histories_beside_a_client_that_reads_nothing(rt: HostRuntime) -> Result<(), Fail> {
+    histories(&rt, ["mute.toml", "mute.journal", "mute.seed"], 2, true)
 }
