@@ -1,5 +1,5 @@
 -- The bounds of a pool's connections, in bytes and milliseconds.
-use Rattle.std.specs.Prelude.{ℕ, ◌*◌}
+use Rattle.std.specs.Prelude.{◌*◌}
 use Rattle.chpw_connections.specs.declared.bounds.Bounds.{Bounds}
 use Rattle.chpw_pool.specs.declared.terms.Terms.{Terms}
 

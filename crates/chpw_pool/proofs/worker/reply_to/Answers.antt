@@ -1,4 +1,4 @@
-use Rattle.std.proofs.Common.{◌≡◌, Some, [], ◌∷◌}
+use Rattle.std.proofs.Common.{Some}
 use Rattle.chpw_pool.proofs.worker.reply_to.Goals as goal
 
 pub returns : goal.returns
