@@ -34,6 +34,10 @@ pub record GivesNone (old new : Slab Connection) (slot : ℕ) (before after : Op
   pub kept : Keeps before after
   pub happens : Happens 0 old new slot failed ⊎ (new ≡ old)
 
--- no room for messages of this kind
+-- there was no room for messages of this kind
+abbrev pub is_short_for : Bool → Shortage → Bool
+is_short_for large s = if large then s.of_large else s.of_small
+
+-- and from now on there isn't
 abbrev pub short_of : Bool → Shortage → Shortage
 short_of large s = if large then record s { of_large = true } else record s { of_small = true }

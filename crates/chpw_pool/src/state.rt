@@ -1,12 +1,12 @@
 //! The connections, as reactor and workers see them under their lock.
 
-ghost use Rattle.std.specs.Prelude.{◌≡◌, ◌⊎◌, ◌||◌, IfSome, Some, None, true, false, if◌then◌else◌};
+ghost use Rattle.std.specs.Prelude.{◌≡◌, ◌⊎◌, ◌||◌, ◌&&◌, not, IfSome, Some, None, true, false, if◌then◌else◌};
 ghost use Rattle.slab.specs.Slab.{get};
 ghost use Rattle.chpw_connections.specs.Held.{slots_of, bounds_of};
 ghost use Rattle.chpw_connections.specs.Sets.{Happens, queued_at, is_late_in, wanted_at};
 ghost use Rattle.chpw_connections.specs.Stages.{came, taken, failed};
 ghost use Rattle.chpw_connections.specs.Room.{HappensWithRoom, least_for, is_large_in, has_room_to_read};
-ghost use Rattle.chpw_pool.specs.Steps.{Takes, TakesNone, Gives, GivesNone, short_of};
+ghost use Rattle.chpw_pool.specs.Steps.{Takes, TakesNone, Gives, GivesNone, is_short_for, short_of};
 ghost use Rattle.chpw_pool.specs.declared.state.Progress.TheVariants as progress;
 
 use chpw_connections::{Connections, Taken, Todo};
@@ -37,7 +37,7 @@ pub(crate) struct Shortage {
 impl Shortage {
     /// Whether there is one for messages of this kind.
     fn is_for(self, is_large: bool) -> bool
-        ensures value { result ≡ (if is_large then self.of_large else self.of_small) }
+        ensures value { result ≡ is_short_for is_large self }
     {
         if is_large {
             self.of_large
@@ -141,7 +141,8 @@ impl State {
     // Whether so many bytes of a connection's message may be read; none where there was no room for one of its kind in
     // this round.
     fn may_read(&mut self, slot: usize, count: usize) -> bool
-        ensures room { result ≡ true → has_room_to_read (bounds_of self.old.connections) (slots_of self.old.connections) slot count ≡ true }
+        ensures value { result ≡ (not (is_short_for (is_large_in (get (slots_of self.old.connections) slot)) self.old.shortage)
+            && has_room_to_read (bounds_of self.old.connections) (slots_of self.old.connections) slot count) }
         ensures shortage { self.new.shortage ≡ (if result then self.old.shortage else short_of (is_large_in (get (slots_of self.old.connections) slot)) self.old.shortage) }
         ensures same { self.new.connections ≡ self.old.connections }
     {

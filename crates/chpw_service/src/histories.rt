@@ -9,7 +9,7 @@ ghost use Rattle.chpw_service.specs.declared.fault.ServeFault.TheVariants.{Canno
 
 use crate::closing::{Left, Tally, close_desk};
 use crate::fault::ServeFault;
-use crate::logging::Logging;
+use crate::logging::{Log, Logging};
 use crate::notices::{Notice, is_first, unreported};
 use chpw_book::{Desk, DeskName, Pass, StartFault, UnnamedDesk};
 use chpw_journal::FileSink;
@@ -30,6 +30,7 @@ pub(crate) struct Hall<'l, R> {
     pub workers: u8,
     /// How many entries a history has at the most.
     pub max_entries: u32,
+    pub log: &'l Log<'l, R>,
     ghost some_workers: { (1 ≤ workers) × (workers ≤ 16) },
     ghost queues: { workers_at engine ≡ workers },
 }
@@ -128,8 +129,9 @@ fn serve_history<
     );
     let Left { tally, table, sink } = close_desk(rt, desk, passes)?;
     let over = hall.engine.is_over(rt);
-    report_expired(rt, hall.engine.expired(rt), &mut reported.expired);
-    tell_tally(rt, tally, over || served.is_err(), &mut reported.is_lost)?;
+    report_expired(hall.log, hall.engine.expired(rt), &mut reported.expired);
+    let last = over || served.is_err();
+    tell_tally(rt, hall.log, tally, last, &mut reported.is_lost)?;
     if served.is_err() {
         return Err(ServeFault::Memory);
     }
@@ -152,17 +154,18 @@ pub(crate) fn start_desk<D: DeskName, R: Wait + AllocGlobal>(
 }
 
 // Reports how many messages more had waited too long for their worker.
-fn report_expired<R: Eprint>(rt: &R, expired: u32, reported: &mut u32) {
+fn report_expired<R: Wait + Eprint>(log: &Log<'_, R>, expired: u32, reported: &mut u32) {
     let more = unreported(expired, reported);
     if more > 0 {
-        let _ = eprintln!(rt; "{}", Notice::Expired(more));
+        log.tell(Notice::Expired(more));
     }
 }
 
 // Prints what was done. After the last history it is a fault where that can't be printed; after another one
 // the line is lost, and the first time that is told on standard error.
-fn tell_tally<'a, R: Print + Eprint>(
+fn tell_tally<'a, R: Wait + Print + Eprint>(
     rt: &R,
+    log: &Log<'_, R>,
     tally: Tally,
     last: bool,
     lost: &mut bool,
@@ -175,7 +178,7 @@ fn tell_tally<'a, R: Print + Eprint>(
         Err(fault) if last => Err(fault),
         Err(_) => {
             if is_first(lost) {
-                let _ = eprintln!(rt; "{}", Notice::OutputLost);
+                log.tell(Notice::OutputLost);
             }
             Ok(())
         }

@@ -10,6 +10,7 @@ mod logging;
 mod notices;
 mod places;
 mod raising;
+mod readiness;
 mod serving;
 mod sheets;
 mod starting;

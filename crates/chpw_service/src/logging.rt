@@ -5,9 +5,9 @@ ghost use Rattle.chpw_table.specs.Times.{IsMoment};
 ghost use Rattle.chpw_service.specs.Faults.{IsOfClash, IsOfLog, IsUnlogged};
 
 use crate::fault::ServeFault;
-use crate::notices::{Notice, is_first};
+use crate::notices::{Losses, Notice, is_first};
 use crate::places::keep_apart;
-use crate::sheets::Sheet;
+use crate::sheets::{Sheet, is_standard_error};
 use chpw_answer::{Gate, Spot};
 use chpw_invocation::ServeOptions;
 use chpw_log::{Asked, Held, Limit, Line, News, micros_of, write_held, write_line};
@@ -16,15 +16,16 @@ use krb_protocol::Refusal;
 use std::alloc::{AllocError, Global};
 use std::fs::{File, Files};
 use std::io::{self, ErrorKind};
+use std::net::Net;
 use std::sync::{Mutex, Wait};
 
 /// What is told of a service while it runs: in its log, where there is one, a line for each message that opened,
 /// and for ten a second of the others, by the worker that answers it and before it is answered. The desk's lock
 /// is free then.
 ///
-/// A line that can't be written is lost, and the service goes on: what stands of it, or an empty line, shows
-/// where. The first time that is told on standard error, too; and so is the first change that the journal did
-/// not take.
+/// A line that can't be written, or not within half a second, is lost, and the service goes on: what stands of it, or
+/// an empty line, shows where. The first time that is told on standard error, too; and so is the first change that the
+/// journal did not take.
 #[derive(Drop)]
 pub(crate) struct Log<'l, R> {
     rt: &'l R,
@@ -47,13 +48,12 @@ struct Book<'l> {
 struct End {
     sheet: Sheet,
     limit: Limit,
-    /// Whether a loss was told.
-    told: bool,
+    losses: Losses,
 }
 
 /// The log of a service with these options. A log or a journal that is another file of the start is refused
 /// before anything is opened to be written.
-pub(crate) fn log_of<'l, 'a: 'l, R: Files<File = File>>(
+pub(crate) fn log_of<'l, 'a: 'l, R: Files<File = File> + Net>(
     rt: &'l R,
     alloc: Global,
     options: &ServeOptions<'a>,
@@ -61,7 +61,7 @@ pub(crate) fn log_of<'l, 'a: 'l, R: Files<File = File>>(
     ensures fault { IfErr result (IsOfClash options.now) }
 {
     keep_apart(rt, options)?;
-    let book = book_at(rt, options.log)?;
+    let book = book_at(rt, alloc, options.log)?;
     // A log that was made just now can be the journal by another name.
     keep_apart(rt, options)?;
     Ok(Log {
@@ -73,21 +73,22 @@ pub(crate) fn log_of<'l, 'a: 'l, R: Files<File = File>>(
     })
 }
 
-fn book_at<'l, 'a: 'l, R: Files<File = File>>(
+fn book_at<'l, 'a: 'l, R: Files<File = File> + Net>(
     rt: &R,
+    alloc: Global,
     path: Option<&'a str>,
 ) -> Result<Option<Book<'l>>, ServeFault<'a>>
     ensures fault { IfErr result (IsOfLog path.entry) }
 {
     match path {
         None => Ok(None),
-        Some(path) => match Sheet::at(rt, path) {
+        Some(path) => match Sheet::at(rt, alloc, path) {
             Ok(sheet) => Ok(Some(Book {
                 path,
                 end: Mutex::new(End {
                     sheet,
                     limit: Limit::new(),
-                    told: false,
+                    losses: Losses::default(),
                 }),
             })),
             Err(error) => Err(unlogged(path, error)),
@@ -154,11 +155,7 @@ impl<R: Wait + Eprint> Log<'_, R> {
 
     // Appends the text of a line. Where there is none, since memory was refused, the line is lost.
     fn put_text(&self, book: &Book<'_>, text: Result<Vec<u8>, AllocError>) {
-        let lost = match text {
-            Ok(text) => book.append(self.rt, text.as_slice()),
-            Err(_) => is_first(&mut book.end.lock(self.rt).told),
-        };
-        if lost {
+        if book.append(self.rt, text) {
             self.tell(Notice::LogLost(book.path));
         }
     }
@@ -171,16 +168,38 @@ impl<R: Wait + Eprint> Log<'_, R> {
         }
     }
 
-    fn tell(&self, notice: Notice<'_>) {
-        let _ = eprintln!(self.rt; "{notice}");
+    /// A line on standard error. Where the log is there too, it waits for it no longer than a line of the log does.
+    pub(crate) fn tell(&self, notice: Notice<'_>) {
+        match &self.book {
+            Some(book) if is_standard_error(book.path) => {
+                if let Ok(text) = format!(in self.alloc; "{notice}\n") {
+                    let _ = book
+                        .end
+                        .lock(self.rt)
+                        .sheet
+                        .append(self.rt, text.as_bytes());
+                }
+            }
+            _ => {
+                let _ = eprintln!(self.rt; "{notice}");
+            }
+        }
     }
 }
 
 impl Book<'_> {
-    // Appends these bytes; whether a first loss is to be told.
-    fn append<R: Wait + Eprint>(&self, rt: &R, line: &[u8]) -> bool {
+    // Appends this line; whether a first loss is to be told.
+    fn append<R: Wait + Eprint>(&self, rt: &R, line: Result<Vec<u8>, AllocError>) -> bool {
         let mut end = self.end.lock(rt);
-        !end.sheet.append(rt, line) && is_first(&mut end.told)
+        let whole = match line {
+            Ok(line) => end.sheet.append(rt, line.as_slice()),
+            Err(_) => false,
+        };
+        if !whole {
+            end.losses.is_any = true;
+        }
+        let can_tell = end.sheet.can_tell();
+        end.losses.are_due(can_tell)
     }
 }
 

@@ -1,5 +1,5 @@
 //! What a service that goes on tells on standard error, each once.
-ghost use Rattle.std.specs.Prelude.{◌≡◌, ◌-◌, max, not, true};
+ghost use Rattle.std.specs.Prelude.{◌≡◌, ◌-◌, ◌&&◌, ◌||◌, max, not, true};
 
 use std::fmt;
 
@@ -14,6 +14,8 @@ pub(crate) enum Notice<'a> {
     OutputLost,
     /// So many messages more had waited too long for their worker.
     Expired(u32),
+    /// Of the journal at this path so many bytes are kept, and a torn tail behind them was cut off.
+    TailCut(&'a str, u64),
 }
 
 impl fmt::Display for Notice<'_> {
@@ -38,7 +40,29 @@ impl fmt::Display for Notice<'_> {
                     "messages dropped that waited 5 seconds for a worker: {count}"
                 )
             }
+            Notice::TailCut(journal, kept) => {
+                write!(f, "{journal}: a torn tail was cut off behind {kept} bytes")
+            }
         }
+    }
+}
+
+/// Whether anything was lost, and whether that was told.
+#[derive(Clone, Copy, Default, Drop)]
+pub(crate) struct Losses {
+    pub is_any: bool,
+    pub is_told: bool,
+}
+
+impl Losses {
+    /// Whether a first loss is to be told now, where it can be. It counts as told then.
+    pub(crate) fn are_due(&mut self, can_tell: bool) -> bool
+        ensures due { result ≡ (self.old.is_any && (not self.old.is_told && can_tell)) }
+        ensures told { self.new ≡ record self.old { is_told = self.old.is_told || result } }
+    {
+        let are_due = self.is_any && !self.is_told && can_tell;
+        self.is_told = self.is_told || are_due;
+        are_due
     }
 }
 

@@ -10,6 +10,7 @@ use crate::fault::{LateFault, ServeFault};
 use crate::files::{read_seed, read_settings};
 use crate::histories::{Hall, Opening, first_opening, serve_histories};
 use crate::logging::{Log, Logging, log_gates, log_of};
+use crate::notices::Notice;
 use crate::raising::raised;
 use crate::starting::open_table;
 use chpw_invocation::ServeOptions;
@@ -78,7 +79,9 @@ pub fn serve_by<
         found: _,
         cut_at,
     } = open_table(rt, rt.alloc(), config, options.journal, &mut clock)?;
-    tell_cut(rt, options.journal, cut_at);
+    if let Some(kept) = cut_at {
+        log.tell(Notice::TailCut(options.journal, kept));
+    }
     let opening = first_opening(table, sink, options.workers);
     let opening = raised(rt, opening, options.workers, &mut clock, options.raise)?;
     let terms = terms_of(&options, seed);
@@ -129,18 +132,12 @@ fn serve_opened<
         engine,
         workers: options.workers,
         max_entries,
+        log,
     };
     if println!(rt; "listening on 127.0.0.1:{}", options.port).is_err() {
         return Err(ServeFault::CannotPrint);
     }
     serve_all(rt, time, &listener, &hall, opening, terms.connections)
-}
-
-// Tells of a torn tail that was cut off. Where that can't be written the service goes on.
-fn tell_cut<R: Eprint>(rt: &R, journal: &str, cut_at: Option<u64>) {
-    if let Some(kept) = cut_at {
-        let _ = eprintln!(rt; "{journal}: a torn tail was cut off behind {kept} bytes");
-    }
 }
 
 fn listen<'a, R: Net<Listener = TcpListener, Stream = TcpStream>>(

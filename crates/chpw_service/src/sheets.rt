@@ -3,10 +3,20 @@ ghost use Rattle.std.specs.Prelude.{◌≡◌, true};
 ghost use Rattle.std.specs.Io.KnownBytes.{Appends};
 ghost use Rattle.chpw_service.specs.Sheets.{ended, is_begun, is_taken};
 
+use crate::readiness::Readiness;
+use std::alloc::Global;
 use std::fs::{self, File, Files, OpenOptions};
 use std::io::{self, ErrorKind, Write};
+use std::net::Net;
+use std::os::fd::AsRawFd;
 use std::os::unix::fs::{FileExt, FileTypeExt, OpenOptionsExt};
 use std::str;
+
+/// The name of standard error, which is no path.
+const STANDARD_ERROR: &str = "-";
+
+/// Its descriptor.
+const STANDARD_ERROR_FD: i32 = 2;
 
 /// What stands at a path.
 #[derive(Clone, Copy, Drop)]
@@ -33,16 +43,28 @@ pub(crate) enum Output {
 pub(crate) struct Sheet {
     output: Output,
     torn: bool,
+    /// Whether it takes a line at once, where that can be asked.
+    readiness: Option<Readiness>,
+}
+
+/// Whether this is the name of standard error.
+pub(crate) fn is_standard_error(path: &str) -> bool {
+    path == STANDARD_ERROR
 }
 
 impl Sheet {
     /// The file at a path, or standard error for `-`. Where there is no file it is made, readable and writable
     /// by its owner alone. A pipe would make its openers wait, and is refused before it is opened.
-    pub(crate) fn at<R: Files<File = File>>(rt: &R, path: &str) -> io::Result<Sheet> {
-        if path == "-" {
+    pub(crate) fn at<R: Files<File = File> + Net>(
+        rt: &R,
+        alloc: Global,
+        path: &str,
+    ) -> io::Result<Sheet> {
+        if is_standard_error(path) {
             return Ok(Sheet {
                 output: Output::StandardError,
                 torn: false,
+                readiness: Readiness::of(rt, alloc, STANDARD_ERROR_FD)?,
             });
         }
         if !takes_lines(kind_of(rt, path)) {
@@ -52,20 +74,41 @@ impl Sheet {
         how.append(true).create(true).mode(0o600);
         let file = how.open(rt, path)?;
         let torn = is_torn(rt, path, &file);
+        let readiness = Readiness::of(rt, alloc, file.as_raw_fd())?;
         Ok(Sheet {
             output: Output::File(file),
             torn,
+            readiness,
         })
     }
 
-    /// Appends a line, behind a newline where the last one isn't whole; whether it stands there whole.
+    /// Appends a line, behind a newline where the last one isn't whole; whether it stands there whole. Nothing is written
+    /// where the output takes no line within half a second, or took none for the line before.
     pub(crate) fn append<R: Eprint>(&mut self, rt: &R, line: &[u8]) -> bool {
+        if !self.is_ready() {
+            return false;
+        }
         let whole = match &mut self.output {
             Output::File(file) => write_line(file, self.torn, line),
             Output::StandardError => print_line(rt, self.torn, line),
         };
         self.torn = !whole;
         whole
+    }
+
+    fn is_ready(&mut self) -> bool {
+        match &mut self.readiness {
+            None => true,
+            Some(readiness) => readiness.is_ready(),
+        }
+    }
+
+    /// Whether a line on standard error can be written without a wait, as far as the output tells.
+    pub(crate) fn can_tell(&self) -> bool {
+        match (&self.output, &self.readiness) {
+            (Output::StandardError, Some(readiness)) => !readiness.is_stalled(),
+            _ => true,
+        }
     }
 }
 
