@@ -10,4 +10,4 @@ notice_line (JournalFailed journal) =
     journal.now ++ codes ": journal failed: no change is taken until a restart"
 notice_line OutputLost = codes "standard output: a line is lost, and maybe more"
 notice_line (Expired count) = codes "messages dropped that waited 5 seconds for a worker: " ++ decimal count
-notice_line (TailCut journal kept) = journal.now ++ codes ": a torn tail was cut off behind " ++ decimal kept ++ codes " bytes"
+notice_line (TailCut journal kept) = journal.now ++ (codes ": a torn tail was cut off behind " ++ (decimal kept ++ codes " bytes"))
