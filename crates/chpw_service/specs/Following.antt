@@ -1,5 +1,5 @@
 -- What a history leaves to the next one.
-use Rattle.std.specs.Prelude.{◌≡◌, ℕ, List}
+use Rattle.std.specs.Prelude.{◌≡◌, List}
 use Rattle.chpw_table.specs.State.{State}
 use Rattle.chpw_table.specs.Agreement.{Held, Agrees}
 use Rattle.chpw_table.specs.History.{IsLegal, outcome}

@@ -1,5 +1,5 @@
 -- What the lines of a log are appended to.
-use Rattle.std.specs.Prelude.{ℕ, ◌==◌, List, [], ◌∷◌, ◌++◌, Bool, true, false, not, ◌&&◌, Option, Some, None, if◌then◌else◌}
+use Rattle.std.specs.Prelude.{ℕ, ◌==◌, List, ◌∷◌, Bool, true, false, not, ◌&&◌, Option, Some, None, if◌then◌else◌}
 use Rattle.chpw_service.specs.declared.sheets.Kind.{Kind}
 use Rattle.chpw_service.specs.declared.sheets.Kind.TheVariants.{Missing, File, Device, Other}
 

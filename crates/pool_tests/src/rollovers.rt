@@ -1,13 +1,14 @@
 //! Many clients beside one another while history follows history: none is left unanswered, and none changes twice.
+ghost use Rattle.std.specs.Prelude.{◌≤◌};
 
 use crate::realm::{CHANGED, SetClock, request, told};
 use crate::services::{SETTINGS, START, connect_soon, moment};
-use crate::site::{reply, send};
+use crate::site::{Machine, reply, send};
 use chpw_client::Sent;
 use chpw_invocation::ServeOptions;
 use chpw_service::serve_by;
 use std::alloc::Global;
-use std::fs;
+use std::fs::{self, File, Files};
 use std::io::Write;
 use std::net::{Net, TcpListener, TcpStream};
 use std::process::Abort;
@@ -99,12 +100,16 @@ fn request_of<R: Abort>(rt: &R, alloc: Global, number: u8) -> Result<Sent, Fail>
 }
 
 // So many workers and histories of five entries; maybe beside a client that reads nothing.
-fn histories(
-    rt: &HostRuntime,
-    [config, journal, seed]: [&str; 3],
+fn histories<R: Machine + Files<File = File> + Print + Eprint + AllocGlobal>(
+    rt: &R,
+    files: [&str; 3],
+    port: u16,
     workers: u8,
     is_flooded: bool,
-) -> Result<(), Fail> {
+) -> Result<(), Fail>
+    requires workers { (1 ≤ workers) × (workers ≤ 16) }
+{
+    let [config, journal, seed] = files;
     let alloc = rt.alloc();
     let text = format!(in alloc; "[service]\nmax_entries = 5\n{SETTINGS}")?;
     fs::write(rt, config, text.as_bytes())?;
@@ -114,9 +119,6 @@ fn histories(
     for number in 0..CLIENTS {
         requests.push(request_of(rt, alloc, number)?)?;
     }
-    let listener = TcpListener::bind(rt, ("127.0.0.1", 0u16))?;
-    let port = listener.local_addr()?.port();
-    drop(listener);
     let options = ServeOptions {
         config,
         journal,
@@ -141,12 +143,19 @@ fn histories(
     Ok(())
 }
 
+// A port where nobody listens now.
+fn port_of(listener: &TcpListener) -> Result<u16, Fail> {
+    Ok(listener.local_addr()?.port())
+}
+
 #[test]
 fn histories_amid_sixteen_workers(rt: HostRuntime) -> Result<(), Fail> {
-    histories(&rt, ["amid.toml", "amid.journal", "amid.seed"], 16, false)
+    let port = port_of(&TcpListener::bind(&rt, ("127.0.0.1", 0u16))?)?;
+    histories(&rt, ["amid.toml", "amid.journal", "amid.seed"], port, 16, false)
 }
 
 #[test]
 fn histories_beside_a_client_that_reads_nothing(rt: HostRuntime) -> Result<(), Fail> {
-    histories(&rt, ["mute.toml", "mute.journal", "mute.seed"], 2, true)
+    let port = port_of(&TcpListener::bind(&rt, ("127.0.0.1", 0u16))?)?;
+    histories(&rt, ["mute.toml", "mute.journal", "mute.seed"], port, 2, true)
 }

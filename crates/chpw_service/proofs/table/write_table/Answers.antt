@@ -1,6 +1,5 @@
-use Rattle.std.proofs.Common.{◌≡◌, List, ℕ, Ok, refl}
+use Rattle.std.proofs.Common.{◌≡◌, Ok, refl}
 use Rattle.chpw_service.specs.Faults.{Sets}
-use Rattle.chpw_service.specs.Telling.{Tells}
 use Rattle.chpw_service.proofs.table.write_table.Goals as goal
 
 pub returns-clause-written : goal.returns-clause-written
