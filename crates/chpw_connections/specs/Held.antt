@@ -1,5 +1,6 @@
 -- What a set of connections holds.
-use Rattle.std.specs.Prelude.{◌≡◌, ℕ}
+use Rattle.std.specs.Prelude.{◌≡◌, ℕ, ◌<◌, List, [], ◌∷◌, ◌++◌, ◌⊎◌}
+use Rattle.std.specs.VecDeque.{deque_items, deque_len, deque_capacity}
 use Rattle.slab.specs.Slab.{Slab}
 use Rattle.chpw_connections.specs.declared.bounds.Bounds.{Bounds}
 use Rattle.chpw_connections.specs.declared.connection.Connection.{Connection}
@@ -26,3 +27,16 @@ expired_by c = c.expired
 pub record Counts (c : Connections) (accepted removed : ℕ) : Type 0 where
   pub accepted_is : accepted_by c ≡ accepted
   pub removed_is : removed_by c ≡ removed
+
+-- the slots that whoever has the sockets is to look at, the first to be looked at first
+abbrev pub changed_of : Connections → List ℕ
+changed_of c = deque_items c.changed
+
+-- one more is noted without an allocation
+abbrev pub HasRoomToNote : Connections → Type 0
+HasRoomToNote c = deque_len c.changed < deque_capacity c.changed
+
+-- the slot is noted, behind the others: where an allocation was wanted and refused it may not be
+pub record Notes (old new : Connections) (slot : ℕ) : Type 0 where
+  pub noted : (changed_of new ≡ changed_of old ++ slot ∷ []) ⊎ (changed_of new ≡ changed_of old)
+  pub with_room : HasRoomToNote old → changed_of new ≡ changed_of old ++ slot ∷ []

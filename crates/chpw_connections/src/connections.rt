@@ -93,6 +93,7 @@ impl Connections {
     /// may be, or after 4,294,967,295.
     #[tactic(auto, using(crate::proofs::HoldsLemmas::holds_accepted))]
     pub fn accept(&mut self, peer: [u8; 4], now: u64) -> Option<usize>
+        ensures some { slab_len (slots_of self.old) < (bounds_of self.old).connections → accepted_by self.old < 4294967295 → IsSome result }
         ensures accepted { IfSome result (λ slot. IsNew peer now (accepted_by self.old) (slots_of self.old) (slots_of self.new) slot) }
         ensures counts { IfSome result (λ slot. Counts self.new (accepted_by self.old + 1) (removed_by self.old)) }
         ensures expired { expired_by self.new ≡ expired_by self.old }

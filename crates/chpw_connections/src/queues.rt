@@ -1,6 +1,6 @@
 //! Which slots wait for a worker, and which are to be looked at.
-ghost use Rattle.std.specs.Prelude.{◌≡◌, nat_lt, length};
-ghost use Rattle.chpw_connections.specs.Held.{slots_of, accepted_by, removed_by, expired_by, bounds_of, Counts};
+ghost use Rattle.std.specs.Prelude.{◌≡◌, ◌∷◌, [], nat_lt, length, IfSome, IfNone};
+ghost use Rattle.chpw_connections.specs.Held.{slots_of, accepted_by, removed_by, expired_by, bounds_of, changed_of, Counts, Notes};
 ghost use Rattle.chpw_connections.specs.Queues.{queues_of, queue_of, EachWaits};
 
 use crate::set::Connections;
@@ -16,6 +16,7 @@ impl Connections {
 
     // Whoever has the sockets is to look at a slot.
     pub(crate) fn note(&mut self, slot: usize)
+        ensures notes { Notes self.old self.new slot }
         ensures slots { slots_of self.new ≡ slots_of self.old }
         ensures queues { queues_of self.new ≡ queues_of self.old }
         ensures counts { Counts self.new (accepted_by self.old) (removed_by self.old) }
@@ -43,6 +44,8 @@ impl Connections {
     /// that order, as far as there was memory to note it. What `accept`, `receive`, `take` and `wrote` make of a connection
     /// that doesn't end isn't told. Meanwhile the slot may be free, or another connection's: `todo` says what is to be done.
     pub fn changed(&mut self) -> Option<usize>
+        ensures first { IfSome result (λ slot. changed_of self.old ≡ slot ∷ changed_of self.new) }
+        ensures none { IfNone result (changed_of self.old ≡ []) }
         ensures slots { slots_of self.new ≡ slots_of self.old }
         ensures queues { queues_of self.new ≡ queues_of self.old }
         ensures counts { Counts self.new (accepted_by self.old) (removed_by self.old) }
@@ -53,12 +56,15 @@ impl Connections {
     }
 
     /// Whether there is a slot to look at.
-    pub fn has_changed(&self) -> bool {
+    pub fn has_changed(&self) -> bool
+        ensures value { result ≡ nat_lt 0 (length (changed_of self.now)) }
+    {
         !self.changed.is_empty()
     }
 
     /// There is more to do for the connection in a slot than was done for now.
     pub fn look_again(&mut self, slot: usize)
+        ensures notes { Notes self.old self.new slot }
         ensures slots { slots_of self.new ≡ slots_of self.old }
         ensures queues { queues_of self.new ≡ queues_of self.old }
         ensures counts { Counts self.new (accepted_by self.old) (removed_by self.old) }
