@@ -1,5 +1,5 @@
--- What a call under the lock tells its caller.
-use Rattle.std.proofs.Common.{◌≡◌, ◌≢◌, ℕ, List, Result, Ok, Err, refl, ◌∙◌}
+-- What a call at a desk tells its caller.
+use Rattle.std.proofs.Common.{◌≡◌, ◌≢◌, ℕ, List, [], true, false, Result, Ok, Err, refl, sym, ◌∙◌}
 use Rattle.std.specs.Prelude.{OnErr}
 use Rattle.chpw_table.specs.declared.times.Moment.{Moment}
 use Rattle.chpw_table.specs.declared.request.Opened.{Opened}
@@ -9,7 +9,9 @@ use Rattle.chpw_table.specs.State.{State}
 use Rattle.chpw_table.specs.Agreement.{Held}
 use Rattle.chpw_table.specs.Refusals.{IsFirst}
 use Rattle.chpw_table.specs.History.{missing, outcome}
+use Rattle.chpw_table.specs.Standing.{refused_anyway}
 use Rattle.chpw_table.proofs.AgreementLemmas.{same_missing}
+use Rattle.chpw_table.proofs.StandingLemmas.{refused_anyway_law}
 use Rattle.chpw_decider.specs.Deciding.{IsFinal}
 use Rattle.chpw_decider.specs.Entered.{AsksFor}
 use Rattle.chpw_book.specs.Stored.{Stored, Replays}
@@ -47,6 +49,14 @@ lacks_after opening workers b now o k = record {
   before = b.history;
   legal = k.legal;
   lacks = same_missing b.table.state (outcome opening b.history) now o k.agrees;
+}
+
+-- a request that is refused anyway lacks nothing at the opening
+pub lacks_none : (opening : State) (now : Moment) (o : Opened) → refused_anyway opening.fixed now o ≡ true → LacksAfter opening now o []
+lacks_none opening now o h = record {
+  before = [];
+  legal = tt;
+  lacks = sym (refused_anyway_law opening now o false h).1;
 }
 
 -- what is said of an error, where the result is one

@@ -5,6 +5,7 @@ use Rattle.std.proofs.Crossing
 use Rattle.std.proofs.sync.Mutex.TheSendSync as mutex
 use Rattle.std.specs.declared.sync.ledger.Ledger
 use Rattle.chpw_table.specs.declared.sink.JournalSink
+use Rattle.chpw_table.proofs.standing.StandingRules.TheSendSync as standing
 use Rattle.chpw_fronts.specs.declared.list_name.ListName
 use Rattle.chpw_decider.proofs.SendLemmas.{journaled_send}
 use Rattle.chpw_versions.proofs.shelf.Shelf.TheSendSync as shelf
@@ -22,4 +23,4 @@ module _ (D S : RattleType) (g : DeskName.Ghosts D.Denot) (g' : Ledger.Ghosts D.
   book_send d y s = search (store_send, shelf.the_send, sendable) depth 40
 
   pub desk_sync : IsSend D → IsSync D → IsSend S → IsSync (Desk.the_row D S g g' g'' h)
-  desk_sync d y s = search (book_send, mutex.the_sync, Crossing.crosses, sendable) depth 40
+  desk_sync d y s = search (book_send, mutex.the_sync, standing.the_sync, Crossing.crosses, sendable) depth 40

@@ -1,4 +1,4 @@
-//! The lock round the book.
+//! The lock round the book, and what lies beside it.
 ghost use Rattle.std.specs.Prelude.{◌≡◌, ◌-◌, ◌^◌, ◌<◌, ◌≤◌, [], All, IfOk, IfErr, IfSome, OnOk, OnErr, map, false, true};
 ghost use mathlib.Core.List.{IsPrefix};
 ghost use Rattle.std.specs.List.{range_with_len};
@@ -8,6 +8,7 @@ ghost use Rattle.chpw_table.specs.declared.history.Event.TheVariants.{Ask, Raise
 ghost use Rattle.chpw_table.specs.Times.{IsMoment};
 ghost use Rattle.chpw_table.specs.Completing.{completed};
 ghost use Rattle.chpw_table.specs.Refusals.{AsksPositive};
+ghost use Rattle.chpw_table.specs.Standing.{refused_anyway};
 ghost use Rattle.chpw_decider.specs.Deciding.{IsCompletedFrom, IsFinal};
 ghost use Rattle.chpw_book.specs.Passes.{refused_with, raise_refused_with, new_pass};
 ghost use Rattle.chpw_book.specs.Calls.{Notes, AsksAfter, LacksAfter};
@@ -18,6 +19,7 @@ use crate::book::Book;
 use crate::naming::DeskName;
 use crate::pass::Pass;
 use crate::raising::RaiseFault;
+use crate::standing::OpeningRules;
 use crate::unnamed::{StartFault, UnnamedDesk};
 use chpw_rules::Name;
 use chpw_table::{
@@ -31,6 +33,8 @@ use std::sync::{Mutex, MutexGuard, Wait};
 /// (`Desk::close`) or given up (`Desk::abandon`).
 pub struct Desk<D: DeskName, S: JournalSink> {
     pub(crate) book: Mutex<Book<D, S>>,
+    // Beside the lock, since no event changes it.
+    pub(crate) standing: OpeningRules<D>,
 }
 
 impl<D: DeskName, S: JournalSink> Desk<D, S> {
@@ -39,8 +43,8 @@ impl<D: DeskName, S: JournalSink> Desk<D, S> {
     ///
     /// A sink that tells has told nothing; fewer than 2^64 - 1 of its appends have failed, or the
     /// table is broken. `NoPlaces` where no place is given to a worker; `Memory` where a growth is
-    /// refused: of the rows, the shelf, the passes or the history. After a fault all that was handed in
-    /// is gone.
+    /// refused: of the standing rules, the rows, the shelf, the passes or the history. After a fault all
+    /// that was handed in is gone.
     pub fn start<R: Wait>(
         rt: &R,
         alloc: Global,
@@ -55,17 +59,31 @@ impl<D: DeskName, S: JournalSink> Desk<D, S> {
         ensures passes { IfOk result (λ r.
             r.1.items ≡ map new_pass (range_with_len 0 (workers_of unnamed))) }
     {
+        let standing = OpeningRules::of(&unnamed.table)?;
         let (book, passes) = Book::start(rt, alloc, unnamed, sink)?;
         let book = Mutex::new(book);
-        Ok((Desk { book }, passes))
+        Ok((Desk { book, standing }, passes))
+    }
+
+    /// Whether `decide` at this moment, whatever was decided before, refuses the request before it looks
+    /// at keys. It takes no lock and waits for nobody.
+    pub fn refuses_anyway(&self, now: Moment, opened: &Opened) -> bool
+        ensures value { result ≡ refused_anyway (opening_state D.root).fixed now opened.now }
+    {
+        self.standing.refuse(now, opened)
     }
 
     /// The counts under which `decide` would now look at keys that the digest lacks, were the history
-    /// not full, read under the lock: each at least 1; none where it would look at no keys.
+    /// not full: each at least 1; none where it would look at no keys. Beside the lock where the request
+    /// is refused anyway, else under it.
+    #[tactic(auto, using(crate::proofs::CallLemmas::lacks_none))]
     pub fn missing<R: Wait>(&self, rt: &R, now: Moment, opened: &Opened) -> Counts
         ensures after { LacksAfter (opening_state D.root) now opened.now result }
         ensures positive { All (λ n. 1 ≤ n) result }
     {
+        if self.refuses_anyway(now, opened) {
+            return Counts::new();
+        }
         let book = self.book.lock(rt);
         let counts = book.missing(now, opened);
         MutexGuard::unlock(book);
@@ -169,7 +187,7 @@ impl<D: DeskName, S: JournalSink> Desk<D, S> {
     where
         S: Drop,
     {
-        let Desk { book } = self;
+        let Desk { book, standing: _ } = self;
         book.into_inner().abandon(rt);
     }
 }

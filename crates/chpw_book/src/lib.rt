@@ -13,6 +13,7 @@ mod naming;
 mod pass;
 mod raising;
 mod rows;
+mod standing;
 mod store;
 mod unnamed;
 

@@ -27,3 +27,4 @@ pub mod SortingLemmas
 pub mod HeldIdLemmas
 pub mod SendLemmas
 pub mod RaisingLemmas
+pub mod StandingLemmas

@@ -12,11 +12,12 @@ use Rattle.chpw_table.specs.declared.history.Entry.{Entry}
 use Rattle.chpw_table.specs.declared.key.KeyRow.{KeyRow}
 use Rattle.chpw_table.specs.Requests.{id_of, target_of}
 use Rattle.chpw_table.specs.State.{State, keys_held, kept_count, new_count}
-use Rattle.chpw_table.specs.Verdicts.{adds_id, is_done}
+use Rattle.chpw_table.specs.Verdicts.{adds_id, reads_keys, is_done}
 use Rattle.chpw_table.specs.Decision.{verdict, newest_kvno}
 use Rattle.chpw_table.specs.Step.{step, new_key}
 use Rattle.chpw_table.specs.Raising.{step_raise}
-use Rattle.chpw_table.specs.History.{step_entry, outcome, IsLegal}
+use Rattle.chpw_table.specs.History.{step_entry, outcome, missing, IsLegal}
+use Rattle.chpw_table.specs.Standing.{refused_anyway}
 
 -- a verdict other than Done leaves all principals
 abbrev pub RefusalKeepsKeys : Type 0
@@ -86,3 +87,9 @@ QuietRefusesFormer = (opening : State) (es : List Entry) (before : Moment) (used
     adds_id (verdict (outcome opening es) before used failed) ≡ true →
     (next : State) (now : Moment) (o : Opened) (io : Bool) →
     next.fixed.quiet_until ≡ start +ℤ CLOCK_SKEW → id_of o ≡ id_of used → verdict next now o io ≡ Skew
+
+-- a request that is refused anyway has none of its new password's keys looked at, in any state with these fixed parts,
+-- and so it lacks none
+abbrev pub RefusedAnyway : Type 0
+RefusedAnyway = (s : State) (now : Moment) (o : Opened) (io : Bool) → refused_anyway s.fixed now o ≡ true →
+    (reads_keys (verdict s now o io) ≡ false) × (missing s now o ≡ [])

@@ -9,6 +9,7 @@ pub mod Decision
 pub mod Step
 pub mod Raising
 pub mod History
+pub mod Standing
 pub mod Versions
 pub mod Journal
 pub mod Agreement

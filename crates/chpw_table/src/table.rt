@@ -26,7 +26,8 @@ mod wanted;
 use crate::counts::Counts;
 use crate::key::{KeyRow, counts_of, kvno_of};
 use crate::request::RequestId;
-use chpw_rules::{Config, Items, Name, Policy, Rules};
+use crate::standing::StandingRules;
+use chpw_rules::{Config, Items, Name, Policy};
 use opening::opening_table;
 use ordered_keys::{KeyTree, Keyed};
 pub use preparing::{Prepared, RowChange};
@@ -71,10 +72,7 @@ impl Keyed<Name> for Principal {
 /// ids may stand.
 #[derive(Drop)]
 pub struct Table {
-    realm: Items<u8>,
-    policy: Policy,
-    rules: Rules,
-    quiet_until: i64,
+    standing: StandingRules,
     principals: Vec<Principal>,
     // In memory that came with each of them.
     used: KeyTree<RequestId>,
@@ -100,12 +98,7 @@ impl Model for Table {
 
     ghost view = { λ t. record {
       state = record {
-        fixed = record {
-          realm = t.realm;
-          policy = t.policy;
-          rules = t.rules;
-          quiet_until = t.quiet_until;
-        };
+        fixed = t.standing;
         principals = t.principals.items;
         used = t.used;
         clock = t.clock;
@@ -119,7 +112,7 @@ impl Model for Table {
 
     ghost invariant = { λ t. (t.seen ≤ t.events) × (t.events ≤ t.max_entries)
         × IsTrue (is_in entry_counts t.max_entries) × IsTime t.clock
-        × IsTrue (policy_fits t.policy) × IsTrue (are_holders t.principals.items)
+        × IsTrue (policy_fits t.standing.policy) × IsTrue (are_holders t.principals.items)
         × (length t.used ≤ t.events + 2147483648) × IsStrictlySortedBy id_cmp t.used
         × (young_ids t.clock t.used ≡ t.used) × IsTrue (is_in iteration_counts t.count) };
 }
@@ -138,11 +131,9 @@ impl Table {
         let kept = kept_by(config.policy);
         let count = config.policy.iterations;
         let principals = opening_table(alloc, config.principals.into_vec(), kept)?;
+        let standing = StandingRules::of(config.realm, config.policy, config.rules, quiet_until);
         Ok(Table {
-            realm: config.realm,
-            policy: config.policy,
-            rules: config.rules,
-            quiet_until,
+            standing,
             principals,
             used: KeyTree::new(),
             clock: 0,
@@ -245,7 +236,14 @@ impl Table {
         ensures depth { max result.depth 1 ≤ 16 }
         ensures iterations { 1 ≤ result.iterations }
     {
-        self.policy
+        self.standing.policy()
+    }
+
+    /// A copy of what no event changes of it.
+    pub fn standing_rules(&self) -> Result<StandingRules, AllocError>
+        ensures value { IfOk result (λ rules. rules ≡ self.now.state.fixed) }
+    {
+        self.standing.clone()
     }
 
     /// The iteration count of new keys, 1 to 16,777,216: the policy's, until it is raised.

@@ -57,7 +57,7 @@ impl Table {
         let held = principal.keys.as_slice();
         let key = self.new_key(held, opened);
         let alloc = *self.principals.allocator();
-        let keys = with_front(alloc, key, held, kept_by(self.policy))?;
+        let keys = with_front(alloc, key, held, kept_by(self.standing.policy()))?;
         let record = record_bytes(alloc, name, &key)?;
         Ok(Change {
             place,

@@ -103,7 +103,7 @@ impl Table {
             return Err(KeyFault::WrongVersion);
         }
         let alloc = *self.principals.allocator();
-        let keys = with_front(alloc, key, held, kept_by(self.policy))?;
+        let keys = with_front(alloc, key, held, kept_by(self.standing.policy()))?;
         Ok((place, keys))
     }
 }
