@@ -258,8 +258,9 @@ struct OneThatReadsNothing {
 
 const UNREAD: u32 = 300;
 
-impl<R: Net<Stream = TcpStream> + Abort> Clients<R> for OneThatReadsNothing {
+impl<R: Net<Stream = TcpStream> + Clock + Abort> Clients<R> for OneThatReadsNothing {
     fn ask(&self, rt: &R, alloc: Global, port: u16) {
+        let start = Instant::now(rt).ok().expect(rt, "a clock");
         let first = connect(rt, port);
         let second = connect(rt, port);
         for _ in 0..UNREAD {
@@ -272,6 +273,8 @@ impl<R: Net<Stream = TcpStream> + Abort> Clients<R> for OneThatReadsNothing {
             let _ = reply(rt, alloc, &first);
         }
         assert!(rt; is_ended(&first));
+        // An answer doesn't wait for the reactor's next look round, a tenth of a second later.
+        assert!(rt; start.elapsed(rt).ok().expect(rt, "a clock") < Duration::from_secs(15));
     }
 }
 

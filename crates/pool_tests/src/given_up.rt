@@ -1,18 +1,20 @@
-//! Requests that were given up before a worker took them.
+//! Messages that come while the only worker is held: requests that are given up before it takes them, and more bytes than
+//! there is room for.
 ghost use Rattle.std.specs.Prelude.{◌≡◌};
 ghost use Rattle.chpw_book.specs.Starting.{IsNamed, workers_of};
 
 use crate::gates::UntilTold;
 use crate::realm::{CHANGED, opening};
-use crate::site::{Machine, connect, expect_line, requests, send};
+use crate::site::{Machine, connect, expect_line, reply, requests, send};
 use chpw_book::{Desk, DeskName, UnnamedDesk};
 use chpw_client::Sent;
+use chpw_frame::LONGEST_MESSAGE;
 use chpw_journal::MemorySink;
 use chpw_messages::Service;
 use chpw_pool::{Pool, run_pool_with};
 use std::alloc::Global;
 use std::marker::Brand;
-use std::net::TcpListener;
+use std::net::{TcpListener, TcpStream};
 use std::sync::Mutex;
 use std::test::Fail;
 use std::thread::{self, join};
@@ -20,29 +22,40 @@ use std::time::Duration;
 
 const ROOM: usize = 1000;
 
+/// Those of alice and bob, and 300 others.
+const CONNECTIONS: u32 = 303;
+
 #[test]
 fn a_reset_connection(rt: HostRuntime) -> Result<(), Fail> {
     let listener = TcpListener::bind(&rt, ("127.0.0.1", 0u16))?;
-    given_up(&rt, rt.alloc(), &listener, 0)
+    given_up(&rt, rt.alloc(), &listener, 0, false)
 }
 
 #[test]
 fn a_message_that_waits_too_long(rt: HostRuntime) -> Result<(), Fail> {
     let listener = TcpListener::bind(&rt, ("127.0.0.1", 0u16))?;
-    given_up(&rt, rt.alloc(), &listener, 5_500)
+    given_up(&rt, rt.alloc(), &listener, 5_500, false)
 }
 
-// Alice waits for so many milliseconds before she gives her request up.
+// Of messages of the greatest length there is room for 255; the rest is read once the worker has taken some.
+#[test]
+fn whole_large_messages(rt: HostRuntime) -> Result<(), Fail> {
+    let listener = TcpListener::bind(&rt, ("127.0.0.1", 0u16))?;
+    given_up(&rt, rt.alloc(), &listener, 0, true)
+}
+
+// Alice waits for so many milliseconds before she gives her request up. The others may send large messages.
 fn given_up<R: Machine>(
     rt: &R,
     alloc: Global,
     listener: &TcpListener,
     patience: u64,
+    are_sending: bool,
 ) -> Result<(), Fail> {
     let (service, table) = opening(alloc, 100)?;
     let unnamed = UnnamedDesk::of(table, 1);
-    let pool = held_pool::<Brand, R>(rt, alloc, unnamed, &service, listener, patience)?;
-    assert!(rt; pool.served == 3 && pool.fault.is_none());
+    let pool = held_pool::<Brand, R>(rt, alloc, unnamed, &service, listener, patience, are_sending)?;
+    assert!(rt; pool.served == CONNECTIONS && pool.fault.is_none());
     Ok(())
 }
 
@@ -55,6 +68,7 @@ fn held_pool<D: DeskName + Send + Sync, R: Machine>(
     service: &Service,
     listener: &TcpListener,
     patience: u64,
+    are_sending: bool,
 ) -> Result<Pool, Fail>
     requires name { IsNamed unnamed D.name D.parts D.book D.root D.workers }
     requires workers { workers_of unnamed ≡ 1 }
@@ -83,11 +97,11 @@ fn held_pool<D: DeskName + Send + Sync, R: Machine>(
                 shared,
                 &mut passes,
                 [7; 32],
-                3,
+                CONNECTIONS,
                 gates,
             )
         },
-        || ask(rt, alloc, port, told, patience, [&alice, &bob]),
+        || ask(rt, alloc, port, told, patience, are_sending, [&alice, &bob]),
     );
     desk.abandon(rt);
     Ok(pool)
@@ -101,6 +115,7 @@ fn ask<R: Machine>(
     port: u16,
     is_told: &Mutex<bool>,
     patience: u64,
+    are_sending: bool,
     [alice, bob]: [&Sent; 2],
 ) {
     let first = connect(rt, port);
@@ -113,10 +128,30 @@ fn ask<R: Machine>(
     thread::sleep(rt, Duration::from_millis(300));
     thread::sleep(rt, Duration::from_millis(patience));
     drop(first);
+    let streams = other_clients(rt, alloc, port, are_sending);
     thread::sleep(rt, Duration::from_millis(300));
     *is_told.lock(rt) = true;
     expect_line(rt, alloc, bob, &second, CHANGED);
+    for stream in streams.iter() {
+        assert!(rt; !reply(rt, alloc, stream).is_empty());
+    }
     let third = connect(rt, port);
     send(rt, &third, alice.message.as_slice());
     expect_line(rt, alloc, alice, &third, CHANGED);
+}
+
+// The other clients: each has sent a message of the greatest length, or has left at once.
+fn other_clients<R: Machine>(rt: &R, alloc: Global, port: u16, are_sending: bool) -> Vec<TcpStream> {
+    let zeros = Vec::from_elem(alloc, 0, LONGEST_MESSAGE)
+        .ok()
+        .expect(rt, "memory");
+    let mut streams = Vec::new(alloc);
+    for _ in 3..CONNECTIONS {
+        let stream = connect(rt, port);
+        if are_sending {
+            send(rt, &stream, &zeros);
+            streams.push(stream).ok().expect(rt, "memory");
+        }
+    }
+    streams
 }
