@@ -18,25 +18,28 @@ class Connection:
     def __init__(self, slot, number, peer, now):
         self.slot, self.number, self.peer, self.since = slot, number, peer, now
         self.stage, self.message, self.reply, self.out = READING, b"", b"", 0
+        # of a message that it reads
+        self.room = 0
         self.last, self.replies = False, 0
 
-    def wanted(self):
+    def whole(self):
         """Four bytes of length, then as many as they say; no more where that is too many."""
-        if self.stage != READING:
-            return 0
-        if len(self.message) < 4:
-            return 4 - len(self.message)
-        stated = int.from_bytes(self.message[:4], "big")
-        return 0 if stated > LONGEST else 4 + stated - len(self.message)
+        stated = int.from_bytes(self.message[:4], "big") if len(self.message) >= 4 else 0
+        return 4 if stated > LONGEST else 4 + stated
+
+    def wanted(self):
+        return self.whole() - len(self.message) if self.stage == READING else 0
 
     def held(self):
-        if self.stage in (READING, QUEUED):
-            return len(self.message)
-        return len(self.reply) if self.stage == WRITING else 0
+        return self.room if self.stage == READING else self.size()
 
     def size(self):
         """All bytes of its message, as far as its length has come, or of its reply."""
-        return self.held() + self.wanted()
+        return {READING: self.whole(), QUEUED: len(self.message), WRITING: len(self.reply)}.get(self.stage, 0)
+
+    def growth(self):
+        """How many more it holds once its next bytes are read: there is room for a length, or for a whole message."""
+        return max(self.size() - self.held(), 0)
 
     def left(self):
         return self.reply[self.out:] if self.stage == WRITING else b""
@@ -106,8 +109,10 @@ class Machine:
         return c is not None
 
     def others(self, c, least):
-        """Who gives way to this one: to end one that holds no bytes makes no room for bytes."""
-        return [d for d in self.connections if d is not c and d.waits_for_client() and d.held() and d.size() > least]
+        """Who gives way to this one: to end one that holds no bytes makes no room for bytes, and one that there is no room
+        for doesn't wait for its client."""
+        waiting = [d for d in self.connections if d is not c and d.waits_for_client() and d.held() and not d.growth()]
+        return [d for d in waiting if d.size() > least]
 
     def could_have_room(self, c, count, most, least):
         return self.held() - sum(d.held() for d in self.others(c, least)) + count <= most
@@ -126,13 +131,13 @@ class Machine:
 
     def receive(self, c, octets, now):
         """The number of the worker where the message is whole now."""
-        more = octets[:c.wanted()]
-        if not more:
+        if c.stage != READING:
             return None
-        if not self.find_room(c, len(more), *self.to_read(c)):
+        if not self.find_room(c, c.growth(), *self.to_read(c)):
             self.fail(c)
             return None
-        c.message += more
+        c.room = c.whole()
+        c.message += octets[:c.wanted()]
         if c.wanted():
             return None
         c.go(QUEUED, now)
@@ -187,6 +192,7 @@ class Machine:
         c.out = min(c.out + count, len(c.reply))
         if c.out == len(c.reply):
             c.go(LINGERING if c.last else READING, now)
+            c.room = 0
 
     def pass_time(self, now):
         for c in self.connections:
@@ -321,7 +327,7 @@ def of_one(machine, kind, slot, rest, now):
     if kind == "push":
         return received(c, machine.receive(c, bytes_of(rest), now) if c else None)
     if kind == "has":
-        return "has room" if machine.could_have_room(c, int(rest), *machine.to_read(c)) else "no room"
+        return "has room" if machine.could_have_room(c, c.growth() if c else 0, *machine.to_read(c)) else "no room"
     if kind == "rounds":
         return rounds(machine, c, int(rest), now)
     if kind == "remove":

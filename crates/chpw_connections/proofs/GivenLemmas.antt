@@ -8,9 +8,9 @@ use Rattle.std.proofs.lemmas.List.{get_or_past, take_all}
 use Rattle.std.proofs.lemmas.List.Sums.{sum_by-cons, sum_by_more, sum_by-take-le, get_or-le-sum_by, sum_by-le-sum_by}
 use Rattle.slab.specs.Slab.{Slab, get}
 use Rattle.chpw_connections.specs.Stages.{failed, stage, stage_of, ended}
-use Rattle.chpw_connections.specs.Holding.{held_by, held_at, held_in}
+use Rattle.chpw_connections.specs.Holding.{held_by, held_at, held_in, size_by}
 use Rattle.chpw_connections.specs.Sets.{waits, Comes, Happens}
-use Rattle.chpw_connections.specs.Room.{size_of, gives_way, gives_way_at, gives_way_since, given_at, given_in, staying_besides, has_room_besides, IsLongestBesides, NobodyWaitsBesides}
+use Rattle.chpw_connections.specs.Room.{is_held_back, gives_way, gives_way_at, gives_way_since, given_at, given_in, staying_besides, has_room_besides, IsLongestBesides, NobodyWaitsBesides}
 use Rattle.chpw_connections.specs.declared.connection.Phase.{Phase}
 use Rattle.chpw_connections.specs.declared.connection.Phase.TheVariants as phase
 use Rattle.chpw_connections.specs.declared.connection.Connection.{Connection}
@@ -99,7 +99,7 @@ gives_held : (least : ℕ) (o : Option Connection) → gives_way_at least o ≡ 
 gives_held least None is = absurd cc
 gives_held least (Some c) is = (
   ap (λ (t : Bool). cond t (held_by c.phase) 0) is,
-  holds_some (waits (stage c)) (nat_lt least (size_of c)) is,
+  holds_some (waits (stage c)) (not (is_held_back c) && nat_lt least (size_by c.phase)) is,
 )
   where
     holds_some : (a b : Bool) → (a && (nat_lt 0 (held_by c.phase) && b)) ≡ true → 0 < held_by c.phase
@@ -121,7 +121,7 @@ lets_go : (least : ℕ) (old new : Option Connection) → gives_way_at least old
 lets_go least None new is comes = absurd cc
 lets_go least (Some c) None is comes = absurd comes
 lets_go least (Some c) (Some d) is comes =
-    let waited : waits (stage c) ≡ true = and_left (waits (stage c)) (nat_lt 0 (held_by c.phase) && nat_lt least (size_of c)) is in
+    let waited : waits (stage c) ≡ true = and_left (waits (stage c)) (nat_lt 0 (held_by c.phase) && (not (is_held_back c) && nat_lt least (size_by c.phase))) is in
     let over : stage d ≡ ended = comes.stage_is ∙ ends_waiting c.answered (stage c) waited in
     let none : held_by d.phase ≡ 0 = ended_empty d.phase over in
     let few : given_at least (Some d) ≤ held_by d.phase = given_le least (Some d) in

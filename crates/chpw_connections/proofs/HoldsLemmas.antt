@@ -1,5 +1,5 @@
 -- Whatever happens to a connection, its slot stands in its worker's queue while its message waits.
-use Rattle.std.proofs.Common.{◌≡◌, ◌≢◌, ℕ, zero, suc, ◌+◌, ◌<◌, ◌≤◌, ◌%◌, List, [], ◌∷◌, ◌++◌, length, drop, refl, sym, ◌∙◌, ap, ap₂, subst, arith, Bool, true, false, ◌&&◌, cond, ◌==◌, nat_lt, Option, Some, None, is_some, option_map, get_or, IfSome, IfNone, MatchOption}
+use Rattle.std.proofs.Common.{◌≡◌, ◌≢◌, ℕ, zero, suc, ◌+◌, ◌<◌, ◌≤◌, ◌%◌, List, [], ◌∷◌, ◌++◌, length, drop, refl, sym, ◌∙◌, ap, ap₂, subst, arith, Bool, true, false, ◌&&◌, not, cond, ◌==◌, nat_lt, Option, Some, None, is_some, option_map, get_or, IfSome, IfNone, MatchOption}
 use Rattle.std.proofs.Math.Logic.{⊎_elim}
 use Rattle.std.proofs.lemmas.Bool.{cases_eq, cases_lt}
 use Rattle.std.proofs.lemmas.List.{get_or_past}
@@ -8,10 +8,10 @@ use Rattle.std.specs.List.{count_by}
 use Rattle.std.proofs.lemmas.Bool.Decides.{nat_tests}
 use Rattle.slab.specs.Slab.{Slab, get, slab_len, Updates}
 use Rattle.chpw_connections.specs.Stages.{Stage, reading, queued, answering, writing, lingering, abandoned, ended, Event, came, taken, replied, unanswered, wrote, closed, failed, after, stage, is_over, received}
-use Rattle.chpw_connections.specs.Holding.{held_by}
+use Rattle.chpw_connections.specs.Holding.{held_by, size_by}
 use Rattle.chpw_connections.specs.Messages.{wanted_behind}
 use Rattle.chpw_connections.specs.Sets.{queued_by, queued_at, Comes, Happens, waits, waits_since, is_ended, is_ended_in, IsLongest}
-use Rattle.chpw_connections.specs.Room.{gives_way_since, size_of, IsLongestBesides}
+use Rattle.chpw_connections.specs.Room.{gives_way_since, is_held_back, IsLongestBesides}
 use Rattle.chpw_connections.specs.Waiting.{queue_in, waits_for, times, times_for, Holds, Becomes, Leaves, without, is_newly_queued}
 use Rattle.chpw_connections.specs.declared.connection.Connection.{Connection}
 use Rattle.chpw_connections.proofs.QueueLemmas.{number, times_head, times_behind, times_push_same, times_push_other, times_without, times_without_other, without_none, without_head}
@@ -247,7 +247,7 @@ longest_not_queued slots slot is = client_none (get slots slot) is.0 is.1
 
 held_waits : (least : ℕ) (o : Option Connection) (since : ℕ) → gives_way_since least o ≡ Some since → waits_since o ≡ Some since
 held_waits least None since is = is
-held_waits least (Some c) since is = by_tests (waits (stage c)) (nat_lt 0 (held_by c.phase) && nat_lt least (size_of c)) is
+held_waits least (Some c) since is = by_tests (waits (stage c)) (nat_lt 0 (held_by c.phase) && (not (is_held_back c) && nat_lt least (size_by c.phase))) is
   where
     by_tests : (a b : Bool) → cond (a && b) (Some c.since) None ≡ Some since → cond a (Some c.since) None ≡ Some since
     by_tests true true e = e

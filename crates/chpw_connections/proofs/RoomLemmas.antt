@@ -1,13 +1,13 @@
 -- Who is put out to make room.
-use Rattle.std.proofs.Common.{◌≡◌, ◌≢◌, ℕ, ◌≤◌, refl, sym, ◌∙◌, ap, subst, arith, Bool, true, false, ◌==◌, ◌&&◌, nat_lt, cond, Option, Some, None, inl, inr}
+use Rattle.std.proofs.Common.{◌≡◌, ◌≢◌, ℕ, ◌≤◌, refl, sym, ◌∙◌, ap, subst, arith, Bool, true, false, ◌==◌, ◌&&◌, not, nat_lt, cond, Option, Some, None, inl, inr}
 use Rattle.std.proofs.Math.Logic.{⊎_elim}
 use Rattle.std.proofs.lemmas.Bool.{cases_eq}
 use Rattle.std.proofs.lemmas.Bool.Decides.{nat_tests}
 use Rattle.slab.specs.Slab.{Slab, get}
 use Rattle.chpw_connections.specs.Stages.{Stage, reading, queued, answering, writing, lingering, abandoned, ended, Event, failed, after, stage}
-use Rattle.chpw_connections.specs.Holding.{held_by}
+use Rattle.chpw_connections.specs.Holding.{held_by, size_by}
 use Rattle.chpw_connections.specs.Sets.{waits, Comes, Happens}
-use Rattle.chpw_connections.specs.Room.{size_of, gives_way, gives_way_at, gives_way_since, waits_besides, IsLongestBesides, PutsOut, LongestFirst, MakesRoom, HappensWithRoom}
+use Rattle.chpw_connections.specs.Room.{is_held_back, gives_way, gives_way_at, gives_way_since, waits_besides, IsLongestBesides, PutsOut, LongestFirst, MakesRoom, HappensWithRoom}
 use Rattle.chpw_connections.specs.declared.connection.Connection.{Connection}
 
 -- what gives way since a moment gives way
@@ -48,9 +48,9 @@ pub out_waits_not : (least : ℕ) (old new : Option Connection) → gives_way_at
 out_waits_not least None new is comes = absurd cc
 out_waits_not least (Some c) None is comes = absurd comes
 out_waits_not least (Some c) (Some d) is comes =
-    let waited : waits (stage c) ≡ true = and_left (waits (stage c)) (nat_lt 0 (held_by c.phase) && nat_lt least (size_of c)) is in
+    let waited : waits (stage c) ≡ true = and_left (waits (stage c)) (nat_lt 0 (held_by c.phase) && (not (is_held_back c) && nat_lt least (size_by c.phase))) is in
     let over : waits (stage d) ≡ false = ap waits (comes.stage_is ∙ ends_waiting c.answered (stage c) waited) in
-    ap (λ (b : Bool). b && (nat_lt 0 (held_by d.phase) && nat_lt least (size_of d))) over
+    ap (λ (b : Bool). b && (nat_lt 0 (held_by d.phase) && (not (is_held_back d) && nat_lt least (size_by d.phase)))) over
 
 -- who waits was not put out before
 was_before : (least : ℕ) (old mid : Option Connection) → PutsOut least old mid → gives_way_at least mid ≡ true → mid ≡ old

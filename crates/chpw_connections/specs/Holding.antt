@@ -1,13 +1,15 @@
--- How many bytes connections hold.
-use Rattle.std.specs.Prelude.{ℕ, length, Option, Some, None, sum_by}
+-- How many bytes connections hold, and how many their messages and replies have.
+use Rattle.std.specs.Prelude.{ℕ, ◌-◌, length, Option, Some, None, sum_by}
 use Rattle.slab.specs.Slab.{Slab}
 use Rattle.chpw_connections.specs.declared.connection.Phase.{Phase}
 use Rattle.chpw_connections.specs.declared.connection.Phase.TheVariants as phase
 use Rattle.chpw_connections.specs.declared.connection.Connection.{Connection}
+use Rattle.chpw_connections.specs.Messages.{whole_behind}
 
--- those of its message, or of its whole reply, which is let go once all of it is out
+-- those that there is room for, of the message that it reads; those of its message, or of its whole reply, which is let go
+-- once all of it is out
 abbrev pub held_by : Phase → ℕ
-held_by (phase.Reading bytes) = length bytes.items
+held_by (phase.Reading incoming) = incoming.room
 held_by (phase.Queued message) = length message.items
 held_by phase.Answering = 0
 held_by (phase.Writing outgoing) = length outgoing.reply.items
@@ -22,3 +24,22 @@ held_at (Some c) = held_by c.phase
 -- of all connections together
 abbrev pub held_in : Slab Connection → ℕ
 held_in slots = sum_by held_at slots.slots
+
+-- how many bytes its message has, as far as its length has come, or its reply
+abbrev pub size_by : Phase → ℕ
+size_by (phase.Reading incoming) = whole_behind incoming.received.items
+size_by (phase.Queued message) = length message.items
+size_by phase.Answering = 0
+size_by (phase.Writing outgoing) = length outgoing.reply.items
+size_by phase.Lingering = 0
+size_by phase.Abandoned = 0
+size_by phase.Ended = 0
+
+-- how many bytes more it holds once the next ones of its message are read: of its length there is room for four bytes, and
+-- from its next byte on for the whole message
+abbrev pub growth_by : Phase → ℕ
+growth_by p = size_by p - held_by p
+
+abbrev pub growth_at : Option Connection → ℕ
+growth_at None = 0
+growth_at (Some c) = growth_by c.phase

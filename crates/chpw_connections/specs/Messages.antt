@@ -10,6 +10,13 @@ wanted_behind bytes =
     else if nat_lt longest (stated_length bytes) then 0
     else 4 + stated_length bytes - length bytes
 
+-- how many bytes the message has with its length, as far as that is known; one that is too long has nothing but its length
+abbrev pub whole_behind : List ℕ → ℕ
+whole_behind bytes =
+    if nat_lt (length bytes) 4 then 4
+    else if nat_lt longest (stated_length bytes) then 4
+    else 4 + stated_length bytes
+
 -- just the next piece of a stream: a message with its length, or the length of one that is too long
 abbrev pub IsPiece : List ℕ → Type 0
 IsPiece bytes = (next_piece bytes ≡ message (drop 4 bytes)) ⊎ ((next_piece bytes ≡ too_long) × (length bytes ≡ 4))

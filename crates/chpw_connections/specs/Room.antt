@@ -1,20 +1,20 @@
 -- Who is put out to make room, where connections would hold too much.
 use Rattle.std.specs.Prelude.{◌≡◌, ◌≢◌, ℕ, ◌+◌, ◌-◌, ◌/◌, ◌≤◌, ◌==◌, Option, Some, None, Bool, true, false, ◌&&◌, not, nat_lt, if◌then◌else◌, ◌⊎◌, sum_by}
 use Rattle.slab.specs.Slab.{Slab, get}
-use Rattle.chpw_connections.specs.Holding.{held_by, held_in}
-use Rattle.chpw_connections.specs.Stages.{Event, failed, stage, wanted_by}
+use Rattle.chpw_connections.specs.Holding.{held_by, held_in, size_by, growth_by, growth_at}
+use Rattle.chpw_connections.specs.Stages.{Event, failed, stage}
 use Rattle.chpw_connections.specs.Sets.{waits, waits_since, Comes}
 use Rattle.chpw_connections.specs.declared.bounds.Bounds.{Bounds}
 use Rattle.chpw_connections.specs.declared.connection.Connection.{Connection}
 
--- how many bytes its message or its reply has, with those of the message that are still to come, as far as that is known
-abbrev pub size_of : Connection → ℕ
-size_of c = held_by c.phase + wanted_by (stage c)
+-- there is no room yet for all of the message that it reads: it waits for that, and not for its client
+abbrev pub is_held_back : Connection → Bool
+is_held_back c = nat_lt 0 (growth_by c.phase)
 
 -- it waits for its client, with a message or a reply of more than so many bytes, and holds some: to end one that holds
 -- none makes no room for bytes
 abbrev pub gives_way : ℕ → Connection → Bool
-gives_way least c = waits (stage c) && (nat_lt 0 (held_by c.phase) && nat_lt least (size_of c))
+gives_way least c = waits (stage c) && (nat_lt 0 (held_by c.phase) && (not (is_held_back c) && nat_lt least (size_by c.phase)))
 
 abbrev pub gives_way_at : ℕ → Option Connection → Bool
 gives_way_at least None = false
@@ -76,15 +76,15 @@ pub record HappensWithRoom (least now : ℕ) (old new : Slab Connection) (slot :
   pub others : (other : ℕ) → other ≢ slot → PutsOut least (get old other) (get new other)
   pub order : LongestFirst least old new slot
 
--- A message of more than 4,096 bytes is a large one. Bytes of such are read as far as all connections hold no more than
--- half of what they may, and others as far as they hold no more than three quarters: so a flood of large messages leaves
--- room for the others, and messages leave room for replies.
+-- A message of more than 4,096 bytes with its length is a large one. There is room for such as far as all connections hold
+-- no more than half of what they may, and for others as far as they hold no more than three quarters: so a flood of large
+-- messages leaves room for the others, and messages leave room for replies.
 abbrev pub largest_small : ℕ
 largest_small = 4096
 
 abbrev pub is_large_in : Option Connection → Bool
 is_large_in None = false
-is_large_in (Some c) = nat_lt largest_small (size_of c)
+is_large_in (Some c) = nat_lt largest_small (size_by c.phase)
 
 abbrev pub read_within : Bounds → Bool → ℕ
 read_within b large = if large then b.bytes / 2 else b.bytes - b.bytes / 4
@@ -93,8 +93,8 @@ read_within b large = if large then b.bytes / 2 else b.bytes - b.bytes / 4
 abbrev pub least_for : Bool → ℕ
 least_for large = if large then largest_small else 0
 
--- so many more bytes of the message in a slot could be read
-abbrev pub has_room_to_read : Bounds → Slab Connection → ℕ → ℕ → Bool
-has_room_to_read b slots slot count =
+-- more bytes of the message in a slot could be read
+abbrev pub has_room_to_read : Bounds → Slab Connection → ℕ → Bool
+has_room_to_read b slots slot =
     let large = is_large_in (get slots slot) in
-    has_room_besides (read_within b large) (least_for large) slots slot count
+    has_room_besides (read_within b large) (least_for large) slots slot (growth_at (get slots slot))

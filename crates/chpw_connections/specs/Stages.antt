@@ -92,7 +92,7 @@ since_after now since (writing left last) (wrote n) = if is_over (drop n left) t
 since_after now since stage event = since
 
 abbrev pub stage_of : Phase → Stage
-stage_of (phase.Reading bytes) = reading bytes.items
+stage_of (phase.Reading incoming) = reading incoming.received.items
 stage_of (phase.Queued message) = queued message.items
 stage_of phase.Answering = answering
 stage_of (phase.Writing outgoing) = writing (drop outgoing.written outgoing.reply.items) outgoing.is_last

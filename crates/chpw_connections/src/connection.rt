@@ -1,7 +1,7 @@
 //! What happens to one connection, from its accept to its end.
 ghost use Rattle.std.specs.Prelude.{◌≡◌, ◌+◌, ◌≤◌, [], length, IfSome, IfNone, None, IfOk, OnOk, OnErr, take, true, nat_lt};
-ghost use Rattle.chpw_connections.specs.Messages.{wanted_behind as wanted_of};
-ghost use Rattle.chpw_connections.specs.Reading.{is_unfinished};
+ghost use Rattle.chpw_connections.specs.Messages.{wanted_behind as wanted_of, whole_behind as whole_of};
+ghost use Rattle.chpw_connections.specs.Reading.{is_unfinished, is_covered};
 
 use crate::bounds::Bounds;
 use chpw_frame::LONGEST_MESSAGE;
@@ -17,8 +17,8 @@ const HEADER: usize = 4;
 /// Where a connection is.
 #[derive(Drop)]
 pub(crate) enum Phase {
-    /// These bytes of its next message have come.
-    Reading(Vec<u8>),
+    /// It reads its next message.
+    Reading(Incoming),
     /// This message waits for its worker.
     Queued(Vec<u8>),
     /// A worker answers its message.
@@ -31,6 +31,26 @@ pub(crate) enum Phase {
     Abandoned,
     /// It has ended.
     Ended,
+}
+
+/// A message, of which these bytes have come.
+#[derive(Drop)]
+pub(crate) struct Incoming {
+    pub received: Vec<u8>,
+    /// How many bytes there is room for: four from the first byte of its length on, and all of it from the next one on.
+    pub room: usize,
+}
+
+impl Incoming {
+    /// One of which nothing has come.
+    fn new(alloc: Global) -> Incoming
+        ensures nothing { (result.received.items ≡ []) × (result.room ≡ 0) }
+    {
+        Incoming {
+            received: Vec::new(alloc),
+            room: 0,
+        }
+    }
 }
 
 /// A reply, of which so many bytes are out.
@@ -53,14 +73,16 @@ pub(crate) struct Connection {
     pub phase: Phase,
     // Where it reads a message, that isn't whole.
     ghost unfinished: { is_unfinished phase ≡ true },
+    // What has come of it is no more than it holds.
+    ghost covered: { is_covered phase ≡ true },
 }
 
 impl Connection {
-    ghost use Rattle.chpw_connections.specs.Holding.{held_by};
+    ghost use Rattle.chpw_connections.specs.Holding.{held_by, size_by, growth_by};
     ghost use Rattle.chpw_connections.specs.Stages.{stage, stage_of, after, reading, queued, Goes, came, taken, replied, unanswered, wrote, closed, failed, wanted_by, left_of};
     ghost use Rattle.chpw_connections.specs.Sets.{waits, is_late, queued_by};
     ghost use Rattle.chpw_connections.specs.Waiting.{is_newly_queued};
-    ghost use Rattle.chpw_connections.specs.Room.{size_of, gives_way as gives_way_of};
+    ghost use Rattle.chpw_connections.specs.Room.{gives_way as gives_way_of};
 
     /// One that was accepted just now.
     pub fn accepted(alloc: Global, number: u32, peer: [u8; 4], now: u64) -> Connection
@@ -76,7 +98,7 @@ impl Connection {
             peer,
             since: now,
             answered: 0,
-            phase: Phase::Reading(Vec::new(alloc)),
+            phase: Phase::Reading(Incoming::new(alloc)),
         }
     }
 
@@ -86,33 +108,55 @@ impl Connection {
         ensures value { result ≡ wanted_by (stage self.now) }
     {
         match &self.phase {
-            Phase::Reading(received) => wanted_behind(received),
+            Phase::Reading(incoming) => wanted_behind(&incoming.received),
             _ => 0,
         }
     }
 
-    /// How many bytes it holds, of its message or of its reply.
+    /// How many bytes it holds, of its message or of its reply, or has room for, of a message that it reads.
     pub fn held(&self) -> usize
         ensures value { result ≡ held_by self.now.phase }
     {
         match &self.phase {
-            Phase::Reading(bytes) | Phase::Queued(bytes) => bytes.len(),
+            Phase::Reading(incoming) => incoming.room,
+            Phase::Queued(message) => message.len(),
             Phase::Writing(outgoing) => outgoing.reply.len(),
             Phase::Answering | Phase::Lingering | Phase::Abandoned | Phase::Ended => 0,
         }
     }
 
+    /// How many bytes its message has, as far as its length has come, or its reply.
+    pub fn size(&self) -> usize
+        ensures value { result ≡ size_by self.now.phase }
+    {
+        match &self.phase {
+            Phase::Reading(incoming) => whole_behind(&incoming.received),
+            Phase::Queued(message) => message.len(),
+            Phase::Writing(outgoing) => outgoing.reply.len(),
+            Phase::Answering | Phase::Lingering | Phase::Abandoned | Phase::Ended => 0,
+        }
+    }
+
+    /// How many bytes more it holds once the next ones of its message are read.
+    pub fn growth(&self) -> usize
+        ensures value { result ≡ growth_by self.now.phase }
+    {
+        self.size().saturating_sub(self.held())
+    }
+
     /// Bytes came, of which those count that are wanted. Where the message is whole then, it is queued; whether it is.
     /// Without memory for them the connection has ended.
+    #[tactic(auto, using(crate::proofs::ReadingLemmas::no_more_than_whole, crate::proofs::ReadingLemmas::covered_by))]
     pub fn receive(&mut self, bytes: &[u8], now: u64) -> Result<bool, AllocError>
         ensures goes { OnOk result (Goes now self.old self.new (came bytes.now)) }
         ensures ended { OnErr result (Goes 0 self.old self.new failed) }
         ensures whole { IfOk result (λ whole. whole ≡ is_newly_queued (queued_by (stage self.old)) (queued_by (stage self.new))) }
         ensures reading { OnErr result (queued_by (stage self.old) ≡ None) }
-        ensures held { held_by self.new.phase ≤ held_by self.old.phase + length bytes.now }
+        ensures held { held_by self.new.phase ≤ held_by self.old.phase + growth_by self.old.phase }
     {
         match mem::replace(&mut self.phase, Phase::Ended) {
-            Phase::Reading(mut received) => {
+            Phase::Reading(Incoming { mut received, .. }) => {
+                let room = whole_behind(&received);
                 let fitting = at_most(bytes, wanted_behind(&received));
                 received.extend_from_slice(fitting)?;
                 if wanted_behind(&received) == 0 {
@@ -120,7 +164,7 @@ impl Connection {
                     self.phase = Phase::Queued(received);
                     return Ok(true);
                 }
-                self.phase = Phase::Reading(received);
+                self.phase = Phase::Reading(Incoming { received, room });
                 Ok(false)
             }
             other => {
@@ -208,7 +252,7 @@ impl Connection {
                 self.phase = if outgoing.is_last {
                     Phase::Lingering
                 } else {
-                    Phase::Reading(Vec::new(alloc))
+                    Phase::Reading(Incoming::new(alloc))
                 };
             }
         }
@@ -258,19 +302,11 @@ impl Connection {
         )
     }
 
-    /// Whether its message, with what is still to come of it, or its reply has more than so many bytes.
-    pub fn is_longer_than(&self, least: usize) -> bool
-        ensures value { result ≡ nat_lt least (size_of self.now) }
-    {
-        let held = self.held();
-        held > least || self.wanted() > least - held
-    }
-
     /// Whether it is to be ended where room for bytes is made, of those with more than so many.
     pub fn gives_way(&self, least: usize) -> bool
         ensures value { result ≡ gives_way_of least self.now }
     {
-        self.waits_for_client() && self.held() > 0 && self.is_longer_than(least)
+        self.waits_for_client() && self.held() > 0 && self.growth() == 0 && self.size() > least
     }
 }
 
@@ -299,6 +335,24 @@ fn wanted_behind(received: &[u8]) -> usize
                 0
             } else {
                 length.saturating_sub(body.len())
+            }
+        }
+    }
+}
+
+// How many bytes a message has with its length, as far as that is known.
+fn whole_behind(received: &[u8]) -> usize
+    ensures value { result ≡ whole_of received.now }
+    ensures few { result ≤ 65539 }
+{
+    match received.first_chunk::<HEADER>() {
+        None => HEADER,
+        Some(header) => {
+            let length = u32::from_be_bytes(*header) as usize;
+            if length > LONGEST_MESSAGE {
+                HEADER
+            } else {
+                HEADER + length
             }
         }
     }

@@ -1,7 +1,7 @@
 //! A set of connections, within bounds.
 ghost use Rattle.std.specs.Prelude.{MatchBool, ◌≡◌, ◌≢◌, ◌+◌, ◌<◌, ◌≤◌, ◌==◌, ℕ, not, nat_lt, true, false, IfSome, IfNone, IsSome, IfOk, Some, None, ◌⊎◌, ◌∷◌, ◌++◌, [], ◌%◌, length, drop, if◌then◌else◌, is_some};
 ghost use Rattle.slab.specs.Slab.{get, slab_len};
-ghost use Rattle.chpw_connections.specs.Holding.{held_in};
+ghost use Rattle.chpw_connections.specs.Holding.{held_in, growth_at};
 ghost use Rattle.chpw_connections.specs.Stages.{came, taken, replied, unanswered, wrote, closed, failed};
 ghost use Rattle.chpw_connections.specs.Sets.{Happens, wanted_at, left_at, queued_at, is_late_in, Passes, is_lingering_in, is_ended_in, is_reading_in, is_answering_in, wanted_of, IsNew};
 ghost use Rattle.chpw_connections.specs.Room.{HappensWithRoom, has_room_besides, has_room_to_read as has_room_to_read_in, read_within, least_for, is_large_in};
@@ -133,12 +133,10 @@ impl Connections {
         ensures stays { IfNone result ((queues_of self.new ≡ queues_of self.old) ⊎ Leaves (queues_of self.old) (queues_of self.new) slot) }
         ensures unread { is_reading_in (get (slots_of self.old) slot) ≡ false → (result ≡ None) × (self.new ≡ self.old) }
         ensures unwanted { wanted_at (get (slots_of self.old) slot) ≡ 0 → (result ≡ None) × (self.new ≡ self.old) }
-        ensures enough { held_in (slots_of self.old) + length bytes.now ≤ read_within (bounds_of self.old) (is_large_in (get (slots_of self.old) slot))
-            → (other : ℕ) → other ≢ slot → get (slots_of self.new) other ≡ get (slots_of self.old) other }
-        ensures enough_wanted { held_in (slots_of self.old) + length (wanted_of (get (slots_of self.old) slot) bytes.now)
+        ensures enough { held_in (slots_of self.old) + growth_at (get (slots_of self.old) slot)
             ≤ read_within (bounds_of self.old) (is_large_in (get (slots_of self.old) slot))
             → (other : ℕ) → other ≢ slot → get (slots_of self.new) other ≡ get (slots_of self.old) other }
-        ensures too_many { has_room_to_read_in (bounds_of self.old) (slots_of self.old) slot (length (wanted_of (get (slots_of self.old) slot) bytes.now)) ≡ false
+        ensures too_many { has_room_to_read_in (bounds_of self.old) (slots_of self.old) slot ≡ false
             → (other : ℕ) → other ≢ slot → get (slots_of self.new) other ≡ get (slots_of self.old) other }
         ensures workers { workers_of self.new ≡ workers_of self.old }
         ensures counts { Counts self.new (accepted_by self.old) (removed_by self.old) }
@@ -163,16 +161,17 @@ impl Connections {
         ensures read { IfNone result (HappensWithRoom (least_for (is_large_in (get (slots_of self.old) slot))) now (slots_of self.old) (slots_of self.new) slot (came bytes.now)
             ⊎ HappensWithRoom (least_for (is_large_in (get (slots_of self.old) slot))) 0 (slots_of self.old) (slots_of self.new) slot failed) }
         ensures stays { IfNone result ((queues_of self.new ≡ queues_of self.old) ⊎ Leaves (queues_of self.old) (queues_of self.new) slot) }
-        ensures enough { held_in (slots_of self.old) + length bytes.now ≤ read_within (bounds_of self.old) (is_large_in (get (slots_of self.old) slot))
+        ensures enough { held_in (slots_of self.old) + growth_at (get (slots_of self.old) slot)
+            ≤ read_within (bounds_of self.old) (is_large_in (get (slots_of self.old) slot))
             → (other : ℕ) → other ≢ slot → get (slots_of self.new) other ≡ get (slots_of self.old) other }
-        ensures too_many { has_room_to_read_in (bounds_of self.old) (slots_of self.old) slot (length bytes.now) ≡ false
+        ensures too_many { has_room_to_read_in (bounds_of self.old) (slots_of self.old) slot ≡ false
             → (other : ℕ) → other ≢ slot → get (slots_of self.new) other ≡ get (slots_of self.old) other }
         ensures workers { workers_of self.new ≡ workers_of self.old }
         ensures counts { Counts self.new (accepted_by self.old) (removed_by self.old) }
         ensures expired { expired_by self.new ≡ expired_by self.old }
         ensures bounds { bounds_of self.new ≡ bounds_of self.old }
     {
-        if !self.find_room_to_read(slot, bytes.len()) {
+        if !self.find_room_to_read(slot) {
             self.fail(slot);
             return None;
         }

@@ -1,6 +1,6 @@
 //! How much room there is, and who is ended to make more.
 ghost use Rattle.std.specs.Prelude.{◌≡◌, ◌+◌, ◌≤◌, ◌<◌, ℕ, not, nat_lt, true, false, ◌^◌};
-ghost use Rattle.chpw_connections.specs.Holding.{held_in};
+ghost use Rattle.chpw_connections.specs.Holding.{held_in, growth_at};
 ghost use Rattle.chpw_connections.specs.Stages.{failed};
 ghost use Rattle.chpw_connections.specs.Sets.{Happens, IsLongest, NobodyWaits};
 ghost use Rattle.slab.specs.Slab.{get};
@@ -42,14 +42,16 @@ impl Connections {
         }
     }
 
-    /// Whether there is room to read so many more bytes of a connection's message. Bytes of a message of more than 4,096 are
-    /// read as far as half of the bytes that may be held aren't exceeded, and others as far as three quarters aren't: so
-    /// large messages leave room for small ones, and messages for replies. There is room too where `receive` would make it,
-    /// and where there is none, it would end the connection itself.
-    pub fn has_room_to_read(&self, slot: usize, count: usize) -> bool
-        ensures value { result ≡ has_room_to_read_in (bounds_of self.now) (slots_of self.now) slot count }
+    /// Whether there is room to read the next bytes of a connection's message: four bytes for its length, and from its next
+    /// byte on all that its length says, so that a message which is begun can be read to its end. Messages of more than
+    /// 4,096 bytes have room as far as half of the bytes that may be held aren't exceeded, and others as far as three
+    /// quarters aren't: so large messages leave room for small ones, and messages for replies. There is room too where
+    /// `receive` would make it; where there is none, it would end the connection itself.
+    pub fn has_room_to_read(&self, slot: usize) -> bool
+        ensures value { result ≡ has_room_to_read_in (bounds_of self.now) (slots_of self.now) slot }
     {
         let (most, least) = self.room_to_read(slot);
+        let count = self.slots.growth(slot);
         self.has_room_for(count, most) || self.could_make_room(slot, count, most, least)
     }
 
@@ -66,14 +68,14 @@ impl Connections {
         }
     }
 
-    // Makes room to read so many more bytes of a connection's message; whether there is.
-    pub(crate) fn find_room_to_read(&mut self, slot: usize, count: usize) -> bool
+    // Makes room to read the next bytes of a connection's message; whether there is.
+    pub(crate) fn find_room_to_read(&mut self, slot: usize) -> bool
         ensures makes_room { MakesRoom (least_for (is_large_in (get (slots_of self.old) slot))) (slots_of self.old) (slots_of self.new) slot }
-        ensures value { result ≡ has_room_to_read_in (bounds_of self.old) (slots_of self.old) slot count }
-        ensures room { result ≡ true → held_in (slots_of self.new) + count ≤ read_within (bounds_of self.old) (is_large_in (get (slots_of self.old) slot)) }
-        ensures within { result ≡ true → held_in (slots_of self.new) + count ≤ (bounds_of self.new).bytes }
-        ensures fits { result ≡ true → held_in (slots_of self.new) + count < 2 ^ 64 }
-        ensures enough { held_in (slots_of self.old) + count ≤ read_within (bounds_of self.old) (is_large_in (get (slots_of self.old) slot))
+        ensures value { result ≡ has_room_to_read_in (bounds_of self.old) (slots_of self.old) slot }
+        ensures room { result ≡ true → held_in (slots_of self.new) + growth_at (get (slots_of self.old) slot) ≤ read_within (bounds_of self.old) (is_large_in (get (slots_of self.old) slot)) }
+        ensures within { result ≡ true → held_in (slots_of self.new) + growth_at (get (slots_of self.old) slot) ≤ (bounds_of self.new).bytes }
+        ensures fits { result ≡ true → held_in (slots_of self.new) + growth_at (get (slots_of self.old) slot) < 2 ^ 64 }
+        ensures enough { held_in (slots_of self.old) + growth_at (get (slots_of self.old) slot) ≤ read_within (bounds_of self.old) (is_large_in (get (slots_of self.old) slot))
             → slots_of self.new ≡ slots_of self.old }
         ensures none { result ≡ false → slots_of self.new ≡ slots_of self.old }
         ensures counts { Counts self.new (accepted_by self.old) (removed_by self.old) }
@@ -82,16 +84,17 @@ impl Connections {
         ensures queues { queues_of self.new ≡ queues_of self.old }
     {
         let (most, least) = self.room_to_read(slot);
+        let count = self.slots.growth(slot);
         self.find_room(slot, count, most, least)
     }
 
-    /// Whether the message of the connection in a slot has more than 4,096 bytes, as far as its length has come.
+    /// Whether the message of the connection in a slot has more than 4,096 bytes with its length, as far as that has come.
     pub fn is_large(&self, slot: usize) -> bool
         ensures value { result ≡ is_large_in (get (slots_of self.now) slot) }
     {
         match self.slots.get(slot) {
             None => false,
-            Some(connection) => connection.is_longer_than(LARGEST_SMALL),
+            Some(connection) => connection.size() > LARGEST_SMALL,
         }
     }
 

@@ -1,7 +1,7 @@
 //! Connections by slot, and how each event comes to one of them.
 ghost use Rattle.std.specs.Prelude.{◌≡◌, ◌+◌, ◌<◌, ◌≤◌, ◌^◌, ◌%◌, ℕ, Some, None, IfSome, IfNone, IfOk, OnOk, OnErr, OnSome, option_copied, option_map, length, is_some, if◌then◌else◌};
 ghost use Rattle.slab.specs.Slab.{get, slab_len, HasRoomFor, Updates};
-ghost use Rattle.chpw_connections.specs.Holding.{held_by, held_at, held_in};
+ghost use Rattle.chpw_connections.specs.Holding.{held_by, held_at, held_in, growth_at};
 ghost use Rattle.chpw_connections.specs.Stages.{came, taken, replied, unanswered, wrote, closed, failed};
 ghost use Rattle.chpw_connections.specs.Sets.{Happens, Stands, wanted_at, left_at, queued_at};
 ghost use Rattle.chpw_connections.specs.Waiting.{waits_for, is_newly_queued};
@@ -97,13 +97,13 @@ impl Slots {
 
     /// Bytes came; whether its message is whole with them, and waits. Without memory for them the connection has ended.
     pub fn receive(&mut self, slot: usize, bytes: &[u8], now: u64) -> Result<bool, AllocError>
-        requires fits { held_in self.old.connections + length bytes.now < 2 ^ 64 }
+        requires fits { held_in self.old.connections + growth_at (get self.old.connections slot) < 2 ^ 64 }
         ensures happens { OnOk result (Happens now self.old.connections self.new.connections slot (came bytes.now)) }
         ensures ended { OnErr result (Happens 0 self.old.connections self.new.connections slot failed) }
         ensures whole { IfOk result (λ whole. whole ≡ is_newly_queued (queued_at (get self.old.connections slot)) (queued_at (get self.new.connections slot))) }
         ensures reading { OnErr result (queued_at (get self.old.connections slot) ≡ None) }
         ensures stands { Stands self.old.connections self.new.connections }
-        ensures held { self.new.held ≤ self.old.held + length bytes.now }
+        ensures held { self.new.held ≤ self.old.held + growth_at (get self.old.connections slot) }
     {
         match self.take_out(slot) {
             None => Ok(false),
@@ -249,6 +249,16 @@ impl Slots {
         match self.connections.get(slot) {
             None => 0,
             Some(connection) => connection.wanted(),
+        }
+    }
+
+    /// How many bytes more are held once the next ones are read in a slot.
+    pub fn growth(&self, slot: usize) -> usize
+        ensures value { result ≡ growth_at (get self.now.connections slot) }
+    {
+        match self.connections.get(slot) {
+            None => 0,
+            Some(connection) => connection.growth(),
         }
     }
 

@@ -125,7 +125,7 @@ impl State {
             (I.remaining reader.old) (I.remaining reader.new) }
     {
         let most = buffer.len().min(self.connections.wanted(slot));
-        if most == 0 || !self.may_read(slot, most) {
+        if most == 0 || !self.may_read(slot) {
             return Progress::None;
         }
         match reader.read(&mut buffer[..most]) {
@@ -138,17 +138,17 @@ impl State {
         }
     }
 
-    // Whether so many bytes of a connection's message may be read; none where there was no room for one of its kind in
+    // Whether the next bytes of a connection's message may be read; none where there was no room for one of its kind in
     // this round.
-    fn may_read(&mut self, slot: usize, count: usize) -> bool
+    fn may_read(&mut self, slot: usize) -> bool
         ensures value { result ≡ (not (is_short_for (is_large_in (get (slots_of self.old.connections) slot)) self.old.shortage)
-            && has_room_to_read (bounds_of self.old.connections) (slots_of self.old.connections) slot count) }
+            && has_room_to_read (bounds_of self.old.connections) (slots_of self.old.connections) slot) }
         ensures shortage { self.new.shortage ≡ (if result then self.old.shortage else short_of (is_large_in (get (slots_of self.old.connections) slot)) self.old.shortage) }
         ensures same { self.new.connections ≡ self.old.connections }
     {
         let is_large = self.connections.is_large(slot);
         let may_read = !self.shortage.is_for(is_large)
-            && self.connections.has_room_to_read(slot, count);
+            && self.connections.has_room_to_read(slot);
         if !may_read {
             self.shortage.begin(is_large);
         }

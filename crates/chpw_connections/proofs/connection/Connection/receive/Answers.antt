@@ -1,0 +1,16 @@
+use Rattle.std.proofs.Common.{◌≡◌, ℕ, List, ◌++◌, take, true, sym, ◌∙◌, ap, subst}
+use Rattle.chpw_connections.specs.Messages.{wanted_behind, whole_behind}
+use Rattle.chpw_connections.specs.Reading.{is_unfinished}
+use Rattle.chpw_connections.specs.declared.connection.Phase.{Phase}
+use Rattle.chpw_connections.proofs.ReadingLemmas.{covered_by}
+use Rattle.chpw_connections.proofs.connection.Connection.receive.Goals as goal
+
+pub invariant_of-self-in-Reading-clause-covered : goal.invariant_of-self-in-Reading-clause-covered
+invariant_of-self-in-Reading-clause-covered c =
+    let old = c.in-Reading.field-0.received.items in
+    covered_by old c.args.bytes.now c.extend_from_slice.new.self.items c.whole_behind-room.result
+    (subst (λ (p : Phase). is_unfinished p ≡ true) (sym c.replace.ensures.value ∙ c.in-Reading.is) c.args.self.now.unfinished)
+    (c.in_ok-extend_from_slice-in-Reading.ensures.items
+    ∙ ap (λ (l : List ℕ). old ++ l) (c.at_most-fitting.ensures.value
+    ∙ ap (λ (n : ℕ). take n c.args.bytes.now) (c.wanted_behind.ensures.value ∙ ap wanted_behind c.deref-in-Reading.ensures.value)))
+    (c.whole_behind-room.ensures.value ∙ ap whole_behind c.deref.ensures.value)
