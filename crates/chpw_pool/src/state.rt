@@ -147,8 +147,7 @@ impl State {
         ensures same { self.new.connections ≡ self.old.connections }
     {
         let is_large = self.connections.is_large(slot);
-        let may_read = !self.shortage.is_for(is_large)
-            && self.connections.has_room_to_read(slot);
+        let may_read = !self.shortage.is_for(is_large) && self.connections.has_room_to_read(slot);
         if !may_read {
             self.shortage.begin(is_large);
         }
