@@ -32,8 +32,8 @@ fn beside<R: Machine, K: Clients<R> + Sync>(
     serve_all(rt, alloc, &site, clients)
 }
 
-// Whether the service ends a connection without an answer.
-fn is_ended(mut stream: &TcpStream) -> bool {
+/// Whether the service ends a connection without an answer.
+pub fn is_ended(mut stream: &TcpStream) -> bool {
     match stream.read(&mut [0; 1]) {
         Ok(count) => count == 0,
         Err(error) => error.kind() == ErrorKind::ConnectionReset,

@@ -5,10 +5,11 @@ ghost use Rattle.chpw_book.specs.Starting.{IsNamed, workers_of};
 
 use crate::gates::UntilTold;
 use crate::realm::{CHANGED, opening};
-use crate::site::{Machine, connect, expect_line, reply, requests, send};
+use crate::crowds::is_ended;
+use crate::site::{Machine, connect, expect_line, requests, send};
 use chpw_book::{Desk, DeskName, UnnamedDesk};
 use chpw_client::Sent;
-use chpw_frame::LONGEST_MESSAGE;
+use chpw_frame::{LONGEST_MESSAGE, Received, read_tcp};
 use chpw_journal::MemorySink;
 use chpw_messages::Service;
 use chpw_pool::{Pool, run_pool_with};
@@ -133,7 +134,7 @@ fn ask<R: Machine>(
     *is_told.lock(rt) = true;
     expect_line(rt, alloc, bob, &second, CHANGED);
     for stream in streams.iter() {
-        assert!(rt; !reply(rt, alloc, stream).is_empty());
+        expect_reply_or_end(rt, alloc, stream);
     }
     let third = connect(rt, port);
     send(rt, &third, alice.message.as_slice());
@@ -154,4 +155,12 @@ fn other_clients<R: Machine>(rt: &R, alloc: Global, port: u16, are_sending: bool
         }
     }
     streams
+}
+
+// A reply comes, or its message has waited for too long and its connection ends: it isn't left as it is.
+fn expect_reply_or_end<R: Machine>(rt: &R, alloc: Global, stream: &TcpStream) {
+    match read_tcp(alloc, &mut &*stream) {
+        Ok(Received::Message(reply)) => assert!(rt; !reply.is_empty()),
+        _ => assert!(rt; is_ended(stream)),
+    }
 }
