@@ -3,9 +3,9 @@
 ghost use Rattle.std.specs.Prelude.{◌≡◌};
 ghost use Rattle.chpw_book.specs.Starting.{IsNamed, workers_of};
 
+use crate::crowds::is_ended;
 use crate::gates::UntilTold;
 use crate::realm::{CHANGED, opening};
-use crate::crowds::is_ended;
 use crate::site::{Machine, connect, expect_line, requests, send};
 use chpw_book::{Desk, DeskName, UnnamedDesk};
 use chpw_client::Sent;
@@ -55,7 +55,15 @@ fn given_up<R: Machine>(
 ) -> Result<(), Fail> {
     let (service, table) = opening(alloc, 100)?;
     let unnamed = UnnamedDesk::of(table, 1);
-    let pool = held_pool::<Brand, R>(rt, alloc, unnamed, &service, listener, patience, are_sending)?;
+    let pool = held_pool::<Brand, R>(
+        rt,
+        alloc,
+        unnamed,
+        &service,
+        listener,
+        patience,
+        are_sending,
+    )?;
     assert!(rt; pool.served == CONNECTIONS && pool.fault.is_none());
     Ok(())
 }
@@ -142,7 +150,12 @@ fn ask<R: Machine>(
 }
 
 // The other clients: each has sent a message of the greatest length, or has left at once.
-fn other_clients<R: Machine>(rt: &R, alloc: Global, port: u16, are_sending: bool) -> Vec<TcpStream> {
+fn other_clients<R: Machine>(
+    rt: &R,
+    alloc: Global,
+    port: u16,
+    are_sending: bool,
+) -> Vec<TcpStream> {
     let zeros = Vec::from_elem(alloc, 0, LONGEST_MESSAGE)
         .ok()
         .expect(rt, "memory");

@@ -151,11 +151,23 @@ fn port_of(listener: &TcpListener) -> Result<u16, Fail> {
 #[test]
 fn histories_amid_sixteen_workers(rt: HostRuntime) -> Result<(), Fail> {
     let port = port_of(&TcpListener::bind(&rt, ("127.0.0.1", 0u16))?)?;
-    histories(&rt, ["amid.toml", "amid.journal", "amid.seed"], port, 16, false)
+    histories(
+        &rt,
+        ["amid.toml", "amid.journal", "amid.seed"],
+        port,
+        16,
+        false,
+    )
 }
 
 #[test]
 fn histories_beside_a_client_that_reads_nothing(rt: HostRuntime) -> Result<(), Fail> {
     let port = port_of(&TcpListener::bind(&rt, ("127.0.0.1", 0u16))?)?;
-    histories(&rt, ["mute.toml", "mute.journal", "mute.seed"], port, 2, true)
+    histories(
+        &rt,
+        ["mute.toml", "mute.journal", "mute.seed"],
+        port,
+        2,
+        true,
+    )
 }
