@@ -3,7 +3,7 @@ ghost use Rattle.std.specs.Prelude.{◌≤◌};
 
 use crate::realm::{CHANGED, SetClock, request, told};
 use crate::services::{SETTINGS, START, connect_soon, moment};
-use crate::site::{Machine, reply, send};
+use crate::site::{reply, send};
 use chpw_client::Sent;
 use chpw_invocation::ServeOptions;
 use chpw_service::serve_by;
@@ -99,48 +99,42 @@ fn request_of<R: Abort>(rt: &R, alloc: Global, number: u8) -> Result<Sent, Fail>
     )
 }
 
-// So many workers and histories of five entries; maybe beside a client that reads nothing.
-fn histories<R: Machine + Files<File = File> + Print + Eprint + AllocGlobal>(
-    rt: &R,
-    files: [&str; 3],
-    port: u16,
-    workers: u8,
-    is_flooded: bool,
-) -> Result<(), Fail>
-    requires workers { (1 ≤ workers) × (workers ≤ 16) }
-{
+// Histories of five entries, and no journal yet.
+fn write_files<R: Files<File = File>>(rt: &R, alloc: Global, files: [&str; 3]) -> Result<(), Fail> {
     let [config, journal, seed] = files;
-    let alloc = rt.alloc();
     let text = format!(in alloc; "[service]\nmax_entries = 5\n{SETTINGS}")?;
     fs::write(rt, config, text.as_bytes())?;
     fs::write(rt, seed, [1; 32].as_slice())?;
     let _ = fs::remove_file(rt, journal);
+    Ok(())
+}
+
+fn requests_of<R: Abort>(rt: &R, alloc: Global) -> Result<Vec<Sent>, Fail> {
     let mut requests = Vec::new(alloc);
     for number in 0..CLIENTS {
         requests.push(request_of(rt, alloc, number)?)?;
     }
-    let options = ServeOptions {
+    Ok(requests)
+}
+
+fn options<'a>(files: [&'a str; 3], port: u16, workers: u8, connections: u32) -> ServeOptions<'a>
+    requires workers { (1 ≤ workers) × (workers ≤ 16) }
+    requires connections { 1 ≤ connections }
+{
+    let [config, journal, seed] = files;
+    ServeOptions {
         config,
         journal,
         seed,
         port,
         workers,
-        connections: u32::from(CLIENTS) + u32::from(is_flooded),
+        connections,
         idle: 10,
         clients: 1024,
         buffers: 32,
         raise: None,
         log: None,
-    };
-    let clock = SetClock::new(START);
-    let (served, ()) = join(
-        rt,
-        || serve_by(rt, &clock, options).is_ok(),
-        || ask_all(rt, alloc, port, requests.as_slice(), is_flooded),
-    );
-    assert!(rt; served);
-    assert_eq!(rt; fs::read(rt, journal)?.len(), 12 * 66 + 12 * 64);
-    Ok(())
+    }
 }
 
 // A port where nobody listens now.
@@ -150,24 +144,38 @@ fn port_of(listener: &TcpListener) -> Result<u16, Fail> {
 
 #[test]
 fn histories_amid_sixteen_workers(rt: HostRuntime) -> Result<(), Fail> {
+    let alloc = rt.alloc();
+    let files = ["amid.toml", "amid.journal", "amid.seed"];
+    write_files(&rt, alloc, files)?;
+    let requests = requests_of(&rt, alloc)?;
     let port = port_of(&TcpListener::bind(&rt, ("127.0.0.1", 0u16))?)?;
-    histories(
+    let options = options(files, port, 16, u32::from(CLIENTS));
+    let clock = SetClock::new(START);
+    let (served, ()) = join(
         &rt,
-        ["amid.toml", "amid.journal", "amid.seed"],
-        port,
-        16,
-        false,
-    )
+        || serve_by(&rt, &clock, options).is_ok(),
+        || ask_all(&rt, alloc, port, requests.as_slice(), false),
+    );
+    assert!(rt; served);
+    assert_eq!(rt; fs::read(&rt, "amid.journal")?.len(), 12 * 66 + 12 * 64);
+    Ok(())
 }
 
 #[test]
 fn histories_beside_a_client_that_reads_nothing(rt: HostRuntime) -> Result<(), Fail> {
+    let alloc = rt.alloc();
+    let files = ["mute.toml", "mute.journal", "mute.seed"];
+    write_files(&rt, alloc, files)?;
+    let requests = requests_of(&rt, alloc)?;
     let port = port_of(&TcpListener::bind(&rt, ("127.0.0.1", 0u16))?)?;
-    histories(
+    let options = options(files, port, 2, u32::from(CLIENTS) + 1);
+    let clock = SetClock::new(START);
+    let (served, ()) = join(
         &rt,
-        ["mute.toml", "mute.journal", "mute.seed"],
-        port,
-        2,
-        true,
-    )
+        || serve_by(&rt, &clock, options).is_ok(),
+        || ask_all(&rt, alloc, port, requests.as_slice(), true),
+    );
+    assert!(rt; served);
+    assert_eq!(rt; fs::read(&rt, "mute.journal")?.len(), 12 * 66 + 12 * 64);
+    Ok(())
 }
