@@ -1,6 +1,6 @@
 //! A set of connections, within bounds.
 ghost use Rattle.std.specs.Prelude.{MatchBool, ◌≡◌, ◌≢◌, ◌+◌, ◌<◌, ◌≤◌, ◌==◌, ℕ, not, nat_lt, true, false, IfSome, IfNone, IsSome, IfOk, Some, None, ◌⊎◌, ◌∷◌, ◌++◌, [], ◌%◌, length, drop, if◌then◌else◌, is_some};
-ghost use Rattle.slab.specs.Slab.{get, slab_len};
+ghost use Rattle.slab.specs.Slab.{get, slab_len, Updates};
 ghost use Rattle.chpw_connections.specs.Holding.{held_in, growth_at};
 ghost use Rattle.chpw_connections.specs.Stages.{came, taken, replied, unanswered, wrote, closed, failed};
 ghost use Rattle.chpw_connections.specs.Sets.{Happens, wanted_at, left_at, queued_at, is_late_in, Passes, is_lingering_in, is_ended_in, is_reading_in, is_answering_in, wanted_of, IsNew};
@@ -120,7 +120,8 @@ impl Connections {
     /// them, it waits at the end of its worker's queue, and the worker is given: the connection's number, modulo how many
     /// there are. Where there is no room for them (`has_room_to_read`), others are ended that hold bytes, those that
     /// have waited for their clients the longest first: of a large message only those with another large one, and nobody
-    /// where that isn't enough. Without room or memory for them the connection is ended. Bytes for a free slot, and for a connection that wants none now, change nothing.
+    /// where that isn't enough. Without room or memory for them the connection is ended. Bytes for a free slot, and for a
+    /// connection that wants none now, change nothing.
     #[tactic(auto, using(crate::proofs::ComesLemmas::wanted_happens, crate::proofs::ReadingLemmas::unwanted_unread))]
     pub fn receive(&mut self, slot: usize, bytes: &[u8], now: u64) -> Option<usize>
         ensures queued { IfSome result (λ worker. HappensWithRoom (least_for (is_large_in (get (slots_of self.old) slot))) now (slots_of self.old) (slots_of self.new) slot (came bytes.now)) }
@@ -150,7 +151,7 @@ impl Connections {
         self.receive_wanted(slot, wanted, now)
     }
 
-    // The same, of bytes that are all wanted.
+    // These bytes came, all of which are wanted.
     #[tactic(auto, using(crate::proofs::RoomLemmas::happens_with_room))]
     fn receive_wanted(&mut self, slot: usize, bytes: &[u8], now: u64) -> Option<usize>
         ensures queued { IfSome result (λ worker. HappensWithRoom (least_for (is_large_in (get (slots_of self.old) slot))) now (slots_of self.old) (slots_of self.new) slot (came bytes.now)) }
@@ -263,12 +264,14 @@ impl Connections {
         }
     }
 
-    /// Removes a connection that has ended; whether it had.
+    /// Removes a connection that has ended; whether it had. Its slot is free then.
     #[tactic(auto, using(crate::proofs::HoldsLemmas::holds_removed))]
     pub fn remove(&mut self, slot: usize) -> bool
         ensures value { result ≡ is_ended_in (get (slots_of self.old) slot) }
+        ensures freed { result ≡ true → Updates (slots_of self.old) (slots_of self.new) slot None }
         ensures removed { result ≡ true → Counts self.new (accepted_by self.old) (removed_by self.old + 1) }
         ensures expired { expired_by self.new ≡ expired_by self.old }
+        ensures bounds { bounds_of self.new ≡ bounds_of self.old }
         ensures queues { queues_of self.new ≡ queues_of self.old }
         ensures unchanged { result ≡ false → self.new ≡ self.old }
     {

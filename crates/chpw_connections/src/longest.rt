@@ -15,8 +15,9 @@ impl Slots {
         self.longest_besides(None, 0)
     }
 
-    /// The slot of the one that has waited the longest of those that give way to the connection in a slot, which are those
-    /// whose messages or replies have more than `least` bytes and that hold some; of all, where there is no such slot.
+    /// The slot of the one that has waited the longest of those that give way to the connection in a slot; of all that
+    /// wait for their clients, where there is no such slot. Those give way that hold bytes of a message or a reply of
+    /// more than `least` bytes, unless they wait for room themselves.
     pub fn longest_besides(&self, besides: Option<usize>, least: usize) -> Option<usize>
         ensures found { IfSome result (λ slot. IsLongestBesides self.now.connections besides least slot) }
         ensures none { IfNone result (NobodyWaitsBesides self.now.connections besides least) }

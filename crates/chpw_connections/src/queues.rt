@@ -26,7 +26,7 @@ impl Connections {
         let _ = self.changed.push_back(slot);
     }
 
-    // The same, where something changed for it.
+    // Whoever has the sockets is to look at a slot, where something changed for its connection.
     pub(crate) fn note_where(&mut self, is_changed: bool, slot: usize)
         ensures slots { slots_of self.new ≡ slots_of self.old }
         ensures queues { queues_of self.new ≡ queues_of self.old }

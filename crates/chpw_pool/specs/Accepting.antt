@@ -1,7 +1,11 @@
 -- Which faults of an accept may pass: want of files or memory, or a connection that ended first. At any
 -- other the listener can't go on.
-use Rattle.std.specs.Prelude.{ℤ, Bool, false, ◌||◌, Option, Some, None}
+use Rattle.std.specs.Prelude.{ℤ, ℕ, Bool, true, false, ◌||◌, ◌+◌, ◌-◌, ◌^◌, min, nat_le, if◌then◌else◌, Option, Some, None}
 use Rattle.std.specs.Ordering.{int_eq}
+use Rattle.std_io.specs.declared.io.kind.ErrorKind.{ErrorKind}
+use Rattle.std_io.specs.declared.io.kind.ErrorKind.TheVariants.{WouldBlock}
+use Rattle.chpw_pool.specs.declared.accepting.Accepting.{Accepting}
+use Rattle.chpw_pool.specs.declared.accepting.Accepting.TheVariants.{Ready, Waiting, Paused, Failed}
 use Rattle.chpw_pool.specs.declared.accepting.TheConstants.{EINTR, ENOMEM, ENFILE, EMFILE, ECONNABORTED, ENOBUFS}
 
 abbrev pub is_passing : Option ℤ → Bool
@@ -9,3 +13,30 @@ is_passing None = false
 is_passing (Some code) = int_eq code EINTR || int_eq code ENOMEM
     || int_eq code ENFILE || int_eq code EMFILE
     || int_eq code ECONNABORTED || int_eq code ENOBUFS
+
+-- Whether a connection may be accepted: a listener that had none is asked again once it was reported, and one whose
+-- accept failed for the moment a tenth of a second later.
+abbrev pub reported : Accepting → Accepting
+reported Waiting = Ready
+reported a = a
+
+abbrev pub resumed : ℕ → Accepting → Accepting
+resumed now (Paused until) = if nat_le until now then Ready else Paused until
+resumed now a = a
+
+abbrev pub pause_behind : Bool → ℕ → Accepting
+pause_behind true now = Paused (min (now + 100) (2 ^ 64 - 1))
+pause_behind false now = Failed
+
+-- an accept that would have waited, one whose fault may pass, and another one
+abbrev pub behind_fault : ErrorKind → Bool → ℕ → Accepting
+behind_fault WouldBlock passing now = Waiting
+behind_fault k passing now = pause_behind passing now
+
+abbrev pub is_waiting : Accepting → Bool
+is_waiting Waiting = true
+is_waiting a = false
+
+abbrev pub has_failed : Accepting → Bool
+has_failed Failed = true
+has_failed a = false

@@ -1,9 +1,74 @@
-//! Which faults of an accept may pass.
+//! When connections are accepted, and which faults of an accept may pass.
 ghost use Rattle.std.specs.Prelude.{◌≡◌};
 ghost use Rattle.std.specs.IoError.{raw_os_error};
 ghost use Rattle.chpw_pool.specs.Accepting.{is_passing as passing};
 
-use std::io::Error;
+use std::io::{Error, ErrorKind};
+
+/// After how many milliseconds an accept that failed is tried again.
+pub(crate) const PAUSE: u64 = 100;
+
+/// Whether a connection may be accepted. Moments are milliseconds.
+#[derive(Clone, Copy, PartialEq, Eq, Debug, Drop)]
+pub(crate) enum Accepting {
+    /// There may be one.
+    Ready,
+    /// There is none before the listener is reported.
+    Waiting,
+    /// An accept failed, and is tried again at this moment.
+    Paused(u64),
+    /// The listener can't go on.
+    Failed,
+}
+
+impl Accepting {
+    ghost use Rattle.chpw_pool.specs.Accepting.{reported, resumed, behind_fault, is_waiting, has_failed};
+
+    /// Once the listener was reported.
+    pub fn reported(self) -> Accepting
+        ensures value { result ≡ reported self }
+    {
+        match self {
+            Accepting::Waiting => Accepting::Ready,
+            other => other,
+        }
+    }
+
+    /// As soon as it is this moment.
+    pub fn resumed(self, now: u64) -> Accepting
+        ensures value { result ≡ resumed now self }
+    {
+        match self {
+            Accepting::Paused(until) if until <= now => Accepting::Ready,
+            other => other,
+        }
+    }
+
+    /// Behind a fault of an accept, at this moment: one that would have waited, one that may pass, or another one.
+    pub fn behind_fault(kind: ErrorKind, is_passing: bool, now: u64) -> Accepting
+        ensures value { result ≡ behind_fault kind is_passing now }
+    {
+        match kind {
+            ErrorKind::WouldBlock => Accepting::Waiting,
+            _ if is_passing => Accepting::Paused(now.saturating_add(PAUSE)),
+            _ => Accepting::Failed,
+        }
+    }
+
+    /// Whether there is none before the listener is reported.
+    pub fn is_waiting(self) -> bool
+        ensures value { result ≡ is_waiting self }
+    {
+        matches!(self, Accepting::Waiting)
+    }
+
+    /// Whether the listener can't go on.
+    pub fn has_failed(self) -> bool
+        ensures value { result ≡ has_failed self }
+    {
+        matches!(self, Accepting::Failed)
+    }
+}
 
 /// What accept(2) of Linux gives where a signal came in between.
 pub(crate) const EINTR: i32 = 4;

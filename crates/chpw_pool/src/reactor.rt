@@ -1,46 +1,24 @@
 //! The reactor: one thread that has the listener and all sockets, and never waits for one of them alone.
 
-use crate::accepting::is_passing;
+use crate::accepting::{Accepting, is_passing};
 use crate::engine::{Engine, milliseconds};
 use crate::sockets::{LISTENER, Selector, Sockets};
-use crate::state::{Progress, Shortage};
+use crate::state::{Progress, Shortage, TICK};
 use crate::worker::peer_of;
-use chpw_connections::Todo;
 use mio::event::Event;
 use mio::unix::SourceFd;
 use mio::{Events, Interest, Token};
-use std::io::ErrorKind;
 use std::mem;
 use std::net::{OpenListener, SocketAddr, TcpStream};
 use std::os::fd::AsRawFd;
 use std::sync::Wait;
 use std::time::{Clock, Duration};
 
-/// After how many milliseconds the connections whose time is up are looked for, and an accept that failed is tried
-/// again.
-const TICK: u64 = 100;
-
-/// After how many milliseconds a reactor without connections looks round.
-const REST: u64 = 1_000;
-
 /// How many connections are accepted before the others are looked at again.
 const ACCEPTS: u32 = 64;
 
 /// How many steps a connection makes before the others are looked at again.
 const STEPS: u32 = 64;
-
-/// Whether a connection may be accepted.
-#[derive(Clone, Copy, PartialEq, Eq, Debug, Drop)]
-enum Accepting {
-    /// There may be one.
-    Ready,
-    /// There is none before the listener is reported.
-    Waiting,
-    /// An accept failed, and is tried again at this moment.
-    Paused(u64),
-    /// The listener can't go on.
-    Failed,
-}
 
 /// What happens at the sockets is told to the connections, and what they want is done.
 #[derive(Drop)]
@@ -126,21 +104,14 @@ impl<'a, R: Wait + Clock, L: OpenListener<Stream = TcpStream> + AsRawFd, G> Reac
     // Whether nothing is left to do, or nobody is there to answer.
     fn is_done(&self) -> bool {
         let state = self.engine.state.lock(self.rt);
-        let has_all = state.connections.accepted() >= self.connections
-            || matches!(self.accepting, Accepting::Failed);
-        state.is_deserted || (has_all && state.connections.is_empty())
+        state.is_finished(self.connections, self.accepting)
     }
 
     // How long to wait for the next event.
     fn patience(&self) -> u64 {
         let state = self.engine.state.lock(self.rt);
-        if state.connections.has_changed() || self.can_accept(state.connections.accepted()) {
-            0
-        } else if state.connections.is_empty() && matches!(self.accepting, Accepting::Waiting) {
-            REST
-        } else {
-            TICK
-        }
+        let can_accept = self.can_accept(state.connections.accepted());
+        state.patience(can_accept, self.accepting)
     }
 
     // Whether a connection more may be there, where so many were accepted.
@@ -160,9 +131,7 @@ impl<'a, R: Wait + Clock, L: OpenListener<Stream = TcpStream> + AsRawFd, G> Reac
     fn look_at(&mut self, event: &Event) {
         let Token(slot) = event.token();
         if event.token() == LISTENER {
-            if self.accepting == Accepting::Waiting {
-                self.accepting = Accepting::Ready;
-            }
+            self.accepting = self.accepting.reported();
         } else if slot < self.sockets.by_slot.len() {
             if event.is_error() {
                 self.look_for_error(slot);
@@ -198,11 +167,7 @@ impl<'a, R: Wait + Clock, L: OpenListener<Stream = TcpStream> + AsRawFd, G> Reac
             return;
         }
         self.looked = now;
-        if let Accepting::Paused(until) = self.accepting {
-            if until <= now {
-                self.accepting = Accepting::Ready;
-            }
-        }
+        self.accepting = self.accepting.resumed(now);
         let had = self.pass(now);
         self.look_round(had.is_any());
     }
@@ -221,7 +186,12 @@ impl<'a, R: Wait + Clock, L: OpenListener<Stream = TcpStream> + AsRawFd, G> Reac
         let first = self.first;
         let mut is_short = false;
         for slot in (first..slots).chain(0..first.min(slots)) {
-            if self.is_to_be_looked_at(slot, reads) {
+            let is_due = self
+                .engine
+                .state
+                .lock(self.rt)
+                .is_to_be_looked_at(slot, reads);
+            if is_due {
                 self.drive(slot);
                 if !is_short && self.is_short() {
                     is_short = true;
@@ -234,15 +204,6 @@ impl<'a, R: Wait + Clock, L: OpenListener<Stream = TcpStream> + AsRawFd, G> Reac
     // Whether there was no room for a message in this round.
     fn is_short(&self) -> bool {
         self.engine.state.lock(self.rt).shortage.is_any()
-    }
-
-    // Whether there is something to be done for a connection though nothing came of it; to read, where there was no room.
-    fn is_to_be_looked_at(&self, slot: usize, reads: bool) -> bool {
-        match self.engine.state.lock(self.rt).todo(slot) {
-            Todo::Write | Todo::Linger | Todo::Close => true,
-            Todo::Read(_) => reads,
-            Todo::Wait => false,
-        }
     }
 
     // Does what is to be done for a connection, as far as its socket goes along.
@@ -287,17 +248,13 @@ impl<'a, R: Wait + Clock, L: OpenListener<Stream = TcpStream> + AsRawFd, G> Reac
     // The next connection of the listener.
     fn next(&mut self) -> Option<(TcpStream, SocketAddr)> {
         match self.listener.accept() {
-            Ok(accepted) => return Some(accepted),
-            Err(error) if error.kind() == ErrorKind::WouldBlock => {
-                self.accepting = Accepting::Waiting;
+            Ok(accepted) => Some(accepted),
+            Err(error) => {
+                let now = milliseconds(self.rt);
+                self.accepting = Accepting::behind_fault(error.kind(), is_passing(&error), now);
+                None
             }
-            Err(error) if is_passing(&error) => {
-                let until = milliseconds(self.rt).saturating_add(TICK);
-                self.accepting = Accepting::Paused(until);
-            }
-            Err(_) => self.accepting = Accepting::Failed,
         }
-        None
     }
 
     // Admits a connection. Where there are as many as may be, the one that has waited for its client the longest ends

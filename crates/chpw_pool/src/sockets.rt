@@ -1,6 +1,10 @@
 //! The sockets of the connections.
 ghost use Rattle.std.specs.Prelude.{◌≡◌, IfErr};
+ghost use Rattle.slab.specs.Slab.{get};
+ghost use Rattle.chpw_connections.specs.Held.{slots_of};
+ghost use Rattle.chpw_connections.specs.Todos.{todo_in};
 ghost use Rattle.chpw_pool.specs.Pools.{IsUnmade};
+ghost use Rattle.chpw_pool.specs.Steps.{Steps};
 
 use crate::pool::PoolFault;
 use crate::state::{Progress, State};
@@ -117,7 +121,9 @@ impl Sockets {
     }
 
     /// Does what is to be done for a connection, in one call of its socket.
-    pub fn step(&mut self, state: &mut State, slot: usize, now: u64) -> Progress {
+    pub fn step(&mut self, state: &mut State, slot: usize, now: u64) -> Progress
+        ensures steps { Steps now (todo_in (get (slots_of state.old.connections) slot)) (slots_of state.old.connections) (slots_of state.new.connections) slot }
+    {
         let Sockets {
             by_slot,
             buffer,

@@ -3,14 +3,23 @@
 ghost use Rattle.std.specs.Prelude.{◌≡◌, ◌⊎◌, ◌||◌, ◌&&◌, not, IfSome, Some, None, true, false, if◌then◌else◌};
 ghost use Rattle.slab.specs.Slab.{get};
 ghost use Rattle.chpw_connections.specs.Held.{slots_of, bounds_of};
+ghost use Rattle.chpw_connections.specs.Todos.{todo_in};
 ghost use Rattle.chpw_connections.specs.Sets.{Happens, queued_at, is_late_in, wanted_at};
 ghost use Rattle.chpw_connections.specs.Stages.{came, taken, failed};
 ghost use Rattle.chpw_connections.specs.Room.{HappensWithRoom, least_for, is_large_in, has_room_to_read};
-ghost use Rattle.chpw_pool.specs.Steps.{Takes, TakesNone, Gives, GivesNone, is_short_for, short_of};
+ghost use Rattle.chpw_pool.specs.Steps.{Takes, TakesNone, LetsGo, Gives, GivesNone, is_short_for, short_of};
+ghost use Rattle.chpw_pool.specs.Rounds.{is_finished, is_looked_at, milliseconds_to_wait};
 ghost use Rattle.chpw_pool.specs.declared.state.Progress.TheVariants as progress;
 
+use crate::accepting::Accepting;
 use chpw_connections::{Connections, Taken, Todo};
 use std::io::{ErrorKind, Read, Write};
+
+/// After how many milliseconds the connections whose time is up are looked for.
+pub(crate) const TICK: u64 = 100;
+
+/// After how many milliseconds a reactor without connections looks round.
+const REST: u64 = 1_000;
 
 /// The connections, and whether workers are to take messages.
 #[derive(Drop)]
@@ -78,7 +87,9 @@ pub(crate) enum Progress {
 
 impl State {
     /// These connections, which workers may serve.
-    pub fn new(connections: Connections) -> State {
+    pub fn new(connections: Connections) -> State
+        ensures value { result ≡ record { connections = connections; is_stopped = false; is_over = false; is_deserted = false; shortage = record { of_large = false; of_small = false } } }
+    {
         State {
             connections,
             is_stopped: false,
@@ -191,7 +202,12 @@ impl State {
     }
 
     /// Reads what a client still sends behind its last reply, and lets it go.
-    pub fn drain<I: Read>(&mut self, slot: usize, reader: &mut I, buffer: &mut [u8]) -> Progress {
+    pub fn drain<I: Read>(&mut self, slot: usize, reader: &mut I, buffer: &mut [u8]) -> Progress
+        ensures drained { LetsGo (slots_of self.old.connections) (slots_of self.new.connections)
+            (I.remaining reader.old) (I.remaining reader.new)
+            ⊎ TakesNone (slots_of self.old.connections) (slots_of self.new.connections) slot
+            (I.remaining reader.old) (I.remaining reader.new) }
+    {
         match reader.read(buffer) {
             Ok(0) => {
                 self.connections.input_ended(slot);
@@ -220,7 +236,42 @@ impl State {
     }
 
     /// What is to be done for a connection.
-    pub fn todo(&self, slot: usize) -> Todo {
+    pub fn todo(&self, slot: usize) -> Todo
+        ensures value { result ≡ todo_in (get (slots_of self.now.connections) slot) }
+    {
         self.connections.todo(slot)
+    }
+
+    /// Whether there is something to be done for a connection though nothing came of it: to read, where there was no room.
+    pub fn is_to_be_looked_at(&self, slot: usize, reads: bool) -> bool
+        ensures value { result ≡ is_looked_at reads (todo_in (get (slots_of self.now.connections) slot)) }
+    {
+        match self.todo(slot) {
+            Todo::Write | Todo::Linger | Todo::Close => true,
+            Todo::Read(_) => reads,
+            Todo::Wait => false,
+        }
+    }
+
+    /// Whether nothing is left to do: so many connections were accepted, or no more can be, and each has ended; or nobody is
+    /// there to answer.
+    pub fn is_finished(&self, wanted: u32, accepting: Accepting) -> bool
+        ensures value { result ≡ is_finished wanted accepting self.now }
+    {
+        let has_all = self.connections.accepted() >= wanted || accepting.has_failed();
+        self.is_deserted || (has_all && self.connections.is_empty())
+    }
+
+    /// How many milliseconds to wait for the next event: none where there is something to do at once.
+    pub fn patience(&self, can_accept: bool, accepting: Accepting) -> u64
+        ensures value { result ≡ milliseconds_to_wait can_accept accepting self.now }
+    {
+        if can_accept || self.connections.has_changed() {
+            0
+        } else if self.connections.is_empty() && accepting.is_waiting() {
+            REST
+        } else {
+            TICK
+        }
     }
 }

@@ -1,14 +1,17 @@
 //! Clients beside one another: silent, slow, many, and more than may be.
+use crate::gates::HeldClock;
 use crate::realm::CHANGED;
 use crate::site::{
     Clients, Machine, Site, connect, expect_line, reply, requests, send, serve_all, terms,
 };
 use chpw_client::Sent;
+use chpw_frame::LONGEST_MESSAGE;
 use chpw_pool::Terms;
 use std::alloc::Global;
 use std::io::{ErrorKind, Read, Write};
 use std::net::{Net, Shutdown, TcpListener, TcpStream};
 use std::process::Abort;
+use std::sync::{Mutex, Wait};
 use std::test::Fail;
 use std::thread;
 use std::time::{Clock, Duration, Instant};
@@ -289,4 +292,126 @@ fn a_client_that_reads_late(rt: HostRuntime) -> Result<(), Fail> {
         terms(2),
         &OneThatReadsNothing { sent },
     )
+}
+
+// Forty messages over one connection, each behind the answer to the one before.
+#[derive(Clone, Copy, Drop)]
+struct OneAfterTheOther;
+
+impl<R: Net<Stream = TcpStream> + Clock + Abort> Clients<R> for OneAfterTheOther {
+    fn ask(&self, rt: &R, alloc: Global, port: u16) {
+        let stream = connect(rt, port);
+        let start = Instant::now(rt).ok().expect(rt, "a clock");
+        for _ in 0..40u8 {
+            send(rt, &stream, &[0, 6, 0xff, 0x80, 0, 0]);
+            let _ = reply(rt, alloc, &stream);
+        }
+        // The reactor looks at an answer as soon as it is there, and not a tenth of a second later.
+        assert!(rt; start.elapsed(rt).ok().expect(rt, "a clock") < Duration::from_secs(2));
+    }
+}
+
+#[test]
+fn answers_that_come_at_once(rt: HostRuntime) -> Result<(), Fail> {
+    let listener = TcpListener::bind(&rt, ("127.0.0.1", 0u16))?;
+    beside(&rt, rt.alloc(), &listener, terms(1), &OneAfterTheOther)
+}
+
+// Fourteen clients have each sent sixteen messages of the greatest length. There is room for seven at a time: all have
+// room in turn, so none waits for a second.
+#[derive(Clone, Copy, Drop)]
+struct LargeOnesInTurn;
+
+impl<R: Net<Stream = TcpStream> + Abort> Clients<R> for LargeOnesInTurn {
+    fn ask(&self, rt: &R, alloc: Global, port: u16) {
+        let message = longest_message(rt, alloc);
+        let mut streams = Vec::new(alloc);
+        for _ in 0..14u8 {
+            let stream = connect(rt, port);
+            send_often(rt, &stream, &message);
+            streams.push(stream).ok().expect(rt, "memory");
+        }
+        for stream in streams.iter() {
+            expect_replies(rt, alloc, stream);
+        }
+    }
+}
+
+/// A message of the greatest length.
+pub fn longest_message<R: Abort>(rt: &R, alloc: Global) -> Vec<u8> {
+    Vec::from_elem(alloc, 0, LONGEST_MESSAGE)
+        .ok()
+        .expect(rt, "memory")
+}
+
+fn send_often<R: Abort>(rt: &R, stream: &TcpStream, message: &[u8]) {
+    for _ in 0..16u8 {
+        send(rt, stream, message);
+    }
+}
+
+fn expect_replies<R: Abort>(rt: &R, alloc: Global, stream: &TcpStream) {
+    for _ in 0..16u8 {
+        assert!(rt; !reply(rt, alloc, stream).is_empty());
+    }
+}
+
+#[test]
+fn large_messages_in_turn(rt: HostRuntime) -> Result<(), Fail> {
+    let listener = TcpListener::bind(&rt, ("127.0.0.1", 0u16))?;
+    let terms = Terms {
+        buffers: 1,
+        idle: 1,
+        ..terms(14)
+    };
+    beside(&rt, rt.alloc(), &listener, terms, &LargeOnesInTurn)
+}
+
+// One may be there at a time, and its message is being answered: the second is kept until the first has its answer.
+#[derive(Drop)]
+struct TwoForOnePlace<'a> {
+    one: Sent,
+    two: Sent,
+    is_told: &'a Mutex<bool>,
+}
+
+impl<R: Net<Stream = TcpStream> + Wait + Clock + Abort> Clients<R> for TwoForOnePlace<'_> {
+    fn ask(&self, rt: &R, alloc: Global, port: u16) {
+        let first = connect(rt, port);
+        send(rt, &first, self.one.message.as_slice());
+        thread::sleep(rt, Duration::from_millis(300));
+        let second = connect(rt, port);
+        send(rt, &second, self.two.message.as_slice());
+        thread::sleep(rt, Duration::from_millis(300));
+        *self.is_told.lock(rt) = true;
+        expect_line(rt, alloc, &self.one, &first, CHANGED);
+        expect_line(rt, alloc, &self.two, &second, CHANGED);
+    }
+}
+
+#[test]
+fn a_newcomer_waits_for_room(rt: HostRuntime) -> Result<(), Fail> {
+    let (one, two) = requests(&rt, rt.alloc())?;
+    let listener = TcpListener::bind(&rt, ("127.0.0.1", 0u16))?;
+    let port = listener.local_addr()?.port();
+    let is_told = Mutex::new(false);
+    let site = Site {
+        time: &HeldClock {
+            rt: &rt,
+            is_told: &is_told,
+        },
+        listener: &listener,
+        port,
+        workers: 1,
+        terms: Terms {
+            clients: 1,
+            ..terms(2)
+        },
+    };
+    let clients = TwoForOnePlace {
+        one,
+        two,
+        is_told: &is_told,
+    };
+    serve_all(&rt, rt.alloc(), &site, &clients)
 }

@@ -1,9 +1,9 @@
-//! Gates that hold workers.
+//! What holds workers: gates, and a clock.
 use chpw_answer::{Gate, Spot};
 use std::process::Abort;
 use std::sync::{Barrier, Mutex, Wait};
-use std::thread;
 use std::time::{Clock, Duration};
+use std::{io, thread};
 
 /// Holds each worker before its decision until all of the barrier's are there.
 #[derive(Drop)]
@@ -61,6 +61,24 @@ impl<R: Wait + Clock + Abort> Gate for UntilTold<'_, R> {
             Spot::Opened => wait_for(self.rt, self.is_told, "nobody told the worker to go on"),
             Spot::Answered => {}
         }
+    }
+}
+
+/// The machine's clock, which gives a worker no moment until it is told to. After too many turns the test fails.
+#[derive(Drop)]
+pub struct HeldClock<'a, R: Wait + Clock + Abort> {
+    pub rt: &'a R,
+    pub is_told: &'a Mutex<bool>,
+}
+
+impl<R: Wait + Clock + Abort> Clock for HeldClock<'_, R> {
+    fn monotonic(&self) -> io::Result<Duration> {
+        self.rt.monotonic()
+    }
+
+    fn since_1970(&self) -> io::Result<Duration> {
+        wait_for(self.rt, self.is_told, "nobody told the clock to go on");
+        self.rt.since_1970()
     }
 }
 

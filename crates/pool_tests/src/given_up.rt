@@ -3,13 +3,13 @@
 ghost use Rattle.std.specs.Prelude.{◌≡◌};
 ghost use Rattle.chpw_book.specs.Starting.{IsNamed, workers_of};
 
-use crate::crowds::is_ended;
+use crate::crowds::{is_ended, longest_message};
 use crate::gates::UntilTold;
 use crate::realm::{CHANGED, opening};
 use crate::site::{Machine, connect, expect_line, requests, send};
 use chpw_book::{Desk, DeskName, UnnamedDesk};
 use chpw_client::Sent;
-use chpw_frame::{LONGEST_MESSAGE, Received, read_tcp};
+use chpw_frame::{Received, read_tcp};
 use chpw_journal::MemorySink;
 use chpw_messages::Service;
 use chpw_pool::{Pool, run_pool_with};
@@ -156,14 +156,12 @@ fn other_clients<R: Machine>(
     port: u16,
     are_sending: bool,
 ) -> Vec<TcpStream> {
-    let zeros = Vec::from_elem(alloc, 0, LONGEST_MESSAGE)
-        .ok()
-        .expect(rt, "memory");
+    let message = longest_message(rt, alloc);
     let mut streams = Vec::new(alloc);
     for _ in 3..CONNECTIONS {
         let stream = connect(rt, port);
         if are_sending {
-            send(rt, &stream, &zeros);
+            send(rt, &stream, &message);
             streams.push(stream).ok().expect(rt, "memory");
         }
     }

@@ -10,9 +10,11 @@ use chpw_journal::restore;
 use chpw_service::serve_by;
 use chpw_table::Moment;
 use std::alloc::Global;
-use std::fs;
+use std::fs::{self, File, Files};
+use std::io;
 use std::net::{Net, TcpListener, TcpStream};
 use std::process::Abort;
+use std::sync::atomic::{AtomicBool, AtomicU64, Ordering};
 use std::test::Fail;
 use std::thread::{self, join};
 use std::time::{Clock, Duration};
@@ -349,5 +351,61 @@ fn words_of_the_seed(rt: HostRuntime) -> Result<(), Fail> {
     let one = split_reply(one).ok().expect(&rt, "a reply");
     let other = split_reply(other).ok().expect(&rt, "a reply");
     assert!(rt; one.ap.len() == other.ap.len() && one.ap != other.ap);
+    Ok(())
+}
+
+// A clock that notes whether another open file has the journal's lock when it is asked for the first time.
+#[derive(Drop)]
+struct LookingClock<'a, R> {
+    rt: &'a R,
+    journal: &'a str,
+    asked: AtomicU64,
+    was_locked: AtomicBool,
+}
+
+impl<R: Files<File = File>> Clock for LookingClock<'_, R> {
+    fn monotonic(&self) -> io::Result<Duration> {
+        self.since_1970()
+    }
+
+    fn since_1970(&self) -> io::Result<Duration> {
+        if self.asked.fetch_add(1, Ordering::SeqCst) == 0 {
+            if let Ok(file) = File::open(self.rt, self.journal) {
+                self.was_locked
+                    .store(file.try_lock().is_err(), Ordering::SeqCst);
+            }
+        }
+        Ok(Duration::from_secs(START))
+    }
+}
+
+// What a start is refused that other processes may have preceded depends on its moment, so it is read behind the lock.
+#[test]
+fn a_start_that_is_read_behind_the_lock(rt: HostRuntime) -> Result<(), Fail> {
+    write_config(&rt)?;
+    fs::write(&rt, "looking.seed", [1; 32].as_slice())?;
+    let _ = fs::remove_file(&rt, "looking.journal");
+    let alloc = rt.alloc();
+    let sent = request(&rt, alloc, "alice", moment(START), "New-pass2")?;
+    let listener = TcpListener::bind(&rt, ("127.0.0.1", 0u16))?;
+    let port = listener.local_addr()?.port();
+    drop(listener);
+    let clock = LookingClock {
+        rt: &rt,
+        journal: "looking.journal",
+        asked: AtomicU64::new(0),
+        was_locked: AtomicBool::new(false),
+    };
+    let (served, _) = join(
+        &rt,
+        || serve_by(
+            &rt,
+            &clock,
+            options("looking.seed", "looking.journal", port),
+        )
+        .is_ok(),
+        || ask_once(&rt, alloc, port, &sent),
+    );
+    assert!(rt; served && clock.was_locked.load(Ordering::SeqCst));
     Ok(())
 }

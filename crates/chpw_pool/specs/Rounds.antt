@@ -1,0 +1,36 @@
+-- When whoever has the sockets looks at which of them.
+use Rattle.std.specs.Prelude.{ℕ, Bool, true, false, ◌||◌, ◌&&◌, ◌==◌, nat_le, nat_lt, length, if◌then◌else◌}
+use Rattle.slab.specs.Slab.{slab_len}
+use Rattle.chpw_connections.specs.Held.{slots_of, accepted_by, changed_of}
+use Rattle.chpw_connections.specs.declared.todo.Todo.{Todo}
+use Rattle.chpw_connections.specs.declared.todo.Todo.TheVariants as todo
+use Rattle.chpw_pool.specs.Accepting.{is_waiting, has_failed}
+use Rattle.chpw_pool.specs.declared.accepting.Accepting.{Accepting}
+use Rattle.chpw_pool.specs.declared.state.State.{State}
+
+-- there is something to do for a connection of which nothing was reported: to read, where there was no room
+abbrev pub is_looked_at : Bool → Todo → Bool
+is_looked_at reads (todo.Read n) = reads
+is_looked_at reads todo.Write = true
+is_looked_at reads todo.Linger = true
+is_looked_at reads todo.Close = true
+is_looked_at reads todo.Wait = false
+
+abbrev pub has_none : State → Bool
+has_none s = slab_len (slots_of s.connections) == 0
+
+-- all that were to be accepted were, or no more can be
+abbrev pub has_all : ℕ → Accepting → State → Bool
+has_all wanted accepting s = nat_le wanted (accepted_by s.connections) || has_failed accepting
+
+-- and each has ended; or nobody is there to answer
+abbrev pub is_finished : ℕ → Accepting → State → Bool
+is_finished wanted accepting s = s.is_deserted || (has_all wanted accepting s && has_none s)
+
+-- Where there is something to do at once nothing is waited for, and a second where no connection is there and none can be
+-- accepted before the listener is reported. Else a tenth of a second: then time may be up for some.
+abbrev pub milliseconds_to_wait : Bool → Accepting → State → ℕ
+milliseconds_to_wait can_accept accepting s =
+    if can_accept || nat_lt 0 (length (changed_of s.connections)) then 0
+    else if has_none s && is_waiting accepting then 1000
+    else 100
