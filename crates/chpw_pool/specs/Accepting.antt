@@ -2,8 +2,6 @@
 -- other the listener can't go on.
 use Rattle.std.specs.Prelude.{ℤ, ℕ, Bool, true, false, ◌||◌, ◌+◌, ◌-◌, ◌^◌, min, nat_le, if◌then◌else◌, Option, Some, None}
 use Rattle.std.specs.Ordering.{int_eq}
-use Rattle.std_io.specs.declared.io.kind.ErrorKind.{ErrorKind}
-use Rattle.std_io.specs.declared.io.kind.ErrorKind.TheVariants.{WouldBlock}
 use Rattle.chpw_pool.specs.declared.accepting.Accepting.{Accepting}
 use Rattle.chpw_pool.specs.declared.accepting.Accepting.TheVariants.{Ready, Waiting, Paused, Failed}
 use Rattle.chpw_pool.specs.declared.accepting.TheConstants.{EINTR, ENOMEM, ENFILE, EMFILE, ECONNABORTED, ENOBUFS}
@@ -24,14 +22,10 @@ abbrev pub resumed : ℕ → Accepting → Accepting
 resumed now (Paused until) = if nat_le until now then Ready else Paused until
 resumed now a = a
 
-abbrev pub pause_behind : Bool → ℕ → Accepting
-pause_behind true now = Paused (min (now + 100) (2 ^ 64 - 1))
-pause_behind false now = Failed
-
 -- an accept that would have waited, one whose fault may pass, and another one
-abbrev pub behind_fault : ErrorKind → Bool → ℕ → Accepting
-behind_fault WouldBlock passing now = Waiting
-behind_fault k passing now = pause_behind passing now
+abbrev pub behind_fault : Bool → Bool → ℕ → Accepting
+behind_fault would_wait may_pass now =
+    if would_wait then Waiting else if may_pass then Paused (min (now + 100) (2 ^ 64 - 1)) else Failed
 
 abbrev pub is_waiting : Accepting → Bool
 is_waiting Waiting = true

@@ -3,7 +3,7 @@ ghost use Rattle.std.specs.Prelude.{◌≡◌};
 ghost use Rattle.std.specs.IoError.{raw_os_error};
 ghost use Rattle.chpw_pool.specs.Accepting.{is_passing as passing};
 
-use std::io::{Error, ErrorKind};
+use std::io::Error;
 
 /// After how many milliseconds an accept that failed is tried again.
 pub(crate) const PAUSE: u64 = 100;
@@ -45,13 +45,15 @@ impl Accepting {
     }
 
     /// Behind a fault of an accept, at this moment: one that would have waited, one that may pass, or another one.
-    pub fn behind_fault(kind: ErrorKind, is_passing: bool, now: u64) -> Accepting
-        ensures value { result ≡ behind_fault kind is_passing now }
+    pub fn behind_fault(would_wait: bool, may_pass: bool, now: u64) -> Accepting
+        ensures value { result ≡ behind_fault would_wait may_pass now }
     {
-        match kind {
-            ErrorKind::WouldBlock => Accepting::Waiting,
-            _ if is_passing => Accepting::Paused(now.saturating_add(PAUSE)),
-            _ => Accepting::Failed,
+        if would_wait {
+            Accepting::Waiting
+        } else if may_pass {
+            Accepting::Paused(now.saturating_add(PAUSE))
+        } else {
+            Accepting::Failed
         }
     }
 

@@ -8,6 +8,7 @@ use crate::worker::peer_of;
 use mio::event::Event;
 use mio::unix::SourceFd;
 use mio::{Events, Interest, Token};
+use std::io::ErrorKind;
 use std::mem;
 use std::net::{OpenListener, SocketAddr, TcpStream};
 use std::os::fd::AsRawFd;
@@ -251,7 +252,8 @@ impl<'a, R: Wait + Clock, L: OpenListener<Stream = TcpStream> + AsRawFd, G> Reac
             Ok(accepted) => Some(accepted),
             Err(error) => {
                 let now = milliseconds(self.rt);
-                self.accepting = Accepting::behind_fault(error.kind(), is_passing(&error), now);
+                let would_wait = error.kind() == ErrorKind::WouldBlock;
+                self.accepting = Accepting::behind_fault(would_wait, is_passing(&error), now);
                 None
             }
         }

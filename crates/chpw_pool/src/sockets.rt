@@ -129,22 +129,30 @@ impl Sockets {
             buffer,
             ..
         } = self;
-        let Some(place) = by_slot.get_mut(slot) else {
-            return Progress::None;
-        };
-        match (state.todo(slot), place) {
-            (Todo::Read(_), Some(socket)) => state.read(slot, &mut socket.stream, buffer, now),
-            (Todo::Write, Some(socket)) => state.write(slot, &mut socket.stream, now),
-            (Todo::Linger, Some(socket)) => {
-                socket.shut();
-                state.drain(slot, &mut socket.stream, buffer)
-            }
-            (Todo::Close, place) => {
-                *place = None;
+        match state.todo(slot) {
+            Todo::Read(_) => match by_slot.get_mut(slot) {
+                Some(Some(socket)) => state.read(slot, &mut socket.stream, buffer, now),
+                _ => Progress::None,
+            },
+            Todo::Write => match by_slot.get_mut(slot) {
+                Some(Some(socket)) => state.write(slot, &mut socket.stream, now),
+                _ => Progress::None,
+            },
+            Todo::Linger => match by_slot.get_mut(slot) {
+                Some(Some(socket)) => {
+                    socket.shut();
+                    state.drain(slot, &mut socket.stream, buffer)
+                }
+                _ => Progress::None,
+            },
+            Todo::Close => {
+                if let Some(place) = by_slot.get_mut(slot) {
+                    *place = None;
+                }
                 let _ = state.connections.remove(slot);
                 Progress::None
             }
-            _ => Progress::None,
+            Todo::Wait => Progress::None,
         }
     }
 }

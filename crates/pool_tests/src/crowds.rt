@@ -1,5 +1,5 @@
 //! Clients beside one another: silent, slow, many, and more than may be.
-use crate::gates::HeldClock;
+use crate::gates::{HeldClock, SlowClock};
 use crate::realm::CHANGED;
 use crate::site::{
     Clients, Machine, Site, connect, expect_line, reply, requests, send, serve_all, terms,
@@ -294,7 +294,7 @@ fn a_client_that_reads_late(rt: HostRuntime) -> Result<(), Fail> {
     )
 }
 
-// Forty messages over one connection, each behind the answer to the one before.
+// Thirty messages over one connection, each behind the answer to the one before.
 #[derive(Clone, Copy, Drop)]
 struct OneAfterTheOther;
 
@@ -302,19 +302,28 @@ impl<R: Net<Stream = TcpStream> + Clock + Abort> Clients<R> for OneAfterTheOther
     fn ask(&self, rt: &R, alloc: Global, port: u16) {
         let stream = connect(rt, port);
         let start = Instant::now(rt).ok().expect(rt, "a clock");
-        for _ in 0..40u8 {
+        for _ in 0..30u8 {
             send(rt, &stream, &[0, 6, 0xff, 0x80, 0, 0]);
             let _ = reply(rt, alloc, &stream);
         }
         // The reactor looks at an answer as soon as it is there, and not a tenth of a second later.
-        assert!(rt; start.elapsed(rt).ok().expect(rt, "a clock") < Duration::from_secs(2));
+        assert!(rt; start.elapsed(rt).ok().expect(rt, "a clock") < Duration::from_millis(1_500));
     }
 }
 
 #[test]
 fn answers_that_come_at_once(rt: HostRuntime) -> Result<(), Fail> {
     let listener = TcpListener::bind(&rt, ("127.0.0.1", 0u16))?;
-    beside(&rt, rt.alloc(), &listener, terms(1), &OneAfterTheOther)
+    let port = listener.local_addr()?.port();
+    // The reactor waits for its next event long before a worker has its moment.
+    let site = Site {
+        time: &SlowClock { rt: &rt },
+        listener: &listener,
+        port,
+        workers: 1,
+        terms: terms(1),
+    };
+    serve_all(&rt, rt.alloc(), &site, &OneAfterTheOther)
 }
 
 // Fourteen clients have each sent sixteen messages of the greatest length. There is room for seven at a time: all have

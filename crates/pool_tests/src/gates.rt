@@ -64,6 +64,23 @@ impl<R: Wait + Clock + Abort> Gate for UntilTold<'_, R> {
     }
 }
 
+/// The machine's clock, for which a worker waits five milliseconds.
+#[derive(Drop)]
+pub struct SlowClock<'a, R: Clock> {
+    pub rt: &'a R,
+}
+
+impl<R: Clock> Clock for SlowClock<'_, R> {
+    fn monotonic(&self) -> io::Result<Duration> {
+        self.rt.monotonic()
+    }
+
+    fn since_1970(&self) -> io::Result<Duration> {
+        thread::sleep(self.rt, Duration::from_millis(5));
+        self.rt.since_1970()
+    }
+}
+
 /// The machine's clock, which gives a worker no moment until it is told to. After too many turns the test fails.
 #[derive(Drop)]
 pub struct HeldClock<'a, R: Wait + Clock + Abort> {
