@@ -2,6 +2,9 @@
 use Rattle.std.specs.Prelude.{ℕ, ◌==◌, List, ◌∷◌, Bool, true, false, not, ◌&&◌, Option, Some, None, if◌then◌else◌}
 use Rattle.chpw_service.specs.declared.sheets.Kind.{Kind}
 use Rattle.chpw_service.specs.declared.sheets.Kind.TheVariants.{Missing, File, Device, Other}
+use Rattle.chpw_service.specs.declared.sheets.Output.{Output}
+use Rattle.chpw_service.specs.declared.sheets.Output.TheVariants as output
+use Rattle.chpw_service.specs.declared.readiness.Readiness.{Readiness}
 
 -- a log can be here
 abbrev pub is_taken : Kind → Bool
@@ -21,3 +24,8 @@ is_begun length last = not (length == 0) && not (is_newline last)
 -- a line, behind the end of one that isn't whole
 abbrev pub ended : Bool → List ℕ → List ℕ
 ended torn line = if torn then 10 ∷ line else line
+
+-- a line on standard error needn't be waited for, unless the log is there too and took no line when it was last asked
+abbrev pub is_told_at_once : Output → Option Readiness → Bool
+is_told_at_once output.StandardError (Some r) = not r.is_stalled
+is_told_at_once o r = true

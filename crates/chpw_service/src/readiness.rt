@@ -1,5 +1,5 @@
 //! Whether an output takes a line at once.
-ghost use Rattle.std.specs.Prelude.{◌≡◌, not, if◌then◌else◌};
+ghost use Rattle.std.specs.Prelude.{◌≡◌, not, false, IfOk, IfSome, if◌then◌else◌};
 
 use mio::unix::SourceFd;
 use mio::{Events, Interest, Poll, Token};
@@ -24,11 +24,9 @@ pub(crate) struct Readiness {
 impl Readiness {
     /// That of the output with this descriptor. None where the system can't watch it: a regular file and most devices
     /// take each line, if they don't refuse it.
-    pub fn of<R: Net>(
-        rt: &R,
-        alloc: Global,
-        output: RawFd,
-    ) -> Result<Option<Readiness>, AllocError> {
+    pub fn of<R: Net>(rt: &R, alloc: Global, output: RawFd) -> Result<Option<Readiness>, AllocError>
+        ensures fresh { IfOk result (λ found. IfSome found (λ r. r.is_stalled ≡ false)) }
+    {
         let events = Events::with_capacity(alloc, 1)?;
         let Ok(poll) = Poll::new(rt) else {
             return Ok(None);

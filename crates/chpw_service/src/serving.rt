@@ -49,7 +49,7 @@ pub fn serve<
     serve_by(rt, rt, options)
 }
 
-/// The same by another clock than the machine's.
+/// Serves as `serve` does, by another clock than the machine's.
 pub fn serve_by<
     'a,
     R: Files<File = File>

@@ -1,7 +1,7 @@
 //! What the lines of a log are appended to.
-ghost use Rattle.std.specs.Prelude.{◌≡◌, true};
+ghost use Rattle.std.specs.Prelude.{◌≡◌, true, false};
 ghost use Rattle.std.specs.Io.KnownBytes.{Appends};
-ghost use Rattle.chpw_service.specs.Sheets.{ended, is_begun, is_taken};
+ghost use Rattle.chpw_service.specs.Sheets.{ended, is_begun, is_taken, is_told_at_once};
 
 use crate::readiness::Readiness;
 use std::alloc::Global;
@@ -84,7 +84,9 @@ impl Sheet {
 
     /// Appends a line, behind a newline where the last one isn't whole; whether it stands there whole. Nothing is written
     /// where the output takes no line within half a second, or took none for the line before.
-    pub(crate) fn append<R: Eprint>(&mut self, rt: &R, line: &[u8]) -> bool {
+    pub(crate) fn append<R: Eprint>(&mut self, rt: &R, line: &[u8]) -> bool
+        ensures whole { result ≡ true → self.new.torn ≡ false }
+    {
         if !self.is_ready() {
             return false;
         }
@@ -104,7 +106,9 @@ impl Sheet {
     }
 
     /// Whether a line on standard error can be written without a wait, as far as the output tells.
-    pub(crate) fn can_tell(&self) -> bool {
+    pub(crate) fn can_tell(&self) -> bool
+        ensures value { result ≡ is_told_at_once self.now.output self.now.readiness }
+    {
         match (&self.output, &self.readiness) {
             (Output::StandardError, Some(readiness)) => !readiness.is_stalled(),
             _ => true,
@@ -174,7 +178,7 @@ fn write_line<W: Write>(writer: &mut W, torn: bool, line: &[u8]) -> bool
     writer.write_all(line).is_ok()
 }
 
-// The same on standard error.
+// Writes a line on standard error, behind a newline where one is wanted; whether it is written whole.
 fn print_line<R: Eprint>(rt: &R, torn: bool, line: &[u8]) -> bool {
     if torn && rt.eprint("\n").is_err() {
         return false;
