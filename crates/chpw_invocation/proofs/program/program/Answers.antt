@@ -1,6 +1,3 @@
-use Rattle.std.proofs.Common.{Result, IfOk, Ok}
-use Rattle.clap.specs.Simple.{Shape, app_of}
-use Rattle.clap.specs.declared.builder.command.Command.{Command}
 use Rattle.clap.proofs.WalkLemmas.{IfOk-both}
 use Rattle.chpw_invocation.proofs.ShapeLemmas.{apart}
 use Rattle.chpw_invocation.specs.Program as specs_of
