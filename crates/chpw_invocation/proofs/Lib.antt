@@ -1,2 +1,3 @@
 pub mod PortLemmas
-pub mod ServeLemmas
+pub mod ShapeLemmas
+pub mod RefusalLemmas

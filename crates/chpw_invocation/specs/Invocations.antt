@@ -7,6 +7,7 @@ use Rattle.clap.specs.Kinds.{HasKind, Kinds}
 use Rattle.clap.specs.Values.{kind_of}
 use Rattle.clap.specs.Walk.{Row, Text, first_of, one_of}
 use Rattle.clap.specs.declared.error.Error.{Error}
+use Rattle.clap.specs.declared.error.kind.ErrorKind.{ErrorKind}
 use Rattle.clap.specs.declared.error.kind.ErrorKind.TheVariants.{ArgumentConflict, InvalidValue, MissingSubcommand}
 use Rattle.chpw_invocation.specs.declared.invocation.ClientOptions.{ClientOptions}
 use Rattle.chpw_invocation.specs.declared.invocation.ServeOptions.{ServeOptions}
@@ -132,13 +133,18 @@ abbrev pub NamesNoRealm : Option (Text × List Row) → Type 0
 NamesNoRealm None = ⊥
 NamesNoRealm (Some p) = ((p.0 ≡ codes "import") ⊎ (p.0 ≡ codes "key")) × LacksRealm p.1
 
+-- Why words in which clap finds no fault are refused: a target in the earlier protocol, a form that
+-- there isn't, or a realm of 0 or more than 255 bytes. Words that name no command have a fault, so the
+-- last case is left for a command that clap matched without an option that it has to have; that it
+-- doesn't come isn't proved.
+abbrev pub IsOwnRefusal : Option (Text × List Row) → ErrorKind → Type 0
+IsOwnRefusal asked kind =
+    ((kind ≡ ArgumentConflict) × AimsOld asked)
+    ⊎ (((kind ≡ InvalidValue) × NamesNoForm asked)
+    ⊎ (((kind ≡ InvalidValue) × NamesNoRealm asked)
+    ⊎ ((kind ≡ MissingSubcommand) × (asked ≢ None))))
+
 -- Why words are refused, of the kinds of fault that clap may find in them: one of these, or memory
--- ran out; or for want of those a target in the earlier protocol, a form that there isn't, or a realm of 0 or more than 255 bytes. Words without a fault ask for a command,
--- so the last case doesn't come; that isn't proved.
+-- ran out; or for want of those a reason of the program's own.
 abbrev pub IsRefusal : Kinds → Option (Text × List Row) → Error → Type 0
-IsRefusal kinds asked e =
-    HasKind kinds e
-    ⊎ ((kinds ≡ []) × (((kind_of e ≡ ArgumentConflict) × AimsOld asked)
-    ⊎ (((kind_of e ≡ InvalidValue) × NamesNoForm asked)
-    ⊎ (((kind_of e ≡ InvalidValue) × NamesNoRealm asked)
-    ⊎ (kind_of e ≡ MissingSubcommand)))))
+IsRefusal kinds asked e = HasKind kinds e ⊎ ((kinds ≡ []) × IsOwnRefusal asked (kind_of e))

@@ -4,6 +4,9 @@ use Rattle.clap.specs.Walk.{Rule, Text}
 use Rattle.clap.specs.Simple.{new_rule}
 use Rattle.clap.specs.declared.builder.action.ArgAction.TheVariants.{Set, SetTrue}
 use Rattle.clap.specs.declared.builder.value_parser.ValueParser.TheVariants as parser
+use Rattle.chpw_invocation.specs.declared.options.OptionKind.{OptionKind}
+use Rattle.chpw_invocation.specs.declared.options.OptionKind.TheVariants.{Required, Optional, Number, OptionalNumber, Flag}
+use Rattle.chpw_invocation.specs.declared.options.OptionLine.{OptionLine}
 
 -- `--NAME VALUE`
 abbrev pub optional : Text → Rule
@@ -24,6 +27,17 @@ numbered name limit = record (required name) { parser = Some (parser.Signed (pos
 -- the same, where it may be left out
 abbrev pub may_be_numbered : Text → ℕ → Rule
 may_be_numbered name limit = record (optional name) { parser = Some (parser.Signed (pos 1) (pos limit)) }
+
+-- the rule of an option of the program's lists
+abbrev pub rule_by : OptionKind → Text → Rule
+rule_by Required name = required name
+rule_by Optional name = optional name
+rule_by (Number limit) name = numbered name limit
+rule_by (OptionalNumber limit) name = may_be_numbered name limit
+rule_by Flag name = flag name
+
+abbrev pub rule_for : OptionLine → Rule
+rule_for line = rule_by line.kind line.name.now
 
 abbrev pub port : Rule
 port = numbered (codes "port") 65535

@@ -1,7 +1,7 @@
 -- The program's commands, each with its options.
-use Rattle.std.specs.Prelude.{◌≡◌, true, false, List, [], ◌∷◌, codes}
+use Rattle.std.specs.Prelude.{◌≡◌, true, false, List, [], ◌∷◌, codes, IfOk, Result}
 use Rattle.clap.specs.Walk.{Rule, Text}
-use Rattle.clap.specs.Simple.{App, Shape, new_shape}
+use Rattle.clap.specs.Simple.{App, Shape, app_of, new_shape}
 use Rattle.clap.specs.declared.builder.command.Command.{Command}
 use Rattle.clap.specs.declared.builder.command.Command.TheViews.{out-Command}
 use Rattle.chpw_invocation.specs.Options.{required, optional, flag, port, workers, connections, idle, clients, buffers, raise, iterations, kvno}
@@ -16,6 +16,10 @@ alone command = record { top = command; subs = [] }
 -- no option of it is passed down to the commands below it
 abbrev pub IsLocal : Command → Type 0
 IsLocal c = (out-Command c).has_globals ≡ false
+
+-- memory ran out, or it is a command of this form
+abbrev pub IsBuilt : {E : Type 0} → App → Result Command E → Type 0
+IsBuilt a r = IfOk r (λ c. (app_of c ≡ a) × IsLocal c)
 
 -- drill
 abbrev pub drill : Shape

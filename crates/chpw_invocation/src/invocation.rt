@@ -1,21 +1,45 @@
 //! What a user asks the program for.
 ghost use Rattle.std.specs.Prelude.{◌≡◌, ◌≤◌, ℕ, Some, true, None, length};
 
+/// The greatest `--port`.
+pub const GREATEST_PORT: u16 = 65_535;
+
+/// The greatest `--workers`.
+pub const MOST_WORKERS: u8 = 16;
+
+/// The greatest `--connections`.
+pub const GREATEST_CONNECTIONS: u32 = 4_294_967_295;
+
 /// The greatest `--idle`, in seconds: an hour.
 pub const LONGEST_IDLE: u16 = 3600;
 
 /// After how many seconds of waiting for its client a connection is ended, where no `--idle` is given.
 pub const USUAL_IDLE: u16 = 30;
 
+/// The greatest `--clients`.
+pub const MOST_CLIENTS: u32 = 65_536;
+
 /// How many connections are open at a time, where no `--clients` is given.
 pub const USUAL_CLIENTS: u32 = 1_024;
+
+/// The greatest `--buffers`, in MiB.
+pub const MOST_BUFFERS: u16 = 1_024;
 
 /// How many MiB the messages and replies of all connections may hold together, where no `--buffers` is
 /// given.
 pub const USUAL_BUFFERS: u16 = 32;
 
+/// The greatest iteration count.
+pub const GREATEST_COUNT: u32 = 16_777_216;
+
 /// The iteration count of keys for which none is named (RFC 3962 section 4).
 pub const USUAL_COUNT: u32 = 4096;
+
+/// The greatest key version.
+pub const GREATEST_KVNO: u32 = 4_294_967_295;
+
+/// The key version, where none is named.
+pub const USUAL_KVNO: u32 = 1;
 
 /// The most bytes in a realm.
 pub const LONGEST_REALM: usize = 255;

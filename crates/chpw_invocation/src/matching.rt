@@ -1,13 +1,14 @@
 //! The command line matched: what its words ask for.
-ghost use Rattle.std.specs.Prelude.{◌≡◌, [], true, IfErr, IfOk, IfSome, OnOk, codes, map, option_map, string_bytes};
+ghost use Rattle.std.specs.Prelude.{◌≡◌, ◌≢◌, [], None, true, IfErr, IfOk, IfSome, OnOk, codes, map, option_map, string_bytes};
 ghost use Rattle.clap.specs.Faults.{fault_of};
 ghost use Rattle.clap.specs.Words.{first_of, found_of, rows_of, subcommand_of, subcommand_rows_of};
 ghost use Rattle.chpw_invocation.specs.Program.{program};
-ghost use Rattle.chpw_invocation.specs.Invocations.{AimsOld, AsksClient, AsksFor, AsksImport, AsksKey, AsksServe, AsksTable, HasNumber, HasNumberOr, HasRealm, IsGiven, IsRefusal, LacksRealm, MayHaveNumber, NamesNoForm, NamesNoRealm, form_asked, form_of_name};
+ghost use Rattle.chpw_invocation.specs.Invocations.{AimsOld, AsksFor, HasNumber, HasNumberOr, HasRealm, IsGiven, IsOwnRefusal, IsRefusal, LacksRealm, MayHaveNumber, NamesNoForm, NamesNoRealm, form_asked, form_of_name};
 
 use crate::invocation::{
-    ClientOptions, ImportOptions, Invocation, KeyOptions, LONGEST_IDLE, LONGEST_REALM,
-    ServeOptions, TableForm, TableOptions, USUAL_BUFFERS, USUAL_CLIENTS, USUAL_COUNT, USUAL_IDLE,
+    ClientOptions, GREATEST_COUNT, ImportOptions, Invocation, KeyOptions, LONGEST_IDLE,
+    LONGEST_REALM, MOST_BUFFERS, MOST_CLIENTS, MOST_WORKERS, ServeOptions, TableForm, TableOptions,
+    USUAL_BUFFERS, USUAL_CLIENTS, USUAL_COUNT, USUAL_IDLE, USUAL_KVNO,
 };
 use crate::program::program as new_program;
 use clap::error::ErrorKind;
@@ -36,10 +37,26 @@ pub fn command_of<'a>(alloc: Global, words: &'a [String]) -> Result<Invocation<'
     let matches = program.try_get_matches_from_mut(words)?;
     match asked_of(&matches) {
         Some(invocation) => Ok(invocation),
-        None if aims_old(&matches) => Err(program.error(ErrorKind::ArgumentConflict, OLD_TARGET)?),
-        None if names_no_form(&matches) => Err(program.error(ErrorKind::InvalidValue, NO_FORM)?),
-        None if names_no_realm(&matches) => Err(program.error(ErrorKind::InvalidValue, NO_REALM)?),
-        None => Err(program.error(ErrorKind::MissingSubcommand, "no command")?),
+        None => {
+            let (kind, text) = refusal_of(&matches);
+            Err(program.error(kind, text)?)
+        }
+    }
+}
+
+// Why the words that clap matched ask for nothing, and the text that says so.
+fn refusal_of(matches: &ArgMatches<'_>) -> (ErrorKind, &'static str)
+    ensures why { subcommand_rows_of matches.now ≢ None
+        → IsOwnRefusal (subcommand_rows_of matches.now) result.0 }
+{
+    if aims_old(matches) {
+        (ErrorKind::ArgumentConflict, OLD_TARGET)
+    } else if names_no_form(matches) {
+        (ErrorKind::InvalidValue, NO_FORM)
+    } else if names_no_realm(matches) {
+        (ErrorKind::InvalidValue, NO_REALM)
+    } else {
+        (ErrorKind::MissingSubcommand, "no command")
     }
 }
 
@@ -55,15 +72,15 @@ fn asked_of<'a>(matches: &ArgMatches<'a>) -> Option<Invocation<'a>>
     } else if name == "check" {
         check_of(options)
     } else if name == "table" {
-        table_of(options).map(Invocation::Table)
+        table_of(options)
     } else if name == "import" {
-        import_of(options).map(Invocation::Import)
+        import_of(options)
     } else if name == "key" {
-        key_of(options).map(Invocation::Key)
+        key_of(options)
     } else if name == "serve" {
-        serve_of(options).map(Invocation::Serve)
+        serve_of(options)
     } else if name == "client" {
-        client_of(options).map(Invocation::Client)
+        client_of(options)
     } else {
         None
     }
@@ -76,14 +93,14 @@ fn check_of<'a>(options: &ArgMatches<'a>) -> Option<Invocation<'a>>
     Some(Invocation::Check { config })
 }
 
-fn table_of<'a>(options: &ArgMatches<'a>) -> Option<TableOptions<'a>>
-    ensures asked { IfSome result (AsksTable (rows_of (found_of options.now))) }
+fn table_of<'a>(options: &ArgMatches<'a>) -> Option<Invocation<'a>>
+    ensures asked { IfSome result (AsksFor (Some (codes "table", rows_of (found_of options.now)))) }
 {
-    Some(TableOptions {
+    Some(Invocation::Table(TableOptions {
         config: text_of(options, "config")?,
         journal: text_of(options, "journal")?,
         form: form_of(options)?,
-    })
+    }))
 }
 
 // The form that is asked for; none where there is no such form.
@@ -117,26 +134,26 @@ fn names_no_form(matches: &ArgMatches<'_>) -> bool
     }
 }
 
-fn import_of<'a>(options: &ArgMatches<'a>) -> Option<ImportOptions<'a>>
-    ensures asked { IfSome result (AsksImport (rows_of (found_of options.now))) }
+fn import_of<'a>(options: &ArgMatches<'a>) -> Option<Invocation<'a>>
+    ensures asked { IfSome result (AsksFor (Some (codes "import", rows_of (found_of options.now)))) }
 {
-    Some(ImportOptions {
+    Some(Invocation::Import(ImportOptions {
         keytab: text_of(options, "keytab")?,
         realm: realm_of(options)?,
         iterations: iterations_of(options)?,
-    })
+    }))
 }
 
-fn key_of<'a>(options: &ArgMatches<'a>) -> Option<KeyOptions<'a>>
-    ensures asked { IfSome result (AsksKey (rows_of (found_of options.now))) }
+fn key_of<'a>(options: &ArgMatches<'a>) -> Option<Invocation<'a>>
+    ensures asked { IfSome result (AsksFor (Some (codes "key", rows_of (found_of options.now)))) }
 {
-    Some(KeyOptions {
+    Some(Invocation::Key(KeyOptions {
         realm: realm_of(options)?,
         name: text_of(options, "name")?,
         password_file: text_of(options, "password-file")?,
         iterations: iterations_of(options)?,
         kvno: kvno_of(options)?,
-    })
+    }))
 }
 
 // The realm, where its length is within the limits.
@@ -169,10 +186,10 @@ fn lacks_realm(options: &ArgMatches<'_>) -> bool
     }
 }
 
-fn serve_of<'a>(options: &ArgMatches<'a>) -> Option<ServeOptions<'a>>
-    ensures asked { IfSome result (AsksServe (rows_of (found_of options.now))) }
+fn serve_of<'a>(options: &ArgMatches<'a>) -> Option<Invocation<'a>>
+    ensures asked { IfSome result (AsksFor (Some (codes "serve", rows_of (found_of options.now)))) }
 {
-    Some(ServeOptions {
+    Some(Invocation::Serve(ServeOptions {
         config: text_of(options, "config")?,
         journal: text_of(options, "journal")?,
         seed: text_of(options, "seed")?,
@@ -184,7 +201,7 @@ fn serve_of<'a>(options: &ArgMatches<'a>) -> Option<ServeOptions<'a>>
         buffers: buffers_of(options)?,
         raise: raise_of(options)?,
         log: text_of(options, "log"),
-    })
+    }))
 }
 
 // Whether `client` is to ask in the earlier protocol, and has a target.
@@ -199,15 +216,15 @@ fn aims_old(matches: &ArgMatches<'_>) -> bool
     }
 }
 
-fn client_of<'a>(options: &ArgMatches<'a>) -> Option<ClientOptions<'a>>
-    ensures asked { IfSome result (AsksClient (rows_of (found_of options.now))) }
+fn client_of<'a>(options: &ArgMatches<'a>) -> Option<Invocation<'a>>
+    ensures asked { IfSome result (AsksFor (Some (codes "client", rows_of (found_of options.now)))) }
 {
     let target = text_of(options, "target");
     let old = is_given(options, "old");
     if old && target.is_some() {
         return None;
     }
-    Some(ClientOptions {
+    Some(Invocation::Client(ClientOptions {
         config: text_of(options, "config")?,
         seed: text_of(options, "seed")?,
         port: port_of(options)?,
@@ -216,7 +233,7 @@ fn client_of<'a>(options: &ArgMatches<'a>) -> Option<ClientOptions<'a>>
         target,
         no_initial: is_given(options, "no-initial"),
         old,
-    })
+    }))
 }
 
 // The value of an option.
@@ -248,7 +265,7 @@ fn workers_of(options: &ArgMatches<'_>) -> Option<u8>
     ensures workers { IfSome result (HasNumber 1 16 (rows_of (found_of options.now)) (codes "workers")) }
 {
     match options.get_one::<u8>("workers") {
-        Some(workers) if 1 <= workers && workers <= 16 => Some(workers),
+        Some(workers) if 1 <= workers && workers <= MOST_WORKERS => Some(workers),
         _ => None,
     }
 }
@@ -285,7 +302,7 @@ fn clients_of(options: &ArgMatches<'_>) -> Option<u32>
         return Some(USUAL_CLIENTS);
     }
     match options.get_one::<u32>("clients") {
-        Some(clients) if 1 <= clients && clients <= 65_536 => Some(clients),
+        Some(clients) if 1 <= clients && clients <= MOST_CLIENTS => Some(clients),
         _ => None,
     }
 }
@@ -299,7 +316,7 @@ fn buffers_of(options: &ArgMatches<'_>) -> Option<u16>
         return Some(USUAL_BUFFERS);
     }
     match options.get_one::<u16>("buffers") {
-        Some(buffers) if 1 <= buffers && buffers <= 1_024 => Some(buffers),
+        Some(buffers) if 1 <= buffers && buffers <= MOST_BUFFERS => Some(buffers),
         _ => None,
     }
 }
@@ -312,7 +329,7 @@ fn raise_of(options: &ArgMatches<'_>) -> Option<Option<u32>>
         return Some(None);
     }
     match options.get_one::<u32>("raise") {
-        Some(count) if 1 <= count && count <= 16_777_216 => Some(Some(count)),
+        Some(count) if 1 <= count && count <= GREATEST_COUNT => Some(Some(count)),
         _ => None,
     }
 }
@@ -326,7 +343,7 @@ fn iterations_of(options: &ArgMatches<'_>) -> Option<u32>
         return Some(USUAL_COUNT);
     }
     match options.get_one::<u32>("iterations") {
-        Some(count) if 1 <= count && count <= 16_777_216 => Some(count),
+        Some(count) if 1 <= count && count <= GREATEST_COUNT => Some(count),
         _ => None,
     }
 }
@@ -337,7 +354,7 @@ fn kvno_of(options: &ArgMatches<'_>) -> Option<u32>
         (HasNumberOr 1 1 4294967295 (rows_of (found_of options.now)) (codes "kvno")) }
 {
     if text_of(options, "kvno").is_none() {
-        return Some(1);
+        return Some(USUAL_KVNO);
     }
     match options.get_one::<u32>("kvno") {
         Some(kvno) if kvno > 0 => Some(kvno),

@@ -1,16 +1,16 @@
 //! The program's commands, with their help.
-ghost use Rattle.std.specs.Prelude.{◌≡◌, [], false, IfOk};
-ghost use Rattle.clap.specs.Simple.{with_rule, with_subcommand};
-ghost use Rattle.clap.specs.Walk.{rule_of};
+ghost use Rattle.std.specs.Prelude.{◌≡◌, codes, false, IfOk, map};
+ghost use Rattle.clap.specs.Simple.{App, Shape, new_shape, with_subcommand};
 ghost use Rattle.clap.specs.Words.{app_of};
+ghost use Rattle.chpw_invocation.specs.Options.{rule_for};
 ghost use Rattle.chpw_invocation.specs.Program as specs_of;
 
-use crate::options::{
-    buffers_option, clients_option, connections_option, flag_option, idle_option,
-    iterations_option, kvno_option, optional_option, port_option, raise_option, required_option,
-    workers_option,
+use crate::invocation::{
+    GREATEST_CONNECTIONS, GREATEST_COUNT, GREATEST_KVNO, GREATEST_PORT, LONGEST_IDLE, MOST_BUFFERS,
+    MOST_CLIENTS, MOST_WORKERS,
 };
-use clap::{Arg, Command};
+use crate::options::{OptionLine, argument_of, flag, number, optional, optional_number, required};
+use clap::Command;
 use std::alloc::{AllocError, Global};
 
 const VERSION: &str = "0.1";
@@ -169,172 +169,138 @@ const NO_INITIAL_HELP: &str = "Makes a ticket without the flag initial, as one f
 const OLD_HELP: &str =
     "Asks in the earlier protocol, version 0x0001, for the client's own password: without --target";
 
-// A command with this name and these texts: in a line, and below its options.
-fn described<'a>(alloc: Global, name: &'a str, about: &'a str, more: &'a str) -> Command<'a>
-    ensures shape { app_of result ≡ specs_of.alone (specs_of.command name.entry.now []) }
-    ensures local { specs_of.IsLocal result }
-{
-    Command::new(alloc, name).about(about).after_help(more)
-}
-
-// The command with one more option.
-fn with_option<'a>(command: Command<'a>, option: Arg<'a>) -> Result<Command<'a>, AllocError>
-    requires command { specs_of.IsLocal command }
-    requires option { option.global ≡ false }
-    ensures shape { IfOk result (λ c.
-        app_of c ≡ with_rule (app_of command.entry) (rule_of option.entry)) }
+// A command with this name, these texts, in a line and below its options, and these options.
+fn described<'a>(
+    alloc: Global,
+    name: &'a str,
+    about: &'a str,
+    more: &'a str,
+    options: &[OptionLine],
+) -> Result<Command<'a>, AllocError>
+    ensures shape { IfOk result (λ c. app_of c
+        ≡ specs_of.alone (specs_of.command name.entry.now (map rule_for options.now))) }
     ensures local { IfOk result specs_of.IsLocal }
 {
-    let command = command.arg(option)?;
+    let mut command = Command::new(alloc, name).about(about).after_help(more);
+    for option in options {
+        command = command.arg(argument_of(alloc, option))?;
+    }
     Ok(command)
 }
 
-// The command with one more below it.
-fn with_command<'a>(command: Command<'a>, below: Command<'a>) -> Result<Command<'a>, AllocError>
-    requires command { specs_of.IsLocal command }
-    requires below { specs_of.IsLocal below }
-    ensures shape { IfOk result (λ c.
-        app_of c ≡ with_subcommand (app_of command.entry) (app_of below.entry).top) }
+fn drill<'a>(alloc: Global) -> Result<Command<'a>, AllocError>
+    ensures shape { IfOk result (λ c. app_of c ≡ specs_of.alone specs_of.drill) }
     ensures local { IfOk result specs_of.IsLocal }
 {
-    let command = command.subcommand(below)?;
-    Ok(command)
-}
-
-// The command with a version, of which one below it has to be named.
-fn leading<'a>(command: Command<'a>) -> Command<'a>
-    ensures shape { app_of result ≡ specs_of.leading (app_of command.entry) }
-    ensures local { specs_of.IsLocal command.entry → specs_of.IsLocal result }
-{
-    command
-        .version(VERSION)
-        .subcommand_required(true)
-        .arg_required_else_help(true)
-}
-
-fn drill<'a>(alloc: Global) -> Command<'a>
-    ensures shape { app_of result ≡ specs_of.alone specs_of.drill }
-    ensures local { specs_of.IsLocal result }
-{
-    described(alloc, "drill", DRILL, DRILL_MORE)
+    described(alloc, "drill", DRILL, DRILL_MORE, &[])
 }
 
 fn check<'a>(alloc: Global) -> Result<Command<'a>, AllocError>
     ensures shape { IfOk result (λ c. app_of c ≡ specs_of.alone specs_of.check) }
     ensures local { IfOk result specs_of.IsLocal }
 {
-    let command = described(alloc, "check", CHECK, CHECK_MORE);
-    let command = with_option(
-        command,
-        required_option(alloc, "config", "FILE", CONFIG_HELP),
-    )?;
-    Ok(command)
+    let options = [required("config", "FILE", CONFIG_HELP)];
+    described(alloc, "check", CHECK, CHECK_MORE, &options)
 }
 
 fn table<'a>(alloc: Global) -> Result<Command<'a>, AllocError>
     ensures shape { IfOk result (λ c. app_of c ≡ specs_of.alone specs_of.table) }
     ensures local { IfOk result specs_of.IsLocal }
 {
-    let command = described(alloc, "table", TABLE, TABLE_MORE);
-    let command = with_option(
-        command,
-        required_option(alloc, "config", "FILE", CONFIG_HELP),
-    )?;
-    let command = with_option(
-        command,
-        required_option(alloc, "journal", "FILE", OLD_JOURNAL_HELP),
-    )?;
-    let command = with_option(command, optional_option(alloc, "as", "FORM", AS_HELP))?;
-    Ok(command)
+    let options = [
+        required("config", "FILE", CONFIG_HELP),
+        required("journal", "FILE", OLD_JOURNAL_HELP),
+        optional("as", "FORM", AS_HELP),
+    ];
+    described(alloc, "table", TABLE, TABLE_MORE, &options)
 }
 
 fn import_keytab<'a>(alloc: Global) -> Result<Command<'a>, AllocError>
     ensures shape { IfOk result (λ c. app_of c ≡ specs_of.alone specs_of.import_keytab) }
     ensures local { IfOk result specs_of.IsLocal }
 {
-    let command = described(alloc, "import", IMPORT, IMPORT_MORE);
-    let command = with_option(
-        command,
-        required_option(alloc, "keytab", "FILE", KEYTAB_HELP),
-    )?;
-    let command = with_option(
-        command,
-        required_option(alloc, "realm", "REALM", REALM_HELP),
-    )?;
-    let command = with_option(command, iterations_option(alloc, KEY_COUNT_HELP))?;
-    Ok(command)
+    let options = [
+        required("keytab", "FILE", KEYTAB_HELP),
+        required("realm", "REALM", REALM_HELP),
+        optional_number("iterations", "COUNT", GREATEST_COUNT, KEY_COUNT_HELP),
+    ];
+    described(alloc, "import", IMPORT, IMPORT_MORE, &options)
 }
 
 fn key<'a>(alloc: Global) -> Result<Command<'a>, AllocError>
     ensures shape { IfOk result (λ c. app_of c ≡ specs_of.alone specs_of.key) }
     ensures local { IfOk result specs_of.IsLocal }
 {
-    let command = described(alloc, "key", KEY, KEY_MORE);
-    let command = with_option(
-        command,
-        required_option(alloc, "realm", "REALM", REALM_HELP),
-    )?;
-    let command = with_option(command, required_option(alloc, "name", "NAME", NAME_HELP))?;
-    let command = with_option(
-        command,
-        required_option(alloc, "password-file", "FILE", PASSWORD_FILE_HELP),
-    )?;
-    let command = with_option(command, iterations_option(alloc, KEY_COUNT_HELP))?;
-    let command = with_option(command, kvno_option(alloc, KVNO_HELP))?;
-    Ok(command)
+    let options = [
+        required("realm", "REALM", REALM_HELP),
+        required("name", "NAME", NAME_HELP),
+        required("password-file", "FILE", PASSWORD_FILE_HELP),
+        optional_number("iterations", "COUNT", GREATEST_COUNT, KEY_COUNT_HELP),
+        optional_number("kvno", "N", GREATEST_KVNO, KVNO_HELP),
+    ];
+    described(alloc, "key", KEY, KEY_MORE, &options)
 }
 
 fn serve<'a>(alloc: Global) -> Result<Command<'a>, AllocError>
     ensures shape { IfOk result (λ c. app_of c ≡ specs_of.alone specs_of.serve) }
     ensures local { IfOk result specs_of.IsLocal }
 {
-    let command = described(alloc, "serve", SERVE, SERVE_MORE);
-    let command = with_option(
-        command,
-        required_option(alloc, "config", "FILE", CONFIG_HELP),
-    )?;
-    let command = with_option(
-        command,
-        required_option(alloc, "journal", "FILE", JOURNAL_HELP),
-    )?;
-    let command = with_option(command, required_option(alloc, "seed", "FILE", SEED_HELP))?;
-    let command = with_option(command, port_option(alloc, PORT_HELP))?;
-    let command = with_option(command, workers_option(alloc, WORKERS_HELP))?;
-    let command = with_option(command, connections_option(alloc, CONNECTIONS_HELP))?;
-    let command = with_option(command, idle_option(alloc, IDLE_HELP))?;
-    let command = with_option(command, clients_option(alloc, CLIENTS_HELP))?;
-    let command = with_option(command, buffers_option(alloc, BUFFERS_HELP))?;
-    let command = with_option(command, raise_option(alloc, RAISE_HELP))?;
-    let command = with_option(command, optional_option(alloc, "log", "FILE", LOG_HELP))?;
-    Ok(command)
+    let options = [
+        required("config", "FILE", CONFIG_HELP),
+        required("journal", "FILE", JOURNAL_HELP),
+        required("seed", "FILE", SEED_HELP),
+        number("port", "N", GREATEST_PORT as u32, PORT_HELP),
+        number("workers", "N", MOST_WORKERS as u32, WORKERS_HELP),
+        number("connections", "N", GREATEST_CONNECTIONS, CONNECTIONS_HELP),
+        optional_number("idle", "SECONDS", LONGEST_IDLE as u32, IDLE_HELP),
+        optional_number("clients", "N", MOST_CLIENTS, CLIENTS_HELP),
+        optional_number("buffers", "MEBIBYTES", MOST_BUFFERS as u32, BUFFERS_HELP),
+        optional_number("raise", "COUNT", GREATEST_COUNT, RAISE_HELP),
+        optional("log", "FILE", LOG_HELP),
+    ];
+    described(alloc, "serve", SERVE, SERVE_MORE, &options)
 }
 
 fn client<'a>(alloc: Global) -> Result<Command<'a>, AllocError>
     ensures shape { IfOk result (λ c. app_of c ≡ specs_of.alone specs_of.client) }
     ensures local { IfOk result specs_of.IsLocal }
 {
-    let command = described(alloc, "client", CLIENT, CLIENT_MORE);
-    let command = with_option(
-        command,
-        required_option(alloc, "config", "FILE", CONFIG_HELP),
-    )?;
-    let command = with_option(command, required_option(alloc, "seed", "FILE", SEED_HELP))?;
-    let command = with_option(command, port_option(alloc, PORT_HELP))?;
-    let command = with_option(
-        command,
-        required_option(alloc, "client", "NAME", CLIENT_HELP),
-    )?;
-    let command = with_option(
-        command,
-        required_option(alloc, "password", "TEXT", PASSWORD_HELP),
-    )?;
-    let command = with_option(
-        command,
-        optional_option(alloc, "target", "NAME", TARGET_HELP),
-    )?;
-    let command = with_option(command, flag_option(alloc, "no-initial", NO_INITIAL_HELP))?;
-    let command = with_option(command, flag_option(alloc, "old", OLD_HELP))?;
-    Ok(command)
+    let options = [
+        required("config", "FILE", CONFIG_HELP),
+        required("seed", "FILE", SEED_HELP),
+        number("port", "N", GREATEST_PORT as u32, PORT_HELP),
+        required("client", "NAME", CLIENT_HELP),
+        required("password", "TEXT", PASSWORD_HELP),
+        optional("target", "NAME", TARGET_HELP),
+        flag("no-initial", NO_INITIAL_HELP),
+        flag("old", OLD_HELP),
+    ];
+    described(alloc, "client", CLIENT, CLIENT_MORE, &options)
+}
+
+// The program with one command more below it, where memory hasn't run out for either.
+fn with_command<'a>(
+    program: Result<Command<'a>, AllocError>,
+    below: Result<Command<'a>, AllocError>,
+) -> Result<Command<'a>, AllocError>
+    ensures shape { (a : App) (s : Shape) → specs_of.IsBuilt a program.entry
+        → specs_of.IsBuilt (specs_of.alone s) below.entry
+        → specs_of.IsBuilt (with_subcommand a s) result }
+{
+    program?.subcommand(below?)
+}
+
+// The program with a version, of which a command has to be named.
+fn leading<'a>(alloc: Global) -> Command<'a>
+    ensures shape { app_of result ≡ specs_of.leading (specs_of.alone (new_shape (codes "chpw_server"))) }
+    ensures local { specs_of.IsLocal result }
+{
+    Command::new(alloc, "chpw_server")
+        .about(ABOUT)
+        .after_help(STATUSES)
+        .version(VERSION)
+        .subcommand_required(true)
+        .arg_required_else_help(true)
 }
 
 /// The program, with all its commands.
@@ -342,13 +308,11 @@ pub(crate) fn program<'a>(alloc: Global) -> Result<Command<'a>, AllocError>
     ensures shape { IfOk result (λ c. app_of c ≡ specs_of.program) }
     ensures local { IfOk result specs_of.IsLocal }
 {
-    let program = leading(described(alloc, "chpw_server", ABOUT, STATUSES));
-    let program = with_command(program, drill(alloc))?;
-    let program = with_command(program, check(alloc)?)?;
-    let program = with_command(program, table(alloc)?)?;
-    let program = with_command(program, import_keytab(alloc)?)?;
-    let program = with_command(program, key(alloc)?)?;
-    let program = with_command(program, serve(alloc)?)?;
-    let program = with_command(program, client(alloc)?)?;
-    Ok(program)
+    let program = with_command(Ok(leading(alloc)), drill(alloc));
+    let program = with_command(program, check(alloc));
+    let program = with_command(program, table(alloc));
+    let program = with_command(program, import_keytab(alloc));
+    let program = with_command(program, key(alloc));
+    let program = with_command(program, serve(alloc));
+    with_command(program, client(alloc))
 }

@@ -4,7 +4,8 @@ use Rattle.clap.specs.Words.{App, Row, Text, app_of, is_simple, subcommand_of}
 use Rattle.clap.specs.Faults.{fault_of, is_simple_and_free}
 use Rattle.clap.specs.Kinds.{HasKind}
 use Rattle.chpw_invocation.specs.Program.{program}
-use Rattle.chpw_invocation.specs.Invocations.{AimsOld, AsksFor, IsRefusal, NamesNoForm, NamesNoRealm}
+use Rattle.chpw_invocation.specs.Invocations.{AsksFor, IsOwnRefusal, IsRefusal}
+use Rattle.chpw_invocation.proofs.RefusalLemmas.{command_met}
 use Rattle.chpw_invocation.proofs.matching.command_of.Goals as goal
 
 pub returns-in-Some-clause-asked : goal.returns-in-Some-clause-asked
@@ -27,36 +28,13 @@ returns-in_err-matches-clause-refused c =
     let p = err_from_is_err_and c.from_residual-in_err-matches.result c.from_residual-in_err-matches.ensures.1 in
     rw p.1 (subst (IsRefusal (fault_of program (map string_bytes c.args.words.now)) (subcommand_of program (map string_bytes c.args.words.now))) (sym p.2) (inl kinds))
 
-pub returns-in-None-clause-refused : goal.returns-in-None-clause-refused
-returns-in-None-clause-refused c =
-    let is : app_of c.in_ok-program.program ≡ program = c.in_ok-program.ensures.shape in
-    let none : fault_of program (map string_bytes c.args.words.now) ≡ [] =
-    ap (λ (a : App). fault_of a (map string_bytes c.args.words.now)) (sym is) ∙ c.in_ok-matches.ensures.kinds (ap is_simple_and_free is) in
-    let matched = (c.in_ok-matches.ensures.ok.2 (ap is_simple is)).1 ∙ ap (λ (a : App). subcommand_of a (map string_bytes c.args.words.now)) is in
-    let aims : AimsOld (subcommand_of program (map string_bytes c.args.words.now)) = subst AimsOld matched (c.aims_old.ensures.aims c.if-aims_old.true) in
-    inr (none, inl (c.in_ok-error-in-None.ensures.kind, aims))
-
-pub returns-in-None-2-clause-refused : goal.returns-in-None-2-clause-refused
-returns-in-None-2-clause-refused c =
-    let is : app_of c.in_ok-program.program ≡ program = c.in_ok-program.ensures.shape in
-    let none : fault_of program (map string_bytes c.args.words.now) ≡ [] =
-    ap (λ (a : App). fault_of a (map string_bytes c.args.words.now)) (sym is) ∙ c.in_ok-matches.ensures.kinds (ap is_simple_and_free is) in
-    let matched = (c.in_ok-matches.ensures.ok.2 (ap is_simple is)).1 ∙ ap (λ (a : App). subcommand_of a (map string_bytes c.args.words.now)) is in
-    let names : NamesNoForm (subcommand_of program (map string_bytes c.args.words.now)) = subst NamesNoForm matched (c.names_no_form.ensures.names c.if-names_no_form.true) in
-    inr (none, inr (inl (c.in_ok-error-in-None-2.ensures.kind, names)))
-
-pub returns-in-None-3-clause-refused : goal.returns-in-None-3-clause-refused
-returns-in-None-3-clause-refused c =
-    let is : app_of c.in_ok-program.program ≡ program = c.in_ok-program.ensures.shape in
-    let none : fault_of program (map string_bytes c.args.words.now) ≡ [] =
-    ap (λ (a : App). fault_of a (map string_bytes c.args.words.now)) (sym is) ∙ c.in_ok-matches.ensures.kinds (ap is_simple_and_free is) in
-    let matched = (c.in_ok-matches.ensures.ok.2 (ap is_simple is)).1 ∙ ap (λ (a : App). subcommand_of a (map string_bytes c.args.words.now)) is in
-    let names : NamesNoRealm (subcommand_of program (map string_bytes c.args.words.now)) = subst NamesNoRealm matched (c.names_no_realm.ensures.names c.if-names_no_realm.true) in
-    inr (none, inr (inr (inl (c.in_ok-error-in-None-3.ensures.kind, names))))
-
 pub returns-clause-refused : goal.returns-clause-refused
 returns-clause-refused c =
     let is : app_of c.in_ok-program.program ≡ program = c.in_ok-program.ensures.shape in
     let none : fault_of program (map string_bytes c.args.words.now) ≡ [] =
     ap (λ (a : App). fault_of a (map string_bytes c.args.words.now)) (sym is) ∙ c.in_ok-matches.ensures.kinds (ap is_simple_and_free is) in
-    inr (none, inr (inr (inr c.in_ok-error-in-None-4.ensures.kind)))
+    let matched = (c.in_ok-matches.ensures.ok.2 (ap is_simple is)).1 ∙ ap (λ (a : App). subcommand_of a (map string_bytes c.args.words.now)) is in
+    let met = command_met c.in_ok-program.program _ c.in_ok-matches.matches c.in_ok-program.ensures.local c.in_ok-matches.ensures.ok.0 c.in_ok-matches.ensures.ok.1 (ap (λ (a : App). a.top.subcommand_required) is) in
+    let why : IsOwnRefusal (subcommand_of program (map string_bytes c.args.words.now)) c.refusal_of-kind.result.0 =
+    subst (λ (o : Option (Text × List Row)). IsOwnRefusal o c.refusal_of-kind.result.0) matched (c.refusal_of-kind.ensures.why met) in
+    inr (none, subst (IsOwnRefusal (subcommand_of program (map string_bytes c.args.words.now))) (sym c.in_ok-error-in-None.ensures.kind) why)
