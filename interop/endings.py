@@ -17,7 +17,7 @@ import tempfile
 import threading
 import time
 
-from journal import Record, plain_record, read_journal
+from journal import Record, plain_record, raise_record, read_journal
 from kill import ITERATIONS, keys_of
 from report import Report
 from sample_realm import write_configuration
@@ -131,6 +131,74 @@ def check(program):
     program.tell("check: no file", unread, "check", "--config", "missing")
     program.tell_unwritten("check: good, a full disk", "check", "--config", "good")
     program.tell_unwritten("check: a fault, a full disk", "check", "--config", "bad")
+
+
+def keytab(*entries):
+    """A keytab of MIT's format 0x0502 with these entries: realm, name, kvno, etype and key."""
+    def counted(octets):
+        return len(octets).to_bytes(2, "big") + octets
+
+    records = []
+    for realm, name, kvno, etype, key in entries:
+        components = name.split("/")
+        record = len(components).to_bytes(2, "big") + counted(realm.encode())
+        record += b"".join(counted(it.encode()) for it in components)
+        record += (1).to_bytes(4, "big") + bytes(4) + bytes([kvno]) + etype.to_bytes(2, "big") + counted(key)
+        records.append(len(record).to_bytes(4, "big") + record)
+    return b"\x05\x02" + b"".join(records)
+
+
+def stanza(name, kvno, aes128, aes256):
+    return f"""\
+[[principal]]
+name = "{name}"
+[[principal.key]]
+aes128 = "{aes128.hex()}"
+aes256 = "{aes256.hex()}"
+iterations = {ITERATIONS}
+kvno = {kvno}"""
+
+
+def words_of(ended):
+    """What was printed, by its words: how it is laid out isn't compared."""
+    found, errors, status = ended
+    return found.split(), errors, status
+
+
+def keys_brought_in(program):
+    """`import` and `key`; what they write is a configuration's part, and what `import` leaves out is told."""
+    short, long = bytes(range(16)), bytes(range(32))
+    alice = [("EXAMPLE.COM", "alice", 3, 18, long), ("EXAMPLE.COM", "alice", 3, 17, short)]
+    (program.folder / "keytab").write_bytes(keytab(*alice, ("OTHER.COM", "bob", 1, 17, short)))
+    words = ["--keytab", "keytab", "--realm", "EXAMPLE.COM"]
+    left = "keytab: at 136: left out: bob@OTHER.COM, kvno 1, etype 17: another realm"
+    program.report.tell("import: a user, and another realm's", words_of(program.ended("import", *words)),
+                        (stanza("alice", 3, short, long).split(), left, 0))
+    (program.folder / "whole").write_bytes(keytab(*alice))
+    program.tell_unwritten("import: a full disk", "import", "--keytab", "whole", "--realm", "EXAMPLE.COM")
+    program.tell("import: no file", ("", "cannot read missing", 1), "import", "--keytab", "missing", *words[2:])
+    (program.folder / "password").write_text("New-pass2\n")
+    words = ["--realm", "EXAMPLE.COM", "--name", "alice", "--password-file", "password"]
+    program.report.tell("key: of a password", words_of(program.ended("key", *words)),
+                        (stanza("alice", 1, *keys_of("alice", "New-pass2")).split(), "", 0))
+    program.tell_unwritten("key: a full disk", "key", *words)
+    program.tell("key: no file", ("", "cannot read missing", 1), "key", *words[:-1], "missing")
+
+
+def table(program):
+    """The configuration's keys, and those that the journal's changes put in front."""
+    server = program.server("alice", "bob")
+    server.journal.write_bytes(raise_record(8192) + plain_record("alice", 2))
+    words = ["--config", server.configuration, "--journal", server.journal]
+    lines = "alice kvno 2 counts 4096 4096\nbob kvno 1 counts 4096\nprincipals 2 changes 2"
+    program.tell("table: lines", (lines, "", 0), "table", *words)
+    found, errors, status = program.ended("table", *words, "--as", "keys")
+    newest = f"alice@EXAMPLE.COM 2 18 4096 {'00' * 32} EXAMPLE.COMalice"
+    program.report.tell("table: keys", (found.splitlines()[0], len(found.splitlines()), errors, status),
+                        (newest, 6, "", 0))
+    program.tell_unwritten("table: a full disk", "table", *words)
+    server.journal.unlink()
+    program.tell("table: no journal", ("", f"cannot read {server.journal}", 1), "table", *words)
 
 
 def serve(program):
@@ -318,6 +386,8 @@ CASES = [
     command_lines,
     drill,
     check,
+    keys_brought_in,
+    table,
     serve,
     second_service,
     client_alone,
