@@ -12,7 +12,7 @@ use krb_der::{
     write_ap_req,
 };
 use krb_keys::{Key, USAGE_AP_REQ_AUTHENTICATOR, USAGE_TICKET};
-use krb_msgs::{ApOpened, OpenError, ServiceKey, open_ap};
+use krb_msgs::{ApFault, ApOpened, OpenError, ServiceKey, open_ap};
 use std::alloc::{AllocError, Global};
 
 /// What an AP-REQ is made of, and the service keys that are held.
@@ -35,51 +35,62 @@ fn service_key(kvno: u32, byte: u8) -> ServiceKey {
 
 /// The answer to an AP-REQ with these changes.
 pub fn answer(alloc: Global, changes: &str) -> Result<String, Refusal> {
-    let mut case = Case {
-        part: ticket_part(alloc)?,
+    let case = changed_case(alloc, changes)?;
+    let text = made(alloc, &case, changes)?;
+    told(alloc, open_ap(alloc, REALM, &case.held, &text, case.peer))
+}
+
+fn start_case(alloc: Global) -> Result<Case, AllocError> {
+    let part = ticket_part(alloc)?;
+    Ok(Case {
+        part,
         authenticator: authenticator(alloc)?,
         options: OPTIONS,
         service: SERVICE,
         held: [SERVICE, SERVICE],
         peer: PEER,
-    };
+    })
+}
+
+/// The records, with what is changed in them.
+fn changed_case(alloc: Global, changes: &str) -> Result<Case, Refusal> {
+    let mut case = start_case(alloc)?;
     for change in changes.split(',') {
         change_records(alloc, &mut case, change.trim())?;
     }
-    let text = made(alloc, &case, changes)?;
-    match open_ap(alloc, REALM, &case.held, &text, case.peer) {
-        Ok(opened) => Ok(shown(alloc, &opened)?),
-        Err(OpenError::Fault(fault)) => {
-            let said = fault.refusal();
-            let (code, error, text) = (said.code, said.error, said.text);
-            Ok(format!(in alloc; "{fault:?} {code}/{error} {text}")?)
-        }
-        Err(OpenError::Memory) => Err(Refusal::Memory),
-    }
+    Ok(case)
 }
 
 /// The AP-REQ of these records, with what is changed in the message and in its text.
 fn made(alloc: Global, case: &Case, changes: &str) -> Result<Vec<u8>, Refusal> {
-    let text = ap_req(
-        alloc,
-        &case.part,
-        case.service,
-        case.options,
-        &case.authenticator,
-        &SESSION,
-    )?;
-    let mut message = read_ap_req(alloc, &text)?;
+    let message = changed_message(alloc, case, changes)?;
+    let mut text = written(alloc, &message)?;
+    if changes.contains("text 6f") {
+        change_first(&mut text, 0x6f);
+    }
+    Ok(text)
+}
+
+fn start_message(alloc: Global, case: &Case) -> Result<ApReq, Refusal> {
+    let (part, service, options) = (&case.part, case.service, case.options);
+    let text = ap_req(alloc, part, service, options, &case.authenticator, &SESSION)?;
+    Ok(read_ap_req(alloc, &text)?)
+}
+
+/// The message of these records, with what is changed in it.
+fn changed_message(alloc: Global, case: &Case, changes: &str) -> Result<ApReq, Refusal> {
+    let mut message = start_message(alloc, case)?;
     for change in changes.split(',') {
         change_message(alloc, case, &mut message, change.trim())?;
     }
-    if !fits(&message) {
+    Ok(message)
+}
+
+fn written(alloc: Global, message: &ApReq) -> Result<Vec<u8>, Refusal> {
+    if !fits(message) {
         return Err(Refusal::NoMessage);
     }
-    let mut text = write_ap_req(alloc, &message)?;
-    for change in changes.split(',') {
-        change_text(&mut text, change.trim());
-    }
-    Ok(text)
+    Ok(write_ap_req(alloc, message)?)
 }
 
 /// Each change is of one kind: of the records, of the message or of its text.
@@ -229,12 +240,6 @@ fn change_sealed_authenticator(
     Ok(())
 }
 
-fn change_text(text: &mut Vec<u8>, change: &str) {
-    if change == "text 6f" {
-        change_first(text, 0x6f);
-    }
-}
-
 /// The number that all bytes of a key are, or 0.
 fn shown_key(key: &Key) -> u8 {
     match key.bytes() {
@@ -244,23 +249,52 @@ fn shown_key(key: &Key) -> u8 {
 }
 
 /// What an AP-REQ opens to.
+fn told(alloc: Global, opened: Result<ApOpened, OpenError<ApFault>>) -> Result<String, Refusal> {
+    match opened {
+        Ok(opened) => Ok(shown(alloc, &opened)?),
+        Err(OpenError::Fault(fault)) => Ok(shown_fault(alloc, fault)?),
+        Err(OpenError::Memory) => Err(Refusal::Memory),
+    }
+}
+
+fn shown_fault(alloc: Global, fault: ApFault) -> Result<String, AllocError> {
+    let said = fault.refusal();
+    let (code, error, text) = (said.code, said.error, said.text);
+    format!(in alloc; "{fault:?} {code}/{error} {text}")
+}
+
 fn shown(alloc: Global, opened: &ApOpened) -> Result<String, AllocError> {
-    let mut shown = String::from_str(alloc, "opened")?;
+    let mut shown = String::new(alloc);
+    show_client(&mut shown, opened)?;
+    show_times(&mut shown, opened)?;
+    show_keys(&mut shown, opened)?;
+    Ok(shown)
+}
+
+fn show_client(shown: &mut String, opened: &ApOpened) -> Result<(), AllocError> {
+    shown.push_str("opened")?;
     for component in opened.cname.name_string.as_slice() {
         shown.push_str(" ")?;
         shown.push_str(text_of(component.as_slice()))?;
     }
     shown.push_str(" of ")?;
-    shown.push_str(text_of(opened.crealm.as_slice()))?;
+    Ok(shown.push_str(text_of(opened.crealm.as_slice()))?)
+}
+
+fn show_times(shown: &mut String, opened: &ApOpened) -> Result<(), AllocError> {
     let (flags, starts, ends) = (opened.flags.0, opened.starts.0, opened.ends.0);
     let (ctime, cusec) = (opened.ctime.0, opened.cusec.0);
-    shown.push_str(format!(in alloc; " flags {flags:08x} from {starts} to {ends}")?.as_str())?;
-    shown.push_str(format!(in alloc; " at {ctime}.{cusec:06}")?.as_str())?;
+    write!(
+        shown,
+        " flags {flags:08x} from {starts} to {ends} at {ctime}.{cusec:06}"
+    )
+}
+
+fn show_keys(shown: &mut String, opened: &ApOpened) -> Result<(), AllocError> {
     let (session, subkey) = (shown_key(&opened.session), shown_key(&opened.subkey));
-    shown.push_str(format!(in alloc; " session {session:02x} subkey {subkey:02x}")?.as_str())?;
+    write!(shown, " session {session:02x} subkey {subkey:02x}")?;
     match opened.seq_number {
-        Some(number) => shown.push_str(format!(in alloc; " seq {}", number.0)?.as_str())?,
-        None => {}
+        Some(number) => write!(shown, " seq {}", number.0),
+        None => Ok(()),
     }
-    Ok(shown)
 }

@@ -5,7 +5,7 @@ use crate::world::CONFOUNDER;
 use krb_der::{Bytes, EncryptedData};
 use krb_elements::{Write, write_all};
 use krb_keys::{Key, seal};
-use std::alloc::Global;
+use std::alloc::{AllocError, Global};
 
 /// A part that seals bytes under a key, for any usage.
 pub fn sealed_bytes(
@@ -43,19 +43,14 @@ pub fn change_first(text: &mut [u8], byte: u8) {
 }
 
 /// The same part with its cipher's first byte changed.
-pub fn forged(part: EncryptedData) -> EncryptedData {
-    let EncryptedData {
-        etype,
-        kvno,
-        cipher,
-    } = part;
-    let mut bytes = cipher.into_vec();
-    if let [first, ..] = bytes.as_mut_slice() {
+pub fn forged(alloc: Global, part: &EncryptedData) -> Result<EncryptedData, AllocError> {
+    let mut cipher = Vec::from_slice(alloc, part.cipher.as_slice())?;
+    if let Some(first) = cipher.first_mut() {
         *first ^= 1;
     }
-    EncryptedData {
-        etype,
-        kvno,
-        cipher: Bytes::of(bytes),
-    }
+    Ok(EncryptedData {
+        etype: part.etype,
+        kvno: part.kvno,
+        cipher: Bytes::of(cipher),
+    })
 }

@@ -5,11 +5,11 @@ use crate::parts::{change_first, forged, sealed_bytes, sealed_record};
 use crate::refusal::Refusal;
 use crate::world::{CTIME, CUSEC, REALM, SESSION, SUBKEY, bytes, client, private_part, text_of};
 use krb_der::{
-    EncKrbPrivPart, KerberosFlags, KerberosTime, KrbPriv, Microseconds, SeqNumber, fits,
-    read_krb_priv, write_krb_priv,
+    EncKrbPrivPart, EncryptedData, KerberosFlags, KerberosTime, KrbPriv, Microseconds, SeqNumber,
+    fits, read_krb_priv, write_krb_priv,
 };
 use krb_keys::USAGE_KRB_PRIV;
-use krb_msgs::{ApOpened, OpenError, open_priv};
+use krb_msgs::{ApOpened, OpenError, PrivFault, Private, open_priv};
 use std::alloc::{AllocError, Global};
 
 /// What the AP-REQ before it opened to.
@@ -30,43 +30,64 @@ fn opened(alloc: Global) -> Result<ApOpened, AllocError> {
 
 /// The answer to a KRB-PRIV with these changes.
 pub fn answer(alloc: Global, changes: &str) -> Result<String, Refusal> {
+    let text = made(alloc, &changed_part(alloc, changes)?, changes)?;
+    let opened = changed_opened(alloc, changes)?;
+    told(alloc, open_priv(alloc, &opened, &text))
+}
+
+/// What the AP-REQ before it opened to, with what is changed in it.
+fn changed_opened(alloc: Global, changes: &str) -> Result<ApOpened, AllocError> {
     let mut opened = opened(alloc)?;
+    if changes.contains("authenticator seq-number absent") {
+        opened.seq_number = None;
+    }
+    Ok(opened)
+}
+
+/// The sealed part, with what is changed in it.
+fn changed_part(alloc: Global, changes: &str) -> Result<EncKrbPrivPart, Refusal> {
     let mut part = private_part(alloc, b"New-pass2")?;
     for change in changes.split(',') {
-        match change.trim() {
-            "authenticator seq-number absent" => opened.seq_number = None,
-            change => change_part(&mut part, change)?,
-        }
+        change_part(&mut part, change.trim())?;
     }
-    let text = made(alloc, &part, changes)?;
-    match open_priv(alloc, &opened, &text) {
-        Ok(private) => {
-            let user = text_of(private.user_bytes.as_slice());
-            match private.stamp {
-                Some(stamp) => Ok(format!(in alloc; "opened {user} at {stamp}")?),
-                None => Ok(format!(in alloc; "opened {user}")?),
-            }
-        }
-        Err(OpenError::Fault(fault)) => Ok(format!(in alloc; "{fault:?}")?),
-        Err(OpenError::Memory) => Err(Refusal::Memory),
-    }
+    Ok(part)
 }
 
 /// The KRB-PRIV of this part, with what is changed in the message and in its text.
 pub fn made(alloc: Global, part: &EncKrbPrivPart, changes: &str) -> Result<Vec<u8>, Refusal> {
-    let text = krb_priv(alloc, part, &SUBKEY)?;
-    let mut message = read_krb_priv(alloc, &text)?;
-    for change in changes.split(',') {
-        message = changed(alloc, message, part, change.trim())?;
-    }
-    if !fits(&message) {
-        return Err(Refusal::NoMessage);
-    }
-    let mut text = write_krb_priv(alloc, &message)?;
+    let message = changed_message(alloc, part, changes)?;
+    let mut text = written(alloc, &message)?;
     if changes.contains("text 76") {
         change_first(&mut text, 0x76);
     }
     Ok(text)
+}
+
+fn start_message(alloc: Global, part: &EncKrbPrivPart) -> Result<KrbPriv, Refusal> {
+    let text = krb_priv(alloc, part, &SUBKEY)?;
+    Ok(read_krb_priv(alloc, &text)?)
+}
+
+/// The message of this part, with what is changed in it.
+fn changed_message(
+    alloc: Global,
+    part: &EncKrbPrivPart,
+    changes: &str,
+) -> Result<KrbPriv, Refusal> {
+    let mut message = start_message(alloc, part)?;
+    for change in changes.split(',') {
+        if let Some(("message", how)) = change.trim().split_once(' ') {
+            change_message(alloc, &mut message, part, how)?;
+        }
+    }
+    Ok(message)
+}
+
+fn written(alloc: Global, message: &KrbPriv) -> Result<Vec<u8>, Refusal> {
+    if !fits(message) {
+        return Err(Refusal::NoMessage);
+    }
+    Ok(write_krb_priv(alloc, message)?)
 }
 
 fn change_part(part: &mut EncKrbPrivPart, change: &str) -> Result<(), Refusal> {
@@ -77,36 +98,53 @@ fn change_part(part: &mut EncKrbPrivPart, change: &str) -> Result<(), Refusal> {
             part.timestamp = Some(KerberosTime(1_000_099));
             part.usec = Some(Microseconds(7));
         }
-        "" => {}
-        _ if change.starts_with("message ") || change == "text 76" => {}
+        "authenticator seq-number absent" | "text 76" | "" => {}
+        _ if change.starts_with("message ") => {}
         _ => return Err(Refusal::NoSuchCase),
     }
     Ok(())
 }
 
-fn changed(
+fn change_message(
     alloc: Global,
-    mut message: KrbPriv,
+    message: &mut KrbPriv,
     part: &EncKrbPrivPart,
-    change: &str,
-) -> Result<KrbPriv, Refusal> {
-    let Some(("message", how)) = change.split_once(' ') else {
-        return Ok(message);
-    };
+    how: &str,
+) -> Result<(), Refusal> {
     match how {
         "pvno 4" => message.pvno = 4,
         "msg-type 20" => message.msg_type = 20,
         "etype 17" => message.enc_part.etype = 17,
         "kvno 1" => message.enc_part.kvno = Some(1),
-        "forged" => message.enc_part = forged(message.enc_part),
-        "under the session key" => {
-            message.enc_part = sealed_record(alloc, &SESSION, USAGE_KRB_PRIV, part)?;
-        }
-        "under usage 12" => message.enc_part = sealed_record(alloc, &SUBKEY, 12, part)?,
-        "not DER" => {
-            message.enc_part = sealed_bytes(alloc, &SUBKEY, USAGE_KRB_PRIV, b"no")?;
-        }
-        _ => return Err(Refusal::NoSuchCase),
+        "forged" => message.enc_part = forged(alloc, &message.enc_part)?,
+        _ => message.enc_part = sealed_part(alloc, part, how)?,
     }
-    Ok(message)
+    Ok(())
+}
+
+/// The part sealed otherwise, or something else sealed.
+fn sealed_part(alloc: Global, part: &EncKrbPrivPart, how: &str) -> Result<EncryptedData, Refusal> {
+    match how {
+        "under the session key" => sealed_record(alloc, &SESSION, USAGE_KRB_PRIV, part),
+        "under usage 12" => sealed_record(alloc, &SUBKEY, 12, part),
+        "not DER" => sealed_bytes(alloc, &SUBKEY, USAGE_KRB_PRIV, b"no"),
+        _ => Err(Refusal::NoSuchCase),
+    }
+}
+
+/// What a KRB-PRIV opens to.
+fn told(alloc: Global, opened: Result<Private, OpenError<PrivFault>>) -> Result<String, Refusal> {
+    match opened {
+        Ok(private) => Ok(shown(alloc, &private)?),
+        Err(OpenError::Fault(fault)) => Ok(format!(in alloc; "{fault:?}")?),
+        Err(OpenError::Memory) => Err(Refusal::Memory),
+    }
+}
+
+fn shown(alloc: Global, private: &Private) -> Result<String, AllocError> {
+    let user = text_of(private.user_bytes.as_slice());
+    match private.stamp {
+        Some(stamp) => format!(in alloc; "opened {user} at {stamp}"),
+        None => format!(in alloc; "opened {user}"),
+    }
 }
