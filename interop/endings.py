@@ -171,7 +171,7 @@ def keys_brought_in(program):
     alice = [("EXAMPLE.COM", "alice", 3, 18, long), ("EXAMPLE.COM", "alice", 3, 17, short)]
     (program.folder / "keytab").write_bytes(keytab(*alice, ("OTHER.COM", "bob", 1, 17, short)))
     words = ["--keytab", "keytab", "--realm", "EXAMPLE.COM"]
-    left = "keytab: at 136: left out: bob@OTHER.COM, kvno 1, etype 17: another realm"
+    left = f"keytab: at {len(keytab(*alice))}: left out: bob@OTHER.COM, kvno 1, etype 17: another realm"
     program.report.tell("import: a user, and another realm's", words_of(program.ended("import", *words)),
                         (stanza("alice", 3, short, long).split(), left, 0))
     (program.folder / "whole").write_bytes(keytab(*alice))
