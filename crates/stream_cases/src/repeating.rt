@@ -1,8 +1,8 @@
 //! A stream of one message, many times.
 
 use crate::messages::{bytes_of, no_case};
-use crate::serving::{How, ended_text, serve_anew};
-use crate::world::Setting;
+use crate::serving::{How, Outcome, ended_text, serve_anew};
+use crate::world::{Holding, Setting};
 use hex::encode;
 use std::alloc::Global;
 use std::io;
@@ -12,20 +12,26 @@ pub fn repeated(alloc: Global, setting: &Setting, how: &str, text: &str) -> io::
     let Some((times, how)) = how.split_once(' ') else {
         return Err(no_case());
     };
-    let stream = copies(alloc, &bytes_of(alloc, text)?, times.parse().unwrap_or(0))?;
+    let stream = copies(alloc, text, times.parse().unwrap_or(0))?;
     let (outcome, holding) = serve_anew(alloc, setting, How::of(how), &stream)?;
+    shown(alloc, &outcome, holding)
+}
+
+fn shown(alloc: Global, outcome: &Outcome, holding: Holding) -> io::Result<String> {
     let Some((reply, times)) = only_reply(&outcome.written) else {
         return Err(no_case());
     };
-    let (reply, ended) = (encode(alloc, reply)?, ended_text(outcome.ended));
-    let unread = outcome.unread;
+    let reply = encode(alloc, reply)?;
+    let (ended, unread) = (ended_text(outcome.ended), outcome.unread);
     Ok(format!(in alloc; "[{reply}] {times} times; {ended}, {unread} bytes unread, {holding}")?)
 }
 
-fn copies(alloc: Global, bytes: &[u8], times: u32) -> io::Result<Vec<u8>> {
+/// The bytes of a text in hexadecimal, so many times.
+fn copies(alloc: Global, text: &str, times: u32) -> io::Result<Vec<u8>> {
+    let bytes = bytes_of(alloc, text)?;
     let mut copies = Vec::new(alloc);
     for _ in 0..times {
-        copies.extend_from_slice(bytes)?;
+        copies.extend_from_slice(&bytes)?;
     }
     Ok(copies)
 }

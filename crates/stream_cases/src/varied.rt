@@ -51,13 +51,8 @@ fn sent(
     message: &Message,
     bytes: &[u8],
 ) -> io::Result<String> {
-    served_as(
-        alloc,
-        setting,
-        how,
-        &[message],
-        &stream_of_one(alloc, bytes)?,
-    )
+    let stream = stream_of_one(alloc, bytes)?;
+    served_as(alloc, setting, how, &[message], &stream)
 }
 
 /// What differs from stream to stream of the same messages.
