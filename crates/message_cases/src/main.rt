@@ -5,6 +5,7 @@
 //! makers, changed and opened again. A line that begins with `#`, or is empty, is passed on.
 #![tactic(auto)]
 
+mod ap_records;
 mod ap_reqs;
 mod making;
 mod parts;

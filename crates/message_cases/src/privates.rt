@@ -30,9 +30,11 @@ fn opened(alloc: Global) -> Result<ApOpened, AllocError> {
 
 /// The answer to a KRB-PRIV with these changes.
 pub fn answer(alloc: Global, changes: &str) -> Result<String, Refusal> {
-    let text = made(alloc, &changed_part(alloc, changes)?, changes)?;
+    let text = changed_text(alloc, changes)?;
     let opened = changed_opened(alloc, changes)?;
-    told(alloc, open_priv(alloc, &opened, &text))
+    let private = open_priv(alloc, &opened, &text);
+    drop(opened);
+    told(alloc, private)
 }
 
 /// What the AP-REQ before it opened to, with what is changed in it.
@@ -44,19 +46,28 @@ fn changed_opened(alloc: Global, changes: &str) -> Result<ApOpened, AllocError> 
     Ok(opened)
 }
 
-/// The sealed part, with what is changed in it.
-fn changed_part(alloc: Global, changes: &str) -> Result<EncKrbPrivPart, Refusal> {
+/// The KRB-PRIV, with what is changed in its part, in the message and in its text.
+fn changed_text(alloc: Global, changes: &str) -> Result<Vec<u8>, Refusal> {
     let mut part = private_part(alloc, b"New-pass2")?;
+    let text = made_changed(alloc, &mut part, changes);
+    drop(part);
+    text
+}
+
+fn made_changed(
+    alloc: Global,
+    part: &mut EncKrbPrivPart,
+    changes: &str,
+) -> Result<Vec<u8>, Refusal> {
     for change in changes.split(',') {
-        change_part(&mut part, change.trim())?;
+        change_part(part, change.trim())?;
     }
-    Ok(part)
+    made(alloc, part, changes)
 }
 
 /// The KRB-PRIV of this part, with what is changed in the message and in its text.
 pub fn made(alloc: Global, part: &EncKrbPrivPart, changes: &str) -> Result<Vec<u8>, Refusal> {
-    let message = changed_message(alloc, part, changes)?;
-    let mut text = written(alloc, &message)?;
+    let mut text = written(alloc, &changed_message(alloc, part, changes)?)?;
     if changes.contains("text 76") {
         change_first(&mut text, 0x76);
     }

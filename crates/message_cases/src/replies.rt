@@ -65,7 +65,10 @@ fn changed_case(changes: &str) -> Case<'static> {
 
 /// The KRB-PRIV with these bytes.
 fn made_tail(alloc: Global, said: &[u8], changes: &str) -> Result<Vec<u8>, Refusal> {
-    let mut tail = privates::made(alloc, &private_part(alloc, said)?, changes)?;
+    let part = private_part(alloc, said)?;
+    let made = privates::made(alloc, &part, changes);
+    drop(part);
+    let mut tail = made?;
     if changes.contains("text 74") {
         change_first(&mut tail, 0x74);
     }
@@ -74,8 +77,7 @@ fn made_tail(alloc: Global, said: &[u8], changes: &str) -> Result<Vec<u8>, Refus
 
 /// The AP-REP, with what is changed in it.
 fn made_ap_rep(alloc: Global, changes: &str) -> Result<Vec<u8>, Refusal> {
-    let message = changed_ap_rep(alloc, changes)?;
-    let mut text = written_ap_rep(alloc, &message)?;
+    let mut text = written_ap_rep(alloc, &changed_ap_rep(alloc, changes)?)?;
     if changes.contains("ap-rep text 6e") {
         change_first(&mut text, 0x6e);
     }
@@ -118,29 +120,42 @@ fn change_ap_rep(alloc: Global, message: &mut ApRep, change: &str) -> Result<(),
 
 /// The answer to a KRB-ERROR with these changes.
 pub fn error_answer(alloc: Global, changes: &str) -> Result<String, Refusal> {
-    let message = changed_error(alloc, changes)?;
-    let mut text = written_error(alloc, &message)?;
-    if changes.contains("text 7f") {
-        change_first(&mut text, 0x7f);
-    }
+    let text = made_error(alloc, changes)?;
     told(
         alloc,
         read_reply(alloc, &SESSION, &SUBKEY, CTIME, CUSEC, &[], &text),
     )
 }
 
+fn made_error(alloc: Global, changes: &str) -> Result<Vec<u8>, Refusal> {
+    let mut message = start_error(alloc)?;
+    let text = changed_error(alloc, &mut message, changes);
+    drop(message);
+    text
+}
+
 fn start_error(alloc: Global) -> Result<KrbError, Refusal> {
-    let message = crate::world::krb_error(alloc, b"\x00\x03request replayed")?;
-    let text = krb_error(alloc, &message)?;
+    let text = error_text(alloc)?;
     Ok(read_krb_error(alloc, &text)?)
 }
 
-fn changed_error(alloc: Global, changes: &str) -> Result<KrbError, Refusal> {
-    let mut message = start_error(alloc)?;
+fn error_text(alloc: Global) -> Result<Vec<u8>, Refusal> {
+    let message = crate::world::krb_error(alloc, b"\x00\x03request replayed")?;
+    let text = krb_error(alloc, &message);
+    drop(message);
+    text
+}
+
+/// The text of a message, with what is changed in it and in the message.
+fn changed_error(alloc: Global, message: &mut KrbError, changes: &str) -> Result<Vec<u8>, Refusal> {
     for change in changes.split(',') {
-        change_error(alloc, &mut message, change.trim())?;
+        change_error(alloc, message, change.trim())?;
     }
-    Ok(message)
+    let mut text = written_error(alloc, message)?;
+    if changes.contains("text 7f") {
+        change_first(&mut text, 0x7f);
+    }
+    Ok(text)
 }
 
 fn change_error(alloc: Global, message: &mut KrbError, change: &str) -> Result<(), Refusal> {

@@ -2,37 +2,25 @@
 
 use crate::messages::Message;
 use crate::serving::{How, ended_text, serve_by, stream_of};
-use crate::world::World;
+use crate::world::{Setting, World};
 use chpw_answer::{Gate, Spot};
+use chpw_serve::Ended;
 use chpw_table::{Event, Moment, Opened, Receipt};
 use fake_streams::Way;
 use krb_protocol::Refusal;
-use std::alloc::{AllocError, Global};
+use std::alloc::Global;
 use std::io;
 
 /// The places that were passed and what was heard there, each with what divides it from the next.
 #[derive(Drop)]
 struct Noting {
-    alloc: Global,
     passed: String,
 }
 
-impl Noting {
-    // Without memory nothing is noted, and the case has another answer.
-    fn note(&mut self, text: &str) {
-        let _ = self.passed.push_str(text);
-    }
-
-    fn note_made(&mut self, text: Result<String, AllocError>) {
-        if let Ok(text) = text {
-            self.note(text.as_str());
-        }
-    }
-}
-
+// Without memory only a part is noted, and the case has another answer.
 impl Gate for Noting {
     fn at(&mut self, spot: Spot) {
-        self.note(match spot {
+        let _ = self.passed.push_str(match spot {
             Spot::Opened => "opened; ",
             Spot::Answered => "answered; ",
         });
@@ -46,8 +34,7 @@ impl Gate for Noting {
             Event::Raise { verdict, .. } => verdict.text(),
         };
         let [_, _, _, host] = peer;
-        let text = format!(in self.alloc; "{said} at {second} by {host}, kvno {kvno}; ");
-        self.note_made(text);
+        let _ = write!(self.passed, "{said} at {second} by {host}, kvno {kvno}; ");
     }
 
     fn refused(&mut self, peer: [u8; 4], now: Moment, opened: Option<&Opened>, refusal: &Refusal) {
@@ -58,26 +45,41 @@ impl Gate for Noting {
         } else {
             "refused"
         };
-        let text = format!(in self.alloc; "{what}: {said} at {second} by {host}; ");
-        self.note_made(text);
+        let _ = write!(self.passed, "{what}: {said} at {second} by {host}; ");
     }
 }
 
 /// The places that the worker passed with these messages, and how the stream ended.
-pub fn gated(alloc: Global, world: World, how: How, messages: &[&Message]) -> io::Result<String> {
+pub fn gated(
+    alloc: Global,
+    setting: &Setting,
+    how: How,
+    messages: &[&Message],
+) -> io::Result<String> {
     let stream = stream_of(alloc, messages)?;
-    let World { service, alone } = world;
-    let mut alone = alone;
     let mut gate = Noting {
-        alloc,
         passed: String::new(alloc),
     };
+    let ended = serve_past(alloc, &mut gate, setting, how, &stream)?;
+    gate.passed.push_str(ended_text(ended))?;
+    Ok(gate.passed)
+}
+
+/// Serves a stream past this gate, its writer as `how` says of the reader; how the stream ended.
+fn serve_past(
+    alloc: Global,
+    gate: &mut Noting,
+    setting: &Setting,
+    how: How,
+    stream: &[u8],
+) -> io::Result<Ended> {
+    let World { service, mut alone } = setting.start(alloc)?;
     let how = How {
         reader: Way::of(""),
         writer: how.reader,
         ..how
     };
-    let outcome = serve_by(alloc, &service, &mut alone, &mut gate, how, &stream);
-    gate.passed.push_str(ended_text(outcome.ended))?;
-    Ok(gate.passed)
+    let outcome = serve_by(alloc, &service, &mut alone, gate, how, stream);
+    drop((service, alone));
+    Ok(outcome.ended)
 }

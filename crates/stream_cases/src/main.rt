@@ -53,6 +53,7 @@ mod wanting;
 mod watched;
 mod words;
 mod world;
+mod writing;
 
 use case_lines::print_answers;
 use cases::Cases;

@@ -4,8 +4,8 @@ use chpw_frame::split_reply;
 use hex::decode;
 use krb_der::{KerberosTime, Microseconds};
 use krb_keys::Key;
-use krb_msgs::{OpenError, Reply, ReplyFault, read_reply};
-use std::alloc::Global;
+use krb_msgs::{OpenError, Reply, read_reply};
+use std::alloc::{AllocError, Global};
 use std::io::{self, Error, ErrorKind};
 
 /// The session key and the subkey of every message here.
@@ -31,7 +31,9 @@ pub fn no_case() -> Error {
 pub fn bytes_of(alloc: Global, text: &str) -> io::Result<Vec<u8>> {
     let (text, zeros) = text.split_once(" zeros ").unwrap_or((text, "0"));
     let text = if text == "-" { "" } else { text };
-    let mut bytes = decode(alloc, text).map_err(|_| no_case())?;
+    let Ok(mut bytes) = decode(alloc, text) else {
+        return Err(no_case());
+    };
     for _ in 0..zeros.parse().unwrap_or(0) {
         bytes.push(0)?;
     }
@@ -40,9 +42,15 @@ pub fn bytes_of(alloc: Global, text: &str) -> io::Result<Vec<u8>> {
 
 /// `NAME CTIME.CUSEC HEX`.
 pub fn read_message(alloc: Global, text: &str) -> io::Result<Message> {
-    let (name, rest) = text.split_once(' ').ok_or(no_case())?;
-    let (time, hex) = rest.split_once(' ').ok_or(no_case())?;
-    let (ctime, cusec) = time.split_once('.').ok_or(no_case())?;
+    let Some((name, rest)) = text.split_once(' ') else {
+        return Err(no_case());
+    };
+    let Some((time, hex)) = rest.split_once(' ') else {
+        return Err(no_case());
+    };
+    let Some((ctime, cusec)) = time.split_once('.') else {
+        return Err(no_case());
+    };
     Ok(Message {
         name: String::from_str(alloc, name)?,
         ctime: ctime.parse().unwrap_or(0),
@@ -51,30 +59,29 @@ pub fn read_message(alloc: Global, text: &str) -> io::Result<Message> {
     })
 }
 
-/// What a reply to a message says.
-pub fn shown_reply(alloc: Global, message: &Message, reply: &[u8]) -> io::Result<String> {
+/// Adds what a reply to a message says, and what divides it from the next.
+pub fn show_reply(
+    alloc: Global,
+    text: &mut String,
+    message: &Message,
+    reply: &[u8],
+) -> io::Result<()> {
     let Ok(parts) = split_reply(reply) else {
-        return Ok(String::from_str(alloc, "no reply")?);
+        return Ok(text.push_str("no reply; ")?);
     };
-    let ctime = KerberosTime(message.ctime);
-    let cusec = Microseconds(message.cusec);
-    shown(
-        alloc,
-        read_reply(alloc, &SESSION, &SUBKEY, ctime, cusec, parts.ap, parts.tail),
-    )
+    let (ctime, cusec) = (KerberosTime(message.ctime), Microseconds(message.cusec));
+    match read_reply(alloc, &SESSION, &SUBKEY, ctime, cusec, parts.ap, parts.tail) {
+        Ok(reply) => Ok(show(text, &reply)?),
+        Err(OpenError::Fault(fault)) => Ok(write!(text, "{fault:?}; ")?),
+        Err(OpenError::Memory) => Err(Error::from(ErrorKind::OutOfMemory)),
+    }
 }
 
-fn shown(alloc: Global, reply: Result<Reply, OpenError<ReplyFault>>) -> io::Result<String> {
-    match reply {
-        Ok(reply) => {
-            let (code, text) = (reply.code, text_of(reply.text.as_slice()));
-            match reply.error {
-                Some(error) => Ok(format!(in alloc; "code {code} error {error} {text}")?),
-                None => Ok(format!(in alloc; "code {code} {text}")?),
-            }
-        }
-        Err(OpenError::Fault(fault)) => Ok(format!(in alloc; "{fault:?}")?),
-        Err(OpenError::Memory) => Err(Error::from(ErrorKind::OutOfMemory)),
+fn show(text: &mut String, reply: &Reply) -> Result<(), AllocError> {
+    let (code, said) = (reply.code, text_of(reply.text.as_slice()));
+    match reply.error {
+        Some(error) => write!(text, "code {code} error {error} {said}; "),
+        None => write!(text, "code {code} {said}; "),
     }
 }
 

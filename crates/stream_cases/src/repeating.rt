@@ -1,27 +1,37 @@
 //! A stream of one message, many times.
 
-use crate::messages::no_case;
-use crate::serving::{How, ended_text, serve};
-use crate::world::{World, shown};
+use crate::messages::{bytes_of, no_case};
+use crate::serving::{How, Outcome, ended_text, serve_anew};
+use crate::world::{Holding, Setting};
 use hex::encode;
 use std::alloc::Global;
 use std::io;
 
-/// What comes of these bytes, so many times as the text says before it says how they are served.
-pub fn repeated(alloc: Global, mut world: World, text: &str, bytes: &[u8]) -> io::Result<String> {
-    let (times, how) = text.split_once(' ').ok_or(no_case())?;
-    let stream = copies(alloc, bytes, times.parse().unwrap_or(0))?;
-    let outcome = serve(alloc, &mut world, How::of(how), &stream);
-    let (reply, times) = only_reply(&outcome.written).ok_or(no_case())?;
-    let (reply, ended) = (encode(alloc, reply)?, ended_text(outcome.ended));
-    let (unread, shown) = (outcome.unread, shown(alloc, &world.alone)?);
-    Ok(format!(in alloc; "[{reply}] {times} times; {ended}, {unread} bytes unread, {shown}")?)
+/// What comes of these bytes, so many times as `how` says before it says how they are served.
+pub fn repeated(alloc: Global, setting: &Setting, how: &str, text: &str) -> io::Result<String> {
+    let Some((times, how)) = how.split_once(' ') else {
+        return Err(no_case());
+    };
+    let stream = copies(alloc, text, times.parse().unwrap_or(0))?;
+    let (outcome, holding) = serve_anew(alloc, setting, How::of(how), &stream)?;
+    shown(alloc, &outcome, holding)
 }
 
-fn copies(alloc: Global, bytes: &[u8], times: u32) -> io::Result<Vec<u8>> {
+fn shown(alloc: Global, outcome: &Outcome, holding: Holding) -> io::Result<String> {
+    let Some((reply, times)) = only_reply(&outcome.written) else {
+        return Err(no_case());
+    };
+    let reply = encode(alloc, reply)?;
+    let (ended, unread) = (ended_text(outcome.ended), outcome.unread);
+    Ok(format!(in alloc; "[{reply}] {times} times; {ended}, {unread} bytes unread, {holding}")?)
+}
+
+/// The bytes of a text in hexadecimal, so many times.
+fn copies(alloc: Global, text: &str, times: u32) -> io::Result<Vec<u8>> {
+    let bytes = bytes_of(alloc, text)?;
     let mut copies = Vec::new(alloc);
     for _ in 0..times {
-        copies.extend_from_slice(bytes)?;
+        copies.extend_from_slice(&bytes)?;
     }
     Ok(copies)
 }

@@ -1,11 +1,12 @@
 //! Streams, served.
 
 use crate::clock::{Counting, Standing};
-use crate::messages::{Message, no_case, shown_reply};
-use crate::world::{self, World};
+use crate::messages::{Message, no_case, show_reply};
+use crate::world::{Holding, Setting, World};
 use chpw_answer::{Gate, Messages};
-use chpw_decider::Decider;
+use chpw_decider::{Alone, Decider};
 use chpw_frame::{Received, read_tcp, write_tcp};
+use chpw_journal::MemorySink;
 use chpw_serve::{Ended, serve_alone, serve_stream};
 use fake_streams::{Course, Giver, Taker, Way};
 use std::alloc::Global;
@@ -65,7 +66,7 @@ fn writer_of(alloc: Global, how: How) -> Taker {
 }
 
 /// Serves a stream by a table that one thread has alone.
-pub fn serve(alloc: Global, world: &mut World, how: How, stream: &[u8]) -> Outcome {
+fn serve(alloc: Global, world: &mut World, how: How, stream: &[u8]) -> Outcome {
     let mut reader = reader_of(how, stream);
     let mut writer = writer_of(alloc, how);
     let mut clock = how.clock;
@@ -145,32 +146,57 @@ fn send(stream: &mut Taker, message: &[u8]) -> io::Result<()> {
     if message.len() > chpw_frame::LONGEST_MESSAGE {
         return Err(no_case());
     }
-    write_tcp(stream, message).map_err(|_| no_case())
+    match write_tcp(stream, message) {
+        Ok(()) => Ok(()),
+        Err(_) => Err(no_case()),
+    }
 }
 
-/// Each reply, how the stream ended, and what the table is then.
+/// Serves a stream in a world of its own: what came of it, and what its table holds then.
+pub fn serve_anew(
+    alloc: Global,
+    setting: &Setting,
+    how: How,
+    stream: &[u8],
+) -> io::Result<(Outcome, Holding)> {
+    let mut world = setting.start(alloc)?;
+    let outcome = serve(alloc, &mut world, how, stream);
+    let served = with_holding(alloc, outcome, &world.alone);
+    drop(world);
+    served
+}
+
+/// What came of a stream, with what a table holds.
+pub fn with_holding(
+    alloc: Global,
+    outcome: Outcome,
+    table: &Alone<MemorySink>,
+) -> io::Result<(Outcome, Holding)> {
+    let holding = Holding::of(alloc, table)?;
+    Ok((outcome, holding))
+}
+
+/// Each reply, how the stream ended, and what the table holds then.
 pub fn served(
     alloc: Global,
-    world: &mut World,
+    setting: &Setting,
     how: How,
     messages: &[&Message],
 ) -> io::Result<String> {
-    served_as(alloc, world, how, messages, &stream_of(alloc, messages)?)
+    served_as(alloc, setting, how, messages, &stream_of(alloc, messages)?)
 }
 
 /// The same where these bytes are the stream.
 pub fn served_as(
     alloc: Global,
-    world: &mut World,
+    setting: &Setting,
     how: How,
     messages: &[&Message],
     stream: &[u8],
 ) -> io::Result<String> {
-    let outcome = serve(alloc, world, how, stream);
+    let (outcome, holding) = serve_anew(alloc, setting, how, stream)?;
     let mut shown = shown_replies(alloc, messages, &outcome.written)?;
-    shown.push_str(ended_text(outcome.ended))?;
-    shown.push_str(", ")?;
-    shown.push_str(world::shown(alloc, &world.alone)?.as_str())?;
+    write!(shown, "{}, {holding}", ended_text(outcome.ended))?;
     Ok(shown)
 }
 
@@ -179,13 +205,10 @@ pub fn shown_replies(alloc: Global, messages: &[&Message], written: &[u8]) -> io
     let mut left = written;
     let mut shown = String::new(alloc);
     for message in messages {
-        match read_tcp(alloc, &mut left)? {
-            Received::Message(reply) => {
-                shown.push_str(shown_reply(alloc, message, &reply)?.as_str())?;
-                shown.push_str("; ")?;
-            }
-            _ => break,
-        }
+        let Received::Message(reply) = read_tcp(alloc, &mut left)? else {
+            break;
+        };
+        show_reply(alloc, &mut shown, message, &reply)?;
     }
     Ok(shown)
 }

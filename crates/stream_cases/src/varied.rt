@@ -2,11 +2,12 @@
 //! bytes at a call, each served in a world of its own.
 
 use crate::messages::{Message, no_case};
-use crate::serving::{How, serve, served_as, stream_of, stream_of_one};
+use crate::serving::{How, serve_anew, served_as, stream_of, stream_of_one};
 use crate::world::Setting;
 use case_lines::{Census, Change};
 use std::alloc::Global;
 use std::io;
+use std::ops::Range;
 
 /// What comes of a message with this change at each of its places.
 pub fn varied(
@@ -21,13 +22,25 @@ pub fn varied(
     };
     let mut census = Census::new(alloc);
     for place in 0..message.bytes.len() {
-        let answer = match change.made(alloc, &message.bytes, place)? {
-            Some(bytes) => sent(alloc, setting, how, messages, &bytes)?,
-            None => String::from_str(alloc, "left out")?,
-        };
+        let answer = changed(alloc, setting, change, how, message, place)?;
         census.add(alloc, place, answer.as_str())?;
     }
     Ok(census.shown(alloc)?)
+}
+
+/// What comes of a message with this change at a place.
+fn changed(
+    alloc: Global,
+    setting: &Setting,
+    change: Change,
+    how: How,
+    message: &Message,
+    place: usize,
+) -> io::Result<String> {
+    match change.made(alloc, &message.bytes, place)? {
+        Some(bytes) => sent(alloc, setting, how, message, &bytes),
+        None => Ok(String::from_str(alloc, "left out")?),
+    }
 }
 
 /// What comes of these bytes in the place of a message.
@@ -35,66 +48,72 @@ fn sent(
     alloc: Global,
     setting: &Setting,
     how: How,
-    messages: &[&Message],
+    message: &Message,
     bytes: &[u8],
 ) -> io::Result<String> {
     let stream = stream_of_one(alloc, bytes)?;
-    served_as(alloc, &mut setting.start(alloc)?, how, messages, &stream)
+    served_as(alloc, setting, how, &[message], &stream)
 }
 
-/// What comes of these messages where the stream ends before each of its bytes.
-pub fn ending(
-    alloc: Global,
-    setting: &Setting,
-    how: How,
-    messages: &[&Message],
-) -> io::Result<String> {
-    let stream = stream_of(alloc, messages)?;
-    let mut census = Census::new(alloc);
-    for place in 0..stream.len() {
-        let mut world = setting.start(alloc)?;
-        let answer = served_as(alloc, &mut world, how, messages, &stream[..place])?;
-        census.add(alloc, place, answer.as_str())?;
+/// What differs from stream to stream of the same messages.
+#[derive(Clone, Copy, Drop)]
+pub enum Variation {
+    /// Before which of its bytes the stream ends.
+    Ending,
+    /// Before which of its bytes a read fails.
+    Failing,
+    /// How many bytes a write takes at the most, from 1 to as many as the replies have.
+    Taking,
+}
+
+impl Variation {
+    /// How a stream is served at this place, and what of it is read.
+    fn at(self, how: How, stream: &[u8], place: usize) -> (How, &[u8]) {
+        match self {
+            Variation::Ending => (how, stream.get(..place).unwrap_or(stream)),
+            Variation::Failing => {
+                let reader = how.reader.failing_after(place);
+                (How { reader, ..how }, stream)
+            }
+            Variation::Taking => {
+                let writer = how.writer.by(place);
+                (How { writer, ..how }, stream)
+            }
+        }
     }
-    Ok(census.shown(alloc)?)
-}
 
-/// What comes of these messages where a read fails before each byte of the stream.
-pub fn failing(
-    alloc: Global,
-    setting: &Setting,
-    how: How,
-    messages: &[&Message],
-) -> io::Result<String> {
-    let stream = stream_of(alloc, messages)?;
-    let mut census = Census::new(alloc);
-    for place in 0..stream.len() {
-        let reader = how.reader.failing_after(place);
-        let mut world = setting.start(alloc)?;
-        let how = How { reader, ..how };
-        let answer = served_as(alloc, &mut world, how, messages, &stream)?;
-        census.add(alloc, place, answer.as_str())?;
+    /// The places of a stream.
+    fn places(
+        self,
+        alloc: Global,
+        setting: &Setting,
+        how: How,
+        stream: &[u8],
+    ) -> io::Result<Range<usize>> {
+        match self {
+            Variation::Ending | Variation::Failing => Ok(0..stream.len()),
+            Variation::Taking => {
+                let (whole, _) = serve_anew(alloc, setting, how, stream)?;
+                Ok(1..whole.written.len().saturating_add(1))
+            }
+        }
     }
-    Ok(census.shown(alloc)?)
 }
 
-/// What comes of these messages where a write takes so many bytes at the most, from 1 to as many as the
-/// replies have.
-pub fn taking(
+/// What comes of these messages at each place where their stream varies.
+pub fn varied_stream(
     alloc: Global,
     setting: &Setting,
+    variation: Variation,
     how: How,
     messages: &[&Message],
 ) -> io::Result<String> {
     let stream = stream_of(alloc, messages)?;
-    let whole = serve(alloc, &mut setting.start(alloc)?, how, &stream).written;
     let mut census = Census::new(alloc);
-    for most in 1..=whole.len() {
-        let writer = how.writer.by(most);
-        let mut world = setting.start(alloc)?;
-        let how = How { writer, ..how };
-        let answer = served_as(alloc, &mut world, how, messages, &stream)?;
-        census.add(alloc, most, answer.as_str())?;
+    for place in variation.places(alloc, setting, how, &stream)? {
+        let (how, stream) = variation.at(how, &stream, place);
+        let answer = served_as(alloc, setting, how, messages, stream)?;
+        census.add(alloc, place, answer.as_str())?;
     }
     Ok(census.shown(alloc)?)
 }

@@ -1,13 +1,11 @@
 //! Streams that end for want of memory.
 
 use crate::messages::{Message, no_case};
-use crate::serving::{How, Outcome, ended_text, serve_by, shown_replies, stream_of};
+use crate::serving::{How, Outcome, ended_text, serve_by, shown_replies, stream_of, with_holding};
 use crate::sparing::Sparing;
 use crate::watched::{Mood, Watched};
-use crate::world::{World, shown};
+use crate::world::{Holding, Setting, World};
 use chpw_answer::NoGate;
-use chpw_decider::Alone;
-use chpw_journal::MemorySink;
 use std::alloc::Global;
 use std::io;
 
@@ -15,37 +13,40 @@ use std::io;
 /// memory `to decide`, or `to reply` to what opened.
 pub fn wanting(
     alloc: Global,
-    world: World,
+    setting: &Setting,
     what: &str,
     messages: &[&Message],
 ) -> io::Result<String> {
     let stream = stream_of(alloc, messages)?;
-    let (outcome, alone) = match what {
-        "to decide" => undecided(alloc, world, &stream),
-        "to reply" => unanswered(alloc, world, &stream),
+    let (outcome, holding) = match what {
+        "to decide" => undecided(alloc, setting, &stream)?,
+        "to reply" => unanswered(alloc, setting, &stream)?,
         _ => return Err(no_case()),
     };
-    let replies = shown_replies(alloc, messages, &outcome.written)?;
+    let mut shown = shown_replies(alloc, messages, &outcome.written)?;
     let (ended, unread) = (ended_text(outcome.ended), outcome.unread);
-    let shown = shown(alloc, &alone)?;
-    Ok(format!(in alloc; "{replies}{ended}, {unread} bytes unread, {shown}")?)
+    write!(shown, "{ended}, {unread} bytes unread, {holding}")?;
+    Ok(shown)
 }
 
 /// Served by a decider that has no memory.
-fn undecided(alloc: Global, world: World, stream: &[u8]) -> (Outcome, Alone<MemorySink>) {
-    let World { service, alone } = world;
+fn undecided(alloc: Global, setting: &Setting, stream: &[u8]) -> io::Result<(Outcome, Holding)> {
+    let World { service, alone } = setting.start(alloc)?;
     let mut decider = Watched::of(alloc, alone, Mood::NoMemory);
     let how = How::of("at 1000100");
     let outcome = serve_by(alloc, &service, &mut decider, &mut NoGate, how, stream);
-    (outcome, decider.alone)
+    let served = with_holding(alloc, outcome, &decider.alone);
+    drop((service, decider));
+    served
 }
 
 /// Served where no reply to an opened request can be made.
-fn unanswered(alloc: Global, world: World, stream: &[u8]) -> (Outcome, Alone<MemorySink>) {
-    let World { service, alone } = world;
-    let mut alone = alone;
+fn unanswered(alloc: Global, setting: &Setting, stream: &[u8]) -> io::Result<(Outcome, Holding)> {
+    let World { service, mut alone } = setting.start(alloc)?;
     let messages = Sparing { messages: &service };
     let how = How::of("at 1000100");
     let outcome = serve_by(alloc, &messages, &mut alone, &mut NoGate, how, stream);
-    (outcome, alone)
+    let served = with_holding(alloc, outcome, &alone);
+    drop((service, alone));
+    served
 }

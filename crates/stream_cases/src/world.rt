@@ -1,5 +1,6 @@
 //! The service and its table, as a configuration starts them.
-ghost use Rattle.std.specs.Prelude.{◌≡◌, IsTrue, true};
+ghost use Rattle.std.specs.Prelude.{◌≡◌, true};
+ghost use Rattle.chpw_rules.specs.Fitting.{config_fits};
 
 use chpw_config::read_config;
 use chpw_decider::Alone;
@@ -7,13 +8,17 @@ use chpw_journal::MemorySink;
 use chpw_messages::Service;
 use chpw_rules::{Config, Name};
 use chpw_table::Table;
-use std::alloc::Global;
+use std::alloc::{AllocError, Global};
+use std::fmt;
 use std::io::{self, Error, ErrorKind};
 
 /// Bytes of a journal here.
 const JOURNAL: usize = 100_000;
 
 /// What is served with.
+///
+/// Whoever starts a world lets it go by `drop`, which takes the prover one step in the place of one for each
+/// part of a table.
 #[derive(Drop)]
 pub struct World {
     pub service: Service,
@@ -35,30 +40,55 @@ impl Setting {
             return Err(Error::from(ErrorKind::InvalidData));
         };
         let service = Service::of(alloc, &config)?;
-        let table = Table::start(alloc, config, self.quiet_until)?;
-        let sink = MemorySink::new(alloc, JOURNAL)?;
-        Ok(World {
-            service,
-            alone: Alone::new(alloc, table, sink),
+        let alone = start_alone(alloc, config, self.quiet_until)?;
+        Ok(World { service, alone })
+    }
+}
+
+fn start_alone(
+    alloc: Global,
+    config: Config,
+    quiet_until: i64,
+) -> Result<Alone<MemorySink>, AllocError>
+    requires fits { config_fits config ≡ true }
+{
+    let table = Table::start(alloc, config, quiet_until)?;
+    let sink = MemorySink::new(alloc, JOURNAL)?;
+    Ok(Alone::new(alloc, table, sink))
+}
+
+/// How many events a table had, and the kvno of alice and of bob in it.
+#[derive(Clone, Copy, Drop)]
+pub struct Holding {
+    events: usize,
+    alice: u32,
+    bob: u32,
+}
+
+impl Holding {
+    pub fn of(alloc: Global, alone: &Alone<MemorySink>) -> Result<Holding, AllocError> {
+        Ok(Holding {
+            events: chpw_decider::Decider::receipts(alone).len(),
+            alice: kvno(alloc, alone, "alice")?,
+            bob: kvno(alloc, alone, "bob")?,
         })
     }
 }
 
-/// How many events there were, and the kvno of alice and of bob.
-pub fn shown(alloc: Global, alone: &Alone<MemorySink>) -> io::Result<String> {
-    let events = chpw_decider::Decider::receipts(alone).len();
-    let alice = kvno(alloc, alone, "alice")?;
-    let bob = kvno(alloc, alone, "bob")?;
-    Ok(format!(in alloc; "{events} events, alice {alice}, bob {bob}")?)
+impl fmt::Display for Holding {
+    fn fmt<W: fmt::Write>(&self, f: &mut fmt::Formatter<W>) -> fmt::Result {
+        let Holding { events, alice, bob } = *self;
+        write!(f, "{events} events, alice {alice}, bob {bob}")
+    }
 }
 
 /// The newest kvno of a name, 0 where it is none of a principal.
-fn kvno(alloc: Global, alone: &Alone<MemorySink>, name: &str) -> io::Result<u32> {
-    match Name::parse(alloc, name)? {
+fn kvno(alloc: Global, alone: &Alone<MemorySink>, name: &str) -> Result<u32, AllocError> {
+    let Some(name) = Name::parse(alloc, name)? else {
+        return Ok(0);
+    };
+    match alone.table().lookup(&name) {
+        Some(shown) => Ok(shown.kvno),
         None => Ok(0),
-        Some(name) => Ok(match alone.table().lookup(&name) {
-            None => 0,
-            Some(shown) => shown.kvno,
-        }),
     }
 }
