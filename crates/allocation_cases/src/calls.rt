@@ -1,32 +1,34 @@
 //! The calls, by their lines.
 
+use crate::page::Page;
 use crate::pools::Machine;
-use crate::stop::{Stop, Told};
+use crate::stop::{Fell, Stop};
 use crate::{client, commands, desks, frames, keys, messages, pools, records, tables};
-use std::alloc::Global;
 
-/// What the call of a line gives.
-pub fn told<R: Machine>(rt: &R, line: &str) -> Result<Told, Stop> {
-    let alloc = rt.alloc();
+/// Writes what the call of a line gives: where it fell.
+pub fn told<R: Machine>(rt: &R, page: &mut Page, line: &str) -> Result<Fell, Stop> {
     let (call, text) = line.split_once(' ').unwrap_or((line, ""));
     match call {
-        "desk" => desks::told(rt, alloc, text),
-        "pool" => pools::told(rt, alloc),
-        "alone" => tables::told(alloc, text),
-        _ => Ok(Told::of(plain(alloc, call, text)?)),
+        "desk" => desks::told(rt, page, text),
+        "pool" => pools::told(rt, page),
+        "alone" => tables::told(page, text),
+        _ => {
+            plain(page, call, text)?;
+            Ok(Fell::Nowhere)
+        }
     }
 }
 
-/// What a call gives that leaves nothing behind.
-fn plain(alloc: Global, call: &str, text: &str) -> Result<String, Stop> {
+/// A call that leaves nothing behind where it is refused.
+fn plain(page: &mut Page, call: &str, text: &str) -> Result<(), Stop> {
     match call {
-        "read" | "write" => records::told(alloc, call == "read", text),
-        "key" => keys::told(alloc, text),
-        "message" => messages::told(alloc, text),
-        "frame" => frames::told(alloc, text),
-        "client" => client::told(alloc, text),
-        "command" => commands::told(alloc, text),
-        "table" => tables::plain(alloc, text),
+        "read" | "write" => records::told(page, call == "read", text),
+        "key" => keys::told(page, text),
+        "message" => messages::told(page, text),
+        "frame" => frames::told(page, text),
+        "client" => client::told(page, text),
+        "command" => commands::told(page, text),
+        "table" => tables::plain(page, text),
         _ => Err(Stop::Wrong("no such call")),
     }
 }

@@ -1,5 +1,6 @@
 //! Calls of chpw_config, chpw_commands and chpw_invocation.
 
+use crate::page::Page;
 use crate::stop::{Stop, called};
 use chpw_commands::{DrillFault, explain_check, run_check, run_drill};
 use chpw_config::{ConfigError, read_config};
@@ -42,14 +43,14 @@ const SCRIPT: &str = "realm EXAMPLE.COM
 ";
 
 /// The command, and the words behind it.
-pub fn told(alloc: Global, line: &str) -> Result<String, Stop> {
+pub fn told(page: &mut Page, line: &str) -> Result<(), Stop> {
     let (call, text) = line.split_once(' ').unwrap_or((line, ""));
     match call {
-        "read_config" => read(alloc, config_of(text)),
-        "run_check" => checked(alloc, config_of(text)),
-        "explain_check" => explained(alloc, config_of("faulty")),
-        "run_drill" => drilled(alloc, text),
-        "command_of" => commanded(alloc, text),
+        "read_config" => read(page, config_of(text)),
+        "run_check" => checked(page, config_of(text)),
+        "explain_check" => explained(page, config_of("faulty")),
+        "run_drill" => drilled(page, text),
+        "command_of" => commanded(page, text),
         _ => Err(Stop::Wrong("no such call")),
     }
 }
@@ -62,18 +63,22 @@ fn config_of(kind: &str) -> &'static str {
     }
 }
 
-fn shown(alloc: Global, config: &Config) -> Result<String, Stop> {
-    let realm = str::from_utf8(config.realm.as_slice()).unwrap_or("no UTF-8");
-    let count = config.principals.as_slice().len();
-    Ok(format!(in alloc; "{realm} principals {count}")?)
-}
-
-fn read(alloc: Global, text: &str) -> Result<String, Stop> {
-    match read_config(alloc, text) {
-        Ok(config) => shown(alloc, &config),
+fn read(page: &mut Page, text: &str) -> Result<(), Stop> {
+    match read_config(page.alloc(), text) {
+        Ok(config) => {
+            put_config(page, &config);
+            Ok(())
+        }
         Err(ConfigError::Memory) => Err(Stop::Call),
         Err(ConfigError::Fault(_)) => Err(Stop::Wrong("a fault of the configuration")),
     }
+}
+
+fn put_config(page: &mut Page, config: &Config) {
+    page.put(text_of(config.realm.as_slice()));
+    page.put(" principals ");
+    let count = config.principals.as_slice().len();
+    page.add(count.to_string(page.alloc()));
 }
 
 /// What a command printed; after a refusal it is to have printed nothing.
@@ -90,24 +95,34 @@ fn text_of(bytes: &[u8]) -> &str {
     str::from_utf8(bytes).unwrap_or("no UTF-8").trim_end()
 }
 
-fn checked(alloc: Global, config: &str) -> Result<String, Stop> {
-    let mut written = Vec::with_capacity(alloc, PRINTED)?;
-    let answer = run_check(alloc, config.as_bytes(), &mut written);
+fn checked(page: &mut Page, config: &str) -> Result<(), Stop> {
+    let mut written = Vec::with_capacity(page.alloc(), PRINTED)?;
+    let answer = run_check(page.alloc(), config.as_bytes(), &mut written);
     let status = printed(answer, &written)?;
-    Ok(format!(in alloc; "{}, status {status}", text_of(&written))?)
+    page.put(text_of(&written));
+    page.put(", status ");
+    page.number(u32::from(status));
+    Ok(())
 }
 
-fn explained(alloc: Global, config: &str) -> Result<String, Stop> {
-    let words = called(explain_check(alloc, config.as_bytes()))?;
-    words.ok_or(Stop::Wrong("a fault that isn't explained"))
+fn explained(page: &mut Page, config: &str) -> Result<(), Stop> {
+    match called(explain_check(page.alloc(), config.as_bytes()))? {
+        None => Err(Stop::Wrong("a fault that isn't explained")),
+        Some(words) => {
+            page.put(words.as_str());
+            Ok(())
+        }
+    }
 }
 
 /// The lines of the script with `;` between them; what it prints, with `;` for newlines.
-fn drilled(alloc: Global, script: &str) -> Result<String, Stop> {
+fn drilled(page: &mut Page, script: &str) -> Result<(), Stop> {
+    let alloc = page.alloc();
     let script = script.replace(alloc, ";", "\n")?;
     let mut written = Vec::with_capacity(alloc, PRINTED)?;
     drill(alloc, script.as_str().as_bytes(), &mut written)?;
-    Ok(text_of(&written).replace(alloc, "\n", ";")?)
+    page.add(text_of(&written).replace(alloc, "\n", ";"));
+    Ok(())
 }
 
 /// Runs a script over an empty list of bytes.
@@ -117,29 +132,23 @@ fn drill(alloc: Global, script: &[u8], written: &mut Vec<u8>) -> Result<(), Stop
     printed(answer, written)
 }
 
-fn commanded(alloc: Global, text: &str) -> Result<String, Stop> {
-    named_of(alloc, &words_of(alloc, text)?)
+/// A word of the command that these words ask for, or why they ask for none.
+fn commanded(page: &mut Page, text: &str) -> Result<(), Stop> {
+    let words = words_of(page.alloc(), text)?;
+    match command_of(page.alloc(), &words) {
+        Ok(invocation) => page.put(named(&invocation)),
+        Err(error) if error.kind() == ErrorKind::OutOfMemory => return Err(Stop::Call),
+        Err(error) => page.add(format!(in page.alloc(); "{:?}", error.kind())),
+    }
+    Ok(())
 }
 
 fn words_of(alloc: Global, text: &str) -> Result<Vec<String>, Stop> {
     let mut words = Vec::new(alloc);
     for word in text.split(' ') {
-        add_word(&mut words, alloc, word)?;
+        words.push(String::from_str(alloc, word)?)?;
     }
     Ok(words)
-}
-
-fn add_word(words: &mut Vec<String>, alloc: Global, word: &str) -> Result<(), Stop> {
-    Ok(words.push(String::from_str(alloc, word)?)?)
-}
-
-/// A word of the command that these words ask for, or why they ask for none.
-fn named_of(alloc: Global, words: &[String]) -> Result<String, Stop> {
-    match command_of(alloc, words) {
-        Ok(invocation) => Ok(String::from_str(alloc, named(&invocation))?),
-        Err(error) if error.kind() == ErrorKind::OutOfMemory => Err(Stop::Call),
-        Err(error) => Ok(format!(in alloc; "{:?}", error.kind())?),
-    }
 }
 
 fn named<'a>(invocation: &Invocation<'a>) -> &'a str {

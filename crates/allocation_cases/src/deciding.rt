@@ -1,245 +1,175 @@
 //! Decisions, and the same again where memory was wanting.
 
-use crate::clock::NOW;
-use crate::seen::kept_text;
-use crate::stop::{Fell, Stop, Told};
-use crate::streams::Serving;
-use crate::world::{JOURNAL, asked, password, table};
-use chpw_journal::MemorySink;
-use chpw_table::{Counts, DecideFault, JournalSink, Opened, Outcome, Refused, Table, Verdict};
+use crate::page::Page;
+use crate::stop::{Fell, Stop};
+use crate::world::{asked, complete, password};
+use chpw_table::{DecideFault, Opened, Refused, Verdict};
 use std::alloc::Global;
 
-/// Derives the keys of a request's password, under the one count that there is.
-pub fn with_keys(alloc: Global, opened: &mut Opened, number: u32) -> Result<(), Stop> {
-    let password = password(alloc, number)?;
-    let salt = opened.salt()?;
-    let mut counts = Counts::new();
-    counts.push(4);
-    opened.complete(password.as_str().as_bytes(), salt.as_slice(), &counts)?;
-    Ok(())
-}
+/// Whoever decides requests, and is looked at.
+pub trait Decides {
+    /// Decides a request that has its keys; or else they are derived of the password that is given.
+    fn ask(&mut self, opened: Opened, password: Option<&[u8]>) -> Result<Verdict, Refused>;
 
-/// A request with its keys.
-fn complete(alloc: Global, number: u32) -> Result<Opened, Stop> {
-    let mut opened = asked(alloc, number)?;
-    with_keys(alloc, &mut opened, number)?;
-    Ok(opened)
+    /// Writes all that is seen of it.
+    fn show(&mut self, page: &mut Page);
 }
 
 /// Only want of memory may refuse.
-fn refused_for(fault: &DecideFault) -> Result<(), Stop> {
-    match fault {
-        DecideFault::Memory => Ok(()),
-        _ => Err(Stop::Wrong("another refusal")),
+const ANOTHER: Stop = Stop::Wrong("another refusal");
+
+/// All that is seen.
+pub fn seen<D: Decides>(alloc: Global, decider: &mut D) -> Result<Page, Stop> {
+    let mut page = Page::new(alloc);
+    decider.show(&mut page);
+    page.whole()?;
+    Ok(page)
+}
+
+/// That all that is seen is as it was.
+pub fn unchanged<D: Decides>(decider: &mut D, was: &Page) -> Result<(), Stop> {
+    let now = seen(was.alloc(), decider)?;
+    if now.text() == was.text() {
+        Ok(())
+    } else {
+        Err(Stop::Wrong("the table isn't as it was"))
     }
 }
 
-/// What is answered beside the call.
-fn decided_beside<T>(answer: Result<T, Refused>) -> Result<T, Stop> {
-    match answer {
-        Ok(value) => Ok(value),
-        Err(refused) => Err(match refused.fault {
-            DecideFault::Memory => Stop::Beside,
-            _ => Stop::Wrong("another refusal"),
-        }),
+/// The verdict of a request beside the call.
+fn decided_beside<D: Decides>(
+    decider: &mut D,
+    opened: Opened,
+    password: Option<&[u8]>,
+) -> Result<Verdict, Stop> {
+    match decider.ask(opened, password) {
+        Ok(verdict) => Ok(verdict),
+        Err(
+            Refused {
+                fault: DecideFault::Memory,
+                opened: _,
+            },
+        ) => Err(Stop::Beside),
+        Err(_) => Err(ANOTHER),
     }
 }
 
 /// So many changes, each to another password.
-pub fn change_often<D: Serving>(alloc: Global, decider: &mut D, count: u32) -> Result<(), Stop> {
+pub fn change_often<D: Decides>(alloc: Global, decider: &mut D, count: u32) -> Result<(), Stop> {
     for number in 0..count {
-        decided_beside(decider.decide(NOW, complete(alloc, number)?))?;
+        let opened = complete(alloc, number)?;
+        decided_beside(decider, opened, None)?;
     }
     Ok(())
 }
 
 /// The verdict of a request after so many changes, with its keys or to be derived.
-pub fn decided<D: Serving>(
-    alloc: Global,
+pub fn decided<D: Decides>(
+    page: &mut Page,
     decider: &mut D,
     before: u32,
     derives: bool,
-) -> Result<Told, Stop> {
+) -> Result<Fell, Stop> {
+    let alloc = page.alloc();
     change_often(alloc, decider, before)?;
-    let password = password(alloc, before)?;
-    let opened = if derives {
-        asked(alloc, before)?
+    let (fell, verdict) = if derives {
+        derived(alloc, decider, before)?
     } else {
-        complete(alloc, before)?
+        verdict_of(alloc, decider, complete(alloc, before)?, None)?
     };
-    let way = Way {
-        password: password.as_str().as_bytes(),
-        derives,
-    };
-    let (fell, verdict) = verdict_of(alloc, decider, opened, way)?;
-    let seen = decider.seen(alloc)?;
-    let text = format!(in alloc; "{}; {seen}", verdict.text())?;
-    Ok(Told { fell, text })
+    page.put(verdict.text());
+    page.put("; ");
+    decider.show(page);
+    Ok(fell)
 }
 
-/// How a request is decided: by its keys, or by those derived of a password.
-#[derive(Clone, Copy, Drop)]
-struct Way<'a> {
-    password: &'a [u8],
-    derives: bool,
+/// The verdict of a request whose keys are derived.
+fn derived<D: Decides>(
+    alloc: Global,
+    decider: &mut D,
+    number: u32,
+) -> Result<(Fell, Verdict), Stop> {
+    let password = password(alloc, number)?;
+    let password = Some(password.as_str().as_bytes());
+    verdict_of(alloc, decider, asked(alloc, number)?, password)
+}
+
+/// What a refused request is compared with.
+#[derive(Drop)]
+struct Before {
+    opened: Opened,
+    seen: Page,
+}
+
+fn looked_at<D: Decides>(alloc: Global, decider: &mut D, opened: &Opened) -> Result<Before, Stop> {
+    let seen = seen(alloc, decider)?;
+    let opened = opened.clone()?;
+    Ok(Before { opened, seen })
 }
 
 /// The verdict of a request, and where it fell.
-fn verdict_of<D: Serving>(
+fn verdict_of<D: Decides>(
     alloc: Global,
     decider: &mut D,
     opened: Opened,
-    way: Way<'_>,
+    password: Option<&[u8]>,
 ) -> Result<(Fell, Verdict), Stop> {
-    let copy = opened.clone()?;
-    let was = decider.seen(alloc)?;
-    match ask(decider, opened, way) {
+    let was = looked_at(alloc, decider, &opened)?;
+    verdict_from(decider, opened, password, &was)
+}
+
+fn verdict_from<D: Decides>(
+    decider: &mut D,
+    opened: Opened,
+    password: Option<&[u8]>,
+    was: &Before,
+) -> Result<(Fell, Verdict), Stop> {
+    match decider.ask(opened, password) {
         Ok(verdict) => Ok((Fell::Nowhere, verdict)),
-        Err(refused) => {
-            let verdict = asked_again(alloc, decider, refused, way, (&copy, was.as_str()))?;
-            Ok((Fell::Call, verdict))
-        }
+        Err(refused) => asked_again(decider, refused, password, was),
     }
 }
 
-/// The verdict of a request that was refused, made again: table and request are as they were.
-fn asked_again<D: Serving>(
-    alloc: Global,
+/// The verdict of a request that was refused, made again.
+fn asked_again<D: Decides>(
     decider: &mut D,
     refused: Refused,
-    way: Way<'_>,
-    was: (&Opened, &str),
-) -> Result<Verdict, Stop> {
-    let copy = if way.derives { &refused.opened } else { was.0 };
-    unchanged(&refused, copy, decider.seen(alloc)?.as_str(), was.1)?;
-    decided_beside(ask(decider, refused.opened, way))
+    password: Option<&[u8]>,
+    was: &Before,
+) -> Result<(Fell, Verdict), Stop> {
+    handed_back(&refused, password, was)?;
+    unchanged(decider, &was.seen)?;
+    let verdict = decided_beside(decider, refused.opened, password)?;
+    Ok((Fell::Call, verdict))
 }
 
-/// That want of memory refused a request, and left it and all that is seen as they were.
-fn unchanged(refused: &Refused, copy: &Opened, seen: &str, was: &str) -> Result<(), Stop> {
-    refused_for(&refused.fault)?;
-    if seen != was {
-        return Err(Stop::Wrong("the table isn't as it was"));
+/// That want of memory refused a request, and handed it back as it was; where its keys are derived it may
+/// have them.
+fn handed_back(refused: &Refused, password: Option<&[u8]>, was: &Before) -> Result<(), Stop> {
+    match refused.fault {
+        DecideFault::Memory => {}
+        _ => return Err(ANOTHER),
     }
-    if !refused.opened.is_same(copy) {
-        return Err(Stop::Wrong("the request isn't as it was"));
+    if password.is_some() || refused.opened.is_same(&was.opened) {
+        Ok(())
+    } else {
+        Err(Stop::Wrong("the request isn't as it was"))
     }
-    Ok(())
 }
 
 /// A request decided after so many changes, and not again where it was refused.
-pub fn decided_once<D: Serving>(alloc: Global, decider: &mut D, before: u32) -> Result<Told, Stop> {
-    change_often(alloc, decider, before)?;
-    let fell = fell_of(decider.decide(NOW, complete(alloc, before)?))?;
-    let text = String::from_str(alloc, "left")?;
-    Ok(Told { fell, text })
-}
-
-/// Where a decision fell.
-fn fell_of(answer: Result<Verdict, Refused>) -> Result<Fell, Stop> {
-    match answer {
-        Ok(_) => Ok(Fell::Nowhere),
-        Err(refused) => {
-            refused_for(&refused.fault)?;
-            Ok(Fell::Call)
-        }
-    }
-}
-
-fn ask<D: Serving>(decider: &mut D, opened: Opened, way: Way<'_>) -> Result<Verdict, Refused> {
-    if way.derives {
-        decider.decide_deriving(NOW, opened, way.password)
-    } else {
-        decider.decide(NOW, opened)
-    }
-}
-
-/// `Table::decide` of a request, over a sink that has room to count one more failure.
-fn ask_table(table: &mut Table, opened: Opened, sink: &mut MemorySink) -> Result<Outcome, Refused> {
-    if sink.failures() == u64::MAX {
-        let fault = DecideFault::Full;
-        return Err(Refused { fault, opened });
-    }
-    table.decide(NOW, opened, sink)
-}
-
-/// So many changes, each to another password.
-fn change_table(
-    alloc: Global,
-    table: &mut Table,
-    sink: &mut MemorySink,
-    count: u32,
-) -> Result<(), Stop> {
-    for number in 0..count {
-        decided_beside(ask_table(table, complete(alloc, number)?, sink))?;
-    }
-    Ok(())
-}
-
-/// The outcome of a request that was refused, made again: table, journal and request are as they were.
-fn again(
-    alloc: Global,
-    table: &mut Table,
-    sink: &mut MemorySink,
-    refused: Refused,
-    was: (&Opened, &str),
-) -> Result<Outcome, Stop> {
-    let seen = kept_text(alloc, table, sink)?;
-    unchanged(&refused, was.0, seen.as_str(), was.1)?;
-    decided_beside(ask_table(table, refused.opened, sink))
-}
-
-/// What is told of an outcome over a table.
-fn outcome_told(
-    alloc: Global,
-    table: &Table,
-    sink: &MemorySink,
-    fell: Fell,
-    outcome: &Outcome,
-) -> Result<Told, Stop> {
-    let seen = kept_text(alloc, table, sink)?;
-    let text = format!(in alloc; "{}; {seen}", outcome.verdict.text())?;
-    Ok(Told { fell, text })
-}
-
-/// The outcome of a request over a table, and where it fell.
-fn outcome_of(
-    alloc: Global,
-    table: &mut Table,
-    sink: &mut MemorySink,
-    opened: Opened,
-    copy: &Opened,
-) -> Result<(Fell, Outcome), Stop> {
-    let was = kept_text(alloc, table, sink)?;
-    match ask_table(table, opened, sink) {
-        Ok(outcome) => Ok((Fell::Nowhere, outcome)),
-        Err(refused) => {
-            let outcome = again(alloc, table, sink, refused, (copy, was.as_str()))?;
-            Ok((Fell::Call, outcome))
-        }
-    }
-}
-
-/// The verdict of a request over a table after so many changes.
-fn told_over(
-    alloc: Global,
-    table: &mut Table,
-    sink: &mut MemorySink,
+pub fn decided_once<D: Decides>(
+    page: &mut Page,
+    decider: &mut D,
     before: u32,
-) -> Result<Told, Stop> {
-    change_table(alloc, table, sink, before)?;
+) -> Result<Fell, Stop> {
+    let alloc = page.alloc();
+    change_often(alloc, decider, before)?;
     let opened = complete(alloc, before)?;
-    let copy = opened.clone()?;
-    let (fell, outcome) = outcome_of(alloc, table, sink, opened, &copy)?;
-    if !outcome.opened.is_same(&copy) {
-        return Err(Stop::Wrong("the request isn't handed back"));
+    page.put("left");
+    match decided_beside(decider, opened, None) {
+        Ok(_) => Ok(Fell::Nowhere),
+        Err(Stop::Beside) => Ok(Fell::Call),
+        Err(stop) => Err(stop),
     }
-    outcome_told(alloc, table, sink, fell, &outcome)
-}
-
-/// The same by `Table::decide`.
-pub fn decided_by_table(alloc: Global, before: u32) -> Result<Told, Stop> {
-    let mut table = table(alloc)?;
-    let mut sink = MemorySink::new(alloc, JOURNAL)?;
-    told_over(alloc, &mut table, &mut sink, before)
 }

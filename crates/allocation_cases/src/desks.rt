@@ -3,13 +3,15 @@ ghost use Rattle.std.specs.Prelude.{◌≡◌};
 ghost use Rattle.chpw_book.specs.Starting.{IsNamed, workers_of};
 
 use crate::clock::NOW;
-use crate::deciding::{change_often, decided, decided_once};
-use crate::seen::{history_text, kept_text, lookup_text, pass_text, receipts_text};
-use crate::stop::{Fell, Stop, Told};
+use crate::deciding::{Decides, change_often, decided, decided_once, seen, unchanged};
+use crate::page::Page;
+use crate::seen::{put_history, put_kept, put_lookup, put_receipts};
+use crate::stop::{Fell, Stop, wanting};
 use crate::streams::served;
 use crate::world::{JOURNAL, known, table};
 use chpw_book::{AtDesk, CloseRefused, Closed, Desk, DeskName, Pass, RaiseFault, UnnamedDesk};
 use chpw_journal::MemorySink;
+use chpw_rules::Name;
 use chpw_table::RaiseVerdict;
 use std::alloc::Global;
 use std::marker::Brand;
@@ -27,171 +29,178 @@ struct Asked<'a> {
 
 /// `start`, `decide N`, `derive N`, `serve N`, `lookup N`: the call after N changes. `leave N`: the desk is
 /// closed after a decision, which is not made again where it was refused.
-pub fn told<R: Wait>(rt: &R, alloc: Global, line: &str) -> Result<Told, Stop> {
+pub fn told<R: Wait>(rt: &R, page: &mut Page, line: &str) -> Result<Fell, Stop> {
     let (call, number) = line.split_once(' ').unwrap_or((line, "0"));
     let before = number.parse().unwrap_or(0);
     let asked = Asked { call, before };
-    let table = table(alloc)?;
-    at::<Brand, R>(rt, alloc, UnnamedDesk::of(table, 2), asked)
+    let table = table(page.alloc())?;
+    at::<Brand, R>(rt, page, UnnamedDesk::of(table, 2), asked)
 }
 
 /// The call, and what the desk leaves at its close.
 fn at<D: DeskName, R: Wait>(
     rt: &R,
-    alloc: Global,
+    page: &mut Page,
     unnamed: UnnamedDesk,
     asked: Asked<'_>,
-) -> Result<Told, Stop>
+) -> Result<Fell, Stop>
     requires name { IsNamed unnamed D.name D.parts D.book D.root D.workers }
 {
-    let sink = MemorySink::new(alloc, JOURNAL)?;
-    match Desk::<D, MemorySink>::start(rt, alloc, unnamed, sink) {
-        Ok((desk, passes)) => with_desk(rt, alloc, desk, passes, asked),
-        Err(_) if asked.call == "start" => Err(Stop::Call),
-        Err(_) => Err(Stop::Beside),
+    let sink = MemorySink::new(page.alloc(), JOURNAL)?;
+    match Desk::<D, MemorySink>::start(rt, page.alloc(), unnamed, sink) {
+        Ok((desk, passes)) => with_desk(rt, page, desk, passes, asked),
+        Err(_) => Err(wanting(asked.call == "start")),
     }
 }
 
 fn with_desk<D: DeskName, R: Wait>(
     rt: &R,
-    alloc: Global,
+    page: &mut Page,
     desk: Desk<D, MemorySink>,
     mut passes: Vec<Pass<D>>,
     asked: Asked<'_>,
-) -> Result<Told, Stop> {
-    let told = with_first(rt, alloc, &desk, &mut passes, asked);
-    let closed = closed(rt, desk, passes);
-    let told = told?;
-    with_left(alloc, told.fell, told.text.as_str(), &closed?, asked)
+) -> Result<Fell, Stop> {
+    let fell = with_first(rt, page, &desk, &mut passes, asked);
+    match closed(rt, desk, passes) {
+        Ok(closed) => with_left(page, &closed, asked, fell),
+        Err(stop) => Err(stop),
+    }
 }
 
 fn with_first<D: DeskName, R: Wait>(
     rt: &R,
-    alloc: Global,
+    page: &mut Page,
     desk: &Desk<D, MemorySink>,
     passes: &mut [Pass<D>],
     asked: Asked<'_>,
-) -> Result<Told, Stop> {
+) -> Result<Fell, Stop> {
     match passes {
-        [pass, ..] => with_pass(rt, alloc, desk, pass, asked),
+        [pass, ..] => with_worker(page, &mut AtDesk { rt, desk, pass }, asked),
         [] => Err(Stop::Wrong("no pass")),
     }
 }
 
 /// What was told, and what the desk leaves.
 fn with_left(
-    alloc: Global,
-    fell: Fell,
-    told: &str,
+    page: &mut Page,
     closed: &Closed<MemorySink>,
     asked: Asked<'_>,
-) -> Result<Told, Stop> {
-    let left = match asked.call {
-        "leave" => counted(alloc, closed, asked.before, fell)?,
-        _ => left(alloc, closed)?,
-    };
-    let text = format!(in alloc; "{told}; {left}")?;
-    Ok(Told { fell, text })
+    fell: Result<Fell, Stop>,
+) -> Result<Fell, Stop> {
+    let fell = fell?;
+    page.put("; ");
+    if asked.call == "leave" {
+        counted(closed, asked.before, fell)?;
+        page.put("as many entries, changes and records");
+    } else {
+        put_history(page, &closed.history);
+        page.put(" ");
+        put_kept(page, &closed.table, &closed.sink);
+    }
+    Ok(fell)
 }
 
-fn with_pass<D: DeskName, R: Wait>(
-    rt: &R,
-    alloc: Global,
-    desk: &Desk<D, MemorySink>,
-    pass: &mut Pass<D>,
+fn with_worker<D: DeskName, R: Wait>(
+    page: &mut Page,
+    worker: &mut AtDesk<'_, D, MemorySink, R>,
     asked: Asked<'_>,
-) -> Result<Told, Stop> {
+) -> Result<Fell, Stop> {
     let before = asked.before;
-    let mut worker = AtDesk { rt, desk, pass };
     match asked.call {
-        "start" => Ok(Told::of(pass_text(alloc, desk, worker.pass)?)),
-        "decide" => decided(alloc, &mut worker, before, false),
-        "derive" => decided(alloc, &mut worker, before, true),
-        "leave" => decided_once(alloc, &mut worker, before),
-        "serve" => served(alloc, &mut worker, before),
-        "lookup" => {
-            change_often(alloc, &mut worker, before)?;
-            looked_up(alloc, desk, worker.pass)
+        "start" => {
+            worker.show(page);
+            Ok(Fell::Nowhere)
         }
-        "raise" => {
-            change_often(alloc, &mut worker, before)?;
-            raised(rt, alloc, desk, worker.pass)
-        }
+        "decide" => decided(page, worker, before, false),
+        "derive" => decided(page, worker, before, true),
+        "leave" => decided_once(page, worker, before),
+        "serve" => served(page, worker, before),
+        "lookup" => looked_up(page, worker, before),
+        "raise" => raised(page, worker, before),
         _ => Err(Stop::Wrong("no such call")),
     }
 }
 
 /// What is shown of alice.
-fn looked_up<D: DeskName>(
-    alloc: Global,
-    desk: &Desk<D, MemorySink>,
-    pass: &mut Pass<D>,
-) -> Result<Told, Stop> {
+fn looked_up<D: DeskName, R: Wait>(
+    page: &mut Page,
+    worker: &mut AtDesk<'_, D, MemorySink, R>,
+    before: u32,
+) -> Result<Fell, Stop> {
+    let alloc = page.alloc();
+    change_often(alloc, worker, before)?;
     let alice = known(alloc, "alice")?;
-    let was = receipts_text(alloc, pass.receipts())?;
-    let mut fell = Fell::Nowhere;
-    let found = match desk.lookup(pass, &alice) {
-        Ok(found) => found,
-        Err(_) => {
-            if receipts_text(alloc, pass.receipts())?.as_str() != was.as_str() {
-                return Err(Stop::Wrong("the pass isn't as it was"));
-            }
-            fell = Fell::Call;
-            desk.lookup(pass, &alice)
-                .map_err(|_| Stop::Wrong("not entered again"))?
-        }
-    };
-    let text = lookup_text(alloc, found)?;
-    Ok(Told { fell, text })
+    let was = receipts_of(alloc, worker.pass)?;
+    if let Ok(found) = worker.desk.lookup(worker.pass, &alice) {
+        put_lookup(page, &found);
+        return Ok(Fell::Nowhere);
+    }
+    looked_up_again(page, worker, &alice, &was)
+}
+
+/// The same after a refusal, which has left the receipts as they were.
+fn looked_up_again<D: DeskName, R: Wait>(
+    page: &mut Page,
+    worker: &mut AtDesk<'_, D, MemorySink, R>,
+    name: &Name,
+    was: &Page,
+) -> Result<Fell, Stop> {
+    let now = receipts_of(page.alloc(), worker.pass)?;
+    if now.text() != was.text() {
+        return Err(Stop::Wrong("the pass isn't as it was"));
+    }
+    match worker.desk.lookup(worker.pass, name) {
+        Ok(found) => put_lookup(page, &found),
+        Err(_) => return Err(Stop::Wrong("not entered again")),
+    }
+    Ok(Fell::Call)
+}
+
+fn receipts_of<D: DeskName>(alloc: Global, pass: &Pass<D>) -> Result<Page, Stop> {
+    let mut page = Page::new(alloc);
+    put_receipts(&mut page, pass.receipts());
+    page.whole()?;
+    Ok(page)
 }
 
 /// What comes of a raise from 4 to 8.
 fn raised<D: DeskName, R: Wait>(
-    rt: &R,
-    alloc: Global,
-    desk: &Desk<D, MemorySink>,
-    pass: &mut Pass<D>,
-) -> Result<Told, Stop> {
-    let was = pass_text(alloc, desk, pass)?;
-    let (fell, verdict) = match desk.raise(rt, pass, NOW, 8) {
-        Ok(verdict) => (Fell::Nowhere, verdict),
-        Err(fault) => {
-            refused_for(
-                fault,
-                pass_text(alloc, desk, pass)?.as_str() == was.as_str(),
-            )?;
-            (Fell::Call, raised_beside(desk.raise(rt, pass, NOW, 8))?)
-        }
-    };
-    raise_text(alloc, desk, pass, fell, verdict)
-}
-
-/// Only want of memory may refuse a raise, and leaves the pass as it was.
-fn refused_for(fault: RaiseFault, is_as_it_was: bool) -> Result<(), Stop> {
-    match fault {
-        RaiseFault::Memory if is_as_it_was => Ok(()),
-        RaiseFault::Memory => Err(Stop::Wrong("the pass isn't as it was")),
-        _ => Err(Stop::Wrong("another refusal")),
+    page: &mut Page,
+    worker: &mut AtDesk<'_, D, MemorySink, R>,
+    before: u32,
+) -> Result<Fell, Stop> {
+    change_often(page.alloc(), worker, before)?;
+    let was = seen(page.alloc(), worker)?;
+    match worker.desk.raise(worker.rt, worker.pass, NOW, 8) {
+        Ok(verdict) => put_raise(page, worker, verdict),
+        Err(RaiseFault::Memory) => return raised_again(page, worker, &was),
+        Err(_) => return Err(Stop::Wrong("another refusal")),
     }
+    Ok(Fell::Nowhere)
 }
 
-fn raised_beside(answer: Result<RaiseVerdict, RaiseFault>) -> Result<RaiseVerdict, Stop> {
-    match answer {
-        Ok(verdict) => Ok(verdict),
-        Err(_) => Err(Stop::Wrong("another refusal")),
+/// The same after a refusal, which has left the pass as it was.
+fn raised_again<D: DeskName, R: Wait>(
+    page: &mut Page,
+    worker: &mut AtDesk<'_, D, MemorySink, R>,
+    was: &Page,
+) -> Result<Fell, Stop> {
+    unchanged(worker, was)?;
+    match worker.desk.raise(worker.rt, worker.pass, NOW, 8) {
+        Ok(verdict) => put_raise(page, worker, verdict),
+        Err(_) => return Err(Stop::Wrong("refused again")),
     }
+    Ok(Fell::Call)
 }
 
-fn raise_text<D: DeskName>(
-    alloc: Global,
-    desk: &Desk<D, MemorySink>,
-    pass: &mut Pass<D>,
-    fell: Fell,
+fn put_raise<D: DeskName, R: Wait>(
+    page: &mut Page,
+    worker: &mut AtDesk<'_, D, MemorySink, R>,
     verdict: RaiseVerdict,
-) -> Result<Told, Stop> {
-    let seen = pass_text(alloc, desk, pass)?;
-    let text = format!(in alloc; "{}; {seen}", verdict.text())?;
-    Ok(Told { fell, text })
+) {
+    page.put(verdict.text());
+    page.put("; ");
+    worker.show(page);
 }
 
 /// A desk that can be closed.
@@ -215,27 +224,16 @@ pub fn closed<D: DeskName, R: Wait>(
     }
 }
 
-/// What a desk leaves: its history, table and journal.
-fn left(alloc: Global, closed: &Closed<MemorySink>) -> Result<String, Stop> {
-    let history = history_text(alloc, &closed.history)?;
-    let kept = kept_text(alloc, &closed.table, &closed.sink)?;
-    Ok(format!(in alloc; "{history} {kept}")?)
-}
-
 /// That a desk leaves so many changes, and one more unless the last was refused.
-fn counted(
-    alloc: Global,
-    closed: &Closed<MemorySink>,
-    before: u32,
-    fell: Fell,
-) -> Result<String, Stop> {
+fn counted(closed: &Closed<MemorySink>, before: u32, fell: Fell) -> Result<(), Stop> {
     let changes = before.saturating_add(if fell == Fell::Call { 0 } else { 1 });
     let count = changes as usize;
     let is_so = closed.table.seen() == changes
         && closed.history.len() == count
         && closed.sink.bytes().len() == count.saturating_mul(RECORD);
-    if !is_so {
-        return Err(Stop::Wrong("the desk isn't left as it was"));
+    if is_so {
+        Ok(())
+    } else {
+        Err(Stop::Wrong("the desk isn't left as it was"))
     }
-    Ok(String::from_str(alloc, "as many entries, changes and records")?)
 }

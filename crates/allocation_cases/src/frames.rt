@@ -1,27 +1,29 @@
 //! Calls of chpw_frame.
 
+use crate::page::Page;
 use crate::records::bytes_of;
 use crate::stop::{Stop, called};
 use chpw_frame::{
     ChangeFault, Received, join_old_request, join_reply, join_request, read_change_data, read_tcp,
 };
-use hex::encode;
 use std::alloc::Global;
 
 /// The longest part of a message here.
 const SHORT: usize = 10_000;
 
 /// `join_.. HEX HEX`, a message of these parts; `read_.. HEX`.
-pub fn told(alloc: Global, line: &str) -> Result<String, Stop> {
+pub fn told(page: &mut Page, line: &str) -> Result<(), Stop> {
+    let alloc = page.alloc();
     let (call, text) = line.split_once(' ').unwrap_or((line, ""));
     let (first, second) = text.split_once(' ').unwrap_or((text, ""));
     let (first, second) = (bytes_of(alloc, first)?, bytes_of(alloc, second)?);
-    let answer = match call {
+    let made = match call {
         "read_change_data" => changed(alloc, &first),
         "read_tcp" => received(alloc, &first),
         _ => joined(alloc, call, &first, &second),
     };
-    Ok(encode(alloc, &answer?)?)
+    page.hexadecimal(&made?);
+    Ok(())
 }
 
 fn joined(alloc: Global, call: &str, ap: &[u8], tail: &[u8]) -> Result<Vec<u8>, Stop> {

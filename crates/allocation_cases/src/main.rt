@@ -23,15 +23,18 @@ mod frames;
 mod keys;
 mod making;
 mod messages;
+mod page;
 mod pools;
 mod records;
 mod seen;
 mod stop;
 mod streams;
 mod tables;
+mod workers;
 mod world;
 
 use calls::told;
+use page::Page;
 use pools::Machine;
 use read_fully::{Filled, fill};
 use std::io::{self, Error, ErrorKind, Write};
@@ -39,7 +42,7 @@ use std::net::{Net, TcpListener, TcpStream};
 use std::sync::Wait;
 use std::thread::Threads;
 use std::time::Clock;
-use stop::{Fell, Stop, Told};
+use stop::{Fell, Stop};
 
 /// The longest input.
 const INPUT: usize = 32_768;
@@ -79,24 +82,32 @@ fn print_line<R: Machine + Print>(rt: &R, line: &str) -> io::Result<()> {
         return writeln!(out, "{line}");
     }
     let call = line.strip_prefix("where ");
-    let said = twice(rt, call.unwrap_or(line));
-    if let (Some(_), Ok(told)) = (call, &said) {
-        write!(out, "[{}] ", told.fell.text())?;
+    let mut page = Page::new(rt.alloc());
+    let said = twice(rt, &mut page, call.unwrap_or(line));
+    if let (Some(_), Ok(fell)) = (call, said) {
+        write!(out, "[{}] ", fell.text())?;
     }
     match said {
-        Ok(told) => writeln!(out, "{}", told.text.as_str()),
+        Ok(_) => writeln!(out, "{}", page.text()),
         Err(Stop::Wrong(what)) => writeln!(out, "wrong: {what}"),
         Err(_) => writeln!(out, "wrong: memory wanting twice"),
     }
 }
 
-/// What a line gives; where memory was wanting it is set up again.
-fn twice<R: Machine>(rt: &R, line: &str) -> Result<Told, Stop> {
-    let fell = match told(rt, line) {
+/// Writes what a line gives; where memory was wanting it is set up again. Where that fell.
+fn twice<R: Machine>(rt: &R, page: &mut Page, line: &str) -> Result<Fell, Stop> {
+    let fell = match once(rt, page, line) {
         Err(Stop::Call) => Fell::Call,
         Err(Stop::Beside) => Fell::Beside,
         said => return said,
     };
-    let Told { text, fell: _ } = told(rt, line)?;
-    Ok(Told { fell, text })
+    page.clear();
+    once(rt, page, line)?;
+    Ok(fell)
+}
+
+fn once<R: Machine>(rt: &R, page: &mut Page, line: &str) -> Result<Fell, Stop> {
+    let fell = told(rt, page, line)?;
+    page.whole()?;
+    Ok(fell)
 }

@@ -1,30 +1,33 @@
 //! Calls of krb_msgs and chpw_messages.
 
 use crate::making::{KEY, SERVICE, ap_rep, ap_req, krb_error, krb_priv, ticket};
+use crate::page::Page;
 use crate::records::bytes_of;
-use crate::seen::add;
 use crate::stop::{Stop, beside, called, opened};
 use crate::world::{PEER, configured, sent};
 use chpw_client::Sent;
 use chpw_frame::{Parts, split_request};
 use chpw_messages::Service;
-use hex::encode;
 use krb_der::{
     read_authenticator, read_enc_ap_rep_part, read_enc_krb_priv_part, read_enc_ticket_part,
     read_krb_error,
 };
 use krb_keys::Key;
 use krb_msgs::{ApOpened, ServiceKey, open_ap, open_priv};
-use std::alloc::{AllocError, Global};
+use std::alloc::Global;
 
 /// `make_.. HEX`, a message of that part; `open_..`, of alice's request; and `service`.
-pub fn told(alloc: Global, line: &str) -> Result<String, Stop> {
+pub fn told(page: &mut Page, line: &str) -> Result<(), Stop> {
     let (call, text) = line.split_once(' ').unwrap_or((line, ""));
     match call {
-        "open_ap" => ap_opened(alloc),
-        "open_priv" => priv_opened(alloc),
-        "service" => service(alloc),
-        _ => Ok(encode(alloc, &made(alloc, call, text)?)?),
+        "open_ap" => ap_opened(page),
+        "open_priv" => priv_opened(page),
+        "service" => service(page),
+        _ => {
+            let made = made(page.alloc(), call, text)?;
+            page.hexadecimal(&made);
+            Ok(())
+        }
     }
 }
 
@@ -32,20 +35,44 @@ pub fn told(alloc: Global, line: &str) -> Result<String, Stop> {
 fn made(alloc: Global, call: &str, text: &str) -> Result<Vec<u8>, Stop> {
     let (first, second) = text.split_once(' ').unwrap_or((text, ""));
     let (first, second) = (bytes_of(alloc, first)?, bytes_of(alloc, second)?);
+    made_of(alloc, call, &first, &second)
+}
+
+fn made_of(alloc: Global, call: &str, first: &[u8], second: &[u8]) -> Result<Vec<u8>, Stop> {
     match call {
-        "make_ticket" => ticket(alloc, &read_enc_ticket_part(alloc, &first)?, SERVICE),
-        "make_ap_req" => ap_req(
-            alloc,
-            &read_enc_ticket_part(alloc, &first)?,
-            SERVICE,
-            &read_authenticator(alloc, &second)?,
-            &KEY,
-        ),
-        "make_ap_rep" => ap_rep(alloc, &read_enc_ap_rep_part(alloc, &first)?),
-        "make_priv" => krb_priv(alloc, &read_enc_krb_priv_part(alloc, &first)?),
-        "make_error" => krb_error(alloc, &read_krb_error(alloc, &first)?),
+        "make_ticket" => ticket_of(alloc, first),
+        "make_ap_req" => ap_req_of(alloc, first, second),
+        "make_ap_rep" => ap_rep_of(alloc, first),
+        "make_priv" => priv_of(alloc, first),
+        "make_error" => error_of(alloc, first),
         _ => Err(Stop::Wrong("no such call")),
     }
+}
+
+fn ticket_of(alloc: Global, text: &[u8]) -> Result<Vec<u8>, Stop> {
+    let part = read_enc_ticket_part(alloc, text)?;
+    ticket(alloc, &part, SERVICE)
+}
+
+fn ap_req_of(alloc: Global, ticket: &[u8], authenticator: &[u8]) -> Result<Vec<u8>, Stop> {
+    let authenticator = read_authenticator(alloc, authenticator)?;
+    let part = read_enc_ticket_part(alloc, ticket)?;
+    ap_req(alloc, &part, SERVICE, &authenticator, &KEY)
+}
+
+fn ap_rep_of(alloc: Global, text: &[u8]) -> Result<Vec<u8>, Stop> {
+    let part = read_enc_ap_rep_part(alloc, text)?;
+    ap_rep(alloc, &part)
+}
+
+fn priv_of(alloc: Global, text: &[u8]) -> Result<Vec<u8>, Stop> {
+    let part = read_enc_krb_priv_part(alloc, text)?;
+    krb_priv(alloc, &part)
+}
+
+fn error_of(alloc: Global, text: &[u8]) -> Result<Vec<u8>, Stop> {
+    let error = read_krb_error(alloc, text)?;
+    krb_error(alloc, &error)
 }
 
 /// The parts of alice's request.
@@ -61,51 +88,42 @@ fn open(alloc: Global, ap: &[u8]) -> Result<ApOpened, Stop> {
     opened(open_ap(alloc, b"EXAMPLE.COM", &keys, ap, PEER))
 }
 
-fn ap_opened(alloc: Global) -> Result<String, Stop> {
-    let sent = beside(sent(alloc, 0))?;
-    let found = open(alloc, parts_of(&sent)?.ap)?;
-    opened_text(alloc, &found)
+fn ap_opened(page: &mut Page) -> Result<(), Stop> {
+    let sent = beside(sent(page.alloc(), 0))?;
+    let found = open(page.alloc(), parts_of(&sent)?.ap)?;
+    put_opened(page, &found);
+    Ok(())
 }
 
-fn opened_text(alloc: Global, found: &ApOpened) -> Result<String, Stop> {
-    let mut text = encode(alloc, found.crealm.as_slice())?;
-    add_opened(&mut text, alloc, found)?;
-    Ok(text)
-}
-
-fn add_opened(text: &mut String, alloc: Global, found: &ApOpened) -> Result<(), Stop> {
+fn put_opened(page: &mut Page, found: &ApOpened) {
+    page.hexadecimal(found.crealm.as_slice());
     for part in found.cname.name_string.as_slice() {
-        text.push_str(" ")?;
-        add(text, encode(alloc, part.as_slice()))?;
+        page.put(" ");
+        page.hexadecimal(part.as_slice());
     }
-    let session = encode(alloc, found.session.bytes())?;
-    let subkey = encode(alloc, found.subkey.bytes())?;
-    add(
-        text,
-        format!(in alloc; " {session} {subkey} {}", found.ctime.0),
-    )
+    page.put(" ");
+    page.hexadecimal(found.session.bytes());
+    page.put(" ");
+    page.hexadecimal(found.subkey.bytes());
+    page.put(" ");
+    page.add(found.ctime.0.to_string(page.alloc()));
 }
 
-fn priv_opened(alloc: Global) -> Result<String, Stop> {
+/// The user-data of the KRB-PRIV.
+fn priv_opened(page: &mut Page) -> Result<(), Stop> {
+    let alloc = page.alloc();
     let sent = beside(sent(alloc, 0))?;
     let parts = parts_of(&sent)?;
     let found = beside(open(alloc, parts.ap))?;
-    user_text(alloc, &found, parts.tail)
+    let private = opened(open_priv(alloc, &found, parts.tail))?;
+    page.hexadecimal(private.user_bytes.as_slice());
+    Ok(())
 }
 
-/// The user-data of a KRB-PRIV.
-fn user_text(alloc: Global, found: &ApOpened, tail: &[u8]) -> Result<String, Stop> {
-    let private = opened(open_priv(alloc, found, tail))?;
-    Ok(encode(alloc, private.user_bytes.as_slice())?)
-}
-
-fn service(alloc: Global) -> Result<String, Stop> {
-    let config = configured(alloc)?;
-    realm_text(alloc, Service::of(alloc, &config))
-}
-
-/// The realm of a service that was made.
-fn realm_text(alloc: Global, made: Result<Service, AllocError>) -> Result<String, Stop> {
-    let service = called(made)?;
-    Ok(encode(alloc, chpw_answer::Messages::realm(&service))?)
+/// The realm of a service that is made.
+fn service(page: &mut Page) -> Result<(), Stop> {
+    let config = configured(page.alloc())?;
+    let service = called(Service::of(page.alloc(), &config))?;
+    page.hexadecimal(chpw_answer::Messages::realm(&service));
+    Ok(())
 }

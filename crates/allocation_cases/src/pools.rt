@@ -3,9 +3,10 @@ ghost use Rattle.std.specs.Prelude.{◌≡◌};
 ghost use Rattle.chpw_book.specs.Starting.{IsNamed};
 
 use crate::desks::closed;
-use crate::seen::kept_text;
-use crate::stop::{Fell, Stop, Told, beside};
-use crate::streams::{service, stream_of};
+use crate::page::Page;
+use crate::seen::put_kept;
+use crate::stop::{Fell, Stop, beside};
+use crate::streams::Request;
 use crate::world::{JOURNAL, sent_at, table};
 use chpw_book::{Closed, Desk, DeskName, Pass, UnnamedDesk};
 use chpw_journal::MemorySink;
@@ -57,46 +58,52 @@ struct Site<'a> {
 
 /// Alice's request, sent three times to a pool that is run until it has served as many connections:
 /// whether the pool was refused, or a connection.
-pub fn told<R: Machine>(rt: &R, alloc: Global) -> Result<Told, Stop> {
+pub fn told<R: Machine>(rt: &R, page: &mut Page) -> Result<Fell, Stop> {
+    let alloc = page.alloc();
     let now = machine_moment(rt).ok_or(Stop::Wrong("no clock"))?;
-    let sent = beside(sent_at(alloc, now, 0))?;
-    let (stream, service) = (stream_of(alloc, &sent)?, service(alloc)?);
+    let request = Request::of(alloc, beside(sent_at(alloc, now, 0))?)?;
+    told_of(rt, page, &request)
+}
+
+fn told_of<R: Machine>(rt: &R, page: &mut Page, request: &Request) -> Result<Fell, Stop> {
+    let unnamed = UnnamedDesk::of(table(page.alloc())?, 2);
     let listener = TcpListener::bind(rt, ("127.0.0.1", 0u16))?;
     let site = Site {
         listener: &listener,
         port: listener.local_addr()?.port(),
-        service: &service,
-        stream: &stream,
+        service: &request.service,
+        stream: &request.stream,
     };
-    at::<Brand, R>(rt, alloc, UnnamedDesk::of(table(alloc)?, 2), site)
+    at::<Brand, R>(rt, page, unnamed, site)
 }
 
 fn at<D: DeskName + Send + Sync, R: Machine>(
     rt: &R,
-    alloc: Global,
+    page: &mut Page,
     unnamed: UnnamedDesk,
     site: Site<'_>,
-) -> Result<Told, Stop>
+) -> Result<Fell, Stop>
     requires name { IsNamed unnamed D.name D.parts D.book D.root D.workers }
 {
-    let sink = MemorySink::new(alloc, JOURNAL)?;
-    let Ok((desk, passes)) = Desk::<D, MemorySink>::start(rt, alloc, unnamed, sink) else {
-        return Err(Stop::Beside);
-    };
-    with_desk(rt, alloc, desk, passes, site)
+    let sink = MemorySink::new(page.alloc(), JOURNAL)?;
+    match Desk::<D, MemorySink>::start(rt, page.alloc(), unnamed, sink) {
+        Ok((desk, passes)) => with_desk(rt, page, desk, passes, site),
+        Err(_) => Err(Stop::Beside),
+    }
 }
 
 fn with_desk<D: DeskName + Send + Sync, R: Machine>(
     rt: &R,
-    alloc: Global,
+    page: &mut Page,
     desk: Desk<D, MemorySink>,
     mut passes: Vec<Pass<D>>,
     site: Site<'_>,
-) -> Result<Told, Stop> {
-    let fell = at_once(rt, alloc, &desk, &mut passes, site);
-    let closed = closed(rt, desk, passes)?;
-    let text = left(alloc, &closed)?;
-    Ok(Told { fell, text })
+) -> Result<Fell, Stop> {
+    let fell = at_once(rt, page.alloc(), &desk, &mut passes, site);
+    match closed(rt, desk, passes) {
+        Ok(closed) => put_left(page, &closed, fell),
+        Err(stop) => Err(stop),
+    }
 }
 
 /// The pool beside its client: where it fell.
@@ -182,7 +189,7 @@ fn connect<R: Machine>(rt: &R, port: u16) -> io::Result<TcpStream> {
 }
 
 /// What the desk leaves: one change, and then replays of it.
-fn left(alloc: Global, closed: &Closed<MemorySink>) -> Result<String, Stop> {
+fn put_left(page: &mut Page, closed: &Closed<MemorySink>, fell: Fell) -> Result<Fell, Stop> {
     let is_so = match closed.history.as_slice() {
         [first, others @ ..] => {
             first.event.is_accepted() && others.iter().all(|entry| is_replay(entry))
@@ -192,8 +199,9 @@ fn left(alloc: Global, closed: &Closed<MemorySink>) -> Result<String, Stop> {
     if !is_so {
         return Err(Stop::Wrong("not one change and its replays"));
     }
-    let kept = kept_text(alloc, &closed.table, &closed.sink)?;
-    Ok(format!(in alloc; "one change, then replays; {kept}")?)
+    page.put("one change, then replays; ");
+    put_kept(page, &closed.table, &closed.sink);
+    Ok(fell)
 }
 
 fn is_replay(entry: &Entry) -> bool {

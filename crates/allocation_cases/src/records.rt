@@ -2,8 +2,9 @@
 ghost use Rattle.std.specs.Prelude.{◌≡◌, true, IfOk};
 ghost use Rattle.krb_elements.specs.Texts.{fits};
 
-use crate::stop::{Stop, beside, called, read};
-use hex::{FromHexError, decode, encode};
+use crate::page::Page;
+use crate::stop::{Stop, wanting};
+use hex::{FromHexError, decode};
 use krb_der::{
     ReadError, fits, read_ap_rep, read_ap_req, read_authenticator, read_authorization_data,
     read_change_passwd_data, read_checksum, read_enc_ap_rep_part, read_enc_krb_priv_part,
@@ -21,105 +22,105 @@ use std::alloc::{AllocError, Global};
 fn legal<T: Write + Drop>(reads: bool, found: Result<T, ReadError>) -> Result<T, Stop>
     ensures fits { IfOk result (λ v. fits T.shape (T.value v) ≡ true) }
 {
-    let found = read(found);
-    let value = if reads { found? } else { beside(found)? };
-    if fits(&value) {
-        Ok(value)
-    } else {
-        Err(Stop::Wrong("a record that can't be written"))
+    match found {
+        Ok(value) if fits(&value) => Ok(value),
+        Ok(_) => Err(Stop::Wrong("a record that can't be written")),
+        Err(ReadError::Memory) => Err(wanting(reads)),
+        Err(ReadError::Fault(_)) => Err(Stop::Wrong("a fault of the text")),
     }
 }
 
-/// The text of the bytes that were written.
-fn shown(alloc: Global, reads: bool, made: Result<Vec<u8>, AllocError>) -> Result<String, Stop> {
-    let made = called(made);
-    let text = if reads { beside(made)? } else { made? };
-    Ok(encode(alloc, &text)?)
+/// The bytes that were written.
+fn written(reads: bool, made: Result<Vec<u8>, AllocError>) -> Result<Vec<u8>, Stop> {
+    match made {
+        Ok(text) => Ok(text),
+        Err(_) => Err(wanting(!reads)),
+    }
 }
 
-fn principal_name(alloc: Global, reads: bool, text: &[u8]) -> Result<String, Stop> {
+fn principal_name(alloc: Global, reads: bool, text: &[u8]) -> Result<Vec<u8>, Stop> {
     let value = legal(reads, read_principal_name(alloc, text))?;
-    shown(alloc, reads, write_principal_name(alloc, &value))
+    written(reads, write_principal_name(alloc, &value))
 }
 
-fn encrypted_data(alloc: Global, reads: bool, text: &[u8]) -> Result<String, Stop> {
+fn encrypted_data(alloc: Global, reads: bool, text: &[u8]) -> Result<Vec<u8>, Stop> {
     let value = legal(reads, read_encrypted_data(alloc, text))?;
-    shown(alloc, reads, write_encrypted_data(alloc, &value))
+    written(reads, write_encrypted_data(alloc, &value))
 }
 
-fn encryption_key(alloc: Global, reads: bool, text: &[u8]) -> Result<String, Stop> {
+fn encryption_key(alloc: Global, reads: bool, text: &[u8]) -> Result<Vec<u8>, Stop> {
     let value = legal(reads, read_encryption_key(alloc, text))?;
-    shown(alloc, reads, write_encryption_key(alloc, &value))
+    written(reads, write_encryption_key(alloc, &value))
 }
 
-fn host_address(alloc: Global, reads: bool, text: &[u8]) -> Result<String, Stop> {
+fn host_address(alloc: Global, reads: bool, text: &[u8]) -> Result<Vec<u8>, Stop> {
     let value = legal(reads, read_host_address(alloc, text))?;
-    shown(alloc, reads, write_host_address(alloc, &value))
+    written(reads, write_host_address(alloc, &value))
 }
 
-fn checksum(alloc: Global, reads: bool, text: &[u8]) -> Result<String, Stop> {
+fn checksum(alloc: Global, reads: bool, text: &[u8]) -> Result<Vec<u8>, Stop> {
     let value = legal(reads, read_checksum(alloc, text))?;
-    shown(alloc, reads, write_checksum(alloc, &value))
+    written(reads, write_checksum(alloc, &value))
 }
 
-fn transited_encoding(alloc: Global, reads: bool, text: &[u8]) -> Result<String, Stop> {
+fn transited_encoding(alloc: Global, reads: bool, text: &[u8]) -> Result<Vec<u8>, Stop> {
     let value = legal(reads, read_transited_encoding(alloc, text))?;
-    shown(alloc, reads, write_transited_encoding(alloc, &value))
+    written(reads, write_transited_encoding(alloc, &value))
 }
 
-fn authorization_data(alloc: Global, reads: bool, text: &[u8]) -> Result<String, Stop> {
+fn authorization_data(alloc: Global, reads: bool, text: &[u8]) -> Result<Vec<u8>, Stop> {
     let value = legal(reads, read_authorization_data(alloc, text))?;
-    shown(alloc, reads, write_authorization_data(alloc, &value))
+    written(reads, write_authorization_data(alloc, &value))
 }
 
-fn change_passwd_data(alloc: Global, reads: bool, text: &[u8]) -> Result<String, Stop> {
+fn change_passwd_data(alloc: Global, reads: bool, text: &[u8]) -> Result<Vec<u8>, Stop> {
     let value = legal(reads, read_change_passwd_data(alloc, text))?;
-    shown(alloc, reads, write_change_passwd_data(alloc, &value))
+    written(reads, write_change_passwd_data(alloc, &value))
 }
 
-fn ticket(alloc: Global, reads: bool, text: &[u8]) -> Result<String, Stop> {
+fn ticket(alloc: Global, reads: bool, text: &[u8]) -> Result<Vec<u8>, Stop> {
     let value = legal(reads, read_ticket(alloc, text))?;
-    shown(alloc, reads, write_ticket(alloc, &value))
+    written(reads, write_ticket(alloc, &value))
 }
 
-fn enc_ticket_part(alloc: Global, reads: bool, text: &[u8]) -> Result<String, Stop> {
+fn enc_ticket_part(alloc: Global, reads: bool, text: &[u8]) -> Result<Vec<u8>, Stop> {
     let value = legal(reads, read_enc_ticket_part(alloc, text))?;
-    shown(alloc, reads, write_enc_ticket_part(alloc, &value))
+    written(reads, write_enc_ticket_part(alloc, &value))
 }
 
-fn authenticator(alloc: Global, reads: bool, text: &[u8]) -> Result<String, Stop> {
+fn authenticator(alloc: Global, reads: bool, text: &[u8]) -> Result<Vec<u8>, Stop> {
     let value = legal(reads, read_authenticator(alloc, text))?;
-    shown(alloc, reads, write_authenticator(alloc, &value))
+    written(reads, write_authenticator(alloc, &value))
 }
 
-fn ap_req(alloc: Global, reads: bool, text: &[u8]) -> Result<String, Stop> {
+fn ap_req(alloc: Global, reads: bool, text: &[u8]) -> Result<Vec<u8>, Stop> {
     let value = legal(reads, read_ap_req(alloc, text))?;
-    shown(alloc, reads, write_ap_req(alloc, &value))
+    written(reads, write_ap_req(alloc, &value))
 }
 
-fn ap_rep(alloc: Global, reads: bool, text: &[u8]) -> Result<String, Stop> {
+fn ap_rep(alloc: Global, reads: bool, text: &[u8]) -> Result<Vec<u8>, Stop> {
     let value = legal(reads, read_ap_rep(alloc, text))?;
-    shown(alloc, reads, write_ap_rep(alloc, &value))
+    written(reads, write_ap_rep(alloc, &value))
 }
 
-fn enc_ap_rep_part(alloc: Global, reads: bool, text: &[u8]) -> Result<String, Stop> {
+fn enc_ap_rep_part(alloc: Global, reads: bool, text: &[u8]) -> Result<Vec<u8>, Stop> {
     let value = legal(reads, read_enc_ap_rep_part(alloc, text))?;
-    shown(alloc, reads, write_enc_ap_rep_part(alloc, &value))
+    written(reads, write_enc_ap_rep_part(alloc, &value))
 }
 
-fn krb_priv(alloc: Global, reads: bool, text: &[u8]) -> Result<String, Stop> {
+fn krb_priv(alloc: Global, reads: bool, text: &[u8]) -> Result<Vec<u8>, Stop> {
     let value = legal(reads, read_krb_priv(alloc, text))?;
-    shown(alloc, reads, write_krb_priv(alloc, &value))
+    written(reads, write_krb_priv(alloc, &value))
 }
 
-fn enc_krb_priv_part(alloc: Global, reads: bool, text: &[u8]) -> Result<String, Stop> {
+fn enc_krb_priv_part(alloc: Global, reads: bool, text: &[u8]) -> Result<Vec<u8>, Stop> {
     let value = legal(reads, read_enc_krb_priv_part(alloc, text))?;
-    shown(alloc, reads, write_enc_krb_priv_part(alloc, &value))
+    written(reads, write_enc_krb_priv_part(alloc, &value))
 }
 
-fn krb_error(alloc: Global, reads: bool, text: &[u8]) -> Result<String, Stop> {
+fn krb_error(alloc: Global, reads: bool, text: &[u8]) -> Result<Vec<u8>, Stop> {
     let value = legal(reads, read_krb_error(alloc, text))?;
-    shown(alloc, reads, write_krb_error(alloc, &value))
+    written(reads, write_krb_error(alloc, &value))
 }
 
 /// The bytes of a text in hexadecimal.
@@ -132,11 +133,12 @@ pub fn bytes_of(alloc: Global, text: &str) -> Result<Vec<u8>, Stop> {
 }
 
 /// `RECORD HEX`: the text of the record that was read.
-pub fn told(alloc: Global, reads: bool, line: &str) -> Result<String, Stop> {
+pub fn told(page: &mut Page, reads: bool, line: &str) -> Result<(), Stop> {
+    let alloc = page.alloc();
     let (record, text) = line.split_once(' ').unwrap_or((line, ""));
     let bytes = bytes_of(alloc, text)?;
     let text = bytes.as_slice();
-    match record {
+    let made = match record {
         "principal_name" => principal_name(alloc, reads, text),
         "encrypted_data" => encrypted_data(alloc, reads, text),
         "encryption_key" => encryption_key(alloc, reads, text),
@@ -146,11 +148,13 @@ pub fn told(alloc: Global, reads: bool, line: &str) -> Result<String, Stop> {
         "authorization_data" => authorization_data(alloc, reads, text),
         "change_passwd_data" => change_passwd_data(alloc, reads, text),
         _ => of_message(alloc, reads, record, text),
-    }
+    };
+    page.hexadecimal(&made?);
+    Ok(())
 }
 
 /// The same, of messages and their sealed parts.
-fn of_message(alloc: Global, reads: bool, record: &str, text: &[u8]) -> Result<String, Stop> {
+fn of_message(alloc: Global, reads: bool, record: &str, text: &[u8]) -> Result<Vec<u8>, Stop> {
     match record {
         "ticket" => ticket(alloc, reads, text),
         "enc_ticket_part" => enc_ticket_part(alloc, reads, text),

@@ -32,23 +32,6 @@ impl Fell {
     }
 }
 
-/// What a line gives.
-#[derive(Drop)]
-pub struct Told {
-    pub fell: Fell,
-    pub text: String,
-}
-
-impl Told {
-    /// What a call gives that leaves nothing behind where it is refused.
-    pub fn of(text: String) -> Told {
-        Told {
-            fell: Fell::Nowhere,
-            text,
-        }
-    }
-}
-
 /// Why a line gives nothing.
 #[derive(Clone, Copy, Drop)]
 pub enum Stop {
@@ -98,13 +81,9 @@ pub fn called<T>(answer: Result<T, AllocError>) -> Result<T, Stop> {
     }
 }
 
-/// What a call answers that reads a text.
-pub fn read<T>(answer: Result<T, ReadError>) -> Result<T, Stop> {
-    match answer {
-        Ok(value) => Ok(value),
-        Err(ReadError::Memory) => Err(Stop::Call),
-        Err(ReadError::Fault(_)) => Err(Stop::Wrong("a fault of the text")),
-    }
+/// What want of memory is in the call, or else beside it.
+pub fn wanting(in_call: bool) -> Stop {
+    if in_call { Stop::Call } else { Stop::Beside }
 }
 
 /// What a call answers that opens a message.

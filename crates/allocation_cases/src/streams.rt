@@ -1,30 +1,23 @@
 //! Streams, and the same again where memory was wanting.
 
-use crate::client::line_of;
-use crate::clock::{Counting, Standing};
-use crate::deciding::change_often;
-use crate::seen::{alone_text, pass_text};
-use crate::stop::{Fell, Stop, Told, beside};
+use crate::client::put_line;
+use crate::deciding::{Decides, change_often, seen, unchanged};
+use crate::page::Page;
+use crate::stop::{Fell, Stop, beside};
 use crate::tables::started;
-use crate::world::{PEER, REPLIES, configured, sent};
-use chpw_answer::NoGate;
-use chpw_book::{AtDesk, DeskName};
+use crate::world::{REPLIES, configured, sent};
 use chpw_client::Sent;
-use chpw_decider::{Alone, Decider};
 use chpw_frame::{LONGEST_MESSAGE, write_tcp};
-use chpw_journal::MemorySink;
 use chpw_messages::Service;
-use chpw_serve::{Ended, serve_alone, serve_stream};
+use chpw_serve::Ended;
 use std::alloc::Global;
-use std::sync::Wait;
 
 /// What an accepted change is answered.
 const CHANGED: &str = "code 0 password changed, status 0";
 
-/// A decider that is looked at, and that serves streams.
-pub trait Serving: Decider {
-    /// All that is seen of it.
-    fn seen(&mut self, alloc: Global) -> Result<String, Stop>;
+/// Whoever serves streams, too.
+pub trait Serves: Decides {
+    fn receipt_count(&self) -> usize;
 
     /// Serves a stream.
     fn serve(
@@ -36,65 +29,34 @@ pub trait Serving: Decider {
     ) -> Ended;
 }
 
-impl Serving for Alone<MemorySink> {
-    fn seen(&mut self, alloc: Global) -> Result<String, Stop> {
-        alone_text(alloc, self)
+/// A request of alice's, the stream that it makes, and the service that it is for.
+#[derive(Drop)]
+pub struct Request {
+    pub sent: Sent,
+    pub stream: Vec<u8>,
+    pub service: Service,
+}
+
+impl Request {
+    pub fn of(alloc: Global, sent: Sent) -> Result<Request, Stop> {
+        let stream = stream_of(alloc, sent.message.as_slice())?;
+        let config = configured(alloc)?;
+        let service = Service::of(alloc, &config)?;
+        Ok(Request {
+            sent,
+            stream,
+            service,
+        })
     }
 
-    fn serve(
-        &mut self,
-        alloc: Global,
-        service: &Service,
-        stream: &[u8],
-        written: &mut Vec<u8>,
-    ) -> Ended {
-        let mut stream = stream;
-        let (clock, words) = (&mut Standing, &mut Counting::new());
-        serve_alone(
-            alloc,
-            service,
-            PEER,
-            &mut stream,
-            written,
-            self,
-            clock,
-            words,
-        )
+    /// The request with these microseconds.
+    pub fn new(alloc: Global, micros: u32) -> Result<Request, Stop> {
+        Request::of(alloc, beside(sent(alloc, micros))?)
     }
 }
 
-impl<D: DeskName, R: Wait> Serving for AtDesk<'_, D, MemorySink, R> {
-    fn seen(&mut self, alloc: Global) -> Result<String, Stop> {
-        pass_text(alloc, self.desk, self.pass)
-    }
-
-    fn serve(
-        &mut self,
-        alloc: Global,
-        service: &Service,
-        stream: &[u8],
-        written: &mut Vec<u8>,
-    ) -> Ended {
-        let mut stream = stream;
-        let (clock, words) = (&mut Standing, &mut Counting::new());
-        let gate = &mut NoGate;
-        serve_stream(
-            alloc,
-            service,
-            PEER,
-            &mut stream,
-            written,
-            self,
-            gate,
-            clock,
-            words,
-        )
-    }
-}
-
-/// A request behind its length.
-pub fn stream_of(alloc: Global, sent: &Sent) -> Result<Vec<u8>, Stop> {
-    let message = sent.message.as_slice();
+/// A message behind its length.
+fn stream_of(alloc: Global, message: &[u8]) -> Result<Vec<u8>, Stop> {
     let mut stream = Vec::with_capacity(alloc, LONGEST_MESSAGE)?;
     if message.len() > LONGEST_MESSAGE || write_tcp(&mut stream, message).is_err() {
         return Err(Stop::Wrong("no stream"));
@@ -107,21 +69,10 @@ pub fn reply_of(written: &[u8]) -> &[u8] {
     written.get(4..).unwrap_or(&[])
 }
 
-/// The realm's service.
-pub fn service(alloc: Global) -> Result<Service, Stop> {
-    let config = configured(alloc)?;
-    Ok(Service::of(alloc, &config)?)
-}
-
-/// Serves a stream that is answered, unless memory is wanting.
-fn answer<D: Serving>(
-    alloc: Global,
-    decider: &mut D,
-    service: &Service,
-    stream: &[u8],
-) -> Result<Vec<u8>, Stop> {
+/// What is written where a request is answered, unless memory is wanting.
+fn answer<D: Serves>(alloc: Global, decider: &mut D, request: &Request) -> Result<Vec<u8>, Stop> {
     let mut written = Vec::with_capacity(alloc, REPLIES)?;
-    match decider.serve(alloc, service, stream, &mut written) {
+    match decider.serve(alloc, &request.service, &request.stream, &mut written) {
         Ended::Input => Ok(written),
         Ended::Memory if written.is_empty() => Err(Stop::Call),
         Ended::Memory => Err(Stop::Wrong("a part of a reply")),
@@ -129,98 +80,72 @@ fn answer<D: Serving>(
     }
 }
 
-/// Alice's first request, and the reply to it.
-pub fn exchanged(alloc: Global) -> Result<(Sent, Vec<u8>), Stop> {
-    let sent = beside(sent(alloc, 0))?;
-    let written = beside(reply_to(alloc, &sent))?;
-    Ok((sent, written))
+/// A request, and what is written to it.
+#[derive(Drop)]
+pub struct Exchange {
+    pub request: Request,
+    pub written: Vec<u8>,
 }
 
-fn reply_to(alloc: Global, sent: &Sent) -> Result<Vec<u8>, Stop> {
-    let stream = stream_of(alloc, sent)?;
-    let service = service(alloc)?;
-    reply_of_new(alloc, &service, &stream)
+/// Alice's first request, asked of a table that has no event yet.
+pub fn exchanged(alloc: Global) -> Result<Exchange, Stop> {
+    let request = Request::new(alloc, 0)?;
+    match beside(first_answer(alloc, &request)) {
+        Ok(written) => Ok(Exchange { request, written }),
+        Err(stop) => Err(stop),
+    }
 }
 
-/// The reply of a table that has no event yet.
-fn reply_of_new(alloc: Global, service: &Service, stream: &[u8]) -> Result<Vec<u8>, Stop> {
-    answer(alloc, &mut started(alloc)?, service, stream)
+fn first_answer(alloc: Global, request: &Request) -> Result<Vec<u8>, Stop> {
+    let mut alone = started(alloc)?;
+    answer(alloc, &mut alone, request)
 }
 
 /// A request served after so many others, and then its bytes once more.
-pub fn served<D: Serving>(alloc: Global, decider: &mut D, before: u32) -> Result<Told, Stop> {
-    change_often(alloc, decider, before)?;
-    let sent = beside(sent(alloc, before))?;
-    let service = service(alloc)?;
-    served_of(alloc, decider, &service, &sent)
+pub fn served<D: Serves>(page: &mut Page, decider: &mut D, before: u32) -> Result<Fell, Stop> {
+    change_often(page.alloc(), decider, before)?;
+    let request = Request::new(page.alloc(), before)?;
+    served_twice(page, decider, &request)
 }
 
-fn served_of<D: Serving>(
-    alloc: Global,
+fn served_twice<D: Serves>(
+    page: &mut Page,
     decider: &mut D,
-    service: &Service,
-    sent: &Sent,
-) -> Result<Told, Stop> {
-    let stream = stream_of(alloc, sent)?;
-    let fell = change(alloc, decider, service, sent, &stream)?;
-    let line = beside(line_to(alloc, decider, service, sent, &stream))?;
-    let text = with_seen(alloc, decider, line.as_str())?;
-    Ok(Told { fell, text })
-}
-
-/// What the client prints of the reply to a stream.
-fn line_to<D: Serving>(
-    alloc: Global,
-    decider: &mut D,
-    service: &Service,
-    sent: &Sent,
-    stream: &[u8],
-) -> Result<String, Stop> {
-    let written = answer(alloc, decider, service, stream)?;
-    line_of(alloc, sent, reply_of(&written))
-}
-
-fn with_seen<D: Serving>(alloc: Global, decider: &mut D, line: &str) -> Result<String, Stop> {
-    let seen = decider.seen(alloc)?;
-    Ok(format!(in alloc; "{line}; {seen}")?)
+    request: &Request,
+) -> Result<Fell, Stop> {
+    let fell = change(page.alloc(), decider, request)?;
+    let written = beside(answer(page.alloc(), decider, request))?;
+    beside(put_line(page, &request.sent, reply_of(&written)))?;
+    page.put("; ");
+    decider.show(page);
+    Ok(fell)
 }
 
 /// Serves a request to its entry: it is accepted, or served again where memory was wanting and it has
 /// no entry.
-fn change<D: Serving>(
-    alloc: Global,
-    decider: &mut D,
-    service: &Service,
-    sent: &Sent,
-    stream: &[u8],
-) -> Result<Fell, Stop> {
-    let was = decider.seen(alloc)?;
-    let count = decider.receipts().len();
-    match answer(alloc, decider, service, stream) {
-        Ok(written) => accepted(alloc, sent, &written, Fell::Nowhere),
-        Err(Stop::Call) if decider.receipts().len() != count => Ok(Fell::Behind),
+fn change<D: Serves>(alloc: Global, decider: &mut D, request: &Request) -> Result<Fell, Stop> {
+    let was = seen(alloc, decider)?;
+    let count = decider.receipt_count();
+    match accepted(alloc, decider, request) {
+        Ok(()) => Ok(Fell::Nowhere),
+        Err(Stop::Call) if decider.receipt_count() != count => Ok(Fell::Behind),
         Err(Stop::Call) => {
-            unchanged(alloc, decider, was.as_str())?;
-            let written = beside(answer(alloc, decider, service, stream))?;
-            accepted(alloc, sent, &written, Fell::Call)
+            unchanged(decider, &was)?;
+            beside(accepted(alloc, decider, request))?;
+            Ok(Fell::Call)
         }
         Err(stop) => Err(stop),
     }
 }
 
-/// That all that is seen is as it was.
-fn unchanged<D: Serving>(alloc: Global, decider: &mut D, was: &str) -> Result<(), Stop> {
-    if decider.seen(alloc)?.as_str() == was {
+/// Serves a request whose reply has to say that it is accepted.
+fn accepted<D: Serves>(alloc: Global, decider: &mut D, request: &Request) -> Result<(), Stop> {
+    let written = answer(alloc, decider, request)?;
+    let mut line = Page::new(alloc);
+    beside(put_line(&mut line, &request.sent, reply_of(&written)))?;
+    line.whole()?;
+    if line.text() == CHANGED {
         Ok(())
-    } else {
-        Err(Stop::Wrong("the table isn't as it was"))
-    }
-}
-
-/// That the reply says so.
-fn accepted(alloc: Global, sent: &Sent, written: &[u8], fell: Fell) -> Result<Fell, Stop> {
-    if beside(line_of(alloc, sent, reply_of(written)))?.as_str() == CHANGED {
-        Ok(fell)
     } else {
         Err(Stop::Wrong("a request that isn't accepted"))
     }

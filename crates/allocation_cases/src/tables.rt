@@ -2,30 +2,32 @@
 ghost use Rattle.std.specs.Prelude.{◌≤◌, All};
 
 use crate::clock::NOW;
-use crate::deciding::{decided, decided_by_table, with_keys};
-use crate::seen::{add, history_text, table_text};
-use crate::stop::{Fell, Stop, Told, beside, called};
+use crate::deciding::decided;
+use crate::page::Page;
+use crate::seen::{put_history, put_table};
+use crate::stop::{Fell, Stop, beside, called};
 use crate::streams::served;
-use crate::world::{JOURNAL, asked, configured, known, table};
+use crate::workers::Bare;
+use crate::world::{JOURNAL, complete, configured, known, table};
 use chpw_decider::Alone;
-use chpw_journal::{MemorySink, RestoreFault, Restored, restore};
+use chpw_journal::{MemorySink, RestoreFault, restore};
 use chpw_rules::Name;
-use chpw_table::{Counts, Digest, Entry, Event, KeyRow, Opened, Table, Verdict, record_bytes};
-use hex::encode;
+use chpw_table::{Counts, Digest, Entry, Event, KeyRow, Table, Verdict, record_bytes};
 use std::alloc::Global;
 use std::slice;
 
-/// `decide N`, `decide_deriving N`, `serve_alone N`, `Table::decide N`: the call after N changes;
-/// `add`: keys derived beside others.
-pub fn told(alloc: Global, line: &str) -> Result<Told, Stop> {
+/// `decide N`, `derive N`, `serve N`, `table N`: the call after N changes; `add`: keys derived beside
+/// others.
+pub fn told(page: &mut Page, line: &str) -> Result<Fell, Stop> {
     let (call, number) = line.split_once(' ').unwrap_or((line, "0"));
     let before = number.parse().unwrap_or(0);
+    let alloc = page.alloc();
     match call {
-        "table" => decided_by_table(alloc, before),
-        "add" => added(alloc),
-        "serve" => served(alloc, &mut started(alloc)?, before),
-        "derive" => decided(alloc, &mut started(alloc)?, before, true),
-        "decide" => decided(alloc, &mut started(alloc)?, before, false),
+        "table" => decided_by_table(page, before),
+        "add" => added(page),
+        "serve" => served(page, &mut started(alloc)?, before),
+        "derive" => decided(page, &mut started(alloc)?, before, true),
+        "decide" => decided(page, &mut started(alloc)?, before, false),
         _ => Err(Stop::Wrong("no such call")),
     }
 }
@@ -36,22 +38,40 @@ pub fn started(alloc: Global) -> Result<Alone<MemorySink>, Stop> {
     Ok(Alone::new(alloc, table(alloc)?, sink))
 }
 
+/// The verdict of a request over a table, which hands the request back.
+fn decided_by_table(page: &mut Page, before: u32) -> Result<Fell, Stop> {
+    let alloc = page.alloc();
+    let mut bare = Bare {
+        table: table(alloc)?,
+        sink: MemorySink::new(alloc, JOURNAL)?,
+        last: None,
+    };
+    let fell = decided(page, &mut bare, before, false)?;
+    let asked = complete(alloc, before)?;
+    match &bare.last {
+        Some(opened) if opened.is_same(&asked) => Ok(fell),
+        _ => Err(Stop::Wrong("the request isn't handed back")),
+    }
+}
+
 /// Keys of a password under five counts, the last of which is added.
-fn added(alloc: Global) -> Result<Told, Stop> {
+fn added(page: &mut Page) -> Result<Fell, Stop> {
+    let alloc = page.alloc();
     let mut digest = Digest::derive(alloc, b"New-pass2", b"salt", &four_counts())?;
     let fell = add_fifth(alloc, &mut digest)?;
-    let text = digest_text(alloc, &digest)?;
-    Ok(Told { fell, text })
+    put_digest(page, &digest);
+    Ok(fell)
 }
 
 /// Adds a fifth key, again where memory was wanting.
 fn add_fifth(alloc: Global, digest: &mut Digest) -> Result<Fell, Stop> {
     let fifth = fifth_count();
-    let before = digest_text(alloc, digest)?;
+    let was = seen_of(alloc, digest)?;
     if digest.add(b"New-pass2", b"salt", &fifth).is_ok() {
         return Ok(Fell::Nowhere);
     }
-    if digest_text(alloc, digest)?.as_str() != before.as_str() {
+    let now = seen_of(alloc, digest)?;
+    if now.text() != was.text() {
         return Err(Stop::Wrong("the digest isn't as it was"));
     }
     digest.add(b"New-pass2", b"salt", &fifth)?;
@@ -74,66 +94,69 @@ fn fifth_count() -> Counts
     counts
 }
 
-fn digest_text(alloc: Global, digest: &Digest) -> Result<String, Stop> {
-    let mut text = format!(in alloc; "{} {}", digest.length, digest.classes)?;
-    add_derived(&mut text, alloc, digest)?;
-    Ok(text)
+fn seen_of(alloc: Global, digest: &Digest) -> Result<Page, Stop> {
+    let mut page = Page::new(alloc);
+    put_digest(&mut page, digest);
+    page.whole()?;
+    Ok(page)
 }
 
-fn add_derived(text: &mut String, alloc: Global, digest: &Digest) -> Result<(), Stop> {
+fn put_digest(page: &mut Page, digest: &Digest) {
+    page.number(digest.length);
+    page.put(" ");
+    page.number(u32::from(digest.classes));
     for (count, short, long) in digest.derived.as_slice() {
-        add_key(text, alloc, *count, (short.bytes(), long.bytes()))?;
+        page.put(" ");
+        page.number(*count);
+        page.put(":");
+        page.hexadecimal(short.bytes());
+        page.put(":");
+        page.hexadecimal(long.bytes());
     }
-    Ok(())
-}
-
-fn add_key(text: &mut String, alloc: Global, count: u32, key: (&[u8], &[u8])) -> Result<(), Stop> {
-    let (short, long) = (encode(alloc, key.0)?, encode(alloc, key.1)?);
-    add(text, format!(in alloc; " {count}:{short}:{long}"))
 }
 
 /// Calls that leave nothing behind.
-pub fn plain(alloc: Global, line: &str) -> Result<String, Stop> {
+pub fn plain(page: &mut Page, line: &str) -> Result<(), Stop> {
     let (call, text) = line.split_once(' ').unwrap_or((line, ""));
     match call {
-        "parse" => parsed(alloc, text),
-        "start" => opening(alloc),
-        "derive" => derived(alloc),
-        "record_bytes" => Ok(encode(alloc, &record(alloc, 2)?)?),
-        "restore" => restored(alloc, text.parse().unwrap_or(0)),
-        "sink" => sink(alloc),
-        "clone" => cloned(alloc),
+        "parse" => parsed(page, text),
+        "start" => opening(page),
+        "derive" => derived(page),
+        "record_bytes" => recorded(page),
+        "restore" => restored(page, text.parse().unwrap_or(0)),
+        "sink" => sink(page),
+        "clone" => cloned(page),
         _ => Err(Stop::Wrong("no such call")),
     }
 }
 
-fn parsed(alloc: Global, text: &str) -> Result<String, Stop> {
-    let name = called(Name::parse(alloc, text))?.ok_or(Stop::Wrong("no name"))?;
-    let mut shown = String::new(alloc);
-    add_parts(&mut shown, alloc, &name)?;
-    Ok(shown)
+fn parsed(page: &mut Page, text: &str) -> Result<(), Stop> {
+    match called(Name::parse(page.alloc(), text))? {
+        None => Err(Stop::Wrong("no name")),
+        Some(name) => {
+            for part in name.parts.as_slice() {
+                page.hexadecimal(part.as_slice());
+                page.put(" ");
+            }
+            Ok(())
+        }
+    }
 }
 
-fn add_parts(text: &mut String, alloc: Global, name: &Name) -> Result<(), Stop> {
-    for part in name.parts.as_slice() {
-        add(text, encode(alloc, part.as_slice()))?;
-        text.push_str(" ")?;
-    }
+fn opening(page: &mut Page) -> Result<(), Stop> {
+    let config = configured(page.alloc())?;
+    let table = called(Table::start(page.alloc(), config, -1))?;
+    put_table(page, &table);
     Ok(())
 }
 
-fn opening(alloc: Global) -> Result<String, Stop> {
-    let config = configured(alloc)?;
-    let table = called(Table::start(alloc, config, -1))?;
-    table_text(alloc, &table)
-}
-
-fn derived(alloc: Global) -> Result<String, Stop> {
+fn derived(page: &mut Page) -> Result<(), Stop> {
     let mut counts = Counts::new();
     counts.push(3);
     counts.push(4);
-    let digest = called(Digest::derive(alloc, b"New-pass2", b"salt", &counts))?;
-    digest_text(alloc, &digest)
+    let digest = called(Digest::derive(page.alloc(), b"New-pass2", b"salt", &counts))?;
+    put_digest(page, &digest);
+    Ok(())
 }
 
 /// A record of alice's key with this version.
@@ -148,69 +171,64 @@ fn record(alloc: Global, kvno: u32) -> Result<Vec<u8>, Stop> {
     called(record_bytes(alloc, &alice, &key))
 }
 
+fn recorded(page: &mut Page) -> Result<(), Stop> {
+    let record = record(page.alloc(), 2)?;
+    page.hexadecimal(&record);
+    Ok(())
+}
+
 /// A table with so many records of alice's.
-fn restored(alloc: Global, records: u32) -> Result<String, Stop> {
+fn restored(page: &mut Page, records: u32) -> Result<(), Stop> {
+    let alloc = page.alloc();
     let journal = journal(alloc, records)?;
-    restored_text(
-        alloc,
-        restore(alloc, table(alloc)?, &mut journal.as_slice()),
-    )
-}
-
-fn journal(alloc: Global, records: u32) -> Result<Vec<u8>, Stop> {
-    let mut journal = Vec::new(alloc);
-    for number in 0..records {
-        add_record(&mut journal, alloc, number.saturating_add(2))?;
-    }
-    Ok(journal)
-}
-
-fn add_record(journal: &mut Vec<u8>, alloc: Global, kvno: u32) -> Result<(), Stop> {
-    let record = beside(record(alloc, kvno))?;
-    Ok(journal.extend_from_slice(&record)?)
-}
-
-fn restored_text(alloc: Global, answer: Result<Restored, RestoreFault>) -> Result<String, Stop> {
-    match answer {
+    match restore(alloc, table(alloc)?, &mut journal.as_slice()) {
         Ok(restored) => {
-            let text = table_text(alloc, &restored.table)?;
-            Ok(format!(in alloc; "records {} {text}", restored.records)?)
+            page.put("records ");
+            page.add(restored.records.to_string(alloc));
+            page.put(" ");
+            put_table(page, &restored.table);
+            Ok(())
         }
         Err(RestoreFault::Memory) => Err(Stop::Call),
         Err(_) => Err(Stop::Wrong("a fault of the journal")),
     }
 }
 
-fn sink(alloc: Global) -> Result<String, Stop> {
-    let sink = called(MemorySink::new(alloc, JOURNAL))?;
-    Ok(encode(alloc, sink.bytes())?)
+fn journal(alloc: Global, records: u32) -> Result<Vec<u8>, Stop> {
+    let mut journal = Vec::new(alloc);
+    for number in 0..records {
+        let record = beside(record(alloc, number.saturating_add(2)))?;
+        journal.extend_from_slice(&record)?;
+    }
+    Ok(journal)
 }
 
-fn cloned(alloc: Global) -> Result<String, Stop> {
-    let mut opened = asked(alloc, 0)?;
-    with_keys(alloc, &mut opened, 0)?;
-    let entry = entry_of(opened);
+fn sink(page: &mut Page) -> Result<(), Stop> {
+    let sink = called(MemorySink::new(page.alloc(), JOURNAL))?;
+    page.hexadecimal(sink.bytes());
+    Ok(())
+}
+
+/// An entry, of which a copy is to be the same.
+fn cloned(page: &mut Page) -> Result<(), Stop> {
+    let entry = entry(page.alloc())?;
     let copy = called(entry.clone())?;
-    copy_text(alloc, &copy, &entry)
+    if !copy.is_same(&entry) {
+        return Err(Stop::Wrong("a copy that differs"));
+    }
+    put_history(page, slice::from_ref(&copy));
+    Ok(())
 }
 
-fn entry_of(opened: Opened) -> Entry {
-    Entry {
+fn entry(alloc: Global) -> Result<Entry, Stop> {
+    Ok(Entry {
         worker: 0,
         number: 1,
         now: NOW,
         io_failed: false,
         event: Event::Ask {
-            opened,
+            opened: complete(alloc, 0)?,
             verdict: Verdict::Done,
         },
-    }
-}
-
-/// A copy, which is to be the same.
-fn copy_text(alloc: Global, copy: &Entry, entry: &Entry) -> Result<String, Stop> {
-    if !copy.is_same(entry) {
-        return Err(Stop::Wrong("a copy that differs"));
-    }
-    history_text(alloc, slice::from_ref(copy))
+    })
 }

@@ -7,7 +7,7 @@ use crate::clock::{Counting, NOW};
 use crate::stop::{Stop, called};
 use chpw_client::{LAST_START, LONGEST_PASSWORD, Sent, client_request};
 use chpw_rules::{Config, Items, Name};
-use chpw_table::{Body, Digest, Moment, Opened, Table};
+use chpw_table::{Body, Counts, Digest, Moment, Opened, Table};
 use krb_keys::CONFOUNDER_LEN;
 use std::alloc::Global;
 use test_realm::name;
@@ -65,9 +65,9 @@ pub fn sent(alloc: Global, micros: u32) -> Result<Sent, Stop> {
 
 /// Alice's request at a moment, for the password of this number.
 pub fn sent_at(alloc: Global, now: Moment, number: u32) -> Result<Sent, Stop> {
-    let config = configured(alloc)?;
-    let alice = known(alloc, "alice")?;
     let password = password(alloc, number)?;
+    let alice = known(alloc, "alice")?;
+    let config = configured(alloc)?;
     request(alloc, &config, &alice, password.as_str().as_bytes(), now)
 }
 
@@ -98,10 +98,12 @@ fn request(
 
 /// Alice's request as it opened, with these microseconds and no keys yet.
 pub fn asked(alloc: Global, cusec: u32) -> Result<Opened, Stop> {
-    let digest = Digest::of(9, 4, Vec::new(alloc)).ok_or(Stop::Wrong("no digest"))?;
     let crealm = Items::of(Vec::from_slice(alloc, b"EXAMPLE.COM")?);
     let client = known(alloc, "alice")?;
-    Ok(opened_of(crealm, client, digest, cusec))
+    match Digest::of(9, 4, Vec::new(alloc)) {
+        Some(digest) => Ok(opened_of(crealm, client, digest, cusec)),
+        None => Err(Stop::Wrong("no digest")),
+    }
 }
 
 fn opened_of(crealm: Items<u8>, client: Name, digest: Digest, cusec: u32) -> Opened {
@@ -120,6 +122,17 @@ fn opened_of(crealm: Items<u8>, client: Name, digest: Digest, cusec: u32) -> Ope
             digest,
         },
     }
+}
+
+/// The same, with the keys of its password under the one count that there is.
+pub fn complete(alloc: Global, cusec: u32) -> Result<Opened, Stop> {
+    let mut counts = Counts::new();
+    counts.push(4);
+    let password = password(alloc, cusec)?;
+    let mut opened = asked(alloc, cusec)?;
+    let salt = opened.salt()?;
+    opened.complete(password.as_str().as_bytes(), &salt, &counts)?;
+    Ok(opened)
 }
 
 /// The password of the request with these microseconds.
