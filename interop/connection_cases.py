@@ -18,8 +18,8 @@ class Connection:
     def __init__(self, slot, number, peer, now):
         self.slot, self.number, self.peer, self.since = slot, number, peer, now
         self.stage, self.message, self.reply, self.out = READING, b"", b"", 0
-        # of a message that it reads
-        self.room = 0
+        # of a message that it reads, and since when there is as much
+        self.room, self.begun = 0, now
         self.last, self.replies = False, 0
 
     def whole(self):
@@ -37,6 +37,10 @@ class Connection:
         """All bytes of its message, as far as its length has come, or of its reply."""
         return {READING: self.whole(), QUEUED: len(self.message), WRITING: len(self.reply)}.get(self.stage, 0)
 
+    def on_its_way(self):
+        """Since when its message or its reply is."""
+        return self.begun if self.stage == READING else self.since
+
     def growth(self):
         """How many more it holds once its next bytes are read: there is room for a length, or for a whole message."""
         return max(self.size() - self.held(), 0)
@@ -52,8 +56,8 @@ class Connection:
 
 
 class Machine:
-    def __init__(self, connections, size, idle, wait, linger, workers):
-        self.most, self.size = connections, size
+    def __init__(self, connections, size, idle, grace, wait, linger, workers):
+        self.most, self.size, self.grace = connections, size, grace
         self.times = {READING: idle, WRITING: idle, QUEUED: wait, LINGERING: linger}
         self.connections = []
         self.freed, self.used = [], 0
@@ -98,45 +102,48 @@ class Machine:
         c.stage = ENDED
         self.look(c)
 
-    def longest(self, waiting):
-        """Who has waited for its client the longest; of two that have waited as long the one in the lower slot."""
-        return min(waiting, key=lambda c: (c.since, c.slot), default=None)
-
     def make_room(self):
-        c = self.longest([c for c in self.connections if c.waits_for_client()])
+        """Who has waited for its client the longest ends; of two that have waited as long the one in the lower slot."""
+        waiting = [c for c in self.connections if c.waits_for_client()]
+        c = min(waiting, key=lambda c: (c.since, c.slot), default=None)
         if c:
             self.fail(c)
         return c is not None
 
-    def others(self, c, least):
+    def others(self, c, least, until):
         """Who gives way to this one: to end one that holds no bytes makes no room for bytes, and one that there is no room
         for doesn't wait for its client."""
         waiting = [d for d in self.connections if d is not c and d.waits_for_client() and d.held() and not d.growth()]
-        return [d for d in waiting if d.size() > least]
+        return [d for d in waiting if d.size() > least and d.on_its_way() <= until]
 
-    def could_have_room(self, c, count, most, least):
-        return self.held() - sum(d.held() for d in self.others(c, least)) + count <= most
+    def could_have_room(self, c, count, most, least, until):
+        return self.held() - sum(d.held() for d in self.others(c, least, until)) + count <= most
 
-    def find_room(self, c, count, most, least):
-        """Nobody is ended where it isn't enough."""
-        if not self.could_have_room(c, count, most, least):
+    def find_room(self, c, count, most, least, until):
+        """Nobody is ended where it isn't enough; and who has been on its way the longest first."""
+        if not self.could_have_room(c, count, most, least, until):
             return False
         while self.held() + count > most:
-            self.fail(self.longest(self.others(c, least)))
+            self.fail(min(self.others(c, least, until), key=lambda d: (d.on_its_way(), d.slot)))
         return True
 
-    def to_read(self, c):
-        """Large messages have half of the bytes, at the cost of one another; others have three quarters."""
-        return (self.size // 2, LARGEST_SMALL) if c and c.size() > LARGEST_SMALL else (self.size - self.size // 4, 0)
+    def to_read(self, c, now):
+        """Large messages have half of the bytes, at the cost of one another; others have three quarters. None is ended
+        before it has been on its way for the grace."""
+        until = max(now - self.grace, 0)
+        if c and c.size() > LARGEST_SMALL:
+            return self.size // 2, LARGEST_SMALL, until
+        return self.size - self.size // 4, 0, until
 
     def receive(self, c, octets, now):
         """The number of the worker where the message is whole now."""
         if c.stage != READING:
             return None
-        if not self.find_room(c, c.growth(), *self.to_read(c)):
+        if not self.find_room(c, c.growth(), *self.to_read(c, now)):
             self.fail(c)
             return None
-        c.room = c.whole()
+        if c.room != c.whole():
+            c.room, c.begun = c.whole(), now
         c.message += octets[:c.wanted()]
         if c.wanted():
             return None
@@ -169,7 +176,7 @@ class Machine:
             self.look(c)
         if c.stage != ANSWERING:
             return
-        if not self.find_room(c, len(reply), self.size, 0):
+        if not self.find_room(c, len(reply), self.size, 0, now):
             self.leave_unanswered(c, now)
             return
         c.go(WRITING, now)
@@ -327,7 +334,7 @@ def of_one(machine, kind, slot, rest, now):
     if kind == "push":
         return received(c, machine.receive(c, bytes_of(rest), now) if c else None)
     if kind == "has":
-        return "has room" if machine.could_have_room(c, c.growth() if c else 0, *machine.to_read(c)) else "no room"
+        return "has room" if machine.could_have_room(c, c.growth() if c else 0, *machine.to_read(c, now)) else "no room"
     if kind == "rounds":
         return rounds(machine, c, int(rest), now)
     if kind == "remove":
@@ -350,7 +357,7 @@ def cut(octets, is_ended):
     """What comes of a message that is cut before each of its bytes and at its end, with equal answers together."""
     answers = {}
     for place in range(len(octets) + 1):
-        machine = Machine(1, 100, 100, 100, 100, 1)
+        machine = Machine(1, 100, 100, 100, 100, 100, 1)
         c = machine.at(machine.accept("10.0.0.1", 0))
         read(machine, c, octets[:place], 0)
         if is_ended:

@@ -8,55 +8,56 @@ use Rattle.std.proofs.lemmas.List.{get_or_past, take_all}
 use Rattle.std.proofs.lemmas.List.Sums.{sum_by-cons, sum_by_more, sum_by-take-le, get_or-le-sum_by, sum_by-le-sum_by}
 use Rattle.slab.specs.Slab.{Slab, get}
 use Rattle.chpw_connections.specs.Stages.{failed, stage, stage_of, ended}
-use Rattle.chpw_connections.specs.Holding.{held_by, held_at, held_in, size_by}
+use Rattle.chpw_connections.specs.Holding.{held_by, held_at, held_in, begun_of}
 use Rattle.chpw_connections.specs.Sets.{waits, Comes, Happens}
-use Rattle.chpw_connections.specs.Room.{is_held_back, gives_way, gives_way_at, gives_way_since, given_at, given_in, staying_besides, has_room_besides, IsLongestBesides, NobodyWaitsBesides}
+use Rattle.chpw_connections.specs.Room.{is_held_back, is_among, gives_way, gives_way_at, gives_way_since, given_at, given_in, staying_besides, has_room_besides, IsLongestBesides, NobodyWaitsBesides}
 use Rattle.chpw_connections.specs.declared.connection.Phase.{Phase}
 use Rattle.chpw_connections.specs.declared.connection.Phase.TheVariants as phase
 use Rattle.chpw_connections.specs.declared.connection.Connection.{Connection}
+use Rattle.chpw_connections.specs.declared.room.Candidates.{Candidates}
 use Rattle.chpw_connections.proofs.HeldLemmas.{changed_sum}
 use Rattle.chpw_connections.proofs.RoomLemmas.{waits_from, ends_waiting, and_left, besides_other, besides_same}
 
 -- what is let go of was held
-pub given_le : (least : ℕ) (o : Option Connection) → given_at least o ≤ held_at o
-given_le least None = omega arith
-given_le least (Some c) = by_test (gives_way least c)
+pub given_le : (who : Candidates) (o : Option Connection) → given_at who o ≤ held_at o
+given_le who None = omega arith
+given_le who (Some c) = by_test (gives_way who c)
   where
     by_test : (t : Bool) → cond t (held_by c.phase) 0 ≤ held_by c.phase
     by_test true = omega arith
     by_test false = omega arith
 
 -- how many of the slots below this one
-abbrev pub given_below : ℕ → Slab Connection → ℕ → ℕ
-given_below least slots n = sum_by (given_at least) (take n slots.slots)
+abbrev pub given_below : Candidates → Slab Connection → ℕ → ℕ
+given_below who slots n = sum_by (given_at who) (take n slots.slots)
 
-pub given_next : (least : ℕ) (slots : Slab Connection) (n : ℕ) → given_below least slots (n + 1) ≡ given_below least slots n + given_at least (get slots n)
-given_next least slots n =
+pub given_next : (who : Candidates) (slots : Slab Connection) (n : ℕ) → given_below who slots (n + 1) ≡ given_below who slots n + given_at who (get slots n)
+given_next who slots n =
     ⊎_elim
-    (λ (lt : n < length slots.slots). sum_by_more (given_at least) slots.slots n None lt)
+    (λ (lt : n < length slots.slots). sum_by_more (given_at who) slots.slots n None lt)
     (λ (past : length slots.slots ≤ n).
     let over : length slots.slots ≤ n + 1 = omega arith in
-    let none : given_at least (get slots n) ≡ 0 = ap (given_at least) (get_or_past slots.slots n None past) in
-    let whole = ap (sum_by (given_at least)) (take_all (n + 1) slots.slots over) in
-    let before = ap (sum_by (given_at least)) (take_all n slots.slots past) in
+    let none : given_at who (get slots n) ≡ 0 = ap (given_at who) (get_or_past slots.slots n None past) in
+    let whole = ap (sum_by (given_at who)) (take_all (n + 1) slots.slots over) in
+    let before = ap (sum_by (given_at who)) (take_all n slots.slots past) in
     omega arith)
     (cases_lt n (length slots.slots))
 
-pub given_all : (least : ℕ) (slots : Slab Connection) (n : ℕ) → length slots.slots ≤ n → given_below least slots n ≡ given_in least slots
-given_all least slots n few = ap (sum_by (given_at least)) (take_all n slots.slots few)
+pub given_all : (who : Candidates) (slots : Slab Connection) (n : ℕ) → length slots.slots ≤ n → given_below who slots n ≡ given_in who slots
+given_all who slots n few = ap (sum_by (given_at who)) (take_all n slots.slots few)
 
-pub given_below_le : (least : ℕ) (slots : Slab Connection) (n : ℕ) → given_below least slots n ≤ given_in least slots
-given_below_le least slots n = sum_by-take-le (given_at least) slots.slots n
+pub given_below_le : (who : Candidates) (slots : Slab Connection) (n : ℕ) → given_below who slots n ≤ given_in who slots
+given_below_le who slots n = sum_by-take-le (given_at who) slots.slots n
 
-pub given_in_le : (least : ℕ) (slots : Slab Connection) → given_in least slots ≤ held_in slots
-given_in_le least slots = sum_by-le-sum_by (given_at least) held_at slots.slots (given_le least)
+pub given_in_le : (who : Candidates) (slots : Slab Connection) → given_in who slots ≤ held_in slots
+given_in_le who slots = sum_by-le-sum_by (given_at who) held_at slots.slots (given_le who)
 
-pub given_here_le : (least : ℕ) (slots : Slab Connection) (slot : ℕ) → given_at least (get slots slot) ≤ given_in least slots
-given_here_le least slots slot =
+pub given_here_le : (who : Candidates) (slots : Slab Connection) (slot : ℕ) → given_at who (get slots slot) ≤ given_in who slots
+given_here_le who slots slot =
     ⊎_elim
-    (λ (lt : slot < length slots.slots). get_or-le-sum_by (given_at least) slots.slots slot None lt)
+    (λ (lt : slot < length slots.slots). get_or-le-sum_by (given_at who) slots.slots slot None lt)
     (λ (past : length slots.slots ≤ slot).
-    let none : given_at least (get slots slot) ≡ 0 = ap (given_at least) (get_or_past slots.slots slot None past) in
+    let none : given_at who (get slots slot) ≡ 0 = ap (given_at who) (get_or_past slots.slots slot None past) in
     omega arith)
     (cases_lt slot (length slots.slots))
 
@@ -72,34 +73,34 @@ one_sum f d none (x ∷ xs) zero others =
 one_sum f d none (x ∷ xs) (suc i) others =
     omega (arith, sum_by-cons f x xs, others 0 (λ e. absurd (cc)), one_sum f d none xs i (λ j differs. others (suc j) (λ e. differs (cc))))
 
-gives_none : (least : ℕ) (o : Option Connection) → gives_way_since least o ≡ None → given_at least o ≡ 0
-gives_none least None is = refl
-gives_none least (Some c) is = by_test (gives_way least c) is
+gives_none : (who : Candidates) (o : Option Connection) → gives_way_since who o ≡ None → given_at who o ≡ 0
+gives_none who None is = refl
+gives_none who (Some c) is = by_test (gives_way who c) is
   where
-    by_test : (t : Bool) → cond t (Some c.since) None ≡ None → cond t (held_by c.phase) 0 ≡ 0
+    by_test : (t : Bool) → cond t (Some (begun_of c)) None ≡ None → cond t (held_by c.phase) 0 ≡ 0
     by_test true e = absurd cc
     by_test false e = refl
 
-pub nobody_gives : (least : ℕ) (slots : Slab Connection) (slot : ℕ) → NobodyWaitsBesides slots (Some slot) least
-    → given_in least slots ≡ given_at least (get slots slot)
-nobody_gives least slots slot nobody =
-    one_sum (given_at least) None refl slots.slots slot
-    (λ j differs. gives_none least (get slots j) (sym (besides_other slots least slot j differs) ∙ nobody j))
+pub nobody_gives : (who : Candidates) (slots : Slab Connection) (slot : ℕ) → NobodyWaitsBesides slots (Some slot) who
+    → given_in who slots ≡ given_at who (get slots slot)
+nobody_gives who slots slot nobody =
+    one_sum (given_at who) None refl slots.slots slot
+    (λ j differs. gives_none who (get slots j) (sym (besides_other slots who slot j differs) ∙ nobody j))
 
 -- then all is held that would stay
-pub nobody_room : (most least : ℕ) (slots : Slab Connection) (slot count : ℕ) → NobodyWaitsBesides slots (Some slot) least
-    → has_room_besides most least slots slot count ≡ true → held_in slots + count ≤ most
-nobody_room most least slots slot count nobody enough =
-    let all = nobody_gives least slots slot nobody in
-    let stays : staying_besides least slots slot ≡ held_in slots = omega arith in
+pub nobody_room : (most : ℕ) (who : Candidates) (slots : Slab Connection) (slot count : ℕ) → NobodyWaitsBesides slots (Some slot) who
+    → has_room_besides most who slots slot count ≡ true → held_in slots + count ≤ most
+nobody_room most who slots slot count nobody enough =
+    let all = nobody_gives who slots slot nobody in
+    let stays : staying_besides who slots slot ≡ held_in slots = omega arith in
     grind (arith, nat_tests)
 
 -- who gives way lets go of all that it holds, and that is something
-gives_held : (least : ℕ) (o : Option Connection) → gives_way_at least o ≡ true → (given_at least o ≡ held_at o) × (0 < held_at o)
-gives_held least None is = absurd cc
-gives_held least (Some c) is = (
+gives_held : (who : Candidates) (o : Option Connection) → gives_way_at who o ≡ true → (given_at who o ≡ held_at o) × (0 < held_at o)
+gives_held who None is = absurd cc
+gives_held who (Some c) is = (
   ap (λ (t : Bool). cond t (held_by c.phase) 0) is,
-  holds_some (waits (stage c)) (not (is_held_back c) && nat_lt least (size_by c.phase)) is,
+  holds_some (waits (stage c)) (not (is_held_back c) && is_among who c) is,
 )
   where
     holds_some : (a b : Bool) → (a && (nat_lt 0 (held_by c.phase) && b)) ≡ true → 0 < held_by c.phase
@@ -116,45 +117,45 @@ ended_empty phase.Lingering e = refl
 ended_empty phase.Abandoned e = refl
 ended_empty phase.Ended e = refl
 
-lets_go : (least : ℕ) (old new : Option Connection) → gives_way_at least old ≡ true → Comes 0 failed old new
-    → (held_at new ≡ 0) × (given_at least new ≡ 0)
-lets_go least None new is comes = absurd cc
-lets_go least (Some c) None is comes = absurd comes
-lets_go least (Some c) (Some d) is comes =
-    let waited : waits (stage c) ≡ true = and_left (waits (stage c)) (nat_lt 0 (held_by c.phase) && (not (is_held_back c) && nat_lt least (size_by c.phase))) is in
+lets_go : (who : Candidates) (old new : Option Connection) → gives_way_at who old ≡ true → Comes 0 failed old new
+    → (held_at new ≡ 0) × (given_at who new ≡ 0)
+lets_go who None new is comes = absurd cc
+lets_go who (Some c) None is comes = absurd comes
+lets_go who (Some c) (Some d) is comes =
+    let waited : waits (stage c) ≡ true = and_left (waits (stage c)) (nat_lt 0 (held_by c.phase) && (not (is_held_back c) && is_among who c)) is in
     let over : stage d ≡ ended = comes.stage_is ∙ ends_waiting c.answered (stage c) waited in
     let none : held_by d.phase ≡ 0 = ended_empty d.phase over in
-    let few : given_at least (Some d) ≤ held_by d.phase = given_le least (Some d) in
+    let few : given_at who (Some d) ≤ held_by d.phase = given_le who (Some d) in
     (none, omega arith)
 
 -- one that gives way is ended: less is held, and as much would stay
-module _ (least : ℕ) (mid new : Slab Connection) (slot other : ℕ) (is : IsLongestBesides mid (Some slot) least other)
+module _ (who : Candidates) (mid new : Slab Connection) (slot other : ℕ) (is : IsLongestBesides mid (Some slot) who other)
     (happens : Happens 0 mid new other failed) where
   apart : other ≢ slot
-  apart = λ same. absurd (let none = besides_same mid least slot other same in let found = is.1 in cc)
+  apart = λ same. absurd (let none = besides_same mid who slot other same in let found = is.1 in cc)
 
-  gives : gives_way_at least (get mid other) ≡ true
-  gives = waits_from least (get mid other) is.0 (sym (besides_other mid least slot other apart) ∙ is.1)
+  gives : gives_way_at who (get mid other) ≡ true
+  gives = waits_from who (get mid other) is.0 (sym (besides_other mid who slot other apart) ∙ is.1)
 
   held_less : held_in new + held_at (get mid other) ≡ held_in mid
   held_less =
-      let gone = lets_go least (get mid other) (get new other) gives happens.here in
+      let gone = lets_go who (get mid other) (get new other) gives happens.here in
       omega (arith, changed_sum held_at None refl mid.slots new.slots other happens.others, gone.0)
 
-  given_less : given_in least new + held_at (get mid other) ≡ given_in least mid
+  given_less : given_in who new + held_at (get mid other) ≡ given_in who mid
   given_less =
-      let gone = lets_go least (get mid other) (get new other) gives happens.here in
-      omega (arith, changed_sum (given_at least) None refl mid.slots new.slots other happens.others, gone.1, (gives_held least (get mid other) gives).0)
+      let gone = lets_go who (get mid other) (get new other) gives happens.here in
+      omega (arith, changed_sum (given_at who) None refl mid.slots new.slots other happens.others, gone.1, (gives_held who (get mid other) gives).0)
 
   pub fewer_held : held_in new < held_in mid
-  fewer_held = omega (arith, held_less, (gives_held least (get mid other) gives).1)
+  fewer_held = omega (arith, held_less, (gives_held who (get mid other) gives).1)
 
-  pub stays_same : staying_besides least new slot ≡ staying_besides least mid slot
+  pub stays_same : staying_besides who new slot ≡ staying_besides who mid slot
   stays_same =
-      let here : given_at least (get new slot) ≡ given_at least (get mid slot) = ap (given_at least) (happens.others slot (λ e. apart (sym e))) in
-      omega (arith, held_less, given_less, here, given_here_le least new slot, given_in_le least new)
+      let here : given_at who (get new slot) ≡ given_at who (get mid slot) = ap (given_at who) (happens.others slot (λ e. apart (sym e))) in
+      omega (arith, held_less, given_less, here, given_here_le who new slot, given_in_le who new)
 
-pub room_stays : (most least count : ℕ) (mid new : Slab Connection) (slot other : ℕ) → IsLongestBesides mid (Some slot) least other
-    → Happens 0 mid new other failed → has_room_besides most least mid slot count ≡ true → has_room_besides most least new slot count ≡ true
-room_stays most least count mid new slot other is happens enough =
-    ap (λ (k : ℕ). not (nat_lt most (k + count))) (stays_same least mid new slot other is happens) ∙ enough
+pub room_stays : (most : ℕ) (who : Candidates) (count : ℕ) (mid new : Slab Connection) (slot other : ℕ) → IsLongestBesides mid (Some slot) who other
+    → Happens 0 mid new other failed → has_room_besides most who mid slot count ≡ true → has_room_besides most who new slot count ≡ true
+room_stays most who count mid new slot other is happens enough =
+    ap (λ (k : ℕ). not (nat_lt most (k + count))) (stays_same who mid new slot other is happens) ∙ enough

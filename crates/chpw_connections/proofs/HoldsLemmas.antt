@@ -8,12 +8,13 @@ use Rattle.std.specs.List.{count_by}
 use Rattle.std.proofs.lemmas.Bool.Decides.{nat_tests}
 use Rattle.slab.specs.Slab.{Slab, get, slab_len, Updates}
 use Rattle.chpw_connections.specs.Stages.{Stage, reading, queued, answering, writing, lingering, abandoned, ended, Event, came, taken, replied, unanswered, wrote, closed, failed, after, stage, is_over, received}
-use Rattle.chpw_connections.specs.Holding.{held_by, size_by}
+use Rattle.chpw_connections.specs.Holding.{held_by, begun_of}
 use Rattle.chpw_connections.specs.Messages.{wanted_behind}
 use Rattle.chpw_connections.specs.Sets.{queued_by, queued_at, Comes, Happens, waits, waits_since, is_ended, is_ended_in, IsLongest}
-use Rattle.chpw_connections.specs.Room.{gives_way_since, is_held_back, IsLongestBesides}
+use Rattle.chpw_connections.specs.Room.{gives_way_since, is_held_back, is_among, IsLongestBesides}
 use Rattle.chpw_connections.specs.Waiting.{queue_in, waits_for, times, times_for, Holds, Becomes, Leaves, without, is_newly_queued}
 use Rattle.chpw_connections.specs.declared.connection.Connection.{Connection}
+use Rattle.chpw_connections.specs.declared.room.Candidates.{Candidates}
 use Rattle.chpw_connections.proofs.QueueLemmas.{number, times_head, times_behind, times_push_same, times_push_other, times_without, times_without_other, without_none, without_head}
 
 -- what neither brings a message to a queue nor takes it out
@@ -245,22 +246,23 @@ client_none (Some c) since is = by_stage (stage c) is
 pub longest_not_queued : (slots : Slab Connection) (slot : ℕ) → IsLongest slots slot → queued_at (get slots slot) ≡ None
 longest_not_queued slots slot is = client_none (get slots slot) is.0 is.1
 
-held_waits : (least : ℕ) (o : Option Connection) (since : ℕ) → gives_way_since least o ≡ Some since → waits_since o ≡ Some since
-held_waits least None since is = is
-held_waits least (Some c) since is = by_tests (waits (stage c)) (nat_lt 0 (held_by c.phase) && (not (is_held_back c) && nat_lt least (size_by c.phase))) is
+-- who gives way waits for its client
+gives_waits : (who : Candidates) (o : Option Connection) (since : ℕ) → gives_way_since who o ≡ Some since → (s : ℕ) × (waits_since o ≡ Some s)
+gives_waits who None since is = absurd cc
+gives_waits who (Some c) since is =
+    (c.since, by_tests (waits (stage c)) (nat_lt 0 (held_by c.phase) && (not (is_held_back c) && is_among who c)) is)
   where
-    by_tests : (a b : Bool) → cond (a && b) (Some c.since) None ≡ Some since → cond a (Some c.since) None ≡ Some since
-    by_tests true true e = e
-    by_tests true false e = absurd cc
-    by_tests false b e = e
+    by_tests : (a b : Bool) → cond (a && b) (Some (begun_of c)) None ≡ Some since → cond a (Some c.since) None ≡ Some c.since
+    by_tests true b e = refl
+    by_tests false b e = absurd cc
 
-pub longest_besides_not_queued : (slots : Slab Connection) (besides least slot : ℕ) → IsLongestBesides slots (Some besides) least slot
+pub longest_besides_not_queued : (slots : Slab Connection) (besides : ℕ) (who : Candidates) (slot : ℕ) → IsLongestBesides slots (Some besides) who slot
     → queued_at (get slots slot) ≡ None
-longest_besides_not_queued slots besides least slot is = by_test (slot == besides) is.1
+longest_besides_not_queued slots besides who slot is = by_test (slot == besides) is.1
   where
-    by_test : (t : Bool) → cond t None (gives_way_since least (get slots slot)) ≡ Some is.0 → queued_at (get slots slot) ≡ None
+    by_test : (t : Bool) → cond t None (gives_way_since who (get slots slot)) ≡ Some is.0 → queued_at (get slots slot) ≡ None
     by_test true e = absurd cc
-    by_test false e = client_none (get slots slot) is.0 (held_waits least (get slots slot) is.0 e)
+    by_test false e = let waiting = gives_waits who (get slots slot) is.0 e in client_none (get slots slot) waiting.0 waiting.1
 
 -- bytes that made no message whole
 came_for : (workers now : ℕ) (more : List ℕ) (old new : Option Connection) → Comes now (came more) old new

@@ -43,3 +43,11 @@ growth_by p = size_by p - held_by p
 abbrev pub growth_at : Option Connection → ℕ
 growth_at None = 0
 growth_at (Some c) = growth_by c.phase
+
+-- since when it has been on its way: a message since there has been room for as much of it as there is now
+abbrev pub begun_by : Phase → ℕ → ℕ
+begun_by (phase.Reading incoming) since = incoming.begun
+begun_by p since = since
+
+abbrev pub begun_of : Connection → ℕ
+begun_of c = begun_by c.phase c.since

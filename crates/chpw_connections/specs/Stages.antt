@@ -1,6 +1,7 @@
 -- Where a connection is, and what happens to it. Moments are milliseconds.
 use Rattle.std.specs.Prelude.{◌≡◌, ℕ, ◌+◌, ◌==◌, List, [], ◌++◌, length, take, drop, Bool, nat_le, ◌||◌, if◌then◌else◌}
-use Rattle.chpw_connections.specs.Messages.{wanted_behind}
+use Rattle.chpw_connections.specs.Messages.{wanted_behind, whole_behind}
+use Rattle.chpw_connections.specs.declared.connection.Incoming.{Incoming}
 use Rattle.chpw_connections.specs.declared.connection.Phase.{Phase}
 use Rattle.chpw_connections.specs.declared.connection.Phase.TheVariants as phase
 use Rattle.chpw_connections.specs.declared.connection.Connection.{Connection}
@@ -103,10 +104,22 @@ stage_of phase.Ended = ended
 abbrev pub stage : Connection → Stage
 stage c = stage_of c.phase
 
+-- How much room there is for a message that is read, and since when: none before something has come; then for all that its
+-- length says, as far as that had come before. Where that is more than before, there is from now on.
+abbrev pub IsRoomFor : ℕ → Event → Phase → Incoming → Type 0
+IsRoomFor now (came more) (phase.Reading i) j = (j.room ≡ whole_behind i.received.items) × (j.begun ≡ (if j.room == i.room then i.begun else now))
+IsRoomFor now event (phase.Reading i) j = j ≡ i
+IsRoomFor now event old j = j.room ≡ 0
+
+abbrev pub IsRoomBehind : ℕ → Event → Phase → Phase → Type 0
+IsRoomBehind now event old (phase.Reading j) = IsRoomFor now event old j
+IsRoomBehind now event old new = Unit {0}
+
 -- the same connection, after an event at this moment
 pub record Goes (now : ℕ) (old new : Connection) (event : Event) : Type 0 where
   pub stage_is : stage new ≡ after old.answered (stage old) event
   pub count_is : new.answered ≡ count_after old.answered (stage old) event
   pub since_is : new.since ≡ since_after now old.since (stage old) event
+  pub room_is : IsRoomBehind now event old.phase new.phase
   pub number : new.number ≡ old.number
   pub peer : new.peer ≡ old.peer

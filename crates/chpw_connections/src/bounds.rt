@@ -9,6 +9,9 @@ pub struct Bounds {
     pub bytes: usize,
     /// How long a connection may be without a whole message, or with a reply that isn't taken.
     pub idle: u64,
+    /// How long a message is left alone, from when there is room for all of it, before it may be ended to make room for
+    /// another one.
+    pub grace: u64,
     /// How long a message may wait for its worker.
     pub wait: u64,
     /// How long a client may go on to send behind the last reply.

@@ -1,9 +1,10 @@
 //! What happens to one connection, from its accept to its end.
-ghost use Rattle.std.specs.Prelude.{◌≡◌, ◌+◌, ◌≤◌, [], length, IfSome, IfNone, None, IfOk, OnOk, OnErr, take, true, nat_lt};
+ghost use Rattle.std.specs.Prelude.{◌≡◌, ◌==◌, if◌then◌else◌, ◌+◌, ◌≤◌, [], length, IfSome, IfNone, None, IfOk, OnOk, OnErr, take, true, nat_lt};
 ghost use Rattle.chpw_connections.specs.Messages.{wanted_behind as wanted_of, whole_behind as whole_of};
 ghost use Rattle.chpw_connections.specs.Reading.{is_unfinished, is_covered};
 
 use crate::bounds::Bounds;
+use crate::room::Candidates;
 use chpw_frame::LONGEST_MESSAGE;
 use std::alloc::{AllocError, Global};
 use std::mem;
@@ -39,6 +40,8 @@ pub(crate) struct Incoming {
     pub received: Vec<u8>,
     /// How many bytes there is room for: four from the first byte of its length on, and all of it from the next one on.
     pub room: usize,
+    /// The moment since which there is as much room as that.
+    pub begun: u64,
 }
 
 impl Incoming {
@@ -49,6 +52,7 @@ impl Incoming {
         Incoming {
             received: Vec::new(alloc),
             room: 0,
+            begun: 0,
         }
     }
 }
@@ -78,11 +82,11 @@ pub(crate) struct Connection {
 }
 
 impl Connection {
-    ghost use Rattle.chpw_connections.specs.Holding.{held_by, size_by, growth_by};
+    ghost use Rattle.chpw_connections.specs.Holding.{held_by, size_by, growth_by, begun_of};
     ghost use Rattle.chpw_connections.specs.Stages.{stage, stage_of, after, reading, queued, Goes, came, taken, replied, unanswered, wrote, closed, failed, wanted_by, left_of};
     ghost use Rattle.chpw_connections.specs.Sets.{waits, is_late, queued_by};
     ghost use Rattle.chpw_connections.specs.Waiting.{is_newly_queued};
-    ghost use Rattle.chpw_connections.specs.Room.{gives_way as gives_way_of};
+    ghost use Rattle.chpw_connections.specs.Room.{gives_way as gives_way_of, is_among as is_among_of};
 
     /// One that was accepted just now.
     pub fn accepted(alloc: Global, number: u32, peer: [u8; 4], now: u64) -> Connection
@@ -155,8 +159,13 @@ impl Connection {
         ensures held { held_by self.new.phase ≤ held_by self.old.phase + growth_by self.old.phase }
     {
         match mem::replace(&mut self.phase, Phase::Ended) {
-            Phase::Reading(Incoming { mut received, .. }) => {
+            Phase::Reading(Incoming {
+                mut received,
+                room: before,
+                begun,
+            }) => {
                 let room = whole_behind(&received);
+                let begun = begun_with(room, before, begun, now);
                 let fitting = at_most(bytes, wanted_behind(&received));
                 received.extend_from_slice(fitting)?;
                 if wanted_behind(&received) == 0 {
@@ -164,7 +173,11 @@ impl Connection {
                     self.phase = Phase::Queued(received);
                     return Ok(true);
                 }
-                self.phase = Phase::Reading(Incoming { received, room });
+                self.phase = Phase::Reading(Incoming {
+                    received,
+                    room,
+                    begun,
+                });
                 Ok(false)
             }
             other => {
@@ -302,11 +315,33 @@ impl Connection {
         )
     }
 
-    /// Whether it is to be ended where room for bytes is made, of those with more than so many.
-    pub fn gives_way(&self, least: usize) -> bool
-        ensures value { result ≡ gives_way_of least self.now }
+    /// Since when it has been on its way: a message since there has been room for as much of it as there is.
+    pub fn begun(&self) -> u64
+        ensures value { result ≡ begun_of self.now }
     {
-        self.waits_for_client() && self.held() > 0 && self.growth() == 0 && self.size() > least
+        match &self.phase {
+            Phase::Reading(incoming) => incoming.begun,
+            Phase::Queued(_)
+            | Phase::Answering
+            | Phase::Writing(_)
+            | Phase::Lingering
+            | Phase::Abandoned
+            | Phase::Ended => self.since,
+        }
+    }
+
+    /// Whether it is one of those that may be ended, waits for its client and holds some bytes.
+    pub fn gives_way(&self, who: Candidates) -> bool
+        ensures value { result ≡ gives_way_of who self.now }
+    {
+        self.waits_for_client() && self.held() > 0 && self.growth() == 0 && self.is_among(who)
+    }
+
+    // Whether its message or its reply is large enough, and has been on its way for long enough.
+    fn is_among(&self, who: Candidates) -> bool
+        ensures value { result ≡ is_among_of who self.now }
+    {
+        self.size() > who.larger_than && self.begun() <= who.begun_by
     }
 }
 
@@ -320,6 +355,13 @@ pub(crate) fn at_most(bytes: &[u8], wanted: usize) -> &[u8]
     } else {
         &bytes[..wanted]
     }
+}
+
+// Since when there is room for so many bytes: since this moment, where there was room for another number before.
+fn begun_with(room: usize, before: usize, begun: u64, now: u64) -> u64
+    ensures value { result ≡ (if room == before then begun else now) }
+{
+    if room == before { begun } else { now }
 }
 
 // How many bytes are wanted behind these of a message: the rest of its length, or of the message. Of a message that

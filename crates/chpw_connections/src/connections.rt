@@ -4,7 +4,7 @@ ghost use Rattle.slab.specs.Slab.{get, slab_len, Updates};
 ghost use Rattle.chpw_connections.specs.Holding.{held_in, growth_at};
 ghost use Rattle.chpw_connections.specs.Stages.{came, taken, replied, unanswered, wrote, closed, failed};
 ghost use Rattle.chpw_connections.specs.Sets.{Happens, wanted_at, left_at, queued_at, is_late_in, Passes, is_lingering_in, is_ended_in, is_reading_in, is_answering_in, wanted_of, IsNew};
-ghost use Rattle.chpw_connections.specs.Room.{HappensWithRoom, has_room_besides, has_room_to_read as has_room_to_read_in, read_within, least_for, is_large_in};
+ghost use Rattle.chpw_connections.specs.Room.{HappensWithRoom, has_room_besides, has_room_to_read as has_room_to_read_in, read_within, for_message, for_reply, is_large_in};
 ghost use Rattle.chpw_connections.specs.Expiry.{one_more, is_dropped_in, dropped_in, and_more};
 ghost use Rattle.chpw_connections.specs.Queues.{queues_of, queue_of, workers_of, DropsLate};
 ghost use Rattle.chpw_connections.specs.Waiting.{waits_for, in_time, Becomes, Leaves};
@@ -12,6 +12,7 @@ ghost use Rattle.chpw_connections.specs.Held.{slots_of, accepted_by, removed_by,
 
 use crate::bounds::Bounds;
 use crate::connection::{Connection, Phase, at_most};
+use crate::room::Candidates;
 use crate::set::Connections;
 use crate::slots::Slots;
 use crate::waiting::Queues;
@@ -118,26 +119,26 @@ impl Connections {
 
     /// These bytes of a connection's message came, of which those count that are wanted. Where the message is whole with
     /// them, it waits at the end of its worker's queue, and the worker is given: the connection's number, modulo how many
-    /// there are. Where there is no room for them (`has_room_to_read`), others are ended that hold bytes, those that
-    /// have waited for their clients the longest first: of a large message only those with another large one, and nobody
-    /// where that isn't enough. Without room or memory for them the connection is ended. Bytes for a free slot, and for a
+    /// there are. Where there is no room for them (`has_room_to_read`), others are ended that hold bytes and have been on
+    /// their way for the bounds' grace, the longest first: for a large message only other large ones, and nobody where
+    /// that isn't enough. Without room or memory for them the connection is ended. Bytes for a free slot, and for a
     /// connection that wants none now, change nothing.
     #[tactic(auto, using(crate::proofs::ComesLemmas::wanted_happens, crate::proofs::ReadingLemmas::unwanted_unread))]
     pub fn receive(&mut self, slot: usize, bytes: &[u8], now: u64) -> Option<usize>
-        ensures queued { IfSome result (λ worker. HappensWithRoom (least_for (is_large_in (get (slots_of self.old) slot))) now (slots_of self.old) (slots_of self.new) slot (came bytes.now)) }
+        ensures queued { IfSome result (λ worker. HappensWithRoom (for_message (bounds_of self.old) now (get (slots_of self.old) slot)) now (slots_of self.old) (slots_of self.new) slot (came bytes.now)) }
         ensures joins { IfSome result (λ worker. Becomes (queues_of self.old) (queues_of self.new) worker (queue_of self.old worker ++ slot ∷ [])) }
         ensures worker { IfSome result (λ worker. IfSome (get (slots_of self.old) slot) (λ c. worker ≡ c.number % workers_of self.old)) }
         ensures within { IfSome result (λ worker. worker < workers_of self.new) }
         ensures waits { IfSome result (λ worker. waits_for (workers_of self.new) (get (slots_of self.new) slot) ≡ Some worker) }
-        ensures read { IfNone result (HappensWithRoom (least_for (is_large_in (get (slots_of self.old) slot))) now (slots_of self.old) (slots_of self.new) slot (came bytes.now)
-            ⊎ HappensWithRoom (least_for (is_large_in (get (slots_of self.old) slot))) 0 (slots_of self.old) (slots_of self.new) slot failed) }
+        ensures read { IfNone result (HappensWithRoom (for_message (bounds_of self.old) now (get (slots_of self.old) slot)) now (slots_of self.old) (slots_of self.new) slot (came bytes.now)
+            ⊎ HappensWithRoom (for_message (bounds_of self.old) now (get (slots_of self.old) slot)) 0 (slots_of self.old) (slots_of self.new) slot failed) }
         ensures stays { IfNone result ((queues_of self.new ≡ queues_of self.old) ⊎ Leaves (queues_of self.old) (queues_of self.new) slot) }
         ensures unread { is_reading_in (get (slots_of self.old) slot) ≡ false → (result ≡ None) × (self.new ≡ self.old) }
         ensures unwanted { wanted_at (get (slots_of self.old) slot) ≡ 0 → (result ≡ None) × (self.new ≡ self.old) }
         ensures enough { held_in (slots_of self.old) + growth_at (get (slots_of self.old) slot)
             ≤ read_within (bounds_of self.old) (is_large_in (get (slots_of self.old) slot))
             → (other : ℕ) → other ≢ slot → get (slots_of self.new) other ≡ get (slots_of self.old) other }
-        ensures too_many { has_room_to_read_in (bounds_of self.old) (slots_of self.old) slot ≡ false
+        ensures too_many { has_room_to_read_in (bounds_of self.old) now (slots_of self.old) slot ≡ false
             → (other : ℕ) → other ≢ slot → get (slots_of self.new) other ≡ get (slots_of self.old) other }
         ensures workers { workers_of self.new ≡ workers_of self.old }
         ensures counts { Counts self.new (accepted_by self.old) (removed_by self.old) }
@@ -154,25 +155,25 @@ impl Connections {
     // These bytes came, all of which are wanted.
     #[tactic(auto, using(crate::proofs::RoomLemmas::happens_with_room))]
     fn receive_wanted(&mut self, slot: usize, bytes: &[u8], now: u64) -> Option<usize>
-        ensures queued { IfSome result (λ worker. HappensWithRoom (least_for (is_large_in (get (slots_of self.old) slot))) now (slots_of self.old) (slots_of self.new) slot (came bytes.now)) }
+        ensures queued { IfSome result (λ worker. HappensWithRoom (for_message (bounds_of self.old) now (get (slots_of self.old) slot)) now (slots_of self.old) (slots_of self.new) slot (came bytes.now)) }
         ensures joins { IfSome result (λ worker. Becomes (queues_of self.old) (queues_of self.new) worker (queue_of self.old worker ++ slot ∷ [])) }
         ensures worker { IfSome result (λ worker. IfSome (get (slots_of self.old) slot) (λ c. worker ≡ c.number % workers_of self.old)) }
         ensures within { IfSome result (λ worker. worker < workers_of self.new) }
         ensures waits { IfSome result (λ worker. waits_for (workers_of self.new) (get (slots_of self.new) slot) ≡ Some worker) }
-        ensures read { IfNone result (HappensWithRoom (least_for (is_large_in (get (slots_of self.old) slot))) now (slots_of self.old) (slots_of self.new) slot (came bytes.now)
-            ⊎ HappensWithRoom (least_for (is_large_in (get (slots_of self.old) slot))) 0 (slots_of self.old) (slots_of self.new) slot failed) }
+        ensures read { IfNone result (HappensWithRoom (for_message (bounds_of self.old) now (get (slots_of self.old) slot)) now (slots_of self.old) (slots_of self.new) slot (came bytes.now)
+            ⊎ HappensWithRoom (for_message (bounds_of self.old) now (get (slots_of self.old) slot)) 0 (slots_of self.old) (slots_of self.new) slot failed) }
         ensures stays { IfNone result ((queues_of self.new ≡ queues_of self.old) ⊎ Leaves (queues_of self.old) (queues_of self.new) slot) }
         ensures enough { held_in (slots_of self.old) + growth_at (get (slots_of self.old) slot)
             ≤ read_within (bounds_of self.old) (is_large_in (get (slots_of self.old) slot))
             → (other : ℕ) → other ≢ slot → get (slots_of self.new) other ≡ get (slots_of self.old) other }
-        ensures too_many { has_room_to_read_in (bounds_of self.old) (slots_of self.old) slot ≡ false
+        ensures too_many { has_room_to_read_in (bounds_of self.old) now (slots_of self.old) slot ≡ false
             → (other : ℕ) → other ≢ slot → get (slots_of self.new) other ≡ get (slots_of self.old) other }
         ensures workers { workers_of self.new ≡ workers_of self.old }
         ensures counts { Counts self.new (accepted_by self.old) (removed_by self.old) }
         ensures expired { expired_by self.new ≡ expired_by self.old }
         ensures bounds { bounds_of self.new ≡ bounds_of self.old }
     {
-        if !self.find_room_to_read(slot) {
+        if !self.find_room_to_read(slot, now) {
             self.fail(slot);
             return None;
         }
@@ -331,19 +332,19 @@ impl Connections {
     }
 
     /// A worker's reply to the message that it took; behind the last reply the connection ends. Where it is more than may
-    /// be held, the others that hold bytes and have waited for their clients the longest are ended to make room, but nobody
-    /// where that isn't enough; without room for it it isn't sent, and the connection ends. For a connection that no
+    /// be held, others that hold bytes and wait for their clients are ended to make room, those that have been on their way
+    /// the longest first, but nobody where that isn't enough; without room for it it isn't sent, and the connection ends. For a connection that no
     /// worker answers, or that is gone, no room is made: the reply is let go.
     #[tactic(auto, using(crate::proofs::RoomLemmas::happens_with_room))]
     pub fn answer(&mut self, slot: usize, reply: Vec<u8>, is_last: bool, now: u64)
-        ensures happens { HappensWithRoom 0 now (slots_of self.old) (slots_of self.new) slot (replied reply.items is_last)
-            ⊎ HappensWithRoom 0 now (slots_of self.old) (slots_of self.new) slot unanswered }
+        ensures happens { HappensWithRoom (for_reply now) now (slots_of self.old) (slots_of self.new) slot (replied reply.items is_last)
+            ⊎ HappensWithRoom (for_reply now) now (slots_of self.old) (slots_of self.new) slot unanswered }
         ensures enough { held_in (slots_of self.old) + length reply.items ≤ (bounds_of self.old).bytes
             → Happens now (slots_of self.old) (slots_of self.new) slot (replied reply.items is_last) }
-        ensures sent { has_room_besides (bounds_of self.old).bytes 0 (slots_of self.old) slot (length reply.items) ≡ true
+        ensures sent { has_room_besides (bounds_of self.old).bytes (for_reply now) (slots_of self.old) slot (length reply.items) ≡ true
             → is_answering_in (get (slots_of self.old) slot) ≡ true
-            → HappensWithRoom 0 now (slots_of self.old) (slots_of self.new) slot (replied reply.items is_last) }
-        ensures too_much { has_room_besides (bounds_of self.old).bytes 0 (slots_of self.old) slot (length reply.items) ≡ false
+            → HappensWithRoom (for_reply now) now (slots_of self.old) (slots_of self.new) slot (replied reply.items is_last) }
+        ensures too_much { has_room_besides (bounds_of self.old).bytes (for_reply now) (slots_of self.old) slot (length reply.items) ≡ false
             → Happens now (slots_of self.old) (slots_of self.new) slot unanswered }
         ensures unwanted { is_answering_in (get (slots_of self.old) slot) ≡ false → Happens now (slots_of self.old) (slots_of self.new) slot unanswered }
         ensures counts { Counts self.new (accepted_by self.old) (removed_by self.old) }
@@ -356,7 +357,11 @@ impl Connections {
             return;
         }
         let most = self.bounds.bytes;
-        if !self.find_room(slot, reply.len(), most, 0) {
+        let who = Candidates {
+            larger_than: 0,
+            begun_by: now,
+        };
+        if !self.find_room(slot, reply.len(), most, who) {
             self.leave_unanswered(slot, now);
             return;
         }

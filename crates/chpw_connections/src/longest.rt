@@ -4,6 +4,7 @@ ghost use Rattle.slab.specs.Slab.{get};
 ghost use Rattle.chpw_connections.specs.Sets.{IsLongest, NobodyWaits, earlier};
 ghost use Rattle.chpw_connections.specs.Room.{waits_besides, IsLongestBesides, NobodyWaitsBesides, given_at, given_in, staying_besides as staying_besides_of};
 
+use crate::room::Candidates;
 use crate::slots::Slots;
 
 impl Slots {
@@ -12,19 +13,19 @@ impl Slots {
         ensures found { IfSome result (λ slot. IsLongest self.now.connections slot) }
         ensures none { IfNone result (NobodyWaits self.now.connections) }
     {
-        self.longest_besides(None, 0)
+        self.longest_besides(None, Candidates::default())
     }
 
-    /// The slot of the one that has waited the longest of those that give way to the connection in a slot; of all that
-    /// wait for their clients, where there is no such slot. Those give way that hold bytes of a message or a reply of
-    /// more than `least` bytes, unless they wait for room themselves.
-    pub fn longest_besides(&self, besides: Option<usize>, least: usize) -> Option<usize>
-        ensures found { IfSome result (λ slot. IsLongestBesides self.now.connections besides least slot) }
-        ensures none { IfNone result (NobodyWaitsBesides self.now.connections besides least) }
+    /// The slot of the one that has been on its way the longest of those that give way to the connection in a slot; the
+    /// one that has waited the longest of all that wait for their clients, where there is no such slot. Of the
+    /// candidates those give way that hold bytes, unless they wait for room themselves.
+    pub fn longest_besides(&self, besides: Option<usize>, who: Candidates) -> Option<usize>
+        ensures found { IfSome result (λ slot. IsLongestBesides self.now.connections besides who slot) }
+        ensures none { IfNone result (NobodyWaitsBesides self.now.connections besides who) }
     {
         let mut longest: Option<(u64, usize)> = None;
         for slot in 0..self.connections.capacity() {
-            longest = earlier_of(longest, slot, self.waits_since(slot, besides, least));
+            longest = earlier_of(longest, slot, self.waits_since(slot, besides, who));
         }
         match longest {
             None => None,
@@ -32,47 +33,46 @@ impl Slots {
         }
     }
 
-    // Since when the connection in a slot waits for its client, if it does; where room is made for another one, only
-    // if it gives way to that one.
-    fn waits_since(&self, slot: usize, besides: Option<usize>, least: usize) -> Option<u64>
-        ensures value { result ≡ waits_besides self.now.connections besides least slot }
+    // Since when the connection in a slot waits for its client, if it does; where room is made for another one, since
+    // when it has been on its way, if it gives way to that one.
+    fn waits_since(&self, slot: usize, besides: Option<usize>, who: Candidates) -> Option<u64>
+        ensures value { result ≡ waits_besides self.now.connections besides who slot }
     {
         if besides == Some(slot) {
             return None;
         }
         let connection = self.connections.get(slot)?;
-        let counts = match besides {
-            None => connection.waits_for_client(),
-            Some(_) => connection.gives_way(least),
-        };
-        counts.then_some(connection.since)
+        match besides {
+            None => connection.waits_for_client().then_some(connection.since),
+            Some(_) => connection.gives_way(who).then_some(connection.begun()),
+        }
     }
 
     /// How many bytes would be held if all that give way had ended, but for the connection in a slot.
-    pub fn staying_besides(&self, slot: usize, least: usize) -> usize
-        ensures value { result ≡ staying_besides_of least self.now.connections slot }
+    pub fn staying_besides(&self, slot: usize, who: Candidates) -> usize
+        ensures value { result ≡ staying_besides_of who self.now.connections slot }
     {
-        self.left_by_all(least) + self.given(slot, least)
+        self.left_by_all(who) + self.given(slot, who)
     }
 
     // How many bytes would be held if all that give way had ended.
-    fn left_by_all(&self, least: usize) -> usize
-        ensures value { result + given_in least self.now.connections ≡ self.now.held }
+    fn left_by_all(&self, who: Candidates) -> usize
+        ensures value { result + given_in who self.now.connections ≡ self.now.held }
         ensures fits { self.now.held < 2 ^ 64 }
     {
         let mut left = self.held;
         for slot in 0..self.connections.capacity() {
-            left -= self.given(slot, least);
+            left -= self.given(slot, who);
         }
         left
     }
 
     // How many bytes the end of the connection in a slot would let go of, where it gives way.
-    fn given(&self, slot: usize, least: usize) -> usize
-        ensures value { result ≡ given_at least (get self.now.connections slot) }
+    fn given(&self, slot: usize, who: Candidates) -> usize
+        ensures value { result ≡ given_at who (get self.now.connections slot) }
     {
         match self.connections.get(slot) {
-            Some(connection) if connection.gives_way(least) => connection.held(),
+            Some(connection) if connection.gives_way(who) => connection.held(),
             _ => 0,
         }
     }

@@ -4,7 +4,7 @@ ghost use Rattle.chpw_connections.specs.Holding.{held_in, growth_at};
 ghost use Rattle.chpw_connections.specs.Stages.{failed};
 ghost use Rattle.chpw_connections.specs.Sets.{Happens, IsLongest, NobodyWaits};
 ghost use Rattle.slab.specs.Slab.{get};
-ghost use Rattle.chpw_connections.specs.Room.{MakesRoom, is_large_in, read_within, least_for, has_room_besides, has_room_to_read as has_room_to_read_in};
+ghost use Rattle.chpw_connections.specs.Room.{MakesRoom, is_large_in, read_within, for_message, has_room_besides, has_room_to_read as has_room_to_read_in};
 ghost use Rattle.chpw_connections.specs.Queues.{queues_of};
 ghost use Rattle.chpw_connections.specs.Held.{slots_of, accepted_by, removed_by, expired_by, bounds_of, Counts};
 
@@ -12,6 +12,14 @@ use crate::set::Connections;
 
 /// A message of more bytes is a large one.
 const LARGEST_SMALL: usize = 4_096;
+
+/// Who may be ended to make room: whoever has a message or a reply of more than so many bytes that has been on its way
+/// since this moment or longer.
+#[derive(Clone, Copy, PartialEq, Eq, Debug, Default, Drop)]
+pub(crate) struct Candidates {
+    pub larger_than: usize,
+    pub begun_by: u64,
+}
 
 impl Connections {
     /// How many bytes of messages and replies they hold together: never more than may be.
@@ -46,32 +54,40 @@ impl Connections {
     /// byte on all that its length says, so that a message which is begun can be read to its end. Messages of more than
     /// 4,096 bytes have room as far as half of the bytes that may be held aren't exceeded, and others as far as three
     /// quarters aren't: so large messages leave room for small ones, and messages for replies. There is room too where
-    /// `receive` would make it; where there is none, it would end the connection itself.
-    pub fn has_room_to_read(&self, slot: usize) -> bool
-        ensures value { result ≡ has_room_to_read_in (bounds_of self.now) (slots_of self.now) slot }
+    /// `receive` would make it at this moment; where there is none, it would end the connection itself.
+    pub fn has_room_to_read(&self, slot: usize, now: u64) -> bool
+        ensures value { result ≡ has_room_to_read_in (bounds_of self.now) now (slots_of self.now) slot }
     {
-        let (most, least) = self.room_to_read(slot);
+        let (most, who) = self.room_to_read(slot, now);
         let count = self.slots.growth(slot);
-        self.has_room_for(count, most) || self.could_make_room(slot, count, most, least)
+        self.has_room_for(count, most) || self.could_make_room(slot, count, most, who)
     }
 
-    // How many bytes all may hold with those of a connection's message, and from how many on others give way to it.
-    fn room_to_read(&self, slot: usize) -> (usize, usize)
+    // How many bytes all may hold with those of a connection's message, and who may be ended for it.
+    fn room_to_read(&self, slot: usize, now: u64) -> (usize, Candidates)
         ensures most { result.0 ≡ read_within (bounds_of self.now) (is_large_in (get (slots_of self.now) slot)) }
-        ensures least { result.1 ≡ least_for (is_large_in (get (slots_of self.now) slot)) }
+        ensures who { result.1 ≡ for_message (bounds_of self.now) now (get (slots_of self.now) slot) }
     {
         let bytes = self.bounds.bytes;
-        if self.is_large(slot) {
+        let begun_by = now.saturating_sub(self.bounds.grace);
+        let (most, larger_than) = if self.is_large(slot) {
             (bytes / 2, LARGEST_SMALL)
         } else {
             (bytes - bytes / 4, 0)
-        }
+        };
+        (
+            most,
+            Candidates {
+                larger_than,
+                begun_by,
+            },
+        )
     }
 
     // Makes room to read the next bytes of a connection's message; whether there is.
-    pub(crate) fn find_room_to_read(&mut self, slot: usize) -> bool
-        ensures makes_room { MakesRoom (least_for (is_large_in (get (slots_of self.old) slot))) (slots_of self.old) (slots_of self.new) slot }
-        ensures value { result ≡ has_room_to_read_in (bounds_of self.old) (slots_of self.old) slot }
+    pub(crate) fn find_room_to_read(&mut self, slot: usize, now: u64) -> bool
+        ensures makes_room { MakesRoom (for_message (bounds_of self.old) now (get (slots_of self.old) slot)) (slots_of self.old) (slots_of self.new) slot }
+        ensures value { result ≡ has_room_to_read_in (bounds_of self.old) now (slots_of self.old) slot }
         ensures room { result ≡ true → held_in (slots_of self.new) + growth_at (get (slots_of self.old) slot) ≤ read_within (bounds_of self.old) (is_large_in (get (slots_of self.old) slot)) }
         ensures within { result ≡ true → held_in (slots_of self.new) + growth_at (get (slots_of self.old) slot) ≤ (bounds_of self.new).bytes }
         ensures fits { result ≡ true → held_in (slots_of self.new) + growth_at (get (slots_of self.old) slot) < 2 ^ 64 }
@@ -83,9 +99,9 @@ impl Connections {
         ensures bounds { bounds_of self.new ≡ bounds_of self.old }
         ensures queues { queues_of self.new ≡ queues_of self.old }
     {
-        let (most, least) = self.room_to_read(slot);
+        let (most, who) = self.room_to_read(slot, now);
         let count = self.slots.growth(slot);
-        self.find_room(slot, count, most, least)
+        self.find_room(slot, count, most, who)
     }
 
     /// Whether the message of the connection in a slot has more than 4,096 bytes with its length, as far as that has come.
@@ -99,10 +115,10 @@ impl Connections {
     }
 
     // Makes room for so many more bytes of a connection, so that all hold no more than `most`; whether there is. Where
-    // there is none, others are ended that hold bytes, of messages or replies of more than `least`, if that is enough.
-    pub(crate) fn find_room(&mut self, slot: usize, count: usize, most: usize, least: usize) -> bool
-        ensures makes_room { MakesRoom least (slots_of self.old) (slots_of self.new) slot }
-        ensures value { result ≡ has_room_besides most least (slots_of self.old) slot count }
+    // there is none, candidates are ended that hold bytes, if that is enough.
+    pub(crate) fn find_room(&mut self, slot: usize, count: usize, most: usize, who: Candidates) -> bool
+        ensures makes_room { MakesRoom who (slots_of self.old) (slots_of self.new) slot }
+        ensures value { result ≡ has_room_besides most who (slots_of self.old) slot count }
         ensures room { result ≡ true → held_in (slots_of self.new) + count ≤ most }
         ensures fits { result ≡ true → held_in (slots_of self.new) + count < 2 ^ 64 }
         ensures enough { held_in (slots_of self.old) + count ≤ most → (result ≡ true) × (slots_of self.new ≡ slots_of self.old) }
@@ -115,10 +131,10 @@ impl Connections {
         if self.has_room_for(count, most) {
             return true;
         }
-        if !self.could_make_room(slot, count, most, least) {
+        if !self.could_make_room(slot, count, most, who) {
             return false;
         }
-        self.put_out_for(slot, count, most, least);
+        self.put_out_for(slot, count, most, who);
         true
     }
 
@@ -130,16 +146,16 @@ impl Connections {
     }
 
     // Whether so many more bytes of a connection could be held within a bound if all that give way to it had ended.
-    fn could_make_room(&self, slot: usize, count: usize, most: usize, least: usize) -> bool
-        ensures value { result ≡ has_room_besides most least (slots_of self.now) slot count }
+    fn could_make_room(&self, slot: usize, count: usize, most: usize, who: Candidates) -> bool
+        ensures value { result ≡ has_room_besides most who (slots_of self.now) slot count }
     {
-        count <= most && self.slots.staying_besides(slot, least) <= most - count
+        count <= most && self.slots.staying_besides(slot, who) <= most - count
     }
 
     // Ends others that give way, those that have waited the longest first, until so many more bytes may be held.
-    fn put_out_for(&mut self, slot: usize, count: usize, most: usize, least: usize)
-        requires enough { has_room_besides most least (slots_of self.old) slot count ≡ true }
-        ensures makes_room { MakesRoom least (slots_of self.old) (slots_of self.new) slot }
+    fn put_out_for(&mut self, slot: usize, count: usize, most: usize, who: Candidates)
+        requires enough { has_room_besides most who (slots_of self.old) slot count ≡ true }
+        ensures makes_room { MakesRoom who (slots_of self.old) (slots_of self.new) slot }
         ensures room { held_in (slots_of self.new) + count ≤ most }
         ensures counts { Counts self.new (accepted_by self.old) (removed_by self.old) }
         ensures expired { expired_by self.new ≡ expired_by self.old }
@@ -147,7 +163,7 @@ impl Connections {
         ensures queues { queues_of self.new ≡ queues_of self.old }
     {
         while !self.has_room_for(count, most) {
-            match self.slots.longest_besides(Some(slot), least) {
+            match self.slots.longest_besides(Some(slot), who) {
                 None => return,
                 Some(other) => self.fail(other),
             }

@@ -10,6 +10,7 @@ const BOUNDS: Bounds = Bounds {
     connections: 1,
     bytes: 100,
     idle: 100,
+    grace: 100,
     wait: 100,
     linger: 100,
 };

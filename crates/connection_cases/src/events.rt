@@ -16,7 +16,7 @@ impl Script {
                     .receive(slot, &bytes(self.alloc, rest)?, now);
                 return self.received(slot, worker);
             }
-            "has" => return self.room(slot),
+            "has" => return self.room(slot, now),
             "rounds" => return self.rounds(slot, number(rest)?, now),
             "remove" => return self.removed(slot),
             "answer" => self.answered(slot, rest, now)?,
@@ -61,8 +61,8 @@ impl Script {
         }
     }
 
-    fn room(&self, slot: usize) -> io::Result<String> {
-        let word = if self.connections.has_room_to_read(slot) {
+    fn room(&self, slot: usize, now: u64) -> io::Result<String> {
+        let word = if self.connections.has_room_to_read(slot, now) {
             "has room"
         } else {
             "no room"

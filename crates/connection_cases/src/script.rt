@@ -19,16 +19,17 @@ pub struct Script {
 }
 
 impl Script {
-    /// `CONNECTIONS BYTES IDLE WAIT LINGER WORKERS`
+    /// `CONNECTIONS BYTES IDLE GRACE WAIT LINGER WORKERS`
     pub fn of(alloc: Global, words: &str) -> io::Result<Script> {
         let words: Vec<&str> = words.split(' ').collect(alloc)?;
-        let [connections, bytes, idle, wait, linger, workers] = words.as_slice() else {
+        let [connections, bytes, idle, grace, wait, linger, workers] = words.as_slice() else {
             return Err(no_case());
         };
         let bounds = Bounds {
             connections: number(connections)?,
             bytes: number(bytes)?,
             idle: number(idle)?,
+            grace: number(grace)?,
             wait: number(wait)?,
             linger: number(linger)?,
         };

@@ -4,6 +4,7 @@ use Rattle.chpw_connections.specs.Waiting.{lists_of}
 use Rattle.chpw_connections.proofs.HoldsLemmas.{holds_quiet}
 use Rattle.chpw_connections.proofs.RoomLemmas.{happens_with_room}
 use Rattle.chpw_connections.specs.Held.{slots_of}
+use Rattle.chpw_connections.specs.Room.{for_reply}
 use Rattle.chpw_connections.specs.Sets.{Happens}
 use Rattle.slab.specs.Slab.{Slab}
 use Rattle.chpw_connections.specs.declared.connection.Connection.{Connection}
@@ -17,7 +18,7 @@ invariant_of-self-clause-waiting c =
 
 pub returns-clause-happens : goal.returns-clause-happens
 returns-clause-happens c =
-    inl (happens_with_room 0 c.args.now (slots_of c.args.self.now) (slots_of c.find_room.new.self) (slots_of c.note.new.self) c.args.slot
+    inl (happens_with_room (for_reply c.args.now) c.args.now (slots_of c.args.self.now) (slots_of c.find_room.new.self) (slots_of c.note.new.self) c.args.slot
     (replied c.args.reply.items c.args.is_last) c.find_room.ensures.makes_room
     (subst (λ (s : Slab Connection). Happens c.args.now (slots_of c.find_room.new.self) s c.args.slot (replied c.args.reply.items c.args.is_last))
     (sym c.note.ensures.slots) c.answer.ensures.happens))

@@ -5,21 +5,21 @@ use Rattle.chpw_connections.proofs.RoomLemmas.{room_next}
 use Rattle.chpw_connections.proofs.GivenLemmas.{room_stays, fewer_held, nobody_room}
 use Rattle.chpw_connections.proofs.set.Connections.put_out_for.Goals as goal
 
-pub loop-self-preserved : goal.loop-self-preserved
-loop-self-preserved c = record {
-  makes_room = room_next c.args.least (slots_of c.args.self.now) (slots_of c.loop-self.self) (slots_of c.fail.new.self) c.args.slot c.in-Some.other
-      c.loop-self.invariant.makes_room c.in-Some.ensures.found c.fail.ensures.happens;
-  enough = room_stays c.args.most c.args.least c.args.count (slots_of c.loop-self.self) (slots_of c.fail.new.self) c.args.slot c.in-Some.other
-      c.in-Some.ensures.found c.fail.ensures.happens c.loop-self.invariant.enough;
+pub loop-who-preserved : goal.loop-who-preserved
+loop-who-preserved c = record {
+  makes_room = room_next c.args.who (slots_of c.args.self.now) (slots_of c.loop-who.self) (slots_of c.fail.new.self) c.args.slot c.in-Some.other
+      c.loop-who.invariant.makes_room c.in-Some.ensures.found c.fail.ensures.happens;
+  enough = room_stays c.args.most c.args.who c.args.count (slots_of c.loop-who.self) (slots_of c.fail.new.self) c.args.slot c.in-Some.other
+      c.in-Some.ensures.found c.fail.ensures.happens c.loop-who.invariant.enough;
   counts = search rules;
   expired = search rules;
   bounds = search rules;
-  queues = c.fail.ensures.same (longest_besides_not_queued (slots_of c.loop-self.self) c.args.slot c.args.least c.in-Some.other c.in-Some.ensures.found) ∙ c.loop-self.invariant.queues;
+  queues = c.fail.ensures.same (longest_besides_not_queued (slots_of c.loop-who.self) c.args.slot c.args.who c.in-Some.other c.in-Some.ensures.found) ∙ c.loop-who.invariant.queues;
 }
 
-pub loop-self-smaller : goal.loop-self-smaller
-loop-self-smaller c = fewer_held c.args.least (slots_of c.loop-self.self) (slots_of c.fail.new.self) c.args.slot c.in-Some.other c.in-Some.ensures.found c.fail.ensures.happens
+pub loop-who-smaller : goal.loop-who-smaller
+loop-who-smaller c = fewer_held c.args.who (slots_of c.loop-who.self) (slots_of c.fail.new.self) c.args.slot c.in-Some.other c.in-Some.ensures.found c.fail.ensures.happens
 
 pub returns-in-None-clause-room : goal.returns-in-None-clause-room
 returns-in-None-clause-room c =
-    nobody_room c.args.most c.args.least (slots_of c.loop-self.self) c.args.slot c.args.count c.in-None.ensures.none c.loop-self.invariant.enough
+    nobody_room c.args.most c.args.who (slots_of c.loop-who.self) c.args.slot c.args.count c.in-None.ensures.none c.loop-who.invariant.enough

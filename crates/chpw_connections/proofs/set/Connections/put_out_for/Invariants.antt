@@ -5,15 +5,15 @@ use Rattle.chpw_connections.specs.Queues.{queues_of}
 use Rattle.chpw_connections.specs.Room.{MakesRoom, has_room_besides}
 use Rattle.chpw_connections.proofs.set.Connections.put_out_for.Given as goal
 
-abbrev pub invariant-loop-self : goal.invariant-loop-self
-invariant-loop-self l = record {
-  makes_room : MakesRoom l.least (slots_of l.fn.self) (slots_of l.self) l.slot;
-  enough : has_room_besides l.most l.least (slots_of l.self) l.slot l.count ≡ true;
+abbrev pub invariant-loop-who : goal.invariant-loop-who
+invariant-loop-who l = record {
+  makes_room : MakesRoom l.who (slots_of l.fn.self) (slots_of l.self) l.slot;
+  enough : has_room_besides l.most l.who (slots_of l.self) l.slot l.count ≡ true;
   counts : Counts l.self (accepted_by l.fn.self) (removed_by l.fn.self);
   expired : expired_by l.self ≡ expired_by l.fn.self;
   bounds : bounds_of l.self ≡ bounds_of l.fn.self;
   queues : queues_of l.self ≡ queues_of l.fn.self;
 }
 
-abbrev pub decreases-loop-self : goal.decreases-loop-self
-decreases-loop-self l = held_in (slots_of l.self)
+abbrev pub decreases-loop-who : goal.decreases-loop-who
+decreases-loop-who l = held_in (slots_of l.self)

@@ -3,10 +3,10 @@ use Rattle.chpw_connections.specs.Waiting.{lists_of, queue_in, Holds, Becomes}
 use Rattle.chpw_connections.proofs.HoldsLemmas.{holds_failed_quietly, holds_came, holds_joined}
 use Rattle.chpw_connections.proofs.RoomLemmas.{happens_with_room}
 use Rattle.chpw_connections.specs.Stages.{came, failed}
-use Rattle.chpw_connections.specs.Held.{slots_of}
+use Rattle.chpw_connections.specs.Held.{slots_of, bounds_of}
 use Rattle.chpw_connections.specs.Sets.{Happens}
 use Rattle.slab.specs.Slab.{Slab, get}
-use Rattle.chpw_connections.specs.Room.{least_for, is_large_in}
+use Rattle.chpw_connections.specs.Room.{for_message}
 use Rattle.chpw_connections.specs.declared.connection.Connection.{Connection}
 use Rattle.chpw_connections.proofs.set.Connections.receive_wanted.Goals as goal
 
@@ -40,16 +40,21 @@ invariant_of-self-in-Ok-true-clause-waiting c =
 
 pub returns-then-not-reserve-clause-read : goal.returns-then-not-reserve-clause-read
 returns-then-not-reserve-clause-read c =
-    inr (happens_with_room (least_for (is_large_in (get (slots_of c.args.self.now) c.args.slot))) 0 (slots_of c.args.self.now) (slots_of c.find_room_to_read.new.self) (slots_of c.fail-then-not-reserve.new.self) c.args.slot failed
+    inr (happens_with_room (for_message (bounds_of c.args.self.now) c.args.now (get (slots_of c.args.self.now) c.args.slot)) 0 (slots_of c.args.self.now) (slots_of c.find_room_to_read.new.self) (slots_of c.fail-then-not-reserve.new.self) c.args.slot failed
     c.find_room_to_read.ensures.makes_room c.fail-then-not-reserve.ensures.happens)
 
 pub returns-in-Err-clause-read : goal.returns-in-Err-clause-read
 returns-in-Err-clause-read c =
-    inr (happens_with_room (least_for (is_large_in (get (slots_of c.args.self.now) c.args.slot))) 0 (slots_of c.args.self.now) (slots_of c.find_room_to_read.new.self) (slots_of c.note.new.self) c.args.slot failed
+    inr (happens_with_room (for_message (bounds_of c.args.self.now) c.args.now (get (slots_of c.args.self.now) c.args.slot)) 0 (slots_of c.args.self.now) (slots_of c.find_room_to_read.new.self) (slots_of c.note.new.self) c.args.slot failed
     c.find_room_to_read.ensures.makes_room
     (subst (λ (s : Slab Connection). Happens 0 (slots_of c.find_room_to_read.new.self) s c.args.slot failed) (sym c.note.ensures.slots) c.in-Err.ensures.ended))
 
 pub returns-in-Ok-false-clause-read : goal.returns-in-Ok-false-clause-read
 returns-in-Ok-false-clause-read c =
-    inl (happens_with_room (least_for (is_large_in (get (slots_of c.args.self.now) c.args.slot))) c.args.now (slots_of c.args.self.now) (slots_of c.find_room_to_read.new.self) c.receive.new.self.connections c.args.slot
+    inl (happens_with_room (for_message (bounds_of c.args.self.now) c.args.now (get (slots_of c.args.self.now) c.args.slot)) c.args.now (slots_of c.args.self.now) (slots_of c.find_room_to_read.new.self) c.receive.new.self.connections c.args.slot
     (came c.args.bytes.now) c.find_room_to_read.ensures.makes_room c.in-Ok-false.ensures.happens)
+
+pub returns-in-Ok-true-clause-queued : goal.returns-in-Ok-true-clause-queued
+returns-in-Ok-true-clause-queued c =
+    happens_with_room (for_message (bounds_of c.args.self.now) c.args.now (get (slots_of c.args.self.now) c.args.slot)) c.args.now (slots_of c.args.self.now) (slots_of c.find_room_to_read.new.self) c.receive.new.self.connections c.args.slot
+    (came c.args.bytes.now) c.find_room_to_read.ensures.makes_room c.in-Ok-true.ensures.happens

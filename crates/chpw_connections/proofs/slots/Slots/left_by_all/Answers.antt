@@ -10,16 +10,16 @@ overflow_sub-left c =
       c.loop-slot.invariant,
       c.given-left.ensures.value,
       c.args.self.now.held_is,
-      given_next c.args.least slots c.loop-slot.slot,
-      given_below_le c.args.least slots (c.loop-slot.slot + 1),
-      given_in_le c.args.least slots,
+      given_next c.args.who slots c.loop-slot.slot,
+      given_below_le c.args.who slots (c.loop-slot.slot + 1),
+      given_in_le c.args.who slots,
     )
 
 pub returns-clause-value : goal.returns-clause-value
 returns-clause-value c =
     let slots = c.args.self.now.connections in
     let few : length slots.slots ≤ c.loop-slot.slot = omega (arith, c.capacity-slot-end.ensures.slots, c.loop-slot-test.false) in
-    omega (arith, c.loop-slot.invariant, given_all c.args.least slots c.loop-slot.slot few)
+    omega (arith, c.loop-slot.invariant, given_all c.args.who slots c.loop-slot.slot few)
 
 pub loop-slot-preserved : goal.loop-slot-preserved
 loop-slot-preserved c =
@@ -29,7 +29,7 @@ loop-slot-preserved c =
       c.loop-slot.invariant,
       c.given-left.ensures.value,
       c.args.self.now.held_is,
-      given_next c.args.least slots c.loop-slot.slot,
-      given_below_le c.args.least slots (c.loop-slot.slot + 1),
-      given_in_le c.args.least slots,
+      given_next c.args.who slots c.loop-slot.slot,
+      given_below_le c.args.who slots (c.loop-slot.slot + 1),
+      given_in_le c.args.who slots,
     )

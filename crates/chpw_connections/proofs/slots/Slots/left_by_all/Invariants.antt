@@ -3,4 +3,4 @@ use Rattle.chpw_connections.proofs.GivenLemmas.{given_below}
 use Rattle.chpw_connections.proofs.slots.Slots.left_by_all.Given as goal
 
 abbrev pub invariant-loop-slot : goal.invariant-loop-slot
-invariant-loop-slot l = l.left + given_below l.least l.self.connections l.slot ≡ l.self.held
+invariant-loop-slot l = l.left + given_below l.who l.self.connections l.slot ≡ l.self.held

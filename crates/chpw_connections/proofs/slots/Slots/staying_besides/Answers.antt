@@ -9,7 +9,7 @@ overflow_add-result c =
       c.left_by_all.ensures.value,
       c.left_by_all.ensures.fits,
       c.given.ensures.value,
-      given_here_le c.args.least c.args.self.now.connections c.args.slot,
+      given_here_le c.args.who c.args.self.now.connections c.args.slot,
     )
 
 pub returns : goal.returns
@@ -19,6 +19,6 @@ returns c =
       c.left_by_all.ensures.value,
       c.args.self.now.held_is,
       c.given.ensures.value,
-      given_here_le c.args.least c.args.self.now.connections c.args.slot,
-      given_in_le c.args.least c.args.self.now.connections,
+      given_here_le c.args.who c.args.self.now.connections c.args.slot,
+      given_in_le c.args.who c.args.self.now.connections,
     )
