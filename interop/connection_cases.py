@@ -183,7 +183,6 @@ class Machine:
         c.reply, c.out = reply, 0
         c.replies += 1
         c.last = last or c.replies == REPLIES
-        self.look(c)
 
     def leave_unanswered(self, c, now):
         if c.stage == ABANDONED:

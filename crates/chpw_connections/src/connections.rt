@@ -331,10 +331,11 @@ impl Connections {
         })
     }
 
-    /// A worker's reply to the message that it took; behind the last reply the connection ends. Where it is more than may
-    /// be held, others that hold bytes and wait for their clients are ended to make room, those that have been on their way
-    /// the longest first, but nobody where that isn't enough; without room for it it isn't sent, and the connection ends. For a connection that no
-    /// worker answers, or that is gone, no room is made: the reply is let go.
+    /// A worker's reply to the message that it took, which is to be written now; behind the last reply the connection
+    /// ends. Where it is more than may be held, others that hold bytes and wait for their clients are ended to make room,
+    /// those that have been on their way the longest first, but nobody where that isn't enough; without room for it it
+    /// isn't sent, and the connection ends. For a connection that no worker answers, or that is gone, no room is made: the
+    /// reply is let go.
     #[tactic(auto, using(crate::proofs::RoomLemmas::happens_with_room))]
     pub fn answer(&mut self, slot: usize, reply: Vec<u8>, is_last: bool, now: u64)
         ensures happens { HappensWithRoom (for_reply now) now (slots_of self.old) (slots_of self.new) slot (replied reply.items is_last)
@@ -366,7 +367,6 @@ impl Connections {
             return;
         }
         self.slots.answer(slot, reply, is_last, now);
-        self.note(slot);
     }
 
     /// A worker has no reply to the message that it took. The connection ends.

@@ -3,12 +3,13 @@ use Rattle.std.specs.Prelude.{◌*◌}
 use Rattle.chpw_connections.specs.declared.bounds.Bounds.{Bounds}
 use Rattle.chpw_pool.specs.declared.terms.Terms.{Terms}
 
--- a message waits five seconds for its worker at the most, and an end a second
+-- a message on its way is left alone for a second, waits five seconds for its worker at the most, and an end a second
 abbrev pub bounds_asked : Terms → Bounds
 bounds_asked t = record {
   connections = t.clients;
   bytes = t.buffers * 1048576;
   idle = t.idle * 1000;
+  grace = 1000;
   wait = 5000;
   linger = 1000;
 }

@@ -27,6 +27,10 @@ has_all wanted accepting s = nat_le wanted (accepted_by s.connections) || has_fa
 abbrev pub is_finished : ℕ → Accepting → State → Bool
 is_finished wanted accepting s = s.is_deserted || (has_all wanted accepting s && has_none s)
 
+-- connections have ended, or want to be looked at again; or a client waits for room
+abbrev pub wants_reactor : State → Bool
+wants_reactor s = s.has_newcomer || nat_lt 0 (length (changed_of s.connections))
+
 -- Where there is something to do at once nothing is waited for, and a second where no connection is there and none can be
 -- accepted before the listener is reported. Else a tenth of a second: then time may be up for some.
 abbrev pub milliseconds_to_wait : Bool → Accepting → State → ℕ

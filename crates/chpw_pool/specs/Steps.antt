@@ -1,24 +1,27 @@
 -- What a read or a write at its socket does to a connection. The bytes that a reader has left, and those that a
 -- writer holds, are told where they are known.
-use Rattle.std.specs.Prelude.{◌≡◌, ℕ, ◌≤◌, List, length, take, Option, None, Bool, true, if◌then◌else◌, ◌⊎◌}
+use Rattle.std.specs.Prelude.{◌≡◌, ℕ, ◌≤◌, List, length, take, Option, Some, None, Bool, true, ◌&&◌, MatchBool, if◌then◌else◌, ◌⊎◌}
 use Rattle.std.specs.Io.KnownBytes.{Appends, Consumes, Keeps}
 use Rattle.slab.specs.Slab.{Slab, get, Updates}
-use Rattle.chpw_connections.specs.Stages.{came, wrote, closed, failed}
-use Rattle.chpw_connections.specs.Sets.{Happens, wanted_at, left_at}
-use Rattle.chpw_connections.specs.Room.{HappensWithRoom, least_for, is_large_in}
+use Rattle.chpw_connections.specs.Stages.{came, replied, unanswered, wrote, closed, failed}
+use Rattle.chpw_connections.specs.Sets.{Happens, wanted_at, left_at, is_answering_in}
+use Rattle.chpw_connections.specs.Room.{HappensWithRoom, has_room_besides, for_message, for_reply}
+use Rattle.chpw_connections.specs.declared.bounds.Bounds.{Bounds}
 use Rattle.chpw_connections.specs.declared.connection.Connection.{Connection}
+use Rattle.chpw_connections.specs.Todos.{todo_in}
 use Rattle.chpw_connections.specs.declared.todo.Todo.{Todo}
 use Rattle.chpw_connections.specs.declared.todo.Todo.TheVariants as todo
 use Rattle.chpw_pool.specs.declared.state.Shortage.{Shortage}
+use Rattle.chpw_pool.specs.declared.worker.Reply.{Reply}
 
 -- these bytes were read, no more than were wanted, and came to the connection; without room or memory for them it
 -- ended
-pub record Takes (now : ℕ) (old new : Slab Connection) (slot : ℕ) (before after : Option (List ℕ)) : Type 0 where
+pub record Takes (b : Bounds) (now : ℕ) (old new : Slab Connection) (slot : ℕ) (before after : Option (List ℕ)) : Type 0 where
   pub bytes : List ℕ
   pub few : length bytes ≤ wanted_at (get old slot)
   pub read : Consumes before after bytes
-  pub happens : HappensWithRoom (least_for (is_large_in (get old slot))) now old new slot (came bytes)
-      ⊎ HappensWithRoom (least_for (is_large_in (get old slot))) 0 old new slot failed
+  pub happens : HappensWithRoom (for_message b now (get old slot)) now old new slot (came bytes)
+      ⊎ HappensWithRoom (for_message b now (get old slot)) 0 old new slot failed
 
 -- nothing was read: the other side has ended, the socket has failed, or nothing has come
 pub record TakesNone (old new : Slab Connection) (slot : ℕ) (before after : Option (List ℕ)) : Type 0 where
@@ -43,8 +46,8 @@ pub record GivesNone (old new : Slab Connection) (slot : ℕ) (before after : Op
   pub happens : Happens 0 old new slot failed ⊎ (new ≡ old)
 
 -- What one call of its socket does for a connection: what is to be done for it, or nothing.
-abbrev pub Reads : ℕ → Slab Connection → Slab Connection → ℕ → Type 0
-Reads now old new slot = (before : Option (List ℕ)) × ((after : Option (List ℕ)) × (Takes now old new slot before after ⊎ TakesNone old new slot before after))
+abbrev pub Reads : Bounds → ℕ → Slab Connection → Slab Connection → ℕ → Type 0
+Reads b now old new slot = (before : Option (List ℕ)) × ((after : Option (List ℕ)) × (Takes b now old new slot before after ⊎ TakesNone old new slot before after))
 
 abbrev pub Writes : ℕ → Slab Connection → Slab Connection → ℕ → Type 0
 Writes now old new slot = (before : Option (List ℕ)) × ((after : Option (List ℕ)) × (Gives now old new slot before after ⊎ GivesNone old new slot before after))
@@ -52,12 +55,32 @@ Writes now old new slot = (before : Option (List ℕ)) × ((after : Option (List
 abbrev pub Drains : Slab Connection → Slab Connection → ℕ → Type 0
 Drains old new slot = (before : Option (List ℕ)) × ((after : Option (List ℕ)) × (LetsGo old new before after ⊎ TakesNone old new slot before after))
 
-abbrev pub Steps : ℕ → Todo → Slab Connection → Slab Connection → ℕ → Type 0
-Steps now (todo.Read n) old new slot = Reads now old new slot ⊎ (new ≡ old)
-Steps now todo.Write old new slot = Writes now old new slot ⊎ (new ≡ old)
-Steps now todo.Linger old new slot = Drains old new slot ⊎ (new ≡ old)
-Steps now todo.Close old new slot = Updates old new slot None
-Steps now todo.Wait old new slot = new ≡ old
+abbrev pub Steps : Bounds → ℕ → Todo → Slab Connection → Slab Connection → ℕ → Type 0
+Steps b now (todo.Read n) old new slot = Reads b now old new slot ⊎ (new ≡ old)
+Steps b now todo.Write old new slot = Writes now old new slot ⊎ (new ≡ old)
+Steps b now todo.Linger old new slot = Drains old new slot ⊎ (new ≡ old)
+Steps b now todo.Close old new slot = Updates old new slot None
+Steps b now todo.Wait old new slot = new ≡ old
+
+-- one after the other
+pub data RunsTo (b : Bounds) (now slot : ℕ) : Slab Connection → Slab Connection → Type 0 where
+  stays : {s : Slab Connection} → RunsTo b now slot s s
+  goes : {old mid new : Slab Connection} → RunsTo b now slot old mid → Steps b now (todo_in (get mid slot)) mid new slot
+      → RunsTo b now slot old new
+
+-- A worker's reply is to be written where there is room for it, and its connection waits for it; without one, or without
+-- room for it, the connection ends.
+abbrev pub can_reply : Bounds → ℕ → Slab Connection → ℕ → Reply → Bool
+can_reply b now old slot r = has_room_besides b.bytes (for_reply now) old slot (length r.bytes.items) && is_answering_in (get old slot)
+
+abbrev pub IsAnswered : Bounds → ℕ → Option Reply → Slab Connection → Slab Connection → ℕ → Type 0
+IsAnswered b now None old new slot = Happens now old new slot unanswered
+IsAnswered b now (Some r) old new slot = MatchBool (can_reply b now old slot r)
+    (HappensWithRoom (for_reply now) now old new slot (replied r.bytes.items r.is_last)) (Happens now old new slot unanswered)
+
+-- and then one thing is done after the other
+abbrev pub Answers : Bounds → ℕ → Option Reply → Slab Connection → Slab Connection → ℕ → Type 0
+Answers b now reply old new slot = (mid : Slab Connection) × (IsAnswered b now reply old mid slot × RunsTo b now slot mid new)
 
 -- there was no room for messages of this kind
 abbrev pub is_short_for : Bool → Shortage → Bool

@@ -4,6 +4,7 @@ ghost use Rattle.std.specs.Duration.{as_nanos};
 ghost use Rattle.chpw_pool.specs.Engines.{workers_at};
 ghost use Rattle.chpw_pool.specs.Pools.{Ends, IsUnmade};
 
+use crate::hub::Hub;
 use crate::pool::{Pool, PoolFault};
 use crate::sockets::{Selector, Sockets};
 use crate::state::State;
@@ -31,9 +32,8 @@ pub(crate) struct WorkerSlot<G> {
 pub struct Engine<G> {
     pub(crate) workers: Vec<WorkerSlot<G>>,
     pub(crate) seed: [u8; 32],
-    pub(crate) state: Mutex<State>,
+    pub(crate) hub: Mutex<Hub>,
     pub(crate) selector: Mutex<Selector>,
-    pub(crate) sockets: Mutex<Sockets>,
     waker: Waker,
 }
 
@@ -63,9 +63,11 @@ impl<G: Drop> Engine<G> {
         Ok(Engine {
             workers,
             seed,
-            state: Mutex::new(State::new(connections)),
+            hub: Mutex::new(Hub {
+                state: State::new(connections),
+                sockets,
+            }),
             selector: Mutex::new(selector),
-            sockets: Mutex::new(sockets),
             waker,
         })
     }
@@ -106,13 +108,13 @@ impl<G> Engine<G> {
     pub(crate) fn next<R: Wait + Clock>(&self, rt: &R, worker: usize) -> Option<Taken> {
         let slot = self.workers.get(worker)?;
         for _ in rt.forever() {
-            let mut state = slot
+            let mut hub = slot
                 .came
-                .wait_while(rt, self.state.lock(rt), |state| state.is_idle(worker));
-            if let Some(taken) = state.take(worker, milliseconds(rt)) {
+                .wait_while(rt, self.hub.lock(rt), |hub| hub.state.is_idle(worker));
+            if let Some(taken) = hub.state.take(worker, milliseconds(rt)) {
                 return Some(taken);
             }
-            if state.is_stopped || state.is_over {
+            if hub.state.is_stopped || hub.state.is_over {
                 return None;
             }
             self.wake();
@@ -120,16 +122,20 @@ impl<G> Engine<G> {
         None
     }
 
-    /// The reply to a worker's message goes out, or there is none and the connection ends.
+    /// The reply to a worker's message goes out, or there is none and the connection ends. The reactor is woken only where
+    /// something is left for it.
     pub(crate) fn answer<R: Wait + Clock>(&self, rt: &R, slot: usize, reply: Option<Reply>) {
         let now = milliseconds(rt);
-        let mut state = self.state.lock(rt);
-        match reply {
-            Some(Reply { bytes, is_last }) => state.connections.answer(slot, bytes, is_last, now),
-            None => state.connections.leave_unanswered(slot, now),
+        let mut hub = self.hub.lock(rt);
+        let next = hub.answer(slot, reply, now);
+        let is_left = hub.state.wants_reactor();
+        MutexGuard::unlock(hub);
+        if let Some(worker) = next {
+            self.call(worker);
         }
-        MutexGuard::unlock(state);
-        self.wake();
+        if is_left {
+            self.wake();
+        }
     }
 
     // The reactor has something to look at.
@@ -153,42 +159,42 @@ impl<G> Engine<G> {
 
     /// The workers take messages.
     pub(crate) fn start<R: Wait>(&self, rt: &R) {
-        self.state.lock(rt).is_stopped = false;
+        self.hub.lock(rt).state.is_stopped = false;
     }
 
     /// The workers take no more messages until the next start.
     pub(crate) fn stop<R: Wait>(&self, rt: &R) {
-        self.state.lock(rt).is_stopped = true;
+        self.hub.lock(rt).state.is_stopped = true;
         self.call_all();
     }
 
     /// No message comes any more.
     pub(crate) fn finish<R: Wait>(&self, rt: &R) {
-        self.state.lock(rt).is_over = true;
+        self.hub.lock(rt).state.is_over = true;
         self.call_all();
     }
 
     /// Nobody answers any more: the reactor ends, and with it all connections.
     pub fn desert<R: Wait>(&self, rt: &R) {
-        self.state.lock(rt).is_deserted = true;
+        self.hub.lock(rt).state.is_deserted = true;
         self.wake();
     }
 
     /// Whether no message comes any more.
     pub fn is_over<R: Wait>(&self, rt: &R) -> bool {
-        self.state.lock(rt).is_over
+        self.hub.lock(rt).state.is_over
     }
 
     /// How many messages waited too long for their worker and were dropped.
     pub fn expired<R: Wait>(&self, rt: &R) -> u32 {
-        self.state.lock(rt).connections.expired()
+        self.hub.lock(rt).state.connections.expired()
     }
 
     /// What the reactor did, once it has ended, where it was to serve so many connections.
     pub fn outcome<R: Wait>(&self, rt: &R, wanted: u32) -> Pool
         ensures ends { Ends wanted result }
     {
-        outcome_of(self.state.lock(rt).connections.accepted(), wanted)
+        outcome_of(self.hub.lock(rt).state.connections.accepted(), wanted)
     }
 }
 

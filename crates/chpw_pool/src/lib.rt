@@ -5,6 +5,7 @@
 mod accepting;
 mod clock;
 mod engine;
+mod hub;
 mod pool;
 mod reactor;
 mod sockets;

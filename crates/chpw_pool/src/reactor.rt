@@ -2,34 +2,33 @@
 
 use crate::accepting::{Accepting, is_passing};
 use crate::engine::{Engine, milliseconds};
-use crate::sockets::{LISTENER, Selector, Sockets};
+use crate::hub::STEPS;
+use crate::sockets::{LISTENER, Selector, WAKER};
 use crate::state::{Progress, Shortage, TICK};
 use crate::worker::peer_of;
 use mio::event::Event;
 use mio::unix::SourceFd;
-use mio::{Events, Interest, Token};
+use mio::{Events, Interest, Registry, Token};
 use std::io::ErrorKind;
 use std::mem;
 use std::net::{OpenListener, SocketAddr, TcpStream};
 use std::os::fd::AsRawFd;
-use std::sync::Wait;
+use std::sync::{MutexGuard, Wait};
 use std::time::{Clock, Duration};
 
 /// How many connections are accepted before the others are looked at again.
 const ACCEPTS: u32 = 64;
-
-/// How many steps a connection makes before the others are looked at again.
-const STEPS: u32 = 64;
 
 /// What happens at the sockets is told to the connections, and what they want is done.
 #[derive(Drop)]
 struct Reactor<'a, R, L, G> {
     rt: &'a R,
     engine: &'a Engine<G>,
-    sockets: &'a mut Sockets,
     listener: &'a L,
     /// How many connections it accepts.
     connections: u32,
+    /// How many there may be at a time: the slots are the numbers below.
+    clients: usize,
     accepting: Accepting,
     /// A connection for which there is no room yet.
     pending: Option<(TcpStream, SocketAddr)>,
@@ -49,20 +48,20 @@ impl<G> Engine<G> {
         listener: &L,
         connections: u32,
     ) {
+        let clients = self.hub.lock(rt).sockets.by_slot.len();
         let mut selector = self.selector.lock(rt);
-        let mut sockets = self.sockets.lock(rt);
         let mut reactor = Reactor {
             rt,
             engine: self,
-            sockets: &mut *sockets,
             listener,
             connections,
+            clients,
             accepting: Accepting::Ready,
             pending: None,
             looked: milliseconds(rt),
             first: 0,
         };
-        reactor.listen();
+        reactor.listen(selector.poll.registry());
         reactor.run(&mut *selector);
         self.finish(rt);
     }
@@ -70,12 +69,10 @@ impl<G> Engine<G> {
 
 impl<'a, R: Wait + Clock, L: OpenListener<Stream = TcpStream> + AsRawFd, G> Reactor<'a, R, L, G> {
     // Has the listener reported.
-    fn listen(&mut self) {
+    fn listen(&mut self, registry: &Registry) {
         let descriptor = self.listener.as_raw_fd();
         let is_watched = self.listener.set_nonblocking(true).is_ok()
-            && self
-                .sockets
-                .registry
+            && registry
                 .register(&mut SourceFd(&descriptor), LISTENER, Interest::READABLE)
                 .is_ok();
         if !is_watched {
@@ -104,15 +101,15 @@ impl<'a, R: Wait + Clock, L: OpenListener<Stream = TcpStream> + AsRawFd, G> Reac
 
     // Whether nothing is left to do, or nobody is there to answer.
     fn is_done(&self) -> bool {
-        let state = self.engine.state.lock(self.rt);
-        state.is_finished(self.connections, self.accepting)
+        let hub = self.engine.hub.lock(self.rt);
+        hub.state.is_finished(self.connections, self.accepting)
     }
 
     // How long to wait for the next event.
     fn patience(&self) -> u64 {
-        let state = self.engine.state.lock(self.rt);
-        let can_accept = self.can_accept(state.connections.accepted());
-        state.patience(can_accept, self.accepting)
+        let hub = self.engine.hub.lock(self.rt);
+        let can_accept = self.can_accept(hub.state.connections.accepted());
+        hub.state.patience(can_accept, self.accepting)
     }
 
     // Whether a connection more may be there, where so many were accepted.
@@ -133,27 +130,18 @@ impl<'a, R: Wait + Clock, L: OpenListener<Stream = TcpStream> + AsRawFd, G> Reac
         let Token(slot) = event.token();
         if event.token() == LISTENER {
             self.accepting = self.accepting.reported();
-        } else if slot < self.sockets.by_slot.len() {
+        } else if event.token() != WAKER {
             if event.is_error() {
-                self.look_for_error(slot);
+                self.engine.hub.lock(self.rt).look_for_error(slot);
             }
             self.drive(slot);
         }
     }
 
-    // A connection whose socket has failed ends, and a message of it that waits is dropped.
-    fn look_for_error(&mut self, slot: usize) {
-        if let Some(Some(socket)) = self.sockets.by_slot.get(slot) {
-            if !matches!(socket.stream.take_error(), Ok(None)) {
-                self.engine.state.lock(self.rt).connections.fail(slot);
-            }
-        }
-    }
-
-    // The connections that workers answered, and those that ended.
+    // The connections that ended, and those for which more is to be done.
     fn look_at_changed(&mut self) {
-        for _ in 0..self.sockets.by_slot.len() {
-            let changed = self.engine.state.lock(self.rt).connections.changed();
+        for _ in 0..self.clients {
+            let changed = self.engine.hub.lock(self.rt).state.connections.changed();
             match changed {
                 None => return,
                 Some(slot) => self.drive(slot),
@@ -175,23 +163,21 @@ impl<'a, R: Wait + Clock, L: OpenListener<Stream = TcpStream> + AsRawFd, G> Reac
 
     // Time passes for all connections, and a round begins: what there was no room for in the last one.
     fn pass(&self, now: u64) -> Shortage {
-        let mut state = self.engine.state.lock(self.rt);
-        state.connections.pass(now);
-        mem::take(&mut state.shortage)
+        let mut hub = self.engine.hub.lock(self.rt);
+        hub.state.connections.pass(now);
+        mem::take(&mut hub.state.shortage)
     }
 
     // Looks at each connection for which there is something to be done though nothing came of it. The next round begins
     // at the one for which there was no room in this one, so that all get room in turn.
     fn look_round(&mut self, reads: bool) {
-        let slots = self.sockets.by_slot.len();
+        let slots = self.clients;
         let first = self.first;
         let mut is_short = false;
         for slot in (first..slots).chain(0..first.min(slots)) {
-            let is_due = self
-                .engine
-                .state
-                .lock(self.rt)
-                .is_to_be_looked_at(slot, reads);
+            let hub = self.engine.hub.lock(self.rt);
+            let is_due = hub.state.is_to_be_looked_at(slot, reads);
+            MutexGuard::unlock(hub);
             if is_due {
                 self.drive(slot);
                 if !is_short && self.is_short() {
@@ -204,7 +190,7 @@ impl<'a, R: Wait + Clock, L: OpenListener<Stream = TcpStream> + AsRawFd, G> Reac
 
     // Whether there was no room for a message in this round.
     fn is_short(&self) -> bool {
-        self.engine.state.lock(self.rt).shortage.is_any()
+        self.engine.hub.lock(self.rt).state.shortage.is_any()
     }
 
     // Does what is to be done for a connection, as far as its socket goes along.
@@ -214,14 +200,18 @@ impl<'a, R: Wait + Clock, L: OpenListener<Stream = TcpStream> + AsRawFd, G> Reac
                 return;
             }
         }
-        self.engine.state.lock(self.rt).connections.look_again(slot);
+        self.engine
+            .hub
+            .lock(self.rt)
+            .state
+            .connections
+            .look_again(slot);
     }
 
     // One step of it.
-    fn step(&mut self, slot: usize) -> Progress {
+    fn step(&self, slot: usize) -> Progress {
         let now = milliseconds(self.rt);
-        let mut state = self.engine.state.lock(self.rt);
-        let progress = self.sockets.step(&mut state, slot, now);
+        let progress = self.engine.hub.lock(self.rt).step(slot, now);
         if let Progress::Queued(worker) = progress {
             self.engine.call(worker);
         }
@@ -231,7 +221,7 @@ impl<'a, R: Wait + Clock, L: OpenListener<Stream = TcpStream> + AsRawFd, G> Reac
     // Accepts what is there.
     fn accept(&mut self) {
         for _ in 0..ACCEPTS {
-            let accepted = self.engine.state.lock(self.rt).connections.accepted();
+            let accepted = self.engine.hub.lock(self.rt).state.connections.accepted();
             if self.pending.is_none() && self.can_accept(accepted) {
                 self.pending = self.next();
             }
@@ -267,21 +257,17 @@ impl<'a, R: Wait + Clock, L: OpenListener<Stream = TcpStream> + AsRawFd, G> Reac
         }
         let now = milliseconds(self.rt);
         let peer = peer_of(address);
-        let admitted = self
-            .engine
-            .state
-            .lock(self.rt)
-            .connections
-            .accept(peer, now);
-        match admitted {
+        let mut hub = self.engine.hub.lock(self.rt);
+        match hub.state.connections.accept(peer, now) {
             None => {
+                hub.state.has_newcomer = true;
                 self.pending = Some((stream, address));
                 false
             }
             Some(slot) => {
-                if !self.sockets.put(slot, stream) {
-                    self.engine.state.lock(self.rt).connections.fail(slot);
-                }
+                hub.state.has_newcomer = false;
+                hub.put(slot, stream);
+                MutexGuard::unlock(hub);
                 self.drive(slot);
                 true
             }
@@ -289,7 +275,8 @@ impl<'a, R: Wait + Clock, L: OpenListener<Stream = TcpStream> + AsRawFd, G> Reac
     }
 
     fn make_room(&self) -> bool {
-        let mut state = self.engine.state.lock(self.rt);
-        state.connections.is_full() && state.connections.make_room()
+        let mut hub = self.engine.hub.lock(self.rt);
+        let connections = &mut hub.state.connections;
+        connections.is_full() && connections.make_room()
     }
 }

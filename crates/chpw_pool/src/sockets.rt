@@ -1,7 +1,7 @@
 //! The sockets of the connections.
 ghost use Rattle.std.specs.Prelude.{◌≡◌, IfErr};
 ghost use Rattle.slab.specs.Slab.{get};
-ghost use Rattle.chpw_connections.specs.Held.{slots_of};
+ghost use Rattle.chpw_connections.specs.Held.{slots_of, bounds_of};
 ghost use Rattle.chpw_connections.specs.Todos.{todo_in};
 ghost use Rattle.chpw_pool.specs.Pools.{IsUnmade};
 ghost use Rattle.chpw_pool.specs.Steps.{Steps};
@@ -120,9 +120,18 @@ impl Sockets {
         }
     }
 
+    /// Whether the socket of a connection has failed.
+    pub fn has_failed(&self, slot: usize) -> bool {
+        match self.by_slot.get(slot) {
+            Some(Some(socket)) => !matches!(socket.stream.take_error(), Ok(None)),
+            _ => false,
+        }
+    }
+
     /// Does what is to be done for a connection, in one call of its socket.
     pub fn step(&mut self, state: &mut State, slot: usize, now: u64) -> Progress
-        ensures steps { Steps now (todo_in (get (slots_of state.old.connections) slot)) (slots_of state.old.connections) (slots_of state.new.connections) slot }
+        ensures steps { Steps (bounds_of state.old.connections) now (todo_in (get (slots_of state.old.connections) slot)) (slots_of state.old.connections) (slots_of state.new.connections) slot }
+        ensures bounds { bounds_of state.new.connections ≡ bounds_of state.old.connections }
     {
         let Sockets {
             by_slot,

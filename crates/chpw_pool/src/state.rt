@@ -6,12 +6,13 @@ ghost use Rattle.chpw_connections.specs.Held.{slots_of, bounds_of};
 ghost use Rattle.chpw_connections.specs.Todos.{todo_in};
 ghost use Rattle.chpw_connections.specs.Sets.{Happens, queued_at, is_late_in, wanted_at};
 ghost use Rattle.chpw_connections.specs.Stages.{came, taken, failed};
-ghost use Rattle.chpw_connections.specs.Room.{HappensWithRoom, least_for, is_large_in, has_room_to_read};
-ghost use Rattle.chpw_pool.specs.Steps.{Takes, TakesNone, LetsGo, Gives, GivesNone, is_short_for, short_of};
-ghost use Rattle.chpw_pool.specs.Rounds.{is_finished, is_looked_at, milliseconds_to_wait};
+ghost use Rattle.chpw_connections.specs.Room.{HappensWithRoom, for_message, is_large_in, has_room_to_read};
+ghost use Rattle.chpw_pool.specs.Steps.{IsAnswered, Takes, TakesNone, LetsGo, Gives, GivesNone, is_short_for, short_of};
+ghost use Rattle.chpw_pool.specs.Rounds.{is_finished, is_looked_at, milliseconds_to_wait, wants_reactor};
 ghost use Rattle.chpw_pool.specs.declared.state.Progress.TheVariants as progress;
 
 use crate::accepting::Accepting;
+use crate::worker::Reply;
 use chpw_connections::{Connections, Taken, Todo};
 use std::io::{ErrorKind, Read, Write};
 
@@ -31,6 +32,8 @@ pub(crate) struct State {
     pub is_over: bool,
     /// Nobody is there to answer any more.
     pub is_deserted: bool,
+    /// A client is there for whose connection there is no room yet.
+    pub has_newcomer: bool,
     /// For what there was no room in this round.
     pub shortage: Shortage,
 }
@@ -88,13 +91,14 @@ pub(crate) enum Progress {
 impl State {
     /// These connections, which workers may serve.
     pub fn new(connections: Connections) -> State
-        ensures value { result ≡ record { connections = connections; is_stopped = false; is_over = false; is_deserted = false; shortage = record { of_large = false; of_small = false } } }
+        ensures value { result ≡ record { connections = connections; is_stopped = false; is_over = false; is_deserted = false; has_newcomer = false; shortage = record { of_large = false; of_small = false } } }
     {
         State {
             connections,
             is_stopped: false,
             is_over: false,
             is_deserted: false,
+            has_newcomer: false,
             shortage: Shortage::default(),
         }
     }
@@ -121,6 +125,17 @@ impl State {
         self.connections.take(worker, now)
     }
 
+    /// A worker's reply to a connection's message is to be written, or there is none and the connection ends.
+    pub fn answer(&mut self, slot: usize, reply: Option<Reply>, now: u64)
+        ensures answered { IsAnswered (bounds_of self.old.connections) now reply (slots_of self.old.connections) (slots_of self.new.connections) slot }
+        ensures bounds { bounds_of self.new.connections ≡ bounds_of self.old.connections }
+    {
+        match reply {
+            Some(Reply { bytes, is_last }) => self.connections.answer(slot, bytes, is_last, now),
+            None => self.connections.leave_unanswered(slot, now),
+        }
+    }
+
     /// Reads what is wanted of a connection's message, as far as it is there, the buffer takes it and there is room. Where
     /// there is none it is left where it is.
     pub fn read<I: Read>(
@@ -130,13 +145,14 @@ impl State {
         buffer: &mut [u8],
         now: u64,
     ) -> Progress
-        ensures read { Takes now (slots_of self.old.connections) (slots_of self.new.connections) slot
+        ensures read { Takes (bounds_of self.old.connections) now (slots_of self.old.connections) (slots_of self.new.connections) slot
             (I.remaining reader.old) (I.remaining reader.new)
             ⊎ TakesNone (slots_of self.old.connections) (slots_of self.new.connections) slot
             (I.remaining reader.old) (I.remaining reader.new) }
+        ensures bounds { bounds_of self.new.connections ≡ bounds_of self.old.connections }
     {
         let most = buffer.len().min(self.connections.wanted(slot));
-        if most == 0 || !self.may_read(slot) {
+        if most == 0 || !self.may_read(slot, now) {
             return Progress::None;
         }
         match reader.read(&mut buffer[..most]) {
@@ -151,14 +167,15 @@ impl State {
 
     // Whether the next bytes of a connection's message may be read; none where there was no room for one of its kind in
     // this round.
-    fn may_read(&mut self, slot: usize) -> bool
+    fn may_read(&mut self, slot: usize, now: u64) -> bool
         ensures value { result ≡ (not (is_short_for (is_large_in (get (slots_of self.old.connections) slot)) self.old.shortage)
-            && has_room_to_read (bounds_of self.old.connections) (slots_of self.old.connections) slot) }
+            && has_room_to_read (bounds_of self.old.connections) now (slots_of self.old.connections) slot) }
         ensures shortage { self.new.shortage ≡ (if result then self.old.shortage else short_of (is_large_in (get (slots_of self.old.connections) slot)) self.old.shortage) }
         ensures same { self.new.connections ≡ self.old.connections }
     {
         let is_large = self.connections.is_large(slot);
-        let may_read = !self.shortage.is_for(is_large) && self.connections.has_room_to_read(slot);
+        let may_read = !self.shortage.is_for(is_large)
+            && self.connections.has_room_to_read(slot, now);
         if !may_read {
             self.shortage.begin(is_large);
         }
@@ -167,8 +184,9 @@ impl State {
 
     // These bytes came.
     fn receive(&mut self, slot: usize, bytes: &[u8], now: u64) -> Progress
-        ensures happens { HappensWithRoom (least_for (is_large_in (get (slots_of self.old.connections) slot))) now (slots_of self.old.connections) (slots_of self.new.connections) slot (came bytes.now)
-            ⊎ HappensWithRoom (least_for (is_large_in (get (slots_of self.old.connections) slot))) 0 (slots_of self.old.connections) (slots_of self.new.connections) slot failed }
+        ensures happens { HappensWithRoom (for_message (bounds_of self.old.connections) now (get (slots_of self.old.connections) slot)) now (slots_of self.old.connections) (slots_of self.new.connections) slot (came bytes.now)
+            ⊎ HappensWithRoom (for_message (bounds_of self.old.connections) now (get (slots_of self.old.connections) slot)) 0 (slots_of self.old.connections) (slots_of self.new.connections) slot failed }
+        ensures bounds { bounds_of self.new.connections ≡ bounds_of self.old.connections }
     {
         match self.connections.receive(slot, bytes, now) {
             Some(worker) => Progress::Queued(worker),
@@ -182,6 +200,7 @@ impl State {
             (W.contents writer.old) (W.contents writer.new)
             ⊎ GivesNone (slots_of self.old.connections) (slots_of self.new.connections) slot
             (W.contents writer.old) (W.contents writer.new) }
+        ensures bounds { bounds_of self.new.connections ≡ bounds_of self.old.connections }
     {
         let left = self.connections.unwritten(slot);
         if left.is_empty() {
@@ -207,6 +226,7 @@ impl State {
             (I.remaining reader.old) (I.remaining reader.new)
             ⊎ TakesNone (slots_of self.old.connections) (slots_of self.new.connections) slot
             (I.remaining reader.old) (I.remaining reader.new) }
+        ensures bounds { bounds_of self.new.connections ≡ bounds_of self.old.connections }
     {
         match reader.read(buffer) {
             Ok(0) => {
@@ -224,6 +244,7 @@ impl State {
         ensures happens { Happens 0 (slots_of self.old.connections) (slots_of self.new.connections) slot failed
             ⊎ (slots_of self.new.connections ≡ slots_of self.old.connections) }
         ensures blocked { result ≡ progress.None → slots_of self.new.connections ≡ slots_of self.old.connections }
+        ensures bounds { bounds_of self.new.connections ≡ bounds_of self.old.connections }
     {
         match kind {
             ErrorKind::WouldBlock => Progress::None,
@@ -233,6 +254,13 @@ impl State {
                 Progress::Some
             }
         }
+    }
+
+    /// Whether something is to be done that is the reactor's: connections have ended, or a client waits for room.
+    pub fn wants_reactor(&self) -> bool
+        ensures value { result ≡ wants_reactor self.now }
+    {
+        self.has_newcomer || self.connections.has_changed()
     }
 
     /// What is to be done for a connection.

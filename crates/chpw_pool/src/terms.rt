@@ -22,6 +22,9 @@ pub struct Terms {
 /// How many milliseconds a message may wait for its worker.
 const LONGEST_WAIT: u64 = 5_000;
 
+/// For how many milliseconds a message on its way is left alone.
+const GRACE: u64 = 1_000;
+
 /// How many milliseconds a client has to end its side behind the last reply.
 const LINGER: u64 = 1_000;
 
@@ -48,6 +51,7 @@ impl Terms {
             connections: self.clients as usize,
             bytes: usize::from(self.buffers) * 1_048_576,
             idle: u64::from(self.idle) * 1_000,
+            grace: GRACE,
             wait: LONGEST_WAIT,
             linger: LINGER,
         }

@@ -18,7 +18,5 @@ invariant_of-self-clause-waiting c =
 
 pub returns-clause-happens : goal.returns-clause-happens
 returns-clause-happens c =
-    inl (happens_with_room (for_reply c.args.now) c.args.now (slots_of c.args.self.now) (slots_of c.find_room.new.self) (slots_of c.note.new.self) c.args.slot
-    (replied c.args.reply.items c.args.is_last) c.find_room.ensures.makes_room
-    (subst (λ (s : Slab Connection). Happens c.args.now (slots_of c.find_room.new.self) s c.args.slot (replied c.args.reply.items c.args.is_last))
-    (sym c.note.ensures.slots) c.answer.ensures.happens))
+    inl (happens_with_room (for_reply c.args.now) c.args.now (slots_of c.args.self.now) (slots_of c.find_room.new.self) c.answer.new.self.connections c.args.slot
+    (replied c.args.reply.items c.args.is_last) c.find_room.ensures.makes_room c.answer.ensures.happens)

@@ -1,0 +1,30 @@
+use Rattle.std.proofs.Common.{refl, ◌∙◌}
+use Rattle.chpw_connections.specs.Held.{slots_of, bounds_of}
+use Rattle.chpw_pool.specs.Steps.{stays}
+use Rattle.chpw_pool.proofs.RunLemmas.{runs_on}
+use Rattle.chpw_pool.proofs.hub.Hub.run.Goals as goal
+
+pub loop-init : goal.loop-init
+loop-init c = record { bounds = refl; runs = stays }
+
+pub returns-in-Queued : goal.returns-in-Queued
+returns-in-Queued c = record {
+  runs = runs_on (bounds_of c.args.self.now.state.connections) (bounds_of c.loop.self.state.connections) c.args.now c.args.slot
+      (slots_of c.args.self.now.state.connections) (slots_of c.loop.self.state.connections) (slots_of c.step.new.self.state.connections)
+      c.loop.invariant.bounds c.loop.invariant.runs c.step.ensures.steps;
+}
+
+pub returns-in-None : goal.returns-in-None
+returns-in-None c = record {
+  runs = runs_on (bounds_of c.args.self.now.state.connections) (bounds_of c.loop.self.state.connections) c.args.now c.args.slot
+      (slots_of c.args.self.now.state.connections) (slots_of c.loop.self.state.connections) (slots_of c.step.new.self.state.connections)
+      c.loop.invariant.bounds c.loop.invariant.runs c.step.ensures.steps;
+}
+
+pub loop-preserved : goal.loop-preserved
+loop-preserved c = record {
+  bounds = c.step.ensures.bounds ∙ c.loop.invariant.bounds;
+  runs = runs_on (bounds_of c.args.self.now.state.connections) (bounds_of c.loop.self.state.connections) c.args.now c.args.slot
+      (slots_of c.args.self.now.state.connections) (slots_of c.loop.self.state.connections) (slots_of c.step.new.self.state.connections)
+      c.loop.invariant.bounds c.loop.invariant.runs c.step.ensures.steps;
+}

@@ -1,0 +1,83 @@
+//! The connections with their sockets, as reactor and workers have them under one lock.
+ghost use Rattle.slab.specs.Slab.{get};
+ghost use Rattle.std.specs.Prelude.{◌≡◌, ◌⊎◌};
+ghost use Rattle.chpw_connections.specs.Held.{slots_of, bounds_of};
+ghost use Rattle.chpw_connections.specs.Todos.{todo_in};
+ghost use Rattle.chpw_connections.specs.Sets.{Happens};
+ghost use Rattle.chpw_connections.specs.Stages.{failed};
+ghost use Rattle.chpw_pool.specs.Steps.{Steps, RunsTo, Answers};
+
+use crate::sockets::Sockets;
+use crate::state::{Progress, State};
+use crate::worker::Reply;
+use chpw_connections::Todo;
+use std::net::TcpStream;
+
+/// How many steps a connection makes before the others are looked at again.
+pub(crate) const STEPS: u32 = 64;
+
+/// The connections and their sockets. Whoever has answered a message writes the reply.
+#[derive(Drop)]
+pub(crate) struct Hub {
+    pub state: State,
+    pub sockets: Sockets,
+}
+
+impl Hub {
+    /// Does what is to be done for a connection, in one call of its socket.
+    pub fn step(&mut self, slot: usize, now: u64) -> Progress
+        ensures steps { Steps (bounds_of self.old.state.connections) now (todo_in (get (slots_of self.old.state.connections) slot)) (slots_of self.old.state.connections) (slots_of self.new.state.connections) slot }
+        ensures bounds { bounds_of self.new.state.connections ≡ bounds_of self.old.state.connections }
+    {
+        self.sockets.step(&mut self.state, slot, now)
+    }
+
+    /// The socket of a connection that was accepted just now. Where it can't be watched, the connection ends.
+    pub fn put(&mut self, slot: usize, stream: TcpStream)
+        ensures put { Happens 0 (slots_of self.old.state.connections) (slots_of self.new.state.connections) slot failed
+            ⊎ (self.new.state ≡ self.old.state) }
+    {
+        if !self.sockets.put(slot, stream) {
+            self.state.connections.fail(slot);
+        }
+    }
+
+    /// A connection whose socket has failed ends, and a message of it that waits is dropped.
+    pub fn look_for_error(&mut self, slot: usize)
+        ensures looked { Happens 0 (slots_of self.old.state.connections) (slots_of self.new.state.connections) slot failed
+            ⊎ (self.new.state ≡ self.old.state) }
+    {
+        if self.sockets.has_failed(slot) {
+            self.state.connections.fail(slot);
+        }
+    }
+
+    /// A worker's reply to a connection's message, or the word that there is none. The reply is written as far as the
+    /// socket takes it, and behind it the next message is read as far as it is there; the worker for whom that one waits
+    /// then.
+    pub fn answer(&mut self, slot: usize, reply: Option<Reply>, now: u64) -> Option<usize>
+        ensures answers { Answers (bounds_of self.old.state.connections) now reply (slots_of self.old.state.connections) (slots_of self.new.state.connections) slot }
+    {
+        self.state.answer(slot, reply, now);
+        self.run(slot, now)
+    }
+
+    // Does one thing after the other for a connection, as far as its socket goes along; the worker for whom a message
+    // waits then. A connection that has ended is left to the reactor, which counts them.
+    fn run(&mut self, slot: usize, now: u64) -> Option<usize>
+        ensures runs { RunsTo (bounds_of self.old.state.connections) now slot (slots_of self.old.state.connections) (slots_of self.new.state.connections) }
+    {
+        for _ in 0..STEPS {
+            if self.state.todo(slot) == Todo::Close {
+                return None;
+            }
+            match self.step(slot, now) {
+                Progress::Some => {}
+                Progress::Queued(worker) => return Some(worker),
+                Progress::None => return None,
+            }
+        }
+        self.state.connections.look_again(slot);
+        None
+    }
+}
