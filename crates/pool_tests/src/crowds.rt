@@ -326,11 +326,54 @@ fn answers_that_come_at_once(rt: HostRuntime) -> Result<(), Fail> {
     serve_all(&rt, rt.alloc(), &site, &OneAfterTheOther)
 }
 
+// Fourteen clients have each sent sixteen messages of the greatest length. There is room for seven at a time: all have
+// room in turn, so none waits for a second.
+#[derive(Clone, Copy, Drop)]
+struct LargeOnesInTurn;
+
+impl<R: Net<Stream = TcpStream> + Abort> Clients<R> for LargeOnesInTurn {
+    fn ask(&self, rt: &R, alloc: Global, port: u16) {
+        let message = longest_message(rt, alloc);
+        let mut streams = Vec::new(alloc);
+        for _ in 0..14u8 {
+            let stream = connect(rt, port);
+            send_often(rt, &stream, &message);
+            streams.push(stream).ok().expect(rt, "memory");
+        }
+        for stream in streams.iter() {
+            expect_replies(rt, alloc, stream);
+        }
+    }
+}
+
 /// A message of the greatest length.
 pub fn longest_message<R: Abort>(rt: &R, alloc: Global) -> Vec<u8> {
     Vec::from_elem(alloc, 0, LONGEST_MESSAGE)
         .ok()
         .expect(rt, "memory")
+}
+
+fn send_often<R: Abort>(rt: &R, stream: &TcpStream, message: &[u8]) {
+    for _ in 0..16u8 {
+        send(rt, stream, message);
+    }
+}
+
+fn expect_replies<R: Abort>(rt: &R, alloc: Global, stream: &TcpStream) {
+    for _ in 0..16u8 {
+        assert!(rt; !reply(rt, alloc, stream).is_empty());
+    }
+}
+
+#[test]
+fn large_messages_in_turn(rt: HostRuntime) -> Result<(), Fail> {
+    let listener = TcpListener::bind(&rt, ("127.0.0.1", 0u16))?;
+    let terms = Terms {
+        buffers: 1,
+        idle: 1,
+        ..terms(14)
+    };
+    beside(&rt, rt.alloc(), &listener, terms, &LargeOnesInTurn)
 }
 
 // One may be there at a time, and its message is being answered: the second is kept until the first has its answer.
