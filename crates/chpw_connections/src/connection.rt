@@ -159,11 +159,13 @@ impl Connection {
         ensures held { held_by self.new.phase ≤ held_by self.old.phase + growth_by self.old.phase }
     {
         match mem::replace(&mut self.phase, Phase::Ended) {
-            Phase::Reading(Incoming {
-                mut received,
-                room: before,
-                begun,
-            }) => {
+            Phase::Reading(
+                Incoming {
+                    mut received,
+                    room: before,
+                    begun,
+                },
+            ) => {
                 let room = whole_behind(&received);
                 let begun = begun_with(room, before, begun, now);
                 let fitting = at_most(bytes, wanted_behind(&received));

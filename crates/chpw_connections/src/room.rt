@@ -116,7 +116,13 @@ impl Connections {
 
     // Makes room for so many more bytes of a connection, so that all hold no more than `most`; whether there is. Where
     // there is none, candidates are ended that hold bytes, if that is enough.
-    pub(crate) fn find_room(&mut self, slot: usize, count: usize, most: usize, who: Candidates) -> bool
+    pub(crate) fn find_room(
+        &mut self,
+        slot: usize,
+        count: usize,
+        most: usize,
+        who: Candidates,
+    ) -> bool
         ensures makes_room { MakesRoom who (slots_of self.old) (slots_of self.new) slot }
         ensures value { result ≡ has_room_besides most who (slots_of self.old) slot count }
         ensures room { result ≡ true → held_in (slots_of self.new) + count ≤ most }

@@ -276,7 +276,7 @@ impl<R: Net<Stream = TcpStream> + Clock + Abort> Clients<R> for OneThatReadsNoth
             let _ = reply(rt, alloc, &first);
         }
         assert!(rt; is_ended(&first));
-        // An answer doesn't wait for the reactor's next look round, a tenth of a second later.
+        // The next message doesn't wait for the reactor's next look round, a tenth of a second later.
         assert!(rt; start.elapsed(rt).ok().expect(rt, "a clock") < Duration::from_secs(15));
     }
 }
@@ -306,7 +306,7 @@ impl<R: Net<Stream = TcpStream> + Clock + Abort> Clients<R> for OneAfterTheOther
             send(rt, &stream, &[0, 6, 0xff, 0x80, 0, 0]);
             let _ = reply(rt, alloc, &stream);
         }
-        // The reactor looks at an answer as soon as it is there, and not a tenth of a second later.
+        // An answer goes out as soon as it is there, and not when the reactor next looks round, a tenth of a second later.
         assert!(rt; start.elapsed(rt).ok().expect(rt, "a clock") < Duration::from_millis(1_500));
     }
 }
@@ -344,6 +344,44 @@ impl<R: Net<Stream = TcpStream> + Abort> Clients<R> for LargeOnesInTurn {
             expect_replies(rt, alloc, stream);
         }
     }
+}
+
+// One may be there at a time: of twenty clients each has its answer before the next one has the place.
+#[derive(Clone, Copy, Drop)]
+struct TwentyForOnePlace;
+
+impl<R: Net<Stream = TcpStream> + Clock + Abort> Clients<R> for TwentyForOnePlace {
+    fn ask(&self, rt: &R, alloc: Global, port: u16) {
+        let start = Instant::now(rt).ok().expect(rt, "a clock");
+        let mut streams = Vec::new(alloc);
+        for _ in 0..20u8 {
+            let stream = connect(rt, port);
+            send(rt, &stream, &[0, 6, 0xff, 0x80, 0, 0]);
+            streams.push(stream).ok().expect(rt, "memory");
+        }
+        for stream in streams.iter() {
+            let _ = reply(rt, alloc, stream);
+        }
+        // The place is given as soon as it is free, and not when the reactor next looks round, a tenth of a second later.
+        assert!(rt; start.elapsed(rt).ok().expect(rt, "a clock") < Duration::from_millis(1_000));
+    }
+}
+
+#[test]
+fn newcomers_one_after_the_other(rt: HostRuntime) -> Result<(), Fail> {
+    let listener = TcpListener::bind(&rt, ("127.0.0.1", 0u16))?;
+    let port = listener.local_addr()?.port();
+    let site = Site {
+        time: &SlowClock { rt: &rt },
+        listener: &listener,
+        port,
+        workers: 1,
+        terms: Terms {
+            clients: 1,
+            ..terms(20)
+        },
+    };
+    serve_all(&rt, rt.alloc(), &site, &TwentyForOnePlace)
 }
 
 /// A message of the greatest length.
