@@ -384,6 +384,29 @@ fn newcomers_one_after_the_other(rt: HostRuntime) -> Result<(), Fail> {
     serve_all(&rt, rt.alloc(), &site, &TwentyForOnePlace)
 }
 
+// Behind its last reply the service closes its side, and the client sees that at once.
+#[derive(Clone, Copy, Drop)]
+struct OneThatStays;
+
+impl<R: Net<Stream = TcpStream> + Clock + Abort> Clients<R> for OneThatStays {
+    fn ask(&self, rt: &R, alloc: Global, port: u16) {
+        let stream = connect(rt, port);
+        let start = Instant::now(rt).ok().expect(rt, "a clock");
+        // A message that is too long: its length alone is answered.
+        assert!(rt; (&stream).write_all(&[0, 1, 0, 0]).is_ok());
+        let _ = reply(rt, alloc, &stream);
+        assert!(rt; is_ended(&stream));
+        // The connection itself would be closed a second behind the reply.
+        assert!(rt; start.elapsed(rt).ok().expect(rt, "a clock") < Duration::from_millis(800));
+    }
+}
+
+#[test]
+fn the_end_behind_the_last_reply(rt: HostRuntime) -> Result<(), Fail> {
+    let listener = TcpListener::bind(&rt, ("127.0.0.1", 0u16))?;
+    beside(&rt, rt.alloc(), &listener, terms(1), &OneThatStays)
+}
+
 /// A message of the greatest length.
 pub fn longest_message<R: Abort>(rt: &R, alloc: Global) -> Vec<u8> {
     Vec::from_elem(alloc, 0, LONGEST_MESSAGE)
