@@ -2,7 +2,7 @@ ghost use Rattle.std.specs.Prelude.{◌≡◌, ◌∷◌, []};
 
 use super::realm::change;
 use chpw_table::{Counts, Entry, Event, Moment, Opened, Receipt, Verdict};
-use std::test::Fail;
+use std::process::Abort;
 
 fn four() -> Counts
     ensures value { result ≡ 4 ∷ [] }
@@ -12,15 +12,25 @@ fn four() -> Counts
     counts
 }
 
-#[test]
-fn completed_request(rt: HostRuntime) -> Result<(), Fail> {
-    let mut opened = change(rt.alloc(), 1, Vec::new(rt.alloc()))?;
-    let before = opened.clone()?;
-    let salt = opened.salt()?;
+fn copy(rt: &impl Abort, opened: &Opened) -> Opened {
+    opened.clone().ok().expect(rt, "memory")
+}
+
+// The keys under four iterations, with alice's salt.
+fn complete(rt: &impl Abort, opened: &mut Opened) {
+    let salt = opened.salt().ok().expect(rt, "memory");
     assert!(rt; salt.as_slice() == b"EXAMPLE.COMalice".as_slice());
-    opened.complete(b"New-pass2", salt.as_slice(), &four())?;
-    assert!(rt; !opened.is_same(&before) && opened.clone()?.is_same(&opened));
-    Ok(())
+    let completed = opened.complete(b"New-pass2", salt.as_slice(), &four());
+    assert!(rt; completed.is_ok());
+}
+
+#[test]
+fn completed_request(rt: HostRuntime) {
+    let mut opened = change(&rt, rt.alloc(), 1, Vec::new(rt.alloc()));
+    let before = copy(&rt, &opened);
+    complete(&rt, &mut opened);
+    let after = copy(&rt, &opened);
+    assert!(rt; !opened.is_same(&before) && after.is_same(&opened));
 }
 
 fn entry(opened: Opened) -> Entry {
@@ -40,15 +50,15 @@ fn entry(opened: Opened) -> Entry {
 }
 
 #[test]
-fn copied_entry(rt: HostRuntime) -> Result<(), Fail> {
-    let entry = entry(change(rt.alloc(), 1, Vec::new(rt.alloc()))?);
+fn copied_entry(rt: HostRuntime) {
+    let opened = change(&rt, rt.alloc(), 1, Vec::new(rt.alloc()));
+    let entry = entry(opened);
     let receipt = Receipt {
         worker: 0,
         number: 1,
         position: 0,
         basis: 0,
-        entry: entry.clone()?,
+        entry: entry.clone().ok().expect(&rt, "memory"),
     };
     assert!(rt; receipt.entry.is_same(&entry) && receipt.is_same(&receipt));
-    Ok(())
 }

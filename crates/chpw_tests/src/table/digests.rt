@@ -2,7 +2,8 @@ ghost use Rattle.std.specs.Prelude.{◌≡◌, [], ◌∷◌};
 
 use chpw_table::{Counts, Derived, Digest};
 use krb_keys::Key;
-use std::alloc::AllocError;
+use std::alloc::Global;
+use std::process::Abort;
 
 // RFC 3962 appendix B: the keys under 1 and under 1200 iterations.
 const PASSWORD: &[u8] = b"password";
@@ -24,36 +25,59 @@ fn counted(count: u32) -> Counts
     counts
 }
 
-#[test]
-fn published_keys(rt: HostRuntime) -> Result<(), AllocError> {
-    let mut digest = Digest::derive(rt.alloc(), PASSWORD, SALT, &counted(1))?;
-    digest.add(PASSWORD, SALT, &counted(1200))?;
-    // Those that are there are not derived again.
-    digest.add(PASSWORD, SALT, &counted(1))?;
-    assert!(rt; digest.length == 8 && digest.classes == 1);
-    match digest.derived.as_slice() {
+// Whether these are the published keys.
+fn are_published(derived: &[(u32, Key, Key)]) -> bool {
+    match derived {
         [one, more] => {
-            assert!(rt; one.0 == 1 && one.1.bytes() == AES128_1 && one.2.bytes() == AES256_1);
-            assert!(rt; more.0 == 1200 && more.1.bytes() == AES128_1200);
+            one.0 == 1
+                && one.1.bytes() == AES128_1
+                && one.2.bytes() == AES256_1
+                && more.0 == 1200
+                && more.1.bytes() == AES128_1200
         }
-        _ => assert!(rt; false, "two counts are there"),
+        _ => false,
     }
-    Ok(())
 }
 
 #[test]
-fn refused_derivations(rt: HostRuntime) -> Result<(), AllocError> {
+fn published_keys(rt: HostRuntime) {
+    let digest = Digest::derive(rt.alloc(), PASSWORD, SALT, &counted(1));
+    let mut digest = digest.ok().expect(&rt, "memory");
+    assert!(rt; digest.add(PASSWORD, SALT, &counted(1200)).is_ok());
+    // Those that are there are not derived again.
+    assert!(rt; digest.add(PASSWORD, SALT, &counted(1)).is_ok());
+    assert!(rt; digest.length == 8 && digest.classes == 1);
+    assert!(rt; are_published(digest.derived.as_slice()));
+}
+
+const A: Key = Key::Aes128([1; 16]);
+
+const B: Key = Key::Aes256([2; 32]);
+
+fn listed(rt: &impl Abort, alloc: Global, rows: &[(u32, Key, Key)]) -> Vec<(u32, Key, Key)> {
+    Vec::from_slice(alloc, rows).ok().expect(rt, "memory")
+}
+
+// How many a copy of these derivations has.
+fn copied_count(rt: &impl Abort, rows: Vec<(u32, Key, Key)>) -> usize {
+    let derived = Derived::of(rows).expect(rt, "each count once");
+    let copy = derived.clone().ok().expect(rt, "memory");
+    copy.into_vec().len()
+}
+
+// Each count stands once, with a key of each type in their order.
+#[test]
+fn refused_derivations(rt: HostRuntime) {
     let alloc = rt.alloc();
-    let a = Key::Aes128([1; 16]);
-    let b = Key::Aes256([2; 32]);
-    let derived = Derived::of(vec![in alloc; (5, a, b), (6, a, b)]?);
-    match derived {
-        Some(derived) => assert!(rt; derived.clone()?.into_vec().len() == 2),
-        None => assert!(rt; false, "two counts, each once"),
+    let cases: [(&[(u32, Key, Key)], bool); 4] = [
+        (&[(5, A, B), (6, A, B)], true),
+        (&[(5, A, B), (6, A, B), (5, A, B)], false),
+        (&[(5, B, A)], false),
+        (&[(5, A, A)], false),
+    ];
+    for (rows, fit) in cases {
+        assert!(rt; Digest::of(8, 3, listed(&rt, alloc, rows)).is_some() == fit);
+        assert!(rt; Derived::of(listed(&rt, alloc, rows)).is_some() == fit);
     }
-    assert!(rt; Digest::of(8, 3, vec![in alloc; (5, a, b), (6, a, b)]?).is_some());
-    assert!(rt; Digest::of(8, 3, vec![in alloc; (5, a, b), (6, a, b), (5, a, b)]?).is_none());
-    assert!(rt; Derived::of(vec![in alloc; (5, b, a)]?).is_none());
-    assert!(rt; Derived::of(vec![in alloc; (5, a, a)]?).is_none());
-    Ok(())
+    assert!(rt; copied_count(&rt, listed(&rt, alloc, cases[0].0)) == 2);
 }

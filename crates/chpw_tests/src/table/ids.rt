@@ -1,17 +1,17 @@
-use super::realm::table;
-use chpw_rules::{Items, Name};
+use super::realm::{named, table};
+use chpw_rules::Items;
 use chpw_table::{Body, LAST_SECOND, Moment, Opened, Table, Verdict};
-use std::alloc::{AllocError, Global};
+use std::alloc::Global;
 use std::process::Abort;
-use std::test::Fail;
-use test_realm::{Tally, name};
+use test_realm::Tally;
 
 // A request whose KRB-PRIV held no new password: its id is used, and nothing else changes.
-fn asked(alloc: Global, realm: &str, client: Name, at: (i64, u32)) -> Result<Opened, AllocError> {
-    let (ctime, cusec) = at;
-    Ok(Opened {
-        crealm: Items::of(Vec::from_slice(alloc, realm.as_bytes())?),
-        client,
+fn asked(rt: &impl Abort, alloc: Global, id: (&str, &str, i64, u32)) -> Opened {
+    let (realm, client, ctime, cusec) = id;
+    let realm = Vec::from_slice(alloc, realm.as_bytes());
+    Opened {
+        crealm: Items::of(realm.ok().expect(rt, "memory")),
+        client: named(rt, alloc, client),
         initial: true,
         invalid: false,
         starts: 0,
@@ -20,29 +20,23 @@ fn asked(alloc: Global, realm: &str, client: Name, at: (i64, u32)) -> Result<Ope
         cusec,
         stamp: None,
         body: Body::BadData,
-    })
+    }
 }
 
 // The verdict on such a request of this clock's second.
-fn verdict(
-    rt: &impl Abort,
-    table: &mut Table,
-    seconds: i64,
-    opened: Opened,
-) -> Result<Verdict, Fail> {
+fn verdict(rt: &impl Abort, table: &mut Table, seconds: i64, opened: Opened) -> Verdict {
     let mut sink = Tally::failing_at(0);
     assert!(rt; sink.failed < u64::MAX && 0 <= seconds && seconds <= LAST_SECOND);
-    match table.decide(Moment { seconds, micros: 0 }, opened, &mut sink) {
-        Ok(outcome) => Ok(outcome.verdict),
-        Err(_) => Err(Fail::new("refused")),
-    }
+    let answer = table.decide(Moment { seconds, micros: 0 }, opened, &mut sink);
+    let outcome = answer.ok().expect(rt, "a verdict");
+    outcome.verdict
 }
 
 // The clock, the ctime, what comes of it, and how many ids are held then: those of which the ctime
 // isn't more than 300 seconds before the clock, which never goes back.
 #[test]
-fn held_until_they_are_too_old(rt: HostRuntime) -> Result<(), Fail> {
-    let mut table = table(rt.alloc(), 20)?;
+fn held_until_they_are_too_old(rt: HostRuntime) {
+    let mut table = table(&rt, rt.alloc(), 20);
     assert!(rt; table.ids_held() == 0);
     let asks = [
         (1000, 700, Verdict::BadBody, 1),
@@ -59,59 +53,61 @@ fn held_until_they_are_too_old(rt: HostRuntime) -> Result<(), Fail> {
         (1602, 1301, Verdict::Skew, 0),
     ];
     for (seconds, ctime, expected, held) in asks {
-        let alice = name(rt.alloc(), "alice")?;
-        let opened = asked(rt.alloc(), "EXAMPLE.COM", alice, (ctime, 0))?;
-        assert!(rt; verdict(&rt, &mut table, seconds, opened)? == expected);
+        let opened = asked(&rt, rt.alloc(), ("EXAMPLE.COM", "alice", ctime, 0));
+        assert!(rt; verdict(&rt, &mut table, seconds, opened) == expected);
         assert!(rt; table.ids_held() == held);
     }
-    Ok(())
 }
 
-// A request, and four that differ from it in one part of their ids: each is its own, once.
+// A request, and four that differ from it in one part of their ids.
+const IDS: [(&str, &str, i64, u32); 5] = [
+    ("EXAMPLE.COM", "alice", 1000, 7),
+    ("EXAMPLE.ORG", "alice", 1000, 7),
+    ("EXAMPLE.COM", "alice/x", 1000, 7),
+    ("EXAMPLE.COM", "alice", 1001, 7),
+    ("EXAMPLE.COM", "alice", 1000, 8),
+];
+
+// Each is its own, once.
 #[test]
-fn told_apart_by_each_part(rt: HostRuntime) -> Result<(), Fail> {
-    let mut table = table(rt.alloc(), 20)?;
-    let ids = [
-        ("EXAMPLE.COM", "alice", (1000, 7)),
-        ("EXAMPLE.ORG", "alice", (1000, 7)),
-        ("EXAMPLE.COM", "alice/x", (1000, 7)),
-        ("EXAMPLE.COM", "alice", (1001, 7)),
-        ("EXAMPLE.COM", "alice", (1000, 8)),
-    ];
+fn told_apart_by_each_part(rt: HostRuntime) {
+    let mut table = table(&rt, rt.alloc(), 20);
     for expected in [Verdict::BadBody, Verdict::Replay] {
-        for (realm, client, at) in ids {
-            let opened = asked(rt.alloc(), realm, name(rt.alloc(), client)?, at)?;
-            assert!(rt; verdict(&rt, &mut table, 1000, opened)? == expected);
-        }
+        each_answers(&rt, rt.alloc(), &mut table, expected);
         assert!(rt; table.ids_held() == 5);
     }
-    Ok(())
+}
+
+// Each of the five has this verdict.
+fn each_answers(rt: &impl Abort, alloc: Global, table: &mut Table, expected: Verdict) {
+    for id in IDS {
+        let opened = asked(rt, alloc, id);
+        assert!(rt; verdict(rt, table, 1000, opened) == expected);
+    }
 }
 
 // 70,000 requests, one in each second of the clock, with times up to 301 seconds behind and before it: as
 // many ids are held after each as a list keeps.
 #[test]
-fn as_many_as_a_list_keeps(rt: HostRuntime) -> Result<(), Fail> {
-    let mut table = table(rt.alloc(), 70_000)?;
+fn as_many_as_a_list_keeps(rt: HostRuntime) {
+    let mut table = table(&rt, rt.alloc(), 70_000);
     let mut list = Vec::new(rt.alloc());
     for number in 0..70_000u32 {
         let seconds = 1000 + i64::from(number);
         let ctime = seconds + i64::from(number * 37 % 603) - 301;
-        let alice = name(rt.alloc(), "alice")?;
-        let opened = asked(rt.alloc(), "EXAMPLE.COM", alice, (ctime, number))?;
         let is_far = (seconds - ctime).abs() > 300;
         let expected = if is_far {
             Verdict::Skew
         } else {
             Verdict::BadBody
         };
-        assert!(rt; verdict(&rt, &mut table, seconds, opened)? == expected);
+        let opened = asked(&rt, rt.alloc(), ("EXAMPLE.COM", "alice", ctime, number));
+        assert!(rt; verdict(&rt, &mut table, seconds, opened) == expected);
         if !is_far {
-            list.push(ctime)?;
+            assert!(rt; list.push(ctime).is_ok());
         }
         let oldest = seconds - 300;
         list.retain(|held| *held >= oldest);
         assert!(rt; u32::try_from(list.len()) == Ok(table.ids_held()));
     }
-    Ok(())
 }

@@ -1,11 +1,11 @@
+use super::realm::named;
 use chpw_table::{KeyRow, Verdict, record_bytes};
 use krb_protocol::codes::{KRB_AP_ERR_REPEAT, KRB5_KPASSWD_AUTHERROR};
-use std::test::Fail;
-use test_realm::name;
+use std::process::Abort;
 
 #[test]
-fn record_of_a_change(rt: HostRuntime) -> Result<(), Fail> {
-    let alice = name(rt.alloc(), "alice")?;
+fn record_of_a_change(rt: HostRuntime) {
+    let alice = named(&rt, rt.alloc(), "alice");
     assert!(rt; alice.fits());
     let key = KeyRow {
         kvno: 2,
@@ -13,14 +13,16 @@ fn record_of_a_change(rt: HostRuntime) -> Result<(), Fail> {
         aes128: [0xa2; 16],
         aes256: [0xa2; 32],
     };
-    let record = record_bytes(rt.alloc(), &alice, &key)?;
-    let record = record.as_slice();
+    let record = record_bytes(rt.alloc(), &alice, &key);
+    is_record(&rt, record.ok().expect(&rt, "memory").as_slice());
+}
+
+fn is_record(rt: &impl Abort, record: &[u8]) {
     assert!(rt; record.len() == 66);
     let front: [u8; 11] = [0, 0x40, 1, 0, 0, 0, 2, 0, 0, 0x10, 0];
     let end: [u8; 7] = [1, 5, 0x61, 0x6c, 0x69, 0x63, 0x65];
     assert!(rt; record.starts_with(&front) && record.ends_with(&end));
     assert!(rt; record[11..59].iter().all(|byte| *byte == 0xa2));
-    Ok(())
 }
 
 #[test]
