@@ -1,38 +1,53 @@
 //! Sixteen principals of the realm, what they ask, and what is found at a desk of theirs.
+ghost use Rattle.chpw_book.specs.Starting.{IsNamed};
 
-use chpw_book::{CloseRefused, Closed, Desk, DeskName, Pass};
+use chpw_book::{CloseRefused, Closed, Desk, DeskName, Pass, UnnamedDesk};
 use chpw_rules::{Items, Name};
-use chpw_table::{DecideFault, Digest, Entry, Opened, Refused, Table, Verdict};
-use std::alloc::{AllocError, Global};
+use chpw_table::{DecideFault, Digest, Lookup, Opened, Refused, Table, Verdict};
+use std::alloc::Global;
 use std::process::Abort;
 use std::sync::Wait;
-use std::test::Fail;
 use test_realm::Tally;
 
 /// The table of `alice`, `blice`, `clice` and so on, sixteen principals, each with kvno 1 under 4
 /// iterations, which new keys have too.
-pub fn table(alloc: Global, max_entries: u32) -> Result<Table, Fail> {
+pub fn table(rt: &impl Abort, alloc: Global, max_entries: u32) -> Table {
     let mut names = Vec::new(alloc);
     for number in 0..16 {
-        names.push(name(alloc, number)?)?;
+        assert!(rt; names.push(name(rt, alloc, number)).is_ok());
     }
-    Ok(test_realm::table(alloc, names, 4, max_entries)?)
+    let table = test_realm::table(alloc, names, 4, max_entries);
+    table.ok().expect(rt, "a table")
 }
 
 /// The name of the principal of this number, from 0.
-pub fn name(alloc: Global, number: u8) -> Result<Name, AllocError> {
-    let part = Vec::from_slice(alloc, &[b'a'.wrapping_add(number), b'l', b'i', b'c', b'e'])?;
-    Ok(Name {
-        parts: Items::of(vec![in alloc; Items::of(part)]?),
-    })
+pub fn name(rt: &impl Abort, alloc: Global, number: u8) -> Name {
+    let part = Vec::from_slice(alloc, &[b'a'.wrapping_add(number), b'l', b'i', b'c', b'e']);
+    let part = Items::of(part.ok().expect(rt, "memory"));
+    let parts = vec![in alloc; part].ok().expect(rt, "memory");
+    Name {
+        parts: Items::of(parts),
+    }
 }
 
 /// The principal of this number asks for a new password, its keys derived under no count.
-pub fn change(alloc: Global, number: u8, cusec: u32) -> Result<Opened, Fail> {
-    let Some(digest) = Digest::of(9, 4, Vec::new(alloc)) else {
-        return Err(Fail::new("no keys of a password"));
-    };
-    Ok(test_realm::change(alloc, name(alloc, number)?, cusec, digest)?)
+pub fn change(rt: &impl Abort, alloc: Global, number: u8, cusec: u32) -> Opened {
+    let digest = Digest::of(9, 4, Vec::new(alloc)).expect(rt, "no keys");
+    let name = name(rt, alloc, number);
+    let opened = test_realm::change(alloc, name, cusec, digest);
+    opened.ok().expect(rt, "a request")
+}
+
+/// The desk, and the passes of its workers.
+pub fn started<D: DeskName, R: Wait + Abort>(
+    rt: &R,
+    alloc: Global,
+    unnamed: UnnamedDesk,
+) -> (Desk<D, Tally>, Vec<Pass<D>>)
+    requires name { IsNamed unnamed D.name D.parts D.book D.root D.workers }
+{
+    let started = Desk::<D, Tally>::start(rt, alloc, unnamed, Tally::new());
+    started.ok().expect(rt, "a desk")
 }
 
 /// The verdict, where there is one.
@@ -41,28 +56,21 @@ pub fn verdict(answer: Result<Verdict, Refused>) -> Option<Verdict> {
 }
 
 /// Whether the history was full.
-pub fn is_full(answer: Result<Verdict, Refused>) -> bool {
+pub fn is_full(answer: &Result<Verdict, Refused>) -> bool {
     match answer {
         Ok(_) => false,
         Err(refused) => matches!(refused.fault, DecideFault::Full),
     }
 }
 
-/// The history of a desk that can be closed, and whether its table is full; a desk that can't be is
-/// given up.
+/// What a desk leaves that can be closed; one that can't be is given up.
 pub fn closed<D: DeskName, R: Wait>(
     rt: &R,
     desk: Desk<D, Tally>,
     passes: Vec<Pass<D>>,
-) -> Option<(Vec<Entry>, bool)> {
+) -> Option<Closed<Tally>> {
     match desk.close(rt, passes) {
-        Ok(
-            Closed {
-                history,
-                table,
-                sink: _,
-            },
-        ) => Some((history, table.is_full())),
+        Ok(closed) => Some(closed),
         Err(
             CloseRefused {
                 fault: _,
@@ -83,8 +91,18 @@ pub fn shown<D: DeskName, R: Abort>(
     desk: &Desk<D, Tally>,
     pass: &mut Pass<D>,
 ) -> (u32, u32) {
-    let alice = name(alloc, 0).ok().expect(rt, "a name");
-    let found = desk.lookup(pass, &alice).ok().expect(rt, "entered");
-    let found = found.expect(rt, "a principal");
+    let found = alice(rt, alloc, desk, pass);
     (found.kvno, found.seen)
+}
+
+/// What a pass is shown of alice.
+pub fn alice<D: DeskName, R: Abort>(
+    rt: &R,
+    alloc: Global,
+    desk: &Desk<D, Tally>,
+    pass: &mut Pass<D>,
+) -> Lookup {
+    let alice = name(rt, alloc, 0);
+    let found = desk.lookup(pass, &alice).ok().expect(rt, "entered");
+    found.expect(rt, "a principal")
 }

@@ -1,24 +1,22 @@
 //! Keys that are asked for, and a history that is full.
-ghost use Rattle.std.specs.Prelude.{◌≡◌};
-ghost use Rattle.chpw_book.specs.Starting.{IsNamed, workers_of};
+ghost use Rattle.chpw_book.specs.Starting.{IsNamed};
 
-use crate::desks::{change, closed, is_full, name, shown, table, verdict};
-use chpw_book::{AtDesk, Desk, DeskName, UnnamedDesk};
+use crate::desks::{change, closed, is_full, name, shown, started, table, verdict};
+use chpw_book::{AtDesk, Desk, DeskName, Pass, UnnamedDesk};
 use chpw_decider::Decider;
 use chpw_rules::Items;
-use chpw_table::{Body, DecideFault, Digest, Opened, Refused, Target, Verdict};
-use std::alloc::{AllocError, Global};
+use chpw_table::{Body, Counts, DecideFault, Digest, Opened, Refused, Target, Verdict};
+use std::alloc::Global;
 use std::marker::Brand;
 use std::process::Abort;
 use std::sync::Wait;
-use std::test::Fail;
 use test_realm::{NOW, PASSWORD, Tally};
 
 #[test]
-fn keys_that_are_asked_for(rt: HostRuntime) -> Result<(), Fail> {
-    let table = table(rt.alloc(), 2)?;
-    let opened = change(rt.alloc(), 0, 1)?;
-    ask_and_complete::<Brand, _>(&rt, rt.alloc(), UnnamedDesk::of(table, 1), opened)
+fn keys_that_are_asked_for(rt: HostRuntime) {
+    let table = table(&rt, rt.alloc(), 2);
+    let opened = change(&rt, rt.alloc(), 0, 1);
+    ask_and_complete::<Brand, _>(&rt, rt.alloc(), UnnamedDesk::of(table, 1), opened);
 }
 
 // The missing keys are named, and with them the same request is decided; the desk is given up.
@@ -27,122 +25,108 @@ fn ask_and_complete<D: DeskName, R: Wait + Abort>(
     alloc: Global,
     unnamed: UnnamedDesk,
     opened: Opened,
-) -> Result<(), Fail>
+)
     requires name { IsNamed unnamed D.name D.parts D.book D.root D.workers }
-    requires workers { workers_of unnamed ≡ 1 }
 {
-    let (desk, mut passes) = Desk::<D, Tally>::start(rt, alloc, unnamed, Tally::new())?;
+    let (desk, mut passes) = started::<D, R>(rt, alloc, unnamed);
     let mut pass = passes.pop().expect(rt, "a pass");
-    let refused = desk
-        .decide(rt, &mut pass, NOW, opened)
-        .err()
-        .expect(rt, "keys are missing");
-    let opened = completed(rt, refused);
+    let answer = desk.decide(rt, &mut pass, NOW, opened);
+    let opened = completed(rt, answer.err().expect(rt, "keys are missing"));
     assert!(rt; pass.receipts().is_empty());
     assert!(rt; verdict(desk.decide(rt, &mut pass, NOW, opened)) == Some(Verdict::Done));
     assert!(rt; pass.receipts().len() == 1 && !pass.was_full());
     desk.abandon(rt);
-    Ok(())
 }
 
 // The request with the keys that were asked for.
 fn completed(rt: &impl Abort, refused: Refused) -> Opened {
     let Refused { fault, mut opened } = refused;
-    let salt = opened.salt().ok().expect(rt, "a salt");
-    match fault {
-        DecideFault::NeedKeys(counts) => {
-            assert!(rt; counts.as_slice() == [4].as_slice());
-            let done = opened.complete(PASSWORD, salt.as_slice(), &counts);
-            assert!(rt; done.is_ok());
-        }
-        _ => assert!(rt; false, "keys are missing"),
+    match &fault {
+        DecideFault::NeedKeys(counts) => complete(rt, &mut opened, counts),
+        _ => panic!(rt; "keys are missing"),
     }
     opened
 }
 
-// A request, whether it is refused anyway, and whether it lacks keys.
-#[derive(Drop)]
-struct Asked {
-    opened: Opened,
-    refused: bool,
-    lacks: bool,
+fn complete(rt: &impl Abort, opened: &mut Opened, counts: &Counts) {
+    assert!(rt; counts.as_slice() == [4].as_slice());
+    let salt = opened.salt().ok().expect(rt, "a salt");
+    let done = opened.complete(PASSWORD, salt.as_slice(), counts);
+    assert!(rt; done.is_ok());
 }
+
+// The length of a password, whether it is another's, and the first and the last second of the ticket; then
+// whether the request is refused anyway, and whether it lacks keys. Tickets whose end is past by the skew and
+// by a second more, and one that begins too late; another's password, for which there is no rule; passwords
+// of the least length, and of one less.
+const ASKS: [(u32, bool, i64, i64, bool, bool); 5] = [
+    (6, false, 0, 700, false, true),
+    (6, false, 0, 699, true, false),
+    (6, false, 1301, 9000, false, false),
+    (6, true, 0, 9000, true, false),
+    (5, false, 0, 9000, true, false),
+];
 
 #[test]
-fn keys_that_are_looked_for(rt: HostRuntime) -> Result<(), Fail> {
-    let table = table(rt.alloc(), 1)?;
-    let requests = requests(rt.alloc())?;
-    look_for_keys::<Brand, _>(
-        &rt,
-        rt.alloc(),
-        UnnamedDesk::of(table, 1),
-        requests.as_slice(),
-    )
-}
-
-// Tickets whose end is past by the skew and by a second more, and one that begins too late; another's password,
-// for which there is no rule; passwords of the least length, and of one less.
-fn requests(alloc: Global) -> Result<Vec<Asked>, Fail> {
-    let mut ends = asking(alloc, None, 6, true)?;
-    ends.opened.ends = 700;
-    let mut over = asking(alloc, None, 6, false)?;
-    over.opened.ends = 699;
-    let mut early = asking(alloc, None, 6, false)?;
-    early.opened.starts = 1301;
-    early.refused = false;
-    let denied = asking(alloc, Some(other(alloc)?), 6, false)?;
-    let short = asking(alloc, None, 5, false)?;
-    Ok(vec![in alloc; ends, over, early, denied, short]?)
-}
-
-// The first principal asks for a password of this length.
-fn asking(alloc: Global, target: Option<Target>, length: u32, lacks: bool) -> Result<Asked, Fail> {
-    let Some(digest) = Digest::of(length, 4, Vec::new(alloc)) else {
-        return Err(Fail::new("no keys of a password"));
-    };
-    let mut opened = change(alloc, 0, 1)?;
-    opened.body = Body::Ask { target, digest };
-    Ok(Asked {
-        opened,
-        refused: !lacks,
-        lacks,
-    })
-}
-
-// The second principal.
-fn other(alloc: Global) -> Result<Target, AllocError> {
-    Ok(Target {
-        realm: Items::of(Vec::from_slice(alloc, b"EXAMPLE.COM")?),
-        name: name(alloc, 1)?,
-    })
+fn keys_that_are_looked_for(rt: HostRuntime) {
+    let table = table(&rt, rt.alloc(), 1);
+    look_for_keys::<Brand, _>(&rt, rt.alloc(), UnnamedDesk::of(table, 1));
 }
 
 // What is refused anyway lacks no keys, nor does what comes too early; the desk is given up.
-fn look_for_keys<D: DeskName, R: Wait + Abort>(
-    rt: &R,
-    alloc: Global,
-    unnamed: UnnamedDesk,
-    requests: &[Asked],
-) -> Result<(), Fail>
+fn look_for_keys<D: DeskName, R: Wait + Abort>(rt: &R, alloc: Global, unnamed: UnnamedDesk)
     requires name { IsNamed unnamed D.name D.parts D.book D.root D.workers }
 {
-    let (desk, _passes) = Desk::<D, Tally>::start(rt, alloc, unnamed, Tally::new())?;
-    for asked in requests {
-        assert!(rt; desk.refuses_anyway(NOW, &asked.opened) == asked.refused);
-        let counts = desk.missing(rt, NOW, &asked.opened);
-        let wanted: &[u32] = if asked.lacks { &[4] } else { &[] };
-        assert!(rt; counts.as_slice() == wanted);
+    let (desk, _passes) = started::<D, R>(rt, alloc, unnamed);
+    for (length, another, starts, ends, refused, lacks) in ASKS {
+        let mut opened = asking(rt, alloc, length, another);
+        opened.starts = starts;
+        opened.ends = ends;
+        looked_for(rt, &desk, &opened, refused, lacks);
     }
     desk.abandon(rt);
-    Ok(())
+}
+
+fn looked_for<D: DeskName, R: Wait + Abort>(
+    rt: &R,
+    desk: &Desk<D, Tally>,
+    opened: &Opened,
+    refused: bool,
+    lacks: bool,
+) {
+    assert!(rt; desk.refuses_anyway(NOW, opened) == refused);
+    let counts = desk.missing(rt, NOW, opened);
+    let wanted: &[u32] = if lacks { &[4] } else { &[] };
+    assert!(rt; counts.as_slice() == wanted);
+}
+
+// The first principal asks for a password of this length, for itself or for the second.
+fn asking(rt: &impl Abort, alloc: Global, length: u32, another: bool) -> Opened {
+    let digest = Digest::of(length, 4, Vec::new(alloc)).expect(rt, "no keys");
+    let target = if another {
+        Some(second(rt, alloc))
+    } else {
+        None
+    };
+    let mut opened = change(rt, alloc, 0, 1);
+    opened.body = Body::Ask { target, digest };
+    opened
+}
+
+fn second(rt: &impl Abort, alloc: Global) -> Target {
+    let realm = Vec::from_slice(alloc, b"EXAMPLE.COM");
+    Target {
+        realm: Items::of(realm.ok().expect(rt, "memory")),
+        name: name(rt, alloc, 1),
+    }
 }
 
 #[test]
-fn keys_derived_under_the_lock(rt: HostRuntime) -> Result<(), Fail> {
-    let table = table(rt.alloc(), 1)?;
-    let first = change(rt.alloc(), 0, 1)?;
-    let second = change(rt.alloc(), 0, 2)?;
-    derive_and_fill::<Brand, _>(&rt, rt.alloc(), UnnamedDesk::of(table, 1), first, second)
+fn keys_derived_under_the_lock(rt: HostRuntime) {
+    let table = table(&rt, rt.alloc(), 1);
+    let first = change(&rt, rt.alloc(), 0, 1);
+    let second = change(&rt, rt.alloc(), 0, 2);
+    derive_and_fill::<Brand, _>(&rt, rt.alloc(), UnnamedDesk::of(table, 1), first, second);
 }
 
 // Of a history of one entry the second request is refused, which the pass notes; the desk is closed.
@@ -152,23 +136,37 @@ fn derive_and_fill<D: DeskName, R: Wait + Abort>(
     unnamed: UnnamedDesk,
     first: Opened,
     second: Opened,
-) -> Result<(), Fail>
+)
     requires name { IsNamed unnamed D.name D.parts D.book D.root D.workers }
-    requires workers { workers_of unnamed ≡ 1 }
 {
-    let (desk, mut passes) = Desk::<D, Tally>::start(rt, alloc, unnamed, Tally::new())?;
+    let (desk, mut passes) = started::<D, R>(rt, alloc, unnamed);
     let mut pass = passes.pop().expect(rt, "a pass");
-    let mut place = AtDesk {
-        rt,
-        desk: &desk,
-        pass: &mut pass,
-    };
-    assert!(rt; verdict(place.decide_deriving(NOW, first, PASSWORD)) == Some(Verdict::Done));
-    assert!(rt; !pass.was_full());
-    assert!(rt; is_full(desk.decide(rt, &mut pass, NOW, second)) && pass.was_full());
+    derive(rt, &desk, &mut pass, first);
+    fill(rt, &desk, &mut pass, second);
     assert!(rt; shown(rt, alloc, &desk, &mut pass) == (2, 1));
     passes.push(pass).ok().expect(rt, "a place");
-    let (history, full) = closed(rt, desk, passes).expect(rt, "all agree");
-    assert!(rt; history.len() == 1 && full);
-    Ok(())
+    let closed = closed(rt, desk, passes).expect(rt, "all agree");
+    assert!(rt; closed.history.len() == 1 && closed.table.is_full());
+}
+
+fn derive<D: DeskName, R: Wait + Abort>(
+    rt: &R,
+    desk: &Desk<D, Tally>,
+    pass: &mut Pass<D>,
+    opened: Opened,
+) {
+    let mut place = AtDesk { rt, desk, pass };
+    let done = verdict(place.decide_deriving(NOW, opened, PASSWORD));
+    assert!(rt; done == Some(Verdict::Done));
+    assert!(rt; !place.pass.was_full());
+}
+
+fn fill<D: DeskName, R: Wait + Abort>(
+    rt: &R,
+    desk: &Desk<D, Tally>,
+    pass: &mut Pass<D>,
+    opened: Opened,
+) {
+    let answer = desk.decide(rt, pass, NOW, opened);
+    assert!(rt; is_full(&answer) && pass.was_full());
 }

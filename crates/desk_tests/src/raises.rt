@@ -1,22 +1,20 @@
 //! The iteration count raised at a desk.
-ghost use Rattle.std.specs.Prelude.{◌≡◌};
 ghost use Rattle.chpw_book.specs.Starting.{IsNamed};
 
-use crate::desks::{change, closed, name, table, verdict};
+use crate::desks::{alice, change, closed, started, table, verdict};
 use chpw_book::{Desk, DeskName, Pass, RaiseFault, UnnamedDesk};
-use chpw_table::{Entry, Event, Lookup, Opened, RaiseVerdict, Verdict};
+use chpw_table::{Entry, Event, Opened, RaiseVerdict, Verdict};
 use std::alloc::Global;
 use std::marker::Brand;
 use std::process::Abort;
 use std::sync::Wait;
-use std::test::Fail;
 use test_realm::{NOW, PASSWORD, Tally};
 
 #[test]
-fn a_change_behind_a_raise(rt: HostRuntime) -> Result<(), Fail> {
-    let table = table(rt.alloc(), 3)?;
-    let opened = change(rt.alloc(), 0, 1)?;
-    raised_at::<Brand, _>(&rt, rt.alloc(), UnnamedDesk::of(table, 2), opened)
+fn a_change_behind_a_raise(rt: HostRuntime) {
+    let table = table(&rt, rt.alloc(), 3);
+    let opened = change(&rt, rt.alloc(), 0, 1);
+    raised_at::<Brand, _>(&rt, rt.alloc(), UnnamedDesk::of(table, 2), opened);
 }
 
 // The first of two workers raises the count from 4 to 8. The second learns of it, is shown it, and changes
@@ -26,35 +24,68 @@ fn raised_at<D: DeskName, R: Wait + Abort>(
     alloc: Global,
     unnamed: UnnamedDesk,
     opened: Opened,
-) -> Result<(), Fail>
+)
     requires name { IsNamed unnamed D.name D.parts D.book D.root D.workers }
 {
-    let (desk, mut passes) = Desk::<D, Tally>::start(rt, alloc, unnamed, Tally::new())?;
+    let (desk, mut passes) = started::<D, R>(rt, alloc, unnamed);
     let mut second = passes.pop().expect(rt, "a pass");
     let mut first = passes.pop().expect(rt, "a pass");
-    let same = desk.raise(rt, &mut first, NOW, 4);
-    assert!(rt; matches!(same, Ok(RaiseVerdict::NotHigher)) && first.front().is_none());
-    let higher = desk.raise(rt, &mut first, NOW, 8);
-    assert!(rt; matches!(higher, Ok(RaiseVerdict::Raised)));
-    let front = first.front().expect(rt, "a front");
-    assert!(rt; front.len() == 1);
-    second.learn(front);
-    let before = alice(rt, alloc, &desk, &mut second);
-    assert!(rt; before.policy == 8 && before.seen == 1 && before.kvno == 1);
-    let done = desk.decide_deriving(rt, &mut second, NOW, opened, PASSWORD);
-    assert!(rt; verdict(done) == Some(Verdict::Done));
-    let full = desk.raise(rt, &mut first, NOW, 16);
-    assert!(rt; matches!(full, Err(RaiseFault::Full)) && first.was_full());
+    raise(rt, &desk, &mut first);
+    learn(rt, alloc, &desk, &first, &mut second);
+    change_behind(rt, &desk, &mut second, opened);
+    is_full(rt, &desk, &mut first);
     let keys = alice(rt, alloc, &desk, &mut second);
     assert!(rt; keys.policy == 8 && keys.held.as_slice() == [8, 4].as_slice());
     passes.push(first).ok().expect(rt, "a place");
     passes.push(second).ok().expect(rt, "a place");
-    let (history, full) = closed(rt, desk, passes).expect(rt, "all agree");
-    assert!(rt; history.len() == 3 && full);
+    let closed = closed(rt, desk, passes).expect(rt, "all agree");
+    assert!(rt; closed.table.is_full());
+    is_history(rt, closed.history.as_slice());
+}
+
+// The same count is not higher; a higher one is raised to.
+fn raise<D: DeskName, R: Wait + Abort>(rt: &R, desk: &Desk<D, Tally>, first: &mut Pass<D>) {
+    let same = desk.raise(rt, first, NOW, 4);
+    assert!(rt; matches!(same, Ok(RaiseVerdict::NotHigher)) && first.front().is_none());
+    let higher = desk.raise(rt, first, NOW, 8);
+    assert!(rt; matches!(higher, Ok(RaiseVerdict::Raised)));
+}
+
+fn learn<D: DeskName, R: Abort>(
+    rt: &R,
+    alloc: Global,
+    desk: &Desk<D, Tally>,
+    first: &Pass<D>,
+    second: &mut Pass<D>,
+) {
+    let front = first.front().expect(rt, "a front");
+    assert!(rt; front.len() == 1);
+    second.learn(front);
+    let before = alice(rt, alloc, desk, second);
+    assert!(rt; before.policy == 8 && before.seen == 1 && before.kvno == 1);
+}
+
+fn change_behind<D: DeskName, R: Wait + Abort>(
+    rt: &R,
+    desk: &Desk<D, Tally>,
+    second: &mut Pass<D>,
+    opened: Opened,
+) {
+    let done = desk.decide_deriving(rt, second, NOW, opened, PASSWORD);
+    assert!(rt; verdict(done) == Some(Verdict::Done));
+}
+
+fn is_full<D: DeskName, R: Wait + Abort>(rt: &R, desk: &Desk<D, Tally>, first: &mut Pass<D>) {
+    let full = desk.raise(rt, first, NOW, 16);
+    assert!(rt; matches!(full, Err(RaiseFault::Full)) && first.was_full());
+}
+
+// Two raises and a change.
+fn is_history(rt: &impl Abort, history: &[Entry]) {
+    assert!(rt; history.len() == 3);
     assert!(rt; is_raise(&history[0], 4, RaiseVerdict::NotHigher));
     assert!(rt; is_raise(&history[1], 8, RaiseVerdict::Raised));
     assert!(rt; is_change(&history[2]));
-    Ok(())
 }
 
 // Whether the entry is of a raise to this count, with this verdict.
@@ -74,16 +105,4 @@ fn is_change(entry: &Entry) -> bool {
         Event::Ask { verdict, .. } => *verdict == Verdict::Done,
         Event::Raise { .. } => false,
     }
-}
-
-// What a pass is shown of alice.
-fn alice<D: DeskName, R: Abort>(
-    rt: &R,
-    alloc: Global,
-    desk: &Desk<D, Tally>,
-    pass: &mut Pass<D>,
-) -> Lookup {
-    let alice = name(alloc, 0).ok().expect(rt, "a name");
-    let found = desk.lookup(pass, &alice).ok().expect(rt, "entered");
-    found.expect(rt, "a principal")
 }

@@ -1,17 +1,14 @@
 //! What lookups show beside the lock.
-ghost use Rattle.std.specs.Prelude.{◌≡◌};
 ghost use Rattle.chpw_book.specs.Starting.{IsNamed};
 
-use crate::desks::{change, closed, name, shown, table, verdict};
-use crate::sides::asked;
+use crate::desks::{change, closed, name, shown, started, table, verdict};
 use chpw_book::{AtDesk, Desk, DeskName, Pass, UnnamedDesk};
 use chpw_decider::Decider;
-use chpw_table::{Opened, Verdict};
+use chpw_table::{Lookup, Opened, Verdict};
 use std::alloc::Global;
 use std::marker::Brand;
 use std::process::Abort;
 use std::sync::Wait;
-use std::test::Fail;
 use std::thread;
 use std::thread::Threads;
 use test_realm::{NOW, PASSWORD, Tally};
@@ -22,10 +19,10 @@ const CHANGES: u32 = 40;
 const LOOKS: u32 = 500;
 
 #[test]
-fn fronts_that_are_learnt(rt: HostRuntime) -> Result<(), Fail> {
-    let table = table(rt.alloc(), 9)?;
-    let opened = change(rt.alloc(), 0, 1)?;
-    three_at::<Brand, _>(&rt, rt.alloc(), UnnamedDesk::of(table, 3), opened)
+fn fronts_that_are_learnt(rt: HostRuntime) {
+    let table = table(&rt, rt.alloc(), 9);
+    let opened = change(&rt, rt.alloc(), 0, 1);
+    three_at::<Brand, _>(&rt, rt.alloc(), UnnamedDesk::of(table, 3), opened);
 }
 
 // The first changes alice's password; the second and the third learn of it.
@@ -34,10 +31,10 @@ fn three_at<D: DeskName, R: Wait + Abort>(
     alloc: Global,
     unnamed: UnnamedDesk,
     opened: Opened,
-) -> Result<(), Fail>
+)
     requires name { IsNamed unnamed D.name D.parts D.book D.root D.workers }
 {
-    let (desk, mut passes) = Desk::<D, Tally>::start(rt, alloc, unnamed, Tally::new())?;
+    let (desk, mut passes) = started::<D, R>(rt, alloc, unnamed);
     let mut third = passes.pop().expect(rt, "a pass");
     let mut second = passes.pop().expect(rt, "a pass");
     let mut first = passes.pop().expect(rt, "a pass");
@@ -45,23 +42,32 @@ fn three_at<D: DeskName, R: Wait + Abort>(
     assert!(rt; shown(rt, alloc, &desk, &mut third) == (1, 0));
     let done = desk.decide_deriving(rt, &mut first, NOW, opened, PASSWORD);
     assert!(rt; verdict(done) == Some(Verdict::Done));
+    learn(rt, alloc, &desk, &first, &mut second);
+    learn(rt, alloc, &desk, &first, &mut third);
+    assert!(rt; shown(rt, alloc, &desk, &mut first) == (2, 1));
+    desk.abandon(rt);
+}
+
+// A pass learns of the first one's change, is shown it, and made none itself.
+fn learn<D: DeskName, R: Abort>(
+    rt: &R,
+    alloc: Global,
+    desk: &Desk<D, Tally>,
+    first: &Pass<D>,
+    pass: &mut Pass<D>,
+) {
     let front = first.front().expect(rt, "a front");
     assert!(rt; front.len() == 1);
-    second.learn(front);
-    third.learn(front);
-    assert!(rt; shown(rt, alloc, &desk, &mut second) == (2, 1));
-    assert!(rt; shown(rt, alloc, &desk, &mut third) == (2, 1));
-    assert!(rt; shown(rt, alloc, &desk, &mut first) == (2, 1));
-    assert!(rt; second.front().is_none() && third.front().is_none());
-    desk.abandon(rt);
-    Ok(())
+    pass.learn(front);
+    assert!(rt; shown(rt, alloc, desk, pass) == (2, 1));
+    assert!(rt; pass.front().is_none());
 }
 
 #[test]
-fn what_a_worker_is_shown(rt: HostRuntime) -> Result<(), Fail> {
-    let table = table(rt.alloc(), 9)?;
-    let opened = change(rt.alloc(), 0, 1)?;
-    worker_at::<Brand, _>(&rt, rt.alloc(), UnnamedDesk::of(table, 1), opened)
+fn what_a_worker_is_shown(rt: HostRuntime) {
+    let table = table(&rt, rt.alloc(), 9);
+    let opened = change(&rt, rt.alloc(), 0, 1);
+    worker_at::<Brand, _>(&rt, rt.alloc(), UnnamedDesk::of(table, 1), opened);
 }
 
 // After one change of alice's password a worker is shown hers and blice's keys, and none of an unknown
@@ -71,11 +77,10 @@ fn worker_at<D: DeskName, R: Wait + Abort>(
     alloc: Global,
     unnamed: UnnamedDesk,
     opened: Opened,
-) -> Result<(), Fail>
+)
     requires name { IsNamed unnamed D.name D.parts D.book D.root D.workers }
 {
-    let names = [name(alloc, 0)?, name(alloc, 1)?, name(alloc, 16)?];
-    let (desk, mut passes) = Desk::<D, Tally>::start(rt, alloc, unnamed, Tally::new())?;
+    let (desk, mut passes) = started::<D, R>(rt, alloc, unnamed);
     let mut pass = passes.pop().expect(rt, "a pass");
     let mut worker = AtDesk {
         rt,
@@ -84,20 +89,27 @@ fn worker_at<D: DeskName, R: Wait + Abort>(
     };
     let done = verdict(worker.decide_deriving(NOW, opened, PASSWORD));
     assert!(rt; done == Some(Verdict::Done));
-    let alice = worker.lookup(&names[0]).expect(rt, "a principal");
+    shows_alice(rt, worker.lookup(&name(rt, alloc, 0)));
+    shows_blice(rt, worker.lookup(&name(rt, alloc, 1)));
+    assert!(rt; worker.lookup(&name(rt, alloc, 16)).is_none());
+    desk.abandon(rt);
+}
+
+fn shows_alice(rt: &impl Abort, found: Option<Lookup>) {
+    let alice = found.expect(rt, "a principal");
     assert!(rt; alice.kvno == 2 && alice.held.as_slice() == [4, 4].as_slice());
     assert!(rt; alice.policy == 4 && alice.seen == 1);
-    let blice = worker.lookup(&names[1]).expect(rt, "a principal");
+}
+
+fn shows_blice(rt: &impl Abort, found: Option<Lookup>) {
+    let blice = found.expect(rt, "a principal");
     assert!(rt; blice.kvno == 1 && blice.held.as_slice() == [4].as_slice());
-    assert!(rt; worker.lookup(&names[2]).is_none());
-    desk.abandon(rt);
-    Ok(())
 }
 
 #[test]
-fn lookups_beside_changes(rt: HostRuntime) -> Result<(), Fail> {
-    let table = table(rt.alloc(), 100)?;
-    all_at::<Brand, _>(&rt, rt.alloc(), UnnamedDesk::of(table, 16))
+fn lookups_beside_changes(rt: HostRuntime) {
+    let table = table(&rt, rt.alloc(), 100);
+    all_at::<Brand, _>(&rt, rt.alloc(), UnnamedDesk::of(table, 16));
 }
 
 // One worker changes alice's password, and the others look.
@@ -105,10 +117,10 @@ fn all_at<D: DeskName + Send + Sync, R: Threads + Wait + Abort + Sync>(
     rt: &R,
     alloc: Global,
     unnamed: UnnamedDesk,
-) -> Result<(), Fail>
+)
     requires name { IsNamed unnamed D.name D.parts D.book D.root D.workers }
 {
-    let (desk, mut passes) = Desk::<D, Tally>::start(rt, alloc, unnamed, Tally::new())?;
+    let (desk, mut passes) = started::<D, R>(rt, alloc, unnamed);
     let shared = &desk;
     thread::for_each_mut(
         rt,
@@ -122,9 +134,8 @@ fn all_at<D: DeskName + Send + Sync, R: Threads + Wait + Abort + Sync>(
             }
         },
     );
-    let (history, _) = closed(rt, desk, passes).expect(rt, "all agree");
-    assert!(rt; history.len() == CHANGES as usize);
-    Ok(())
+    let closed = closed(rt, desk, passes).expect(rt, "all agree");
+    assert!(rt; closed.history.len() == CHANGES as usize);
 }
 
 // Each change is shown to its own worker at once.
@@ -135,18 +146,9 @@ fn change_often<D: DeskName, R: Wait + Abort>(
     pass: &mut Pass<D>,
 ) {
     for number in 0..CHANGES {
-        let password = [
-            b'N',
-            b'e',
-            b'w',
-            b'-',
-            b'p',
-            b'a',
-            b's',
-            b's',
-            b'0' + (number % 4) as u8,
-        ];
-        let opened = asked(rt, alloc, 0, number);
+        let mut password = *b"New-pass0";
+        password[8] = b'0' + (number % 4) as u8;
+        let opened = change(rt, alloc, 0, number);
         let done = verdict(desk.decide_deriving(rt, pass, NOW, opened, &password));
         assert!(rt; done == Some(Verdict::Done));
         assert!(rt; shown(rt, alloc, desk, pass) == (number + 2, number + 1));

@@ -12,7 +12,7 @@ use Rattle.test_realm.proofs.tally.Tally.TheSendSync as tally
 use Rattle.desk_tests.proofs.SendLemmas.{four_send}
 use Rattle.desk_tests.proofs.closing.two_at.Goals as goal
 
--- src/closing.rt:39:18
+-- src/closing.rt:36:18
 pub join-a-requires-send-F : goal.join-a-requires-send-F
 join-a-requires-send-F g c κs within =
     let desk = Desk.the_row (param 0 g.row.D) Tally.the_row g.D.DeskName g.D.Ledger g.D.ListName sink.ghosts in
