@@ -56,15 +56,15 @@ fn complete(rt: &impl Abort, opened: &mut Opened, counts: &Counts) {
 }
 
 // The length of a password, whether it is another's, and the first and the last second of the ticket; then
-// whether the request is refused anyway, and whether it lacks keys. Tickets whose end is past by the skew and
+// whether the request is refused anyway, and under which counts it lacks keys. Tickets whose end is past by the skew and
 // by a second more, and one that begins too late; another's password, for which there is no rule; passwords
 // of the least length, and of one less.
-const ASKS: [(u32, bool, i64, i64, bool, bool); 5] = [
-    (6, false, 0, 700, false, true),
-    (6, false, 0, 699, true, false),
-    (6, false, 1301, 9000, false, false),
-    (6, true, 0, 9000, true, false),
-    (5, false, 0, 9000, true, false),
+const ASKS: [(u32, bool, i64, i64, bool, &[u32]); 5] = [
+    (6, false, 0, 700, false, &[4]),
+    (6, false, 0, 699, true, &[]),
+    (6, false, 1301, 9000, false, &[]),
+    (6, true, 0, 9000, true, &[]),
+    (5, false, 0, 9000, true, &[]),
 ];
 
 #[test]
@@ -78,11 +78,11 @@ fn look_for_keys<D: DeskName, R: Wait + Abort>(rt: &R, alloc: Global, unnamed: U
     requires name { IsNamed unnamed D.name D.parts D.book D.root D.workers }
 {
     let (desk, _passes) = started::<D, R>(rt, alloc, unnamed);
-    for (length, another, starts, ends, refused, lacks) in ASKS {
+    for (length, another, starts, ends, refused, lacking) in ASKS {
         let mut opened = asking(rt, alloc, length, another);
         opened.starts = starts;
         opened.ends = ends;
-        looked_for(rt, &desk, &opened, refused, lacks);
+        looked_for(rt, &desk, &opened, refused, lacking);
     }
     desk.abandon(rt);
 }
@@ -92,12 +92,11 @@ fn looked_for<D: DeskName, R: Wait + Abort>(
     desk: &Desk<D, Tally>,
     opened: &Opened,
     refused: bool,
-    lacks: bool,
+    lacking: &[u32],
 ) {
     assert!(rt; desk.refuses_anyway(NOW, opened) == refused);
     let counts = desk.missing(rt, NOW, opened);
-    let wanted: &[u32] = if lacks { &[4] } else { &[] };
-    assert!(rt; counts.as_slice() == wanted);
+    assert!(rt; counts.as_slice() == lacking);
 }
 
 // The first principal asks for a password of this length, for itself or for the second.

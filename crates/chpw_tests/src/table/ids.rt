@@ -34,25 +34,26 @@ fn verdict(rt: &impl Abort, table: &mut Table, seconds: i64, opened: Opened) -> 
 
 // The clock, the ctime, what comes of it, and how many ids are held then: those of which the ctime
 // isn't more than 300 seconds before the clock, which never goes back.
+const ASKS: [(i64, i64, Verdict, u32); 12] = [
+    (1000, 700, Verdict::BadBody, 1),
+    (1001, 700, Verdict::Skew, 0),
+    (1000, 700, Verdict::Skew, 0),
+    (1000, 1302, Verdict::Skew, 0),
+    (1000, 1301, Verdict::BadBody, 1),
+    (1000, 1300, Verdict::BadBody, 2),
+    (1000, 1299, Verdict::BadBody, 3),
+    (1000, 1300, Verdict::Replay, 3),
+    (1600, 1300, Verdict::Replay, 2),
+    (1601, 1301, Verdict::Replay, 1),
+    (1600, 1301, Verdict::Replay, 1),
+    (1602, 1301, Verdict::Skew, 0),
+];
+
 #[test]
 fn held_until_they_are_too_old(rt: HostRuntime) {
     let mut table = table(&rt, rt.alloc(), 20);
     assert!(rt; table.ids_held() == 0);
-    let asks = [
-        (1000, 700, Verdict::BadBody, 1),
-        (1001, 700, Verdict::Skew, 0),
-        (1000, 700, Verdict::Skew, 0),
-        (1000, 1302, Verdict::Skew, 0),
-        (1000, 1301, Verdict::BadBody, 1),
-        (1000, 1300, Verdict::BadBody, 2),
-        (1000, 1299, Verdict::BadBody, 3),
-        (1000, 1300, Verdict::Replay, 3),
-        (1600, 1300, Verdict::Replay, 2),
-        (1601, 1301, Verdict::Replay, 1),
-        (1600, 1301, Verdict::Replay, 1),
-        (1602, 1301, Verdict::Skew, 0),
-    ];
-    for (seconds, ctime, expected, held) in asks {
+    for (seconds, ctime, expected, held) in ASKS {
         let opened = asked(&rt, rt.alloc(), ("EXAMPLE.COM", "alice", ctime, 0));
         assert!(rt; verdict(&rt, &mut table, seconds, opened) == expected);
         assert!(rt; table.ids_held() == held);

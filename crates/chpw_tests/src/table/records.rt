@@ -22,7 +22,7 @@ fn is_record(rt: &impl Abort, record: &[u8]) {
     let front: [u8; 11] = [0, 0x40, 1, 0, 0, 0, 2, 0, 0, 0x10, 0];
     let end: [u8; 7] = [1, 5, 0x61, 0x6c, 0x69, 0x63, 0x65];
     assert!(rt; record.starts_with(&front) && record.ends_with(&end));
-    assert!(rt; record[11..59].iter().all(|byte| *byte == 0xa2));
+    assert!(rt; record[11..59] == [0xa2; 48]);
 }
 
 #[test]
