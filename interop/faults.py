@@ -92,7 +92,7 @@ def said_at_start(server, to, **options):
 
 def raising(report, server):
     """`serve --raise` at one journal, in the order of its outcomes; it serves after each of them."""
-    tally = "entries 0 changes 0"
+    tally = "entries 1 changes 0"
     report.tell("raised", said_at_start(server, 8192), (["raised 8192"], tally))
     report.tell("the same again", said_at_start(server, 8192), (["count not higher"], tally))
     report.tell("a lower count", said_at_start(server, 4097), (["count not higher"], tally))

@@ -1,6 +1,11 @@
 -- What `serve --raise COUNT` prints before it listens.
-use Rattle.std.specs.Prelude.{ℕ, List, ◌++◌, codes, Option, Some, None, Result, Ok, Err}
+use Rattle.std.specs.Prelude.{◌≡◌, ℕ, List, ◌++◌, codes, Option, Some, None, Result, Ok, Err, IfOk, IfErr}
 use Rattle.std.specs.Fmt.{decimal}
+use Rattle.chpw_table.specs.State.{State}
+use Rattle.chpw_table.specs.declared.times.Moment.{Moment}
+use Rattle.chpw_table.specs.declared.history.Event.TheVariants.{Raise}
+use Rattle.chpw_book.specs.Calls.{Notes}
+use Rattle.chpw_book.specs.Passes.{Carried, raise_refused_with}
 use Rattle.chpw_table.specs.declared.raising.RaiseVerdict.{RaiseVerdict}
 use Rattle.chpw_table.specs.declared.raising.RaiseVerdict.TheVariants as verdict
 use Rattle.chpw_book.specs.declared.raising.RaiseFault.{RaiseFault}
@@ -21,3 +26,14 @@ raised_line (Raised count) = codes "raised " ++ decimal count
 raised_line NotHigher = codes "count not higher"
 raised_line Broken = codes "journal failed"
 raised_line Full = codes "history full"
+
+-- a raise to this count was asked of a desk, by a pass and at a moment that the clock gave: this was told of it, and the
+-- pass has its receipt, or was refused
+pub record IsRaise {C : Type 0} (gives : C → Moment → C → Type 0) (opening : State) (before after : C) (mine more : Carried)
+    (count : ℕ) (told : Option RaiseTold) : Type 0 where
+  pub now : Moment
+  pub given : gives before now after
+  pub raised : Result RaiseVerdict RaiseFault
+  pub told_is : told ≡ told_as count raised
+  pub noted : IfOk raised (λ verdict. Notes opening mine more now (Raise count verdict))
+  pub refused : IfErr raised (λ fault. more ≡ raise_refused_with fault mine)

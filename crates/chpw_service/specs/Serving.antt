@@ -1,7 +1,8 @@
 -- What a service asks of its pool.
-use Rattle.std.specs.Prelude.{◌≡◌, ℕ, List}
+use Rattle.std.specs.Prelude.{◌≡◌, ℕ, List, [], ◌∷◌, Bool, false, nat_le, length}
 use Rattle.chpw_invocation.specs.declared.invocation.ServeOptions.{ServeOptions}
 use Rattle.chpw_pool.specs.declared.terms.Terms.{Terms}
+use Rattle.chpw_book.specs.Passes.{Carried}
 
 -- words of this seed, as many connections as its options say, and the bounds that they set
 pub record IsAskedFor (options : ServeOptions) (seed : List ℕ) (terms : Terms) : Type 0 where
@@ -10,3 +11,8 @@ pub record IsAskedFor (options : ServeOptions) (seed : List ℕ) (terms : Terms)
   pub clients : terms.clients ≡ options.clients
   pub buffers : terms.buffers ≡ options.buffers
   pub idle : terms.idle ≡ options.idle
+
+-- the first pass has as many receipts as a history may have entries, before any message is answered: of a raise
+abbrev pub is_full_with : List Carried → ℕ → Bool
+is_full_with [] most = false
+is_full_with (p ∷ ps) most = nat_le most (length p.receipts)

@@ -5,6 +5,7 @@ ghost use Rattle.chpw_book.specs.Starting.{IsNamed, table_of, workers_of};
 ghost use Rattle.chpw_pool.specs.Engines.{workers_at};
 ghost use Rattle.chpw_service.specs.Faults.{IsLate};
 ghost use Rattle.chpw_service.specs.Following.{IsFollowed, reopened};
+ghost use Rattle.chpw_service.specs.Serving.{is_full_with};
 ghost use Rattle.chpw_service.specs.declared.fault.ServeFault.TheVariants.{CannotPrint, Memory};
 
 use crate::closing::{Left, Tally, close_desk};
@@ -14,7 +15,7 @@ use crate::notices::{Notice, is_first, unreported};
 use chpw_book::{Desk, DeskName, Pass, StartFault, UnnamedDesk};
 use chpw_journal::FileSink;
 use chpw_messages::Service;
-use chpw_pool::{Engine, run_shift};
+use chpw_pool::{Engine, NotStarted, run_shift};
 use chpw_table::{JournalSink, Table};
 use std::fs::File;
 use std::marker::Brand;
@@ -57,26 +58,29 @@ pub(crate) fn first_opening(table: Table, sink: FileSink<File>, workers: u8) -> 
     }
 }
 
-/// Answers the messages of the engine's connections at one desk after the other, until no more come. Where a
-/// history is full, its desk is closed and the next one opens with the table that was closed.
+/// Answers the messages of the engine's connections at this desk, and then at one after the other, until no more come.
+/// Where a history is full, its desk is closed and the next one opens with the table that was closed.
 pub(crate) fn serve_histories<
     'a,
     'l,
+    D: DeskName + Send + Sync,
     R: Threads + Wait + Clock + Print + Eprint + AllocGlobal + Sync,
     T: Clock + Sync,
->(rt: &R, time: &T, hall: &Hall<'l, R>, opening: Opening) -> Result<(), ServeFault<'a>>
-    requires workers { workers_of opening.unnamed ≡ hall.now.workers }
+>(rt: &R, time: &T, hall: &Hall<'l, R>, first: Opened<D>) -> Result<(), ServeFault<'a>>
+    requires passes { length first.passes.items ≡ hall.now.workers }
     ensures fault { IfErr result IsLate }
 {
-    let mut opening = opening;
     let mut reported = Reported {
         is_lost: false,
         expired: 0,
     };
+    let mut next = serve_desk(rt, time, hall, first, &mut reported)?;
     for _ in rt.forever() {
-        match serve_history::<Brand, R, T>(rt, time, hall, opening, &mut reported)? {
+        match next {
             None => return Ok(()),
-            Some(next) => opening = next,
+            Some(opening) => {
+                next = serve_history::<Brand, R, T>(rt, time, hall, opening, &mut reported)?;
+            }
         }
     }
     Ok(())
@@ -91,8 +95,7 @@ struct Reported {
     expired: u32,
 }
 
-// Serves at a desk of this name, closes it and prints what it did. What the next desk opens with, where
-// messages may still come.
+// Serves at a desk of this name, with what it opens with.
 fn serve_history<
     'a,
     'l,
@@ -114,19 +117,35 @@ fn serve_history<
         IsFollowed (opening_state D.root) (table_of next.unnamed))) }
     ensures fault { IfErr result IsLate }
 {
-    let Ok((desk, mut passes)) = start_desk::<D, R>(rt, opening) else {
-        return Err(ServeFault::Memory);
-    };
-    let served = run_shift(
-        rt,
-        rt.alloc(),
-        time,
-        &hall.engine,
-        &hall.service,
-        &desk,
-        &mut passes,
-        hall.max_entries,
-    );
+    match start_desk::<D, R>(rt, opening) {
+        Err(_) => Err(ServeFault::Memory),
+        Ok(opened) => serve_desk(rt, time, hall, opened, reported),
+    }
+}
+
+// Serves at a desk, closes it and prints what it did. What the next desk opens with, where messages may still come.
+fn serve_desk<
+    'a,
+    'l,
+    D: DeskName + Send + Sync,
+    R: Threads + Wait + Clock + Print + Eprint + AllocGlobal + Sync,
+    T: Clock + Sync,
+>(
+    rt: &R,
+    time: &T,
+    hall: &Hall<'l, R>,
+    opened: Opened<D>,
+    reported: &mut Reported,
+) -> Result<Option<Opening>, ServeFault<'a>>
+    requires passes { length opened.passes.items ≡ hall.now.workers }
+    ensures workers { IfOk result (λ o. IfSome o (λ next.
+        workers_of next.unnamed ≡ hall.now.workers)) }
+    ensures next { IfOk result (λ o. IfSome o (λ next.
+        IsFollowed (opening_state D.root) (table_of next.unnamed))) }
+    ensures fault { IfErr result IsLate }
+{
+    let Opened { desk, mut passes } = opened;
+    let served = serve_shift(rt, time, hall, &desk, &mut passes);
     let Left { tally, table, sink } = close_desk(rt, desk, passes)?;
     let over = hall.engine.is_over(rt);
     report_expired(hall.log, hall.engine.expired(rt), &mut reported.expired);
@@ -141,16 +160,66 @@ fn serve_history<
     Ok(Some(next_opening(table, sink, hall.workers)?))
 }
 
+// Answers messages at a desk, unless a raise has taken the only entry that its history has room for.
+fn serve_shift<
+    'l,
+    D: DeskName + Send + Sync,
+    R: Threads + Wait + Clock + Print + Eprint + AllocGlobal + Sync,
+    T: Clock + Sync,
+>(
+    rt: &R,
+    time: &T,
+    hall: &Hall<'l, R>,
+    desk: &Desk<D, FileSink<File>>,
+    passes: &mut [Pass<D>],
+) -> Result<(), NotStarted>
+    requires passes { length passes.old ≡ hall.now.workers }
+{
+    if is_full(passes, hall.max_entries) {
+        return Ok(());
+    }
+    let room = hall.max_entries;
+    run_shift(
+        rt,
+        rt.alloc(),
+        time,
+        &hall.engine,
+        &hall.service,
+        desk,
+        passes,
+        room,
+    )
+}
+
+// Whether the first pass has as many receipts as a history may have entries.
+fn is_full<D: DeskName>(passes: &[Pass<D>], max_entries: u32) -> bool
+    ensures value { result ≡ is_full_with passes.now max_entries }
+{
+    match passes.first() {
+        None => false,
+        Some(pass) => pass.receipts().len() as u64 >= u64::from(max_entries),
+    }
+}
+
+/// A desk that is open, with its passes.
+pub(crate) struct Opened<D: DeskName> {
+    pub desk: Desk<D, FileSink<File>>,
+    pub passes: Vec<Pass<D>>,
+}
+
 /// A desk of this name, with its passes.
 pub(crate) fn start_desk<D: DeskName, R: Wait + AllocGlobal>(
     rt: &R,
     opening: Opening,
-) -> Result<(Desk<D, FileSink<File>>, Vec<Pass<D>>), StartFault>
+) -> Result<Opened<D>, StartFault>
     requires name { IsNamed opening.unnamed D.name D.parts D.book D.root D.workers }
-    ensures passes { IfOk result (λ r. length r.1.items ≡ workers_of opening.unnamed) }
+    ensures passes { IfOk result (λ opened. length opened.passes.items ≡ workers_of opening.unnamed) }
 {
     let Opening { unnamed, sink } = opening;
-    Desk::start(rt, rt.alloc(), unnamed, sink)
+    match Desk::start(rt, rt.alloc(), unnamed, sink) {
+        Ok((desk, passes)) => Ok(Opened { desk, passes }),
+        Err(fault) => Err(fault),
+    }
 }
 
 // Reports how many messages more had waited too long for their worker.

@@ -1,24 +1,18 @@
 //! A raise of the iteration count of new keys, before the service listens.
-ghost use Rattle.std.specs.Prelude.{◌≡◌, ◌≤◌, ℕ, IfOk, IfErr, Some, true};
+ghost use Rattle.std.specs.Prelude.{◌≡◌, ◌≤◌, ℕ, IfErr, Some, true};
 ghost use Rattle.chpw_rules.specs.Limits.{is_in, iteration_counts};
-ghost use Rattle.chpw_table.specs.Times.{IsMoment};
 ghost use Rattle.chpw_fronts.specs.Pens.{opening_state};
-ghost use Rattle.chpw_book.specs.Starting.{IsNamed, table_of, workers_of};
 ghost use Rattle.chpw_service.specs.Faults.{IsLate};
-ghost use Rattle.chpw_service.specs.Following.{IsFollowed};
-ghost use Rattle.chpw_service.specs.Raised.{told_as};
+ghost use Rattle.chpw_service.specs.Raised.{told_as, IsRaise};
 ghost use Rattle.chpw_service.specs.declared.fault.ServeFault.TheVariants.{CannotPrint};
 
-use crate::closing::{Left, close_desk};
 use crate::fault::ServeFault;
-use crate::histories::{Opening, next_opening, start_desk};
 use chpw_book::{Desk, DeskName, Pass, RaiseFault};
 use chpw_journal::FileSink;
 use chpw_serve::Clock;
-use chpw_table::{Moment, RaiseVerdict};
+use chpw_table::RaiseVerdict;
 use std::fmt;
 use std::fs::File;
-use std::marker::Brand;
 use std::sync::Wait;
 
 /// What came of a raise, displayed as the line that the program prints.
@@ -50,79 +44,39 @@ impl fmt::Display for RaiseTold {
     }
 }
 
-/// Raises the count where one is asked for, and prints what came of it. The raise is decided at a desk of
-/// its own, by the first pass; its history is closed and compared as every other, and what the next desk
-/// opens with has its count.
-pub(crate) fn raised<'a, R: Wait + Print + AllocGlobal, C: Clock>(
-    rt: &R,
-    opening: Opening,
-    workers: u8,
-    clock: &mut C,
-    asked: Option<u32>,
-) -> Result<Opening, ServeFault<'a>>
-    requires workers { workers_of opening.unnamed ≡ workers }
-    requires some_workers { (1 ≤ workers) × (workers ≤ 16) }
-    requires count { (count : ℕ) → asked ≡ Some count → (1 ≤ count) × (count ≤ 16777216) }
-    ensures workers { IfOk result (λ next. workers_of next.unnamed ≡ workers) }
-    ensures fault { IfErr result IsLate }
-{
-    match asked {
-        None => Ok(opening),
-        Some(count) => {
-            let now = clock.now();
-            raise_at_a_desk::<Brand, R>(rt, opening, workers, now, count)
-        }
-    }
-}
-
-// The raise at a desk of this name.
-fn raise_at_a_desk<'a, D: DeskName, R: Wait + Print + AllocGlobal>(
-    rt: &R,
-    opening: Opening,
-    workers: u8,
-    now: Moment,
-    count: u32,
-) -> Result<Opening, ServeFault<'a>>
-    requires name { IsNamed opening.unnamed D.name D.parts D.book D.root D.workers }
-    requires workers { workers_of opening.unnamed ≡ workers }
-    requires some_workers { (1 ≤ workers) × (workers ≤ 16) }
-    requires moment { IsMoment now }
-    requires count { is_in iteration_counts count ≡ true }
-    ensures workers { IfOk result (λ next. workers_of next.unnamed ≡ workers) }
-    ensures next { IfOk result (λ next.
-        IsFollowed (opening_state D.root) (table_of next.unnamed)) }
-    ensures fault { IfErr result IsLate }
-{
-    let Ok((desk, mut passes)) = start_desk::<D, R>(rt, opening) else {
-        return Err(ServeFault::Memory);
-    };
-    let told = raise_by_the_first(rt, &desk, passes.as_mut_slice(), now, count);
-    let Left {
-        tally: _,
-        table,
-        sink,
-    } = close_desk(rt, desk, passes)?;
-    match told {
-        None => Err(ServeFault::Memory),
-        Some(told) => {
-            print_raised(rt, told)?;
-            next_opening(table, sink, workers)
-        }
-    }
-}
-
-// The raise by the first of these passes. None where memory was refused, and then nothing was raised.
-fn raise_by_the_first<D: DeskName, R: Wait>(
+/// Raises the count where one is asked for, and prints what came of it. The raise is an event of the first history, by
+/// the first pass.
+pub(crate) fn raise_where_asked<'a, D: DeskName, R: Wait + Print, C: Clock>(
     rt: &R,
     desk: &Desk<D, FileSink<File>>,
     passes: &mut [Pass<D>],
-    now: Moment,
+    clock: &mut C,
+    asked: Option<u32>,
+) -> Result<(), ServeFault<'a>>
+    requires count { (count : ℕ) → asked ≡ Some count → (1 ≤ count) × (count ≤ 16777216) }
+    ensures fault { IfErr result IsLate }
+{
+    let (Some(count), Some(pass)) = (asked, passes.first_mut()) else {
+        return Ok(());
+    };
+    match raise(rt, desk, pass, clock, count) {
+        None => Err(ServeFault::Memory),
+        Some(told) => print_raised(rt, told),
+    }
+}
+
+// A raise to this count, at the clock's moment. None where memory was refused, and then nothing was raised.
+fn raise<D: DeskName, R: Wait, C: Clock>(
+    rt: &R,
+    desk: &Desk<D, FileSink<File>>,
+    pass: &mut Pass<D>,
+    clock: &mut C,
     count: u32,
 ) -> Option<RaiseTold>
-    requires moment { IsMoment now }
     requires count { is_in iteration_counts count ≡ true }
+    ensures raised { IsRaise C.gives (opening_state D.root) clock.old clock.new pass.old pass.new count result }
 {
-    let pass = passes.first_mut()?;
+    let now = clock.now();
     told(count, desk.raise(rt, pass, now, count))
 }
 

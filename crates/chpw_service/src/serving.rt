@@ -1,6 +1,6 @@
 //! The service on a port.
-ghost use Rattle.std.specs.Prelude.{◌≡◌, ◌≤◌, IfOk, IfErr, IfSome, None, OnOk};
-ghost use Rattle.chpw_book.specs.Starting.{workers_of};
+ghost use Rattle.std.specs.Prelude.{◌≡◌, ◌≤◌, IfOk, IfErr, IfSome, None, OnOk, length};
+ghost use Rattle.chpw_book.specs.Starting.{IsNamed, workers_of};
 ghost use Rattle.chpw_pool.specs.Engines.{workers_at};
 ghost use Rattle.chpw_service.specs.Faults.{IsLate, IsOfService, told_as};
 ghost use Rattle.chpw_service.specs.Serving.{IsAskedFor};
@@ -8,11 +8,12 @@ ghost use Rattle.chpw_service.specs.declared.fault.ServeFault.TheVariants.{Canno
 
 use crate::fault::{LateFault, ServeFault};
 use crate::files::{read_seed, read_settings};
-use crate::histories::{Hall, Opening, first_opening, serve_histories};
+use crate::histories::{Hall, Opened, Opening, first_opening, serve_histories, start_desk};
 use crate::logging::{Log, Logging, log_gates, log_of};
 use crate::notices::Notice;
-use crate::raising::raised;
+use crate::raising::raise_where_asked;
 use crate::starting::open_table;
+use chpw_book::DeskName;
 use chpw_invocation::ServeOptions;
 use chpw_journal::Journal;
 use chpw_messages::Service;
@@ -20,6 +21,7 @@ use chpw_pool::{Engine, MachineClock, Pool, PoolFault, Terms};
 use chpw_serve::Clock as _;
 use std::alloc::Global;
 use std::fs::{File, Files};
+use std::marker::Brand;
 use std::net::{Ipv4Addr, Net, TcpListener, TcpStream};
 use std::sync::Wait;
 use std::thread::{self, Threads};
@@ -83,26 +85,34 @@ pub fn serve_by<
         log.tell(Notice::TailCut(options.journal, kept));
     }
     let opening = first_opening(table, sink, options.workers);
-    let opening = raised(rt, opening, options.workers, &mut clock, options.raise)?;
-    let terms = terms_of(&options, seed);
-    let ended = serve_opened(
-        rt,
-        time,
-        &options,
+    let start = Start {
+        options: &options,
         service,
-        terms,
+        terms: terms_of(&options, seed),
         max_entries,
-        &log,
-        opening,
-    );
+        log: &log,
+    };
+    let ended = serve_opened::<Brand, R, T>(rt, time, start, opening, &mut clock);
     log.end(clock.now());
     ended
 }
 
-// Serves what is opened, once the port is listened at.
+/// What a service starts with, beside its table.
+#[derive(Drop)]
+struct Start<'o, 'l, R> {
+    options: &'o ServeOptions<'o>,
+    service: Service,
+    terms: Terms,
+    max_entries: u32,
+    log: &'l Log<'l, R>,
+}
+
+// Serves what is opened: at the first desk the count is raised where that is asked for, and then the port is listened at.
 fn serve_opened<
     'a,
+    'o,
     'l,
+    D: DeskName + Send + Sync,
     R: Net<Listener = TcpListener, Stream = TcpStream>
         + Threads
         + Wait
@@ -115,16 +125,81 @@ fn serve_opened<
 >(
     rt: &R,
     time: &T,
-    options: &ServeOptions<'_>,
-    service: Service,
-    terms: Terms,
-    max_entries: u32,
-    log: &'l Log<'l, R>,
+    start: Start<'o, 'l, R>,
     opening: Opening,
+    clock: &mut MachineClock<'_, T>,
 ) -> Result<(), ServeFault<'a>>
-    requires workers { workers_of opening.unnamed ≡ options.now.workers }
+    requires name { IsNamed opening.unnamed D.name D.parts D.book D.root D.workers }
+    requires workers { workers_of opening.unnamed ≡ start.options.now.workers }
     ensures fault { IfErr result IsLate }
 {
+    let Ok(Opened { desk, mut passes }) = start_desk::<D, R>(rt, opening) else {
+        return Err(ServeFault::Memory);
+    };
+    let connections = start.terms.connections;
+    let ready = match raise_where_asked(rt, &desk, &mut passes, clock, start.options.raise) {
+        Ok(()) => listening(rt, start),
+        Err(fault) => Err(fault),
+    };
+    match ready {
+        Ok((listener, hall)) => {
+            let first = Opened { desk, passes };
+            serve_from(rt, time, &listener, &hall, first, connections)
+        }
+        Err(fault) => {
+            desk.abandon(rt);
+            Err(fault)
+        }
+    }
+}
+
+// Serves from the first desk on. It is given up where no thread for the sockets could be started.
+fn serve_from<
+    'a,
+    'l,
+    D: DeskName + Send + Sync,
+    R: Net<Stream = TcpStream> + Threads + Wait + Clock + Print + Eprint + AllocGlobal + Sync,
+    T: Clock + Sync,
+>(
+    rt: &R,
+    time: &T,
+    listener: &TcpListener,
+    hall: &Hall<'l, R>,
+    first: Opened<D>,
+    connections: u32,
+) -> Result<(), ServeFault<'a>>
+    requires passes { length first.passes.items ≡ hall.now.workers }
+    ensures fault { IfErr result IsLate }
+{
+    let mut first = Some(first);
+    let ended = serve_all(rt, time, listener, hall, &mut first, connections);
+    match first {
+        None => {}
+        Some(Opened { desk, passes }) => {
+            desk.abandon(rt);
+            drop(passes);
+        }
+    }
+    ended
+}
+
+// Listens at the port, and tells that.
+fn listening<
+    'a,
+    'o,
+    'l,
+    R: Net<Listener = TcpListener, Stream = TcpStream> + Wait + Print + Eprint + AllocGlobal,
+>(rt: &R, start: Start<'o, 'l, R>) -> Result<(TcpListener, Hall<'l, R>), ServeFault<'a>>
+    ensures workers { IfOk result (λ r. r.1.workers ≡ start.entry.options.now.workers) }
+    ensures fault { IfErr result IsLate }
+{
+    let Start {
+        options,
+        service,
+        terms,
+        max_entries,
+        log,
+    } = start;
     let listener = listen(rt, options.port)?;
     let engine = engine_of(rt, rt.alloc(), options.workers, &terms, log)?;
     let hall = Hall {
@@ -134,10 +209,10 @@ fn serve_opened<
         max_entries,
         log,
     };
-    if println!(rt; "listening on 127.0.0.1:{}", options.port).is_err() {
-        return Err(ServeFault::CannotPrint);
+    match println!(rt; "listening on 127.0.0.1:{}", options.port) {
+        Ok(()) => Ok((listener, hall)),
+        Err(_) => Err(ServeFault::CannotPrint),
     }
-    serve_all(rt, time, &listener, &hall, opening, terms.connections)
 }
 
 fn listen<'a, R: Net<Listener = TcpListener, Stream = TcpStream>>(
@@ -190,6 +265,7 @@ fn engine_of<'a, 'l, R: Net + Wait + Eprint>(
 fn serve_all<
     'a,
     'l,
+    D: DeskName + Send + Sync,
     R: Net<Stream = TcpStream> + Threads + Wait + Clock + Print + Eprint + AllocGlobal + Sync,
     T: Clock + Sync,
 >(
@@ -197,17 +273,17 @@ fn serve_all<
     time: &T,
     listener: &TcpListener,
     hall: &Hall<'l, R>,
-    opening: Opening,
+    first: &mut Option<Opened<D>>,
     connections: u32,
 ) -> Result<(), ServeFault<'a>>
-    requires workers { workers_of opening.unnamed ≡ hall.now.workers }
+    requires passes { IfSome first.old (λ opened. length opened.passes.items ≡ hall.now.workers) }
     ensures fault { IfErr result IsLate }
 {
     let ended = thread::scope(
         thread::scope_env(),
         rt,
         move |scope| -> Result<(), LateFault>
-            requires { workers_of opening.unnamed ≡ hall.now.workers }
+            requires { IfSome first.now (λ opened. length opened.passes.items ≡ hall.now.workers) }
         {
             let engine = &hall.engine;
             if scope
@@ -216,7 +292,7 @@ fn serve_all<
             {
                 return Err(LateFault::Memory);
             }
-            serve_or_desert(rt, time, hall, opening)
+            serve_or_desert(rt, time, hall, first)
         },
     );
     match ended {
@@ -241,12 +317,16 @@ fn end<'a>(pool: Pool) -> Result<(), ServeFault<'a>>
 // Serves at one desk after the other. After a fault nobody is there to answer, and all connections end.
 fn serve_or_desert<
     'l,
+    D: DeskName + Send + Sync,
     R: Threads + Wait + Clock + Print + Eprint + AllocGlobal + Sync,
     T: Clock + Sync,
->(rt: &R, time: &T, hall: &Hall<'l, R>, opening: Opening) -> Result<(), LateFault>
-    requires workers { workers_of opening.unnamed ≡ hall.now.workers }
+>(rt: &R, time: &T, hall: &Hall<'l, R>, first: &mut Option<Opened<D>>) -> Result<(), LateFault>
+    requires passes { IfSome first.old (λ opened. length opened.passes.items ≡ hall.now.workers) }
 {
-    match serve_histories(rt, time, hall, opening) {
+    let Some(opened) = first.take() else {
+        return Ok(());
+    };
+    match serve_histories(rt, time, hall, opened) {
         Ok(()) => Ok(()),
         Err(fault) => {
             hall.engine.desert(rt);

@@ -1,4 +1,4 @@
-use Rattle.std.proofs.Common.{◌≡◌}
+use Rattle.std.proofs.Common.{◌≡◌, IfSome}
 use Rattle.chpw_book.specs.Starting.{ledger_name, ledger_parts, list_book, list_root, workers_of}
 use Rattle.chpw_service.proofs.histories.serve_histories.Given as goal
 
@@ -12,4 +12,4 @@ abbrev pub ghosts-serve_history-D-ListName : goal.ghosts-serve_history-D-ListNam
 ghosts-serve_history-D-ListName g a = record { book = list_book a.opening.unnamed; root = list_root a.opening.unnamed }
 
 abbrev pub invariant-loop : goal.invariant-loop
-invariant-loop g l = workers_of l.opening.unnamed ≡ l.fn.hall.workers
+invariant-loop g l = IfSome l.next (λ opening. workers_of opening.unnamed ≡ l.fn.hall.workers)
