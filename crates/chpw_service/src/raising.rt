@@ -1,5 +1,5 @@
 //! A raise of the iteration count of new keys, before the service listens.
-ghost use Rattle.std.specs.Prelude.{◌≡◌, ◌≤◌, ℕ, IfErr, Some, true};
+ghost use Rattle.std.specs.Prelude.{◌≡◌, ◌≤◌, ℕ, IfErr, Some, true, length};
 ghost use Rattle.chpw_rules.specs.Limits.{is_in, iteration_counts};
 ghost use Rattle.chpw_fronts.specs.Pens.{opening_state};
 ghost use Rattle.chpw_service.specs.Faults.{IsLate};
@@ -54,6 +54,7 @@ pub(crate) fn raise_where_asked<'a, D: DeskName, R: Wait + Print, C: Clock>(
     asked: Option<u32>,
 ) -> Result<(), ServeFault<'a>>
     requires count { (count : ℕ) → asked ≡ Some count → (1 ≤ count) × (count ≤ 16777216) }
+    ensures passes { length passes.new ≡ length passes.old }
     ensures fault { IfErr result IsLate }
 {
     let (Some(count), Some(pass)) = (asked, passes.first_mut()) else {

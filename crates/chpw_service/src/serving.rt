@@ -13,9 +13,9 @@ use crate::logging::{Log, Logging, log_gates, log_of};
 use crate::notices::Notice;
 use crate::raising::raise_where_asked;
 use crate::starting::open_table;
-use chpw_book::DeskName;
+use chpw_book::{Desk, DeskName, Pass};
 use chpw_invocation::ServeOptions;
-use chpw_journal::Journal;
+use chpw_journal::{FileSink, Journal};
 use chpw_messages::Service;
 use chpw_pool::{Engine, MachineClock, Pool, PoolFault, Terms};
 use chpw_serve::Clock as _;
@@ -137,11 +137,7 @@ fn serve_opened<
         return Err(ServeFault::Memory);
     };
     let connections = start.terms.connections;
-    let ready = match raise_where_asked(rt, &desk, &mut passes, clock, start.options.raise) {
-        Ok(()) => listening(rt, start),
-        Err(fault) => Err(fault),
-    };
-    match ready {
+    match prepared(rt, start, &desk, &mut passes, clock) {
         Ok((listener, hall)) => {
             let first = Opened { desk, passes };
             serve_from(rt, time, &listener, &hall, first, connections)
@@ -151,6 +147,29 @@ fn serve_opened<
             Err(fault)
         }
     }
+}
+
+// The count is raised where that is asked for, and then the port is listened at.
+fn prepared<
+    'a,
+    'o,
+    'l,
+    D: DeskName,
+    R: Net<Listener = TcpListener, Stream = TcpStream> + Wait + Print + Eprint + AllocGlobal,
+    C: chpw_serve::Clock,
+>(
+    rt: &R,
+    start: Start<'o, 'l, R>,
+    desk: &Desk<D, FileSink<File>>,
+    passes: &mut [Pass<D>],
+    clock: &mut C,
+) -> Result<(TcpListener, Hall<'l, R>), ServeFault<'a>>
+    ensures workers { IfOk result (λ r. r.1.workers ≡ start.entry.options.now.workers) }
+    ensures passes { length passes.new ≡ length passes.old }
+    ensures fault { IfErr result IsLate }
+{
+    raise_where_asked(rt, desk, passes, clock, start.options.raise)?;
+    listening(rt, start)
 }
 
 // Serves from the first desk on. It is given up where no thread for the sockets could be started.
