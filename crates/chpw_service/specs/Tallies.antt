@@ -1,11 +1,14 @@
 -- What a service's last line counts.
-use Rattle.std.specs.Prelude.{◌≡◌, ℕ, ◌<◌, List, ◌++◌, codes, length}
+use Rattle.std.specs.Prelude.{◌≡◌, ℕ, ◌<◌, List, ◌++◌, Bool, false, codes, length, count_by}
 use Rattle.std.specs.Fmt.{decimal}
 use Rattle.chpw_table.specs.State.{State}
 use Rattle.chpw_table.specs.Agreement.{Held, Agrees}
 use Rattle.chpw_table.specs.History.{IsLegal, outcome}
+use Rattle.chpw_table.specs.Verdicts.{is_done}
 use Rattle.chpw_table.specs.declared.history.Entry.{Entry}
-use Rattle.chpw_book.specs.Receipts.{IsNumbered, changes_of}
+use Rattle.chpw_table.specs.declared.history.Event.{Event}
+use Rattle.chpw_table.specs.declared.history.Event.TheVariants.{Ask, Raise}
+use Rattle.chpw_book.specs.Receipts.{IsNumbered}
 use Rattle.chpw_book.specs.Passes.{Carried}
 use Rattle.chpw_book.specs.Stored.{Stored, Replays}
 use Rattle.chpw_book.specs.Closing.{HasCalls, IsRefusal, is_full}
@@ -16,6 +19,14 @@ use Rattle.chpw_service.specs.declared.closing.Tally.{Tally}
 abbrev pub tally_line : Tally → List ℕ
 tally_line t = codes "entries " ++ decimal t.entries ++ codes " changes " ++ decimal t.changes
 
+-- a raise of the iteration count is an entry, and no change
+abbrev pub changes_a_password : Event → Bool
+changes_a_password (Ask opened verdict) = is_done verdict
+changes_a_password (Raise count verdict) = false
+
+abbrev pub password_changes : List Entry → ℕ
+password_changes history = count_by (λ (e : Entry). changes_a_password e.event) history
+
 -- the entries and changes of a history that the one-thread machine replays from the opening to this table, in
 -- which each worker's calls are the receipts that its pass has
 pub record IsTally (opening : State) (workers : ℕ) (passes : List Carried) (tally : Tally) (table : Held) : Type 0 where
@@ -25,7 +36,7 @@ pub record IsTally (opening : State) (workers : ℕ) (passes : List Carried) (ta
   pub numbered : IsNumbered history
   pub calls : (w : ℕ) → w < workers → HasCalls history passes w
   pub entries : tally.entries ≡ length history
-  pub changes : tally.changes ≡ changes_of history
+  pub changes : tally.changes ≡ password_changes history
 
 -- a pass is missing, or has other receipts than its worker's calls in the history stored
 pub record IsMismatch (opening : State) (workers : ℕ) (passes : List Carried) : Type 0 where

@@ -1,17 +1,16 @@
 //! The close of a service's desk.
 ghost use Rattle.std.specs.Prelude.{◌≡◌, ◌<◌, ◌-◌, ◌^◌, IfOk, IfErr, false};
 ghost use Rattle.chpw_fronts.specs.Pens.{opening_state};
-ghost use Rattle.chpw_book.specs.Receipts.{changes_of};
-ghost use Rattle.chpw_service.specs.Tallies.{IsTally, IsMismatch};
+ghost use Rattle.chpw_service.specs.Tallies.{IsTally, IsMismatch, changes_a_password, password_changes};
 ghost use Rattle.chpw_service.specs.declared.fault.ServeFault.TheVariants.{CannotClose};
 
 use crate::fault::ServeFault;
 use chpw_book::{CloseRefused, Closed, Desk, DeskName, Pass};
-use chpw_table::{Entry, JournalSink, Table};
+use chpw_table::{Entry, Event, JournalSink, Table, Verdict};
 use std::fmt;
 use std::sync::Wait;
 
-/// What a service did: its entries, and how many of them are changes; displayed as the line that tells it.
+/// What a service did: its entries, and how many of them are changes of passwords; displayed as the line that tells it.
 #[derive(Clone, Copy, Drop)]
 pub(crate) struct Tally {
     pub entries: usize,
@@ -77,15 +76,24 @@ pub(crate) fn close_desk<'a, D: DeskName, S: JournalSink + Drop, R: Wait>(
     }
 }
 
-// How many of the entries are changes.
+// How many of the entries are changes of passwords.
 fn changes(history: &[Entry]) -> usize
-    ensures value { result ≡ changes_of history.now }
+    ensures value { result ≡ password_changes history.now }
 {
     let mut count = 0;
     for entry in history {
-        if entry.event.is_accepted() {
+        if is_password_change(&entry.event) {
             count += 1;
         }
     }
     count
+}
+
+fn is_password_change(event: &Event) -> bool
+    ensures value { result ≡ changes_a_password event.now }
+{
+    match event {
+        Event::Ask { verdict, .. } => *verdict == Verdict::Done,
+        Event::Raise { .. } => false,
+    }
 }
