@@ -10,7 +10,7 @@ use chpw_client::Sent;
 use chpw_decider::Decider;
 use chpw_journal::MemorySink;
 use chpw_messages::Service;
-use chpw_table::{Entry, Moment};
+use chpw_table::{Entry, Lookup, Moment};
 use std::alloc::Global;
 use std::marker::Brand;
 use std::process::Abort;
@@ -65,6 +65,33 @@ pub fn answered_at<P: Decider, G: Gate, R: Abort>(
     told(rt, alloc, sent, &reply)
 }
 
+/// A desk with a journal in memory, and its passes.
+pub fn started<D: DeskName, R: Wait>(
+    rt: &R,
+    alloc: Global,
+    unnamed: UnnamedDesk,
+) -> Result<(Desk<D, MemorySink>, Vec<Pass<D>>), Fail>
+    requires name { IsNamed unnamed D.name D.parts D.book D.root D.workers }
+{
+    let sink = MemorySink::new(alloc, ROOM)?;
+    Ok(Desk::<D, MemorySink>::start(rt, alloc, unnamed, sink)?)
+}
+
+/// The same, where the journal fails at an append behind so many of its bytes.
+pub fn started_failing<D: DeskName, R: Wait>(
+    rt: &R,
+    alloc: Global,
+    unnamed: UnnamedDesk,
+    append: u32,
+    taken: usize,
+) -> Result<(Desk<D, MemorySink>, Vec<Pass<D>>), Fail>
+    requires name { IsNamed unnamed D.name D.parts D.book D.root D.workers }
+{
+    let mut sink = MemorySink::new(alloc, ROOM)?;
+    sink.fail_at(append, taken);
+    Ok(Desk::<D, MemorySink>::start(rt, alloc, unnamed, sink)?)
+}
+
 // The history of a desk that can be closed, and its journal.
 pub fn closed<D: DeskName, R: Wait>(
     rt: &R,
@@ -92,10 +119,32 @@ pub fn closed<D: DeskName, R: Wait>(
     }
 }
 
+/// The desk can be closed, with so many entries in its history and bytes in its journal.
+pub fn expect_closed<D: DeskName, R: Wait + Abort>(
+    rt: &R,
+    desk: Desk<D, MemorySink>,
+    passes: Vec<Pass<D>>,
+    entries: usize,
+    bytes: usize,
+) {
+    let (history, journal) = closed(rt, desk, passes).expect(rt, "all agree");
+    expect_kept(rt, &history, &journal, entries, bytes);
+}
+
+fn expect_kept<R: Abort>(
+    rt: &R,
+    history: &[Entry],
+    journal: &MemorySink,
+    entries: usize,
+    bytes: usize,
+) {
+    assert!(rt; history.len() == entries && journal.bytes().len() == bytes);
+}
+
 #[test]
 fn one_message_of_two_workers(rt: HostRuntime) -> Result<(), Fail> {
-    let (service, table) = opening(rt.alloc(), 100)?;
-    let sent = request(&rt, rt.alloc(), "alice", NOW, "New-pass2")?;
+    let sent = request(&rt, rt.alloc(), "alice", NOW, "New-pass2");
+    let (service, table) = opening(&rt, rt.alloc(), 100);
     two_at::<Brand, _>(&rt, rt.alloc(), UnnamedDesk::of(table, 2), &service, &sent)
 }
 
@@ -110,8 +159,7 @@ fn two_at<D: DeskName + Send + Sync, R: Threads + Wait + Abort + Sync>(
     requires name { IsNamed unnamed D.name D.parts D.book D.root D.workers }
     requires workers { workers_of unnamed ≡ 2 }
 {
-    let sink = MemorySink::new(alloc, ROOM)?;
-    let (desk, mut passes) = Desk::<D, MemorySink>::start(rt, alloc, unnamed, sink)?;
+    let (desk, mut passes) = started::<D, R>(rt, alloc, unnamed)?;
     let mut second = passes.pop().expect(rt, "a pass");
     let mut first = passes.pop().expect(rt, "a pass");
     let barrier = Barrier::new(2);
@@ -133,23 +181,36 @@ fn two_at<D: DeskName + Send + Sync, R: Threads + Wait + Abort + Sync>(
             answered(rt, alloc, service, desk_ref, &mut second, &mut gate, sent)
         },
     );
-    assert!(rt;
-        (a.as_slice() == CHANGED && b.as_slice() == REPLAYED)
-            || (a.as_slice() == REPLAYED && b.as_slice() == CHANGED)
-    );
-    if a.as_slice() == CHANGED {
-        show_both(rt, alloc, &desk, &mut first, &mut second);
-    } else {
-        show_both(rt, alloc, &desk, &mut second, &mut first);
-    }
+    expect_one_change(rt, a.as_slice(), b.as_slice());
+    show_change(rt, alloc, &desk, &mut first, &mut second, a.as_slice());
     passes.push(first).ok().expect(rt, "a place");
     passes.push(second).ok().expect(rt, "a place");
-    let (history, journal) = closed(rt, desk, passes).expect(rt, "all agree");
-    assert!(rt; history.len() == 2 && journal.bytes().len() == 66);
+    expect_closed(rt, desk, passes, 2, 66);
     Ok(())
 }
 
 pub const REPLAYED: &[u8] = b"code 3 error 34 request replayed";
+
+// One is told of a change, and the other of a replay.
+fn expect_one_change<R: Abort>(rt: &R, a: &[u8], b: &[u8]) {
+    assert!(rt; (a == CHANGED && b == REPLAYED) || (a == REPLAYED && b == CHANGED));
+}
+
+// The first worker was told this, and the other one the contrary.
+fn show_change<D: DeskName, R: Abort>(
+    rt: &R,
+    alloc: Global,
+    desk: &Desk<D, MemorySink>,
+    first: &mut Pass<D>,
+    second: &mut Pass<D>,
+    line: &[u8],
+) {
+    if line == CHANGED {
+        show_both(rt, alloc, desk, first, second);
+    } else {
+        show_both(rt, alloc, desk, second, first);
+    }
+}
 
 // The change is shown to the worker that made it, and to the other once that has learnt of it.
 fn show_both<D: DeskName, R: Abort>(
@@ -159,30 +220,33 @@ fn show_both<D: DeskName, R: Abort>(
     changer: &mut Pass<D>,
     other: &mut Pass<D>,
 ) {
-    assert!(rt; shown_of_alice(rt, alloc, desk, changer) == (2, 1));
+    expect_shown(rt, alloc, desk, changer);
     other.learn(changer.front().expect(rt, "a front"));
-    assert!(rt; shown_of_alice(rt, alloc, desk, other) == (2, 1));
+    expect_shown(rt, alloc, desk, other);
     assert!(rt; other.front().is_none());
 }
 
-// Alice's newest version, and how many changes the lookup saw.
-fn shown_of_alice<D: DeskName, R: Abort>(
+// Alice's newest version is 2, and the lookup saw one change.
+fn expect_shown<D: DeskName, R: Abort>(
     rt: &R,
     alloc: Global,
     desk: &Desk<D, MemorySink>,
     pass: &mut Pass<D>,
-) -> (u32, u32) {
+) {
     let alice = name(alloc, "alice").ok().expect(rt, "a name");
     let found = desk.lookup(pass, &alice).ok().expect(rt, "entered");
-    let found = found.expect(rt, "a principal");
-    (found.kvno, found.seen)
+    expect_once_changed(rt, &found.expect(rt, "a principal"));
+}
+
+fn expect_once_changed<R: Abort>(rt: &R, shown: &Lookup) {
+    assert!(rt; shown.kvno == 2 && shown.seen == 1);
 }
 
 #[test]
 fn failed_append(rt: HostRuntime) -> Result<(), Fail> {
-    let (service, table) = opening(rt.alloc(), 100)?;
-    let first = request(&rt, rt.alloc(), "alice", NOW, "New-pass2")?;
-    let second = request(&rt, rt.alloc(), "bob", NOW, "New-pass3")?;
+    let first = request(&rt, rt.alloc(), "alice", NOW, "New-pass2");
+    let second = request(&rt, rt.alloc(), "bob", NOW, "New-pass3");
+    let (service, table) = opening(&rt, rt.alloc(), 100);
     break_second::<Brand, _>(
         &rt,
         rt.alloc(),
@@ -202,26 +266,37 @@ fn break_second<D: DeskName, R: Wait + Abort>(
 ) -> Result<(), Fail>
     requires name { IsNamed unnamed D.name D.parts D.book D.root D.workers }
 {
-    let mut sink = MemorySink::new(alloc, ROOM)?;
-    sink.fail_at(2, 0);
-    let (desk, mut passes) = Desk::<D, MemorySink>::start(rt, alloc, unnamed, sink)?;
+    let (desk, mut passes) = started_failing::<D, R>(rt, alloc, unnamed, 2, 0)?;
     let mut pass = passes.pop().expect(rt, "a pass");
     let [first, second] = requests;
-    let one = answered(rt, alloc, service, &desk, &mut pass, &mut NoGate, first);
-    assert!(rt; one.as_slice() == CHANGED && shown_of_alice(rt, alloc, &desk, &mut pass) == (2, 1));
-    let two = answered(rt, alloc, service, &desk, &mut pass, &mut NoGate, second);
-    assert!(rt; two.as_slice() == BROKEN && shown_of_alice(rt, alloc, &desk, &mut pass) == (2, 1));
+    expect_answer(rt, alloc, service, &desk, &mut pass, first, CHANGED);
+    expect_shown(rt, alloc, &desk, &mut pass);
+    expect_answer(rt, alloc, service, &desk, &mut pass, second, BROKEN);
+    expect_shown(rt, alloc, &desk, &mut pass);
     passes.push(pass).ok().expect(rt, "a place");
-    let (history, journal) = closed(rt, desk, passes).expect(rt, "all agree");
-    assert!(rt; history.len() == 2 && journal.bytes().len() == 66);
+    expect_closed(rt, desk, passes, 2, 66);
     Ok(())
+}
+
+/// A worker's answer to a client's request says so.
+pub fn expect_answer<D: DeskName, R: Wait + Abort>(
+    rt: &R,
+    alloc: Global,
+    service: &Service,
+    desk: &Desk<D, MemorySink>,
+    pass: &mut Pass<D>,
+    sent: &Sent,
+    line: &[u8],
+) {
+    let told = answered(rt, alloc, service, desk, pass, &mut NoGate, sent);
+    assert!(rt; told.as_slice() == line);
 }
 
 #[test]
 fn full_history(rt: HostRuntime) -> Result<(), Fail> {
-    let (service, table) = opening(rt.alloc(), 1)?;
-    let first = request(&rt, rt.alloc(), "alice", NOW, "New-pass2")?;
-    let second = request(&rt, rt.alloc(), "alice", NOW, "New-pass3")?;
+    let first = request(&rt, rt.alloc(), "alice", NOW, "New-pass2");
+    let second = request(&rt, rt.alloc(), "alice", NOW, "New-pass3");
+    let (service, table) = opening(&rt, rt.alloc(), 1);
     fill::<Brand, _>(
         &rt,
         rt.alloc(),
@@ -242,18 +317,21 @@ fn fill<D: DeskName, R: Wait + Abort>(
     requires name { IsNamed unnamed D.name D.parts D.book D.root D.workers }
     requires workers { workers_of unnamed ≡ 1 }
 {
-    let sink = MemorySink::new(alloc, ROOM)?;
-    let (desk, mut passes) = Desk::<D, MemorySink>::start(rt, alloc, unnamed, sink)?;
+    let (desk, mut passes) = started::<D, R>(rt, alloc, unnamed)?;
     let mut pass = passes.pop().expect(rt, "a pass");
     let [first, second] = requests;
-    let one = answered(rt, alloc, service, &desk, &mut pass, &mut NoGate, first);
-    assert!(rt; one.as_slice() == CHANGED && !pass.was_full());
-    let two = answered(rt, alloc, service, &desk, &mut pass, &mut NoGate, second);
-    assert!(rt; two.as_slice() == FULL && pass.was_full());
+    expect_answer(rt, alloc, service, &desk, &mut pass, first, CHANGED);
+    expect_room(rt, &pass, true);
+    expect_answer(rt, alloc, service, &desk, &mut pass, second, FULL);
+    expect_room(rt, &pass, false);
     passes.push(pass).ok().expect(rt, "a place");
-    let (history, _journal) = closed(rt, desk, passes).expect(rt, "all agree");
-    assert!(rt; history.len() == 1);
+    expect_closed(rt, desk, passes, 1, 66);
     Ok(())
+}
+
+// Whether the history had room for the last decision.
+fn expect_room<D: DeskName, R: Abort>(rt: &R, pass: &Pass<D>, had_room: bool) {
+    assert!(rt; pass.was_full() != had_room);
 }
 
 const FULL: &[u8] = b"code 2 error 60 history full";

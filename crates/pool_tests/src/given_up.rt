@@ -3,14 +3,14 @@
 ghost use Rattle.std.specs.Prelude.{◌≡◌};
 ghost use Rattle.chpw_book.specs.Starting.{IsNamed, workers_of};
 
+use crate::answers::started;
 use crate::crowds::{is_ended, longest_message};
 use crate::gates::UntilTold;
 use crate::realm::{CHANGED, opening};
-use crate::site::{Machine, connect, expect_line, requests, send};
-use chpw_book::{Desk, DeskName, UnnamedDesk};
+use crate::site::{Machine, both_requests, connect, expect_line, send};
+use chpw_book::{DeskName, UnnamedDesk};
 use chpw_client::Sent;
 use chpw_frame::{Received, read_tcp};
-use chpw_journal::MemorySink;
 use chpw_messages::Service;
 use chpw_pool::{Pool, run_pool_with};
 use std::alloc::Global;
@@ -20,8 +20,6 @@ use std::sync::Mutex;
 use std::test::Fail;
 use std::thread::{self, join};
 use std::time::Duration;
-
-const ROOM: usize = 1000;
 
 /// Those of alice and bob, and 300 others.
 const CONNECTIONS: u32 = 303;
@@ -53,7 +51,7 @@ fn given_up<R: Machine>(
     patience: u64,
     are_sending: bool,
 ) -> Result<(), Fail> {
-    let (service, table) = opening(alloc, 100)?;
+    let (service, table) = opening(rt, alloc, 100);
     let unnamed = UnnamedDesk::of(table, 1);
     let pool = held_pool::<Brand, R>(
         rt,
@@ -82,17 +80,18 @@ fn held_pool<D: DeskName + Send + Sync, R: Machine>(
     requires name { IsNamed unnamed D.name D.parts D.book D.root D.workers }
     requires workers { workers_of unnamed ≡ 1 }
 {
-    let port = listener.local_addr()?.port();
-    let (alice, bob) = requests(rt, alloc)?;
+    let (desk, mut passes) = started::<D, R>(rt, alloc, unnamed)?;
+    let address = listener.local_addr().ok().expect(rt, "an address");
+    let port = address.port();
+    let (alice, bob) = both_requests(rt, alloc);
     let is_told = Mutex::new(false);
     let gates = vec![in alloc;
         UntilTold {
             rt,
             is_told: &is_told
         },
-    ]?;
-    let sink = MemorySink::new(alloc, ROOM)?;
-    let (desk, mut passes) = Desk::<D, MemorySink>::start(rt, alloc, unnamed, sink)?;
+    ];
+    let gates = gates.ok().expect(rt, "memory");
     let (shared, told) = (&desk, &is_told);
     let (pool, ()) = join(
         rt,

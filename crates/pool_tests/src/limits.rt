@@ -1,6 +1,8 @@
 //! Listeners that fail, clients who keep silent, and a connection that the service ends.
 use crate::realm::CHANGED;
-use crate::site::{Clients, Site, connect, expect_line, requests, run, send, serve_all, terms};
+use crate::site::{
+    Clients, Site, both_requests, connect, expect_line, run, send, serve_all, serve_here, terms,
+};
 use chpw_client::Sent;
 use chpw_frame::{Received, read_tcp};
 use chpw_pool::{PoolFault, Terms};
@@ -62,7 +64,7 @@ impl<R: Net<Stream = TcpStream> + Abort> Clients<R> for InTurn {
 // EINTR, ENOMEM, ENFILE, EMFILE, ECONNABORTED and ENOBUFS pass.
 #[test]
 fn accepts_that_fail_for_a_moment(rt: HostRuntime) -> Result<(), Fail> {
-    let (one, two) = requests(&rt, rt.alloc())?;
+    let (one, two) = both_requests(&rt, rt.alloc());
     let listener = TcpListener::bind(&rt, ("127.0.0.1", 0u16))?;
     let port = listener.local_addr()?.port();
     let failing = Failing {
@@ -148,20 +150,13 @@ impl<R: Net<Stream = TcpStream> + Abort> Clients<R> for Behind {
 
 #[test]
 fn a_silent_connection_is_ended(rt: HostRuntime) -> Result<(), Fail> {
-    let (sent, _) = requests(&rt, rt.alloc())?;
     let listener = TcpListener::bind(&rt, ("127.0.0.1", 0u16))?;
-    let port = listener.local_addr()?.port();
-    let site = Site {
-        time: &rt,
-        listener: &listener,
-        port,
-        workers: 1,
-        terms: Terms {
-            idle: 1,
-            ..terms(2)
-        },
+    let (sent, _) = both_requests(&rt, rt.alloc());
+    let terms = Terms {
+        idle: 1,
+        ..terms(2)
     };
-    serve_all(&rt, rt.alloc(), &site, &Behind { sent })
+    serve_here(&rt, rt.alloc(), &listener, 1, terms, &Behind { sent })
 }
 
 // A message that is too long is sent whole, and then its reply is read.
@@ -184,13 +179,5 @@ impl<R: Net<Stream = TcpStream> + Abort> Clients<R> for TooLong {
 #[test]
 fn a_reply_arrives_before_the_end(rt: HostRuntime) -> Result<(), Fail> {
     let listener = TcpListener::bind(&rt, ("127.0.0.1", 0u16))?;
-    let port = listener.local_addr()?.port();
-    let site = Site {
-        time: &rt,
-        listener: &listener,
-        port,
-        workers: 1,
-        terms: terms(1),
-    };
-    serve_all(&rt, rt.alloc(), &site, &TooLong)
+    serve_here(&rt, rt.alloc(), &listener, 1, terms(1), &TooLong)
 }

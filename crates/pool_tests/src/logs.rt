@@ -1,16 +1,17 @@
 //! The log of a service: how it is gone on with, which files it can't be, and how many lines a flood has.
 
 use crate::realm::{CHANGED, SetClock, request};
-use crate::services::{SETTINGS, START, ask_in_turn, connect_soon, moment};
+use crate::services::{
+    Paths, SETTINGS, START, ask_in_turn, connect_soon, moment, options, prepare,
+};
 use crate::site::{reply, send};
 use chpw_client::Sent;
-use chpw_invocation::ServeOptions;
 use chpw_service::{ServeFault, serve_by};
-use std::alloc::Global;
+use std::alloc::{AllocError, Global};
 use std::fs::{self, File, Files};
 use std::io;
 use std::net::{Net, TcpListener, TcpStream};
-use std::os::fd::AsRawFd;
+use std::os::fd::{AsRawFd, RawFd};
 use std::os::unix::fs::symlink;
 use std::process::Abort;
 use std::sync::Wait;
@@ -22,75 +23,42 @@ use std::time::Clock;
 const LINE: &str =
     " client alice@EXAMPLE.COM target alice@EXAMPLE.COM code 0 error - kvno 2 text password changed\n";
 
-// The files of a test, without a journal and a log; and a port where nobody listens.
-fn prepare(rt: &HostRuntime, files: &Site<'_>) -> Result<u16, Fail> {
-    let config = format!(in rt.alloc(); "[service]\n{SETTINGS}")?;
-    fs::write(rt, files.config, config.as_bytes())?;
-    fs::write(rt, files.seed, [1; 32].as_slice())?;
-    let _ = fs::remove_file(rt, files.journal);
-    let _ = fs::remove_file(rt, files.log);
-    let listener = TcpListener::bind(rt, ("127.0.0.1", 0u16))?;
-    Ok(listener.local_addr()?.port())
-}
-
-/// Where the files of a service are.
-#[derive(Clone, Copy, Drop)]
-struct Site<'a> {
-    config: &'a str,
-    seed: &'a str,
-    journal: &'a str,
-    log: &'a str,
-}
-
-// A service of one worker for one connection.
-fn options<'a>(files: Site<'a>, port: u16) -> ServeOptions<'a> {
-    ServeOptions {
-        config: files.config,
-        journal: files.journal,
-        seed: files.seed,
-        port,
-        workers: 1,
-        connections: 1,
-        idle: 10,
-        clients: 1024,
-        buffers: 32,
-        raise: None,
-        log: Some(files.log),
-    }
-}
-
 // A line of a former run that isn't whole is ended, a whole one and an empty file are not.
+const FORMER: [(&str, &str); 4] = [
+    ("", ""),
+    ("whole\n", "whole\n"),
+    ("to", "to\n"),
+    ("\n", "\n"),
+];
+
 #[test]
 fn a_log_that_is_gone_on_with(rt: HostRuntime) -> Result<(), Fail> {
-    let files = Site {
+    let paths = Paths {
         config: "gone_on.toml",
         seed: "gone_on.seed",
         journal: "gone_on.journal",
-        log: "gone_on.log",
+        log: Some("gone_on.log"),
     };
-    let alloc = rt.alloc();
-    let sent = request(&rt, alloc, "alice", moment(START), "New-pass2")?;
-    for (former, begins) in [
-        ("", ""),
-        ("whole\n", "whole\n"),
-        ("to", "to\n"),
-        ("\n", "\n"),
-    ] {
-        let port = prepare(&rt, &files)?;
-        fs::write(&rt, files.log, former.as_bytes())?;
+    let sent = request(&rt, rt.alloc(), "alice", moment(START), "New-pass2");
+    for (former, begins) in FORMER {
+        let port = prepare(&rt, paths, "")?;
+        fs::write(&rt, "gone_on.log", former.as_bytes())?;
         let clock = SetClock::new(START);
         let (served, ()) = join(
             &rt,
-            || serve_by(&rt, &clock, options(files, port)).is_ok(),
-            || ask_in_turn(&rt, alloc, &clock, port, &[(START, &sent, CHANGED)]),
+            || serve_by(&rt, &clock, options(paths, port, 1, 1)).is_ok(),
+            || ask_in_turn(&rt, rt.alloc(), &clock, port, &[(START, &sent, CHANGED)]),
         );
         assert!(rt; served);
-        let log = fs::read_to_string(&rt, files.log)?;
-        let line = log.as_str().strip_prefix(begins).unwrap_or("");
-        assert!(rt; line.starts_with("1970-01-12T13:48:20.000000Z worker 0 peer 127.0.0.1"));
-        assert!(rt; line.ends_with(LINE) && line.lines().count() == 1);
+        let log = fs::read_to_string(&rt, "gone_on.log")?;
+        expect_line(&rt, log.as_str().strip_prefix(begins).unwrap_or(""));
     }
     Ok(())
+}
+
+fn expect_line<R: Abort>(rt: &R, line: &str) {
+    assert!(rt; line.starts_with("1970-01-12T13:48:20.000000Z worker 0 peer 127.0.0.1"));
+    assert!(rt; line.ends_with(LINE) && line.lines().count() == 1);
 }
 
 // The file that the service can't write, if that is why it ended.
@@ -105,75 +73,46 @@ fn unwritten<
         + Eprint
         + AllocGlobal
         + Sync,
->(rt: &R, files: Site<'a>) -> &'a str {
+>(rt: &R, paths: Paths<'a>) -> &'a str {
     let clock = SetClock::new(START);
-    match serve_by(rt, &clock, options(files, 1)) {
+    match serve_by(rt, &clock, options(paths, 1, 1, 1)) {
         Err(ServeFault::CannotWrite(path)) => path,
         _ => "another end",
     }
 }
 
-// A log that is another file of the start under any name, and a journal that is one, are refused, and none of the
-// files is written to.
-#[test]
-fn one_file_twice(rt: HostRuntime) -> Result<(), Fail> {
-    let files = Site {
+fn twice<'a>(journal: &'a str, log: &'a str) -> Paths<'a> {
+    Paths {
         config: "twice.toml",
         seed: "twice.seed",
-        journal: "twice.journal",
-        log: "twice.log",
-    };
-    prepare(&rt, &files)?;
+        journal,
+        log: Some(log),
+    }
+}
+
+// The files under other names; the last leads to the journal, which isn't there.
+fn link_files(rt: &HostRuntime) -> Result<(), Fail> {
     for path in ["twice.hard", "twice.soft", "twice.dangling"] {
-        let _ = fs::remove_file(&rt, path);
+        let _ = fs::remove_file(rt, path);
     }
-    fs::hard_link(&rt, files.config, "twice.hard")?;
-    symlink(&rt, "twice.seed", "twice.soft")?;
-    symlink(&rt, "twice.journal", "twice.dangling")?;
-    for log in [
-        "twice.toml",
-        "./twice.toml",
-        "twice.hard",
-        "twice.seed",
-        "twice.soft",
-        "twice.journal",
-        ".//twice.journal",
-    ] {
-        assert_eq!(rt; unwritten(&rt, Site { log, ..files }), log);
-    }
-    for journal in ["twice.toml", "./twice.hard", "twice.seed", "twice.soft"] {
-        assert_eq!(rt; unwritten(&rt, Site { journal, ..files }), journal);
-    }
-    for path in [files.journal, files.log] {
-        assert!(rt; fs::metadata(&rt, path).is_err());
-    }
-    // The journal isn't there yet, and would be where the log leads to.
-    let dangling = Site {
-        log: "twice.dangling",
-        ..files
-    };
-    assert_eq!(rt; unwritten(&rt, dangling), "twice.dangling");
-    assert_eq!(rt; fs::read(&rt, files.seed)?.as_slice(), [1; 32].as_slice());
-    assert!(rt;
-        fs::read_to_string(&rt, files.config)?
-            .as_str()
-            .ends_with(SETTINGS)
-    );
+    fs::hard_link(rt, "twice.toml", "twice.hard")?;
+    symlink(rt, "twice.seed", "twice.soft")?;
+    symlink(rt, "twice.journal", "twice.dangling")?;
     Ok(())
 }
 
-// Files with this log.
-fn no_file(log: &str) -> Site<'_> {
-    Site {
-        config: "no_file.toml",
-        seed: "no_file.seed",
-        journal: "no_file.journal",
-        log,
-    }
-}
+// A log that is another file of the start under any name.
+const LOGS: [&str; 7] = [
+    "twice.toml",
+    "./twice.toml",
+    "twice.hard",
+    "twice.seed",
+    "twice.soft",
+    "twice.journal",
+    ".//twice.journal",
+];
 
-// Whether a service ends since it can't write this log.
-fn is_refused<
+fn refuse_logs<
     R: Files<File = File>
         + Net<Listener = TcpListener, Stream = TcpStream>
         + Threads
@@ -182,46 +121,137 @@ fn is_refused<
         + Print
         + Eprint
         + AllocGlobal
+        + Abort
         + Sync,
->(rt: &R, log: &str) -> bool {
-    unwritten(rt, no_file(log)) == log
+>(rt: &R, logs: &[&str]) {
+    for log in logs {
+        assert_eq!(rt; unwritten(rt, twice("twice.journal", log)), *log);
+    }
+}
+
+// A journal that is one.
+const JOURNALS: [&str; 4] = ["twice.toml", "./twice.hard", "twice.seed", "twice.soft"];
+
+fn refuse_journals<
+    R: Files<File = File>
+        + Net<Listener = TcpListener, Stream = TcpStream>
+        + Threads
+        + Wait
+        + Clock
+        + Print
+        + Eprint
+        + AllocGlobal
+        + Abort
+        + Sync,
+>(rt: &R) {
+    for journal in JOURNALS {
+        assert_eq!(rt; unwritten(rt, twice(journal, "twice.log")), journal);
+    }
+}
+
+// They are refused, and none of the files is written to.
+#[test]
+fn one_file_twice(rt: HostRuntime) -> Result<(), Fail> {
+    prepare(&rt, twice("twice.journal", "twice.log"), "")?;
+    link_files(&rt)?;
+    refuse_logs(&rt, &LOGS);
+    refuse_journals(&rt);
+    expect_no_file(&rt, "twice.journal");
+    expect_no_file(&rt, "twice.log");
+    // The journal isn't there yet, and would be where the log leads to.
+    refuse_logs(&rt, &["twice.dangling"]);
+    assert_eq!(rt; fs::read(&rt, "twice.seed")?.as_slice(), [1; 32].as_slice());
+    assert!(rt;
+        fs::read_to_string(&rt, "twice.toml")?
+            .as_str()
+            .ends_with(SETTINGS)
+    );
+    Ok(())
+}
+
+fn expect_no_file<R: Files + Abort>(rt: &R, path: &str) {
+    assert!(rt; fs::metadata(rt, path).is_err());
+}
+
+// Files with this log.
+fn no_file(log: &str) -> Paths<'_> {
+    Paths {
+        config: "no_file.toml",
+        seed: "no_file.seed",
+        journal: "no_file.journal",
+        log: Some(log),
+    }
+}
+
+// A service ends since it can't write this log.
+fn refuse<
+    R: Files<File = File>
+        + Net<Listener = TcpListener, Stream = TcpStream>
+        + Threads
+        + Wait
+        + Clock
+        + Print
+        + Eprint
+        + AllocGlobal
+        + Abort
+        + Sync,
+>(rt: &R, log: &str) {
+    assert_eq!(rt; unwritten(rt, no_file(log)), log);
 }
 
 // A pipe, whose opener would wait, and a folder are no logs.
 #[test]
 fn a_log_that_is_no_file(rt: HostRuntime) -> Result<(), Fail> {
-    let _port = prepare(&rt, &no_file("no_file.log"))?;
+    let _port = prepare(&rt, no_file("no_file.log"), "")?;
     let (reader, writer) = io::pipe(&rt)?;
-    let pipe = format!(in rt.alloc(); "/dev/fd/{}", writer.as_raw_fd())?;
-    assert!(rt; is_refused(&rt, "."));
-    assert!(rt; is_refused(&rt, pipe.as_str()));
-    assert!(rt; fs::metadata(&rt, "no_file.journal").is_err());
+    refuse(&rt, ".");
+    refuse_descriptor(&rt, writer.as_raw_fd());
+    expect_no_file(&rt, "no_file.journal");
     drop(reader);
     Ok(())
+}
+
+fn refuse_descriptor<
+    R: Files<File = File>
+        + Net<Listener = TcpListener, Stream = TcpStream>
+        + Threads
+        + Wait
+        + Clock
+        + Print
+        + Eprint
+        + AllocGlobal
+        + Abort
+        + Sync,
+>(rt: &R, descriptor: RawFd) {
+    let path = format!(in rt.alloc(); "/dev/fd/{descriptor}");
+    refuse(rt, path.ok().expect(rt, "memory").as_str());
 }
 
 // Standard error and /dev/null are.
 #[test]
 fn a_log_on_a_device(rt: HostRuntime) -> Result<(), Fail> {
-    let alloc = rt.alloc();
-    let sent = request(&rt, alloc, "alice", moment(START), "New-pass2")?;
+    let sent = request(&rt, rt.alloc(), "alice", moment(START), "New-pass2");
     for log in ["-", "/dev/null"] {
-        let files = Site {
-            config: "device.toml",
-            seed: "device.seed",
-            journal: "device.journal",
-            log: "device.log",
-        };
-        let port = prepare(&rt, &files)?;
+        let port = prepare(&rt, device("device.log"), "")?;
         let clock = SetClock::new(START);
         let (served, ()) = join(
             &rt,
-            || serve_by(&rt, &clock, options(Site { log, ..files }, port)).is_ok(),
-            || ask_in_turn(&rt, alloc, &clock, port, &[(START, &sent, CHANGED)]),
+            || serve_by(&rt, &clock, options(device(log), port, 1, 1)).is_ok(),
+            || ask_in_turn(&rt, rt.alloc(), &clock, port, &[(START, &sent, CHANGED)]),
         );
         assert!(rt; served && fs::metadata(&rt, "-").is_err());
     }
     Ok(())
+}
+
+// Files with this log.
+fn device(log: &str) -> Paths<'_> {
+    Paths {
+        config: "device.toml",
+        seed: "device.seed",
+        journal: "device.journal",
+        log: Some(log),
+    }
 }
 
 // Sends so many messages that don't open, and reads their answers.
@@ -253,35 +283,46 @@ fn flood_in_turn<R: Net<Stream = TcpStream> + Clock + Abort>(
     flood(rt, alloc, &stream, 15);
 }
 
+// The texts of the log, m for malformed.
+const TEXTS: &str = "\
+    m\nm\nm\nm\nm\nm\nm\nm\nm\nm\npassword changed\n\
+    20 more did not open: 20 from 127.0.0.0/8, 0 from elsewhere\nm\nm\nm\n\
+    m\nm\nm\nm\nm\nm\nm\nm\nm\nm\n\
+    5 more did not open: 5 from 127.0.0.0/8, 0 from elsewhere\n";
+
 #[test]
 fn a_flood_of_what_does_not_open(rt: HostRuntime) -> Result<(), Fail> {
-    let files = Site {
+    let paths = Paths {
         config: "flood.toml",
         seed: "flood.seed",
         journal: "flood.journal",
-        log: "flood.log",
+        log: Some("flood.log"),
     };
-    let port = prepare(&rt, &files)?;
-    let alloc = rt.alloc();
-    let sent = request(&rt, alloc, "alice", moment(START), "New-pass2")?;
+    let port = prepare(&rt, paths, "")?;
+    let sent = request(&rt, rt.alloc(), "alice", moment(START), "New-pass2");
     let clock = SetClock::new(START);
     let (served, ()) = join(
         &rt,
-        || serve_by(&rt, &clock, options(files, port)).is_ok(),
-        || flood_in_turn(&rt, alloc, &clock, port, &sent),
+        || serve_by(&rt, &clock, options(paths, port, 1, 1)).is_ok(),
+        || flood_in_turn(&rt, rt.alloc(), &clock, port, &sent),
     );
     assert!(rt; served);
-    let log = fs::read_to_string(&rt, files.log)?;
-    let mut told = String::new(alloc);
-    for line in log.as_str().lines() {
-        let (_, text) = line.split_once(" text ").unwrap_or(("", "no text"));
-        told.push_str(if text == "malformed" { "m" } else { text })?;
-        told.push_str("\n")?;
-    }
-    let ten = "m\nm\nm\nm\nm\nm\nm\nm\nm\nm\n";
-    let wanted = format!(in alloc;
-        "{ten}password changed\n20 more did not open: 20 from 127.0.0.0/8, 0 from elsewhere\nm\nm\nm\n{ten}5 more did not open: 5 from 127.0.0.0/8, 0 from elsewhere\n"
-    )?;
-    assert_eq!(rt; told.as_str(), wanted.as_str());
+    expect_texts(&rt, rt.alloc());
     Ok(())
+}
+
+fn expect_texts<R: Files + AllocGlobal + Abort>(rt: &R, alloc: Global) {
+    let log = fs::read_to_string(rt, "flood.log").ok().expect(rt, "a log");
+    let texts = texts_of(alloc, log.as_str()).ok().expect(rt, "memory");
+    assert_eq!(rt; texts.as_str(), TEXTS);
+}
+
+fn texts_of(alloc: Global, log: &str) -> Result<String, AllocError> {
+    let mut texts = String::new(alloc);
+    for line in log.lines() {
+        let (_, text) = line.split_once(" text ").unwrap_or(("", "no text"));
+        texts.push_str(if text == "malformed" { "m" } else { text })?;
+        texts.push_str("\n")?;
+    }
+    Ok(texts)
 }

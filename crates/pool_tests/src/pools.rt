@@ -2,15 +2,15 @@
 ghost use Rattle.std.specs.Prelude.{◌≡◌};
 ghost use Rattle.chpw_book.specs.Starting.{IsNamed, workers_of};
 
+use crate::answers::started;
 use crate::gates::SecondFirst;
 use crate::realm::{CHANGED, opening};
 use crate::site::{
-    Clients, Machine, Site, connect, expect_line, reply, requests, send, serve_all, terms,
+    Clients, Machine, both_requests, connect, expect_line, reply, send, serve_here, terms,
 };
-use chpw_book::{Desk, DeskName, UnnamedDesk};
+use chpw_book::{DeskName, UnnamedDesk};
 use chpw_client::Sent;
 use chpw_frame::split_reply;
-use chpw_journal::MemorySink;
 use chpw_messages::Service;
 use chpw_pool::{Pool, run_pool_with};
 use std::alloc::Global;
@@ -42,17 +42,9 @@ impl<R: Net<Stream = TcpStream> + Abort> Clients<R> for Both {
 
 #[test]
 fn two_connections(rt: HostRuntime) -> Result<(), Fail> {
-    let (one, two) = requests(&rt, rt.alloc())?;
     let listener = TcpListener::bind(&rt, ("127.0.0.1", 0u16))?;
-    let port = listener.local_addr()?.port();
-    let site = Site {
-        time: &rt,
-        listener: &listener,
-        port,
-        workers: 2,
-        terms: terms(2),
-    };
-    serve_all(&rt, rt.alloc(), &site, &Both { one, two })
+    let (one, two) = both_requests(&rt, rt.alloc());
+    serve_here(&rt, rt.alloc(), &listener, 2, terms(2), &Both { one, two })
 }
 
 // A connection that ends in the middle of a message, while others go on.
@@ -73,20 +65,12 @@ impl<R: Net<Stream = TcpStream> + Abort> Clients<R> for AfterOneCutOff {
 
 #[test]
 fn a_connection_cut_off(rt: HostRuntime) -> Result<(), Fail> {
-    let (one, two) = requests(&rt, rt.alloc())?;
     let listener = TcpListener::bind(&rt, ("127.0.0.1", 0u16))?;
-    let port = listener.local_addr()?.port();
-    let site = Site {
-        time: &rt,
-        listener: &listener,
-        port,
-        workers: 2,
-        terms: terms(3),
-    };
+    let (one, two) = both_requests(&rt, rt.alloc());
     let clients = AfterOneCutOff {
         others: Both { one, two },
     };
-    serve_all(&rt, rt.alloc(), &site, &clients)
+    serve_here(&rt, rt.alloc(), &listener, 2, terms(3), &clients)
 }
 
 // The second connects when the first has its reply. The replies are sealed under the same keys, and have
@@ -106,33 +90,36 @@ impl<R: Net<Stream = TcpStream> + Abort> Clients<R> for OneByOne {
         let second = connect(rt, port);
         send(rt, &second, self.two.message.as_slice());
         let two = reply(rt, alloc, &second);
-        let one = split_reply(&one).ok().expect(rt, "a reply");
-        let two = split_reply(&two).ok().expect(rt, "a reply");
-        assert!(rt; !one.ap.is_empty() && one.ap.len() == two.ap.len());
-        assert!(rt; one.ap != two.ap && one.tail != two.tail);
+        expect_other_words(rt, &one, &two);
     }
+}
+
+fn expect_other_words<R: Abort>(rt: &R, one: &[u8], two: &[u8]) {
+    let one = split_reply(one).ok().expect(rt, "a reply");
+    let two = split_reply(two).ok().expect(rt, "a reply");
+    assert!(rt; !one.ap.is_empty() && one.ap.len() == two.ap.len());
+    assert!(rt; one.ap != two.ap && one.tail != two.tail);
 }
 
 #[test]
 fn one_worker_draws_no_word_twice(rt: HostRuntime) -> Result<(), Fail> {
-    let (one, two) = requests(&rt, rt.alloc())?;
     let listener = TcpListener::bind(&rt, ("127.0.0.1", 0u16))?;
-    let port = listener.local_addr()?.port();
-    let site = Site {
-        time: &rt,
-        listener: &listener,
-        port,
-        workers: 1,
-        terms: terms(2),
-    };
-    serve_all(&rt, rt.alloc(), &site, &OneByOne { one, two })
+    let (one, two) = both_requests(&rt, rt.alloc());
+    serve_here(
+        &rt,
+        rt.alloc(),
+        &listener,
+        1,
+        terms(2),
+        &OneByOne { one, two },
+    )
 }
 
 #[test]
 fn the_second_answered_first(rt: HostRuntime) -> Result<(), Fail> {
-    let (service, table) = opening(rt.alloc(), 100)?;
     let listener = TcpListener::bind(&rt, ("127.0.0.1", 0u16))?;
     let port = listener.local_addr()?.port();
+    let (service, table) = opening(&rt, rt.alloc(), 100);
     let pool = gated_pool::<Brand, _>(
         &rt,
         rt.alloc(),
@@ -144,8 +131,6 @@ fn the_second_answered_first(rt: HostRuntime) -> Result<(), Fail> {
     assert!(rt; pool.served == 2 && pool.fault.is_none());
     Ok(())
 }
-
-const ROOM: usize = 1000;
 
 // The worker of alice's connection decides only after bob has his reply.
 fn gated_pool<D: DeskName + Send + Sync, R: Machine>(
@@ -159,12 +144,12 @@ fn gated_pool<D: DeskName + Send + Sync, R: Machine>(
     requires name { IsNamed unnamed D.name D.parts D.book D.root D.workers }
     requires workers { workers_of unnamed ≡ 2 }
 {
-    let (one, two) = requests(rt, alloc)?;
+    let (desk, mut passes) = started::<D, R>(rt, alloc, unnamed)?;
+    let (one, two) = both_requests(rt, alloc);
     let clients = Both { one, two };
     let answered = Mutex::new(false);
-    let gates = vec![in alloc; gate(rt, true, &answered), gate(rt, false, &answered)]?;
-    let sink = MemorySink::new(alloc, ROOM)?;
-    let (desk, mut passes) = Desk::<D, MemorySink>::start(rt, alloc, unnamed, sink)?;
+    let gates = vec![in alloc; gate(rt, true, &answered), gate(rt, false, &answered)];
+    let gates = gates.ok().expect(rt, "memory");
     let shared = &desk;
     let (pool, ()) = join(
         rt,

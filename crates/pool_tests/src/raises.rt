@@ -2,13 +2,16 @@
 ghost use Rattle.std.specs.Prelude.{◌≡◌};
 ghost use Rattle.chpw_book.specs.Starting.{IsNamed, workers_of};
 
-use crate::answers::{BROKEN, NOW, ROOM, answered, answered_at, closed};
+use crate::answers::{
+    BROKEN, NOW, answered, answered_at, closed, expect_answer, expect_closed, started,
+    started_failing,
+};
 use crate::overtaken::Overtaken;
 use crate::realm::{CHANGED, opening, request};
 use chpw_answer::{Gate, NoGate, Spot};
 use chpw_book::{AtDesk, Desk, DeskName, Pass, UnnamedDesk};
 use chpw_client::Sent;
-use chpw_journal::{MemorySink, restore};
+use chpw_journal::{MemorySink, Restored, restore};
 use chpw_messages::Service;
 use chpw_table::{Entry, Event, Lookup, RaiseVerdict, Verdict};
 use std::alloc::Global;
@@ -43,8 +46,8 @@ impl<D: DeskName, R: Wait + Abort> Gate for Raises<'_, D, R> {
 
 #[test]
 fn a_raise_while_a_message_waits(rt: HostRuntime) -> Result<(), Fail> {
-    let (service, table) = opening(rt.alloc(), 100)?;
-    let sent = request(&rt, rt.alloc(), "alice", NOW, "New-pass2")?;
+    let sent = request(&rt, rt.alloc(), "alice", NOW, "New-pass2");
+    let (service, table) = opening(&rt, rt.alloc(), 100);
     raised_at::<Brand, _>(&rt, rt.alloc(), UnnamedDesk::of(table, 2), &service, &sent)
 }
 
@@ -60,25 +63,54 @@ fn raised_at<D: DeskName, R: Wait + Abort>(
     requires name { IsNamed unnamed D.name D.parts D.book D.root D.workers }
     requires workers { workers_of unnamed ≡ 2 }
 {
-    let sink = MemorySink::new(alloc, ROOM)?;
-    let (desk, mut passes) = Desk::<D, MemorySink>::start(rt, alloc, unnamed, sink)?;
+    let (desk, mut passes) = started::<D, R>(rt, alloc, unnamed)?;
     let mut second = passes.pop().expect(rt, "a pass");
     let mut first = passes.pop().expect(rt, "a pass");
-    let mut gate = Raises {
-        rt,
-        desk: &desk,
-        pass: &mut second,
-    };
-    let said = answered(rt, alloc, service, &desk, &mut first, &mut gate, sent);
-    assert!(rt; said.as_slice() == CHANGED);
+    change_raised(rt, alloc, service, &desk, &mut first, &mut second, sent);
     let shown = shown_of_alice(rt, alloc, &desk, &mut first);
-    assert!(rt; shown.kvno == 2 && shown.policy == HIGHER && shown.seen == 2);
-    assert!(rt; shown.held.as_slice() == [HIGHER, 4].as_slice());
+    expect_changed(rt, &shown, HIGHER, 2);
     passes.push(first).ok().expect(rt, "a place");
     passes.push(second).ok().expect(rt, "a place");
     let (history, journal) = closed(rt, desk, passes).expect(rt, "all agree");
-    assert!(rt; has_both(history.as_slice()));
-    restored(rt, alloc, journal.bytes())
+    expect_both(rt, alloc, &history, &journal);
+    Ok(())
+}
+
+// The first worker's message waits while the second raises the count.
+fn change_raised<D: DeskName, R: Wait + Abort>(
+    rt: &R,
+    alloc: Global,
+    service: &Service,
+    desk: &Desk<D, MemorySink>,
+    first: &mut Pass<D>,
+    second: &mut Pass<D>,
+    sent: &Sent,
+) {
+    let mut gate = Raises {
+        rt,
+        desk,
+        pass: second,
+    };
+    let said = answered(rt, alloc, service, desk, first, &mut gate, sent);
+    assert!(rt; said.as_slice() == CHANGED);
+}
+
+// Alice's password was changed under this count, and the lookup saw so many events.
+fn expect_changed<R: Abort>(rt: &R, shown: &Lookup, count: u32, seen: u32) {
+    assert!(rt; shown.kvno == 2 && shown.policy == count && shown.seen == seen);
+    assert!(rt; shown.held.as_slice() == [count, 4].as_slice());
+}
+
+// All is as it was at the start.
+fn expect_unchanged<R: Abort>(rt: &R, shown: &Lookup) {
+    assert!(rt; shown.policy == 4 && shown.kvno == 1 && shown.seen == 0);
+}
+
+fn expect_both<R: Abort>(rt: &R, alloc: Global, history: &[Entry], journal: &MemorySink) {
+    assert!(rt; has_both(history));
+    let restored = restored(rt, alloc, journal.bytes());
+    expect_restored(rt, &restored, 2, 73, false);
+    assert!(rt; restored.table.count() == HIGHER);
 }
 
 // The raise, and then the change.
@@ -103,14 +135,16 @@ fn has_both(history: &[Entry]) -> bool {
     }
 }
 
-// The journal of both restores a table with the raised count.
-fn restored<R: Abort>(rt: &R, alloc: Global, journal: &[u8]) -> Result<(), Fail> {
-    let (_, table) = opening(alloc, 100)?;
-    let mut rest = journal;
-    let restored = restore(alloc, table, &mut rest).ok().expect(rt, "a table");
-    assert!(rt; restored.records == 2 && restored.kept == 73 && !restored.torn);
-    assert!(rt; restored.table.count() == HIGHER);
-    Ok(())
+fn restored<R: Abort>(rt: &R, alloc: Global, mut journal: &[u8]) -> Restored {
+    let (_, table) = opening(rt, alloc, 100);
+    restore(alloc, table, &mut journal)
+        .ok()
+        .expect(rt, "a table")
+}
+
+// So many records and bytes were kept, and there may be a torn one behind them.
+fn expect_restored<R: Abort>(rt: &R, restored: &Restored, records: u64, kept: u64, torn: bool) {
+    assert!(rt; restored.records == records && restored.kept == kept && restored.torn == torn);
 }
 
 // What a pass is shown of alice.
@@ -175,9 +209,9 @@ const TRIED: [Tried; 4] = [
 
 #[test]
 fn raises_between_derivation_and_decision(rt: HostRuntime) -> Result<(), Fail> {
+    let sent = request(&rt, rt.alloc(), "alice", NOW, "New-pass2");
     for tried in TRIED {
-        let (service, table) = opening(rt.alloc(), 100)?;
-        let sent = request(&rt, rt.alloc(), "alice", NOW, "New-pass2")?;
+        let (service, table) = opening(&rt, rt.alloc(), 100);
         overtaken_at::<Brand, _>(
             &rt,
             rt.alloc(),
@@ -202,17 +236,45 @@ fn overtaken_at<D: DeskName, R: Wait + Abort>(
     requires name { IsNamed unnamed D.name D.parts D.book D.root D.workers }
     requires workers { workers_of unnamed ≡ 2 }
 {
-    let sink = MemorySink::new(alloc, ROOM)?;
-    let (desk, mut passes) = Desk::<D, MemorySink>::start(rt, alloc, unnamed, sink)?;
+    let (desk, mut passes) = started::<D, R>(rt, alloc, unnamed)?;
     let mut second = passes.pop().expect(rt, "a pass");
     let mut first = passes.pop().expect(rt, "a pass");
+    change_overtaken(
+        rt,
+        alloc,
+        service,
+        &desk,
+        &mut first,
+        &mut second,
+        sent,
+        tried,
+    );
+    let shown = shown_of_alice(rt, alloc, &desk, &mut first);
+    expect_changed(rt, &shown, tried.count, tried.entries);
+    passes.push(first).ok().expect(rt, "a place");
+    passes.push(second).ok().expect(rt, "a place");
+    expect_closed(rt, desk, passes, tried.entries as usize, tried.journal);
+    Ok(())
+}
+
+// The first worker decides while the second raises the count.
+fn change_overtaken<D: DeskName, R: Wait + Abort>(
+    rt: &R,
+    alloc: Global,
+    service: &Service,
+    desk: &Desk<D, MemorySink>,
+    first: &mut Pass<D>,
+    second: &mut Pass<D>,
+    sent: &Sent,
+    tried: Tried,
+) {
     let mut overtaken = Overtaken {
         place: AtDesk {
             rt,
-            desk: &desk,
-            pass: &mut first,
+            desk,
+            pass: first,
         },
-        other: &mut second,
+        other: second,
         raises: tried.raises,
         decisions: 0,
         derivations: 0,
@@ -221,23 +283,13 @@ fn overtaken_at<D: DeskName, R: Wait + Abort>(
     assert!(rt; said.as_slice() == CHANGED);
     assert!(rt; overtaken.decisions == tried.decisions);
     assert!(rt; overtaken.derivations == tried.derivations);
-    let shown = shown_of_alice(rt, alloc, &desk, &mut first);
-    assert!(rt; shown.kvno == 2 && shown.policy == tried.count);
-    assert!(rt; shown.seen == tried.entries);
-    assert!(rt; shown.held.as_slice() == [tried.count, 4].as_slice());
-    passes.push(first).ok().expect(rt, "a place");
-    passes.push(second).ok().expect(rt, "a place");
-    let (history, journal) = closed(rt, desk, passes).expect(rt, "all agree");
-    assert!(rt; history.len() == tried.entries as usize);
-    assert!(rt; journal.bytes().len() == tried.journal);
-    Ok(())
 }
 
 #[test]
 fn a_raise_that_the_journal_does_not_take(rt: HostRuntime) -> Result<(), Fail> {
+    let sent = request(&rt, rt.alloc(), "alice", NOW, "New-pass2");
     for taken in 0..7 {
-        let (service, table) = opening(rt.alloc(), 100)?;
-        let sent = request(&rt, rt.alloc(), "alice", NOW, "New-pass2")?;
+        let (service, table) = opening(&rt, rt.alloc(), 100);
         broken_at::<Brand, _>(
             &rt,
             rt.alloc(),
@@ -262,26 +314,41 @@ fn broken_at<D: DeskName, R: Wait + Abort>(
 ) -> Result<(), Fail>
     requires name { IsNamed unnamed D.name D.parts D.book D.root D.workers }
 {
-    let mut sink = MemorySink::new(alloc, ROOM)?;
-    sink.fail_at(1, taken);
-    let (desk, mut passes) = Desk::<D, MemorySink>::start(rt, alloc, unnamed, sink)?;
+    let (desk, mut passes) = started_failing::<D, R>(rt, alloc, unnamed, 1, taken)?;
     let mut pass = passes.pop().expect(rt, "a pass");
-    let raised = desk.raise(rt, &mut pass, NOW, HIGHER);
-    assert!(rt; matches!(raised, Ok(RaiseVerdict::Broken)) && pass.front().is_none());
-    let shown = shown_of_alice(rt, alloc, &desk, &mut pass);
-    assert!(rt; shown.policy == 4 && shown.kvno == 1 && shown.seen == 0);
-    let said = answered(rt, alloc, service, &desk, &mut pass, &mut NoGate, sent);
-    assert!(rt; said.as_slice() == BROKEN);
-    let again = desk.raise(rt, &mut pass, NOW, HIGHER);
-    assert!(rt; matches!(again, Ok(RaiseVerdict::Broken)));
-    let shown = shown_of_alice(rt, alloc, &desk, &mut pass);
-    assert!(rt; shown.policy == 4 && shown.kvno == 1 && shown.seen == 0);
+    expect_broken(rt, alloc, &desk, &mut pass);
+    assert!(rt; pass.front().is_none());
+    expect_answer(rt, alloc, service, &desk, &mut pass, sent, BROKEN);
+    expect_broken(rt, alloc, &desk, &mut pass);
     passes.push(pass).ok().expect(rt, "a place");
     let (history, journal) = closed(rt, desk, passes).expect(rt, "all agree");
-    assert!(rt; history.len() == 3);
-    let (_, table) = opening(alloc, 100)?;
-    let mut rest = journal.bytes();
-    let restored = restore(alloc, table, &mut rest).ok().expect(rt, "a table");
-    assert!(rt; restored.records == 0 && restored.table.count() == 4);
+    expect_torn(rt, alloc, &history, &journal, taken);
     Ok(())
+}
+
+// A raise isn't taken, and a lookup shows nothing of it.
+fn expect_broken<D: DeskName, R: Wait + Abort>(
+    rt: &R,
+    alloc: Global,
+    desk: &Desk<D, MemorySink>,
+    pass: &mut Pass<D>,
+) {
+    let raised = desk.raise(rt, pass, NOW, HIGHER);
+    assert!(rt; matches!(raised, Ok(RaiseVerdict::Broken)));
+    let shown = shown_of_alice(rt, alloc, desk, pass);
+    expect_unchanged(rt, &shown);
+}
+
+// Three entries, of which the journal has no whole one.
+fn expect_torn<R: Abort>(
+    rt: &R,
+    alloc: Global,
+    history: &[Entry],
+    journal: &MemorySink,
+    taken: usize,
+) {
+    assert!(rt; history.len() == 3);
+    let restored = restored(rt, alloc, journal.bytes());
+    expect_restored(rt, &restored, 0, 0, taken > 0);
+    assert!(rt; restored.table.count() == 4);
 }

@@ -9,14 +9,17 @@ use std::alloc::Global;
 use std::io;
 use std::process::Abort;
 use std::sync::atomic::{AtomicU64, Ordering};
-use std::test::Fail;
 use std::time::{Clock, Duration};
 use test_realm::{config, name};
 
 pub const CHANGED: &[u8] = b"code 0 password changed";
 
 /// The service, and the table that it opens with, with this many entries at the most.
-pub fn opening(alloc: Global, max_entries: u32) -> Result<(Service, Table), Fail> {
+pub fn opening<R: Abort>(rt: &R, alloc: Global, max_entries: u32) -> (Service, Table) {
+    opened(alloc, max_entries).ok().expect(rt, "a realm")
+}
+
+fn opened(alloc: Global, max_entries: u32) -> io::Result<(Service, Table)> {
     let names = vec![in alloc; name(alloc, "alice")?, name(alloc, "bob")?]?;
     let config = config(alloc, names, 4, max_entries)?;
     let service = Service::of(alloc, &config)?;
@@ -24,19 +27,25 @@ pub fn opening(alloc: Global, max_entries: u32) -> Result<(Service, Table), Fail
 }
 
 /// The request of a client at a moment for a new password of its own.
-pub fn request<R: Abort>(
+pub fn request<R: Abort>(rt: &R, alloc: Global, client: &str, now: Moment, password: &str) -> Sent {
+    made(rt, alloc, client, now, password.as_bytes())
+        .ok()
+        .expect(rt, "a request")
+}
+
+fn made<R: Abort>(
     rt: &R,
     alloc: Global,
     client: &str,
     now: Moment,
-    password: &str,
-) -> Result<Sent, Fail> {
+    password: &[u8],
+) -> io::Result<Sent> {
+    assert!(rt; password.len() <= LONGEST_PASSWORD);
+    assert!(rt; 0 <= now.seconds && now.seconds <= LAST_START && now.micros < 1_000_000);
     let client = name(alloc, client)?;
     let config = config(alloc, Vec::new(alloc), 4, 1)?;
+    assert!(rt; !config.service.as_slice().is_empty());
     let mut words = WorkerWords::new([1; 32], 0);
-    let password = password.as_bytes();
-    assert!(rt; !config.service.as_slice().is_empty() && password.len() <= LONGEST_PASSWORD);
-    assert!(rt; 0 <= now.seconds && now.seconds <= LAST_START && now.micros < 1_000_000);
     Ok(client_request(
         alloc, &config, now, &client, password, None, true, false, &mut words,
     )?)

@@ -1,16 +1,12 @@
 //! Many clients beside one another while history follows history: none is left unanswered, and none changes twice.
-ghost use Rattle.std.specs.Prelude.{◌≤◌};
-
 use crate::realm::{CHANGED, SetClock, request, told};
-use crate::services::{SETTINGS, START, connect_soon, moment};
+use crate::services::{START, connect_soon, expect_length, files_at, moment, options, prepare};
 use crate::site::{reply, send};
 use chpw_client::Sent;
-use chpw_invocation::ServeOptions;
 use chpw_service::serve_by;
 use std::alloc::Global;
-use std::fs::{self, File, Files};
 use std::io::Write;
-use std::net::{Net, TcpListener, TcpStream};
+use std::net::{Net, TcpStream};
 use std::process::Abort;
 use std::test::Fail;
 use std::thread::join;
@@ -32,9 +28,7 @@ fn ask_all<R: Net<Stream = TcpStream> + Clock + Abort>(
     alloc: Global,
     port: u16,
     requests: &[Sent],
-    is_flooded: bool,
 ) {
-    let unread = is_flooded.then(|| flood(rt, alloc, port));
     let mut streams = Vec::new(alloc);
     for _ in requests {
         streams
@@ -48,7 +42,23 @@ fn ask_all<R: Net<Stream = TcpStream> + Clock + Abort>(
     for (sent, stream) in requests.iter().zip(streams.iter()) {
         expect_change(rt, alloc, stream, sent);
     }
-    drop(unread);
+}
+
+// The same, where there may be another client that reads nothing.
+fn ask_beside<R: Net<Stream = TcpStream> + Clock + Abort>(
+    rt: &R,
+    alloc: Global,
+    port: u16,
+    requests: &[Sent],
+    is_flooded: bool,
+) {
+    if is_flooded {
+        let unread = flood(rt, alloc, port);
+        ask_all(rt, alloc, port, requests);
+        drop(unread);
+    } else {
+        ask_all(rt, alloc, port, requests);
+    }
 }
 
 // A client that sends as many messages as its socket takes, and reads no answer.
@@ -87,95 +97,58 @@ fn expect_change<R: Abort>(rt: &R, alloc: Global, stream: &TcpStream, sent: &Sen
 }
 
 // A request of alice or of bob, each at a second of its own.
-fn request_of<R: Abort>(rt: &R, alloc: Global, number: u8) -> Result<Sent, Fail> {
+fn request_of<R: Abort>(rt: &R, alloc: Global, number: u8) -> Sent {
     let client = if number % 2 == 0 { "alice" } else { "bob" };
-    let password = format!(in alloc; "New-pass{number}")?;
-    request(
-        rt,
-        alloc,
-        client,
-        moment(START + u64::from(number)),
-        password.as_str(),
-    )
+    let password = format!(in alloc; "New-pass{number}");
+    let password = password.ok().expect(rt, "memory");
+    let now = moment(START + u64::from(number));
+    request(rt, alloc, client, now, password.as_str())
 }
 
-// Histories of five entries, and no journal yet.
-fn write_files<R: Files<File = File>>(rt: &R, alloc: Global, files: [&str; 3]) -> Result<(), Fail> {
-    let [config, journal, seed] = files;
-    let text = format!(in alloc; "[service]\nmax_entries = 5\n{SETTINGS}")?;
-    fs::write(rt, config, text.as_bytes())?;
-    fs::write(rt, seed, [1; 32].as_slice())?;
-    let _ = fs::remove_file(rt, journal);
-    Ok(())
-}
-
-fn requests_of<R: Abort>(rt: &R, alloc: Global) -> Result<Vec<Sent>, Fail> {
+fn requests_of<R: Abort>(rt: &R, alloc: Global) -> Vec<Sent> {
     let mut requests = Vec::new(alloc);
     for number in 0..CLIENTS {
-        requests.push(request_of(rt, alloc, number)?)?;
+        requests
+            .push(request_of(rt, alloc, number))
+            .ok()
+            .expect(rt, "memory");
     }
-    Ok(requests)
+    requests
 }
 
-fn options<'a>(files: [&'a str; 3], port: u16, workers: u8, connections: u32) -> ServeOptions<'a>
-    requires workers { (1 ≤ workers) × (workers ≤ 16) }
-    requires connections { 1 ≤ connections }
-{
-    let [config, journal, seed] = files;
-    ServeOptions {
-        config,
-        journal,
-        seed,
-        port,
-        workers,
-        connections,
-        idle: 10,
-        clients: 1024,
-        buffers: 32,
-        raise: None,
-        log: None,
-    }
-}
-
-// A port where nobody listens now.
-fn port_of(listener: &TcpListener) -> Result<u16, Fail> {
-    Ok(listener.local_addr()?.port())
-}
+/// Histories of five entries.
+const FIVE: &str = "max_entries = 5\n";
 
 #[test]
 fn histories_amid_sixteen_workers(rt: HostRuntime) -> Result<(), Fail> {
-    let alloc = rt.alloc();
-    let files = ["amid.toml", "amid.journal", "amid.seed"];
-    write_files(&rt, alloc, files)?;
-    let requests = requests_of(&rt, alloc)?;
-    let port = port_of(&TcpListener::bind(&rt, ("127.0.0.1", 0u16))?)?;
-    let options = options(files, port, 16, u32::from(CLIENTS));
+    let paths = files_at("amid.toml", "amid.seed", "amid.journal");
+    let port = prepare(&rt, paths, FIVE)?;
+    let requests = requests_of(&rt, rt.alloc());
+    let options = options(paths, port, 16, u32::from(CLIENTS));
     let clock = SetClock::new(START);
     let (served, ()) = join(
         &rt,
         || serve_by(&rt, &clock, options).is_ok(),
-        || ask_all(&rt, alloc, port, requests.as_slice(), false),
+        || ask_beside(&rt, rt.alloc(), port, requests.as_slice(), false),
     );
     assert!(rt; served);
-    assert_eq!(rt; fs::read(&rt, "amid.journal")?.len(), 12 * 66 + 12 * 64);
+    expect_length(&rt, "amid.journal", 12 * 66 + 12 * 64);
     Ok(())
 }
 
 #[test]
 fn histories_beside_a_client_that_reads_nothing(rt: HostRuntime) -> Result<(), Fail> {
-    let alloc = rt.alloc();
-    let files = ["mute.toml", "mute.journal", "mute.seed"];
-    write_files(&rt, alloc, files)?;
-    let requests = requests_of(&rt, alloc)?;
-    let port = port_of(&TcpListener::bind(&rt, ("127.0.0.1", 0u16))?)?;
-    let options = options(files, port, 2, u32::from(CLIENTS) + 1);
+    let paths = files_at("mute.toml", "mute.seed", "mute.journal");
+    let port = prepare(&rt, paths, FIVE)?;
+    let requests = requests_of(&rt, rt.alloc());
+    let options = options(paths, port, 2, u32::from(CLIENTS) + 1);
     let clock = SetClock::new(START);
     let (served, ()) = join(
         &rt,
         || serve_by(&rt, &clock, options).is_ok(),
-        || ask_all(&rt, alloc, port, requests.as_slice(), true),
+        || ask_beside(&rt, rt.alloc(), port, requests.as_slice(), true),
     );
     assert!(rt; served);
-    assert_eq!(rt; fs::read(&rt, "mute.journal")?.len(), 12 * 66 + 12 * 64);
+    expect_length(&rt, "mute.journal", 12 * 66 + 12 * 64);
     Ok(())
 }

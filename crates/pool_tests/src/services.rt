@@ -6,7 +6,7 @@ use crate::site::{expect_line, reply, send};
 use chpw_client::Sent;
 use chpw_frame::split_reply;
 use chpw_invocation::ServeOptions;
-use chpw_journal::restore;
+use chpw_journal::{Restored, restore};
 use chpw_service::serve_by;
 use chpw_table::Moment;
 use std::alloc::Global;
@@ -49,8 +49,6 @@ aes128 = 'b1b1b1b1b1b1b1b1b1b1b1b1b1b1b1b1'
 aes256 = 'b1b1b1b1b1b1b1b1b1b1b1b1b1b1b1b1b1b1b1b1b1b1b1b1b1b1b1b1b1b1b1b1'
 ";
 
-const CONFIG_FILE: &str = "services.toml";
-
 /// How a run that is quiet refuses.
 const QUIET: &[u8] = b"code 3 error 37 clock skew too great";
 
@@ -60,27 +58,58 @@ pub const START: u64 = 1_000_100;
 /// How a request is refused that was decided before.
 const REPLAYED: &[u8] = b"code 3 error 34 request replayed";
 
-fn write_config(rt: &HostRuntime) -> Result<(), Fail> {
-    let config = format!(in rt.alloc(); "[service]\n{SETTINGS}")?;
-    fs::write(rt, CONFIG_FILE, config.as_bytes())?;
+/// Where the files of a service are.
+#[derive(Clone, Copy, Drop)]
+pub struct Paths<'a> {
+    pub config: &'a str,
+    pub seed: &'a str,
+    pub journal: &'a str,
+    pub log: Option<&'a str>,
+}
+
+/// Writes the configuration, whose first table begins with this, and the seed, and removes what a former run left;
+/// a port where nobody listens.
+pub fn prepare(rt: &HostRuntime, paths: Paths<'_>, bound: &str) -> Result<u16, Fail> {
+    write_config(rt, paths.config, bound)?;
+    fs::write(rt, paths.seed, [1; 32].as_slice())?;
+    let _ = fs::remove_file(rt, paths.journal);
+    if let Some(log) = paths.log {
+        let _ = fs::remove_file(rt, log);
+    }
+    let listener = TcpListener::bind(rt, ("127.0.0.1", 0u16))?;
+    Ok(listener.local_addr()?.port())
+}
+
+fn write_config(rt: &HostRuntime, file: &str, bound: &str) -> Result<(), Fail> {
+    let config = format!(in rt.alloc(); "[service]\n{bound}{SETTINGS}")?;
+    fs::write(rt, file, config.as_bytes())?;
     Ok(())
 }
 
-// A service of one worker for one connection.
-fn options<'a>(seed: &'a str, journal: &'a str, port: u16) -> ServeOptions<'a> {
+/// A service on these files.
+pub fn options<'a>(paths: Paths<'a>, port: u16, workers: u8, connections: u32) -> ServeOptions<'a>
+    requires workers { (1 ≤ workers) × (workers ≤ 16) }
+    requires connections { 1 ≤ connections }
+{
     ServeOptions {
-        config: CONFIG_FILE,
-        journal,
-        seed,
+        config: paths.config,
+        journal: paths.journal,
+        seed: paths.seed,
         port,
-        workers: 1,
-        connections: 1,
+        workers,
+        connections,
         idle: 10,
         clients: 1024,
         buffers: 32,
         raise: None,
-        log: None,
+        log: paths.log,
     }
+}
+
+/// The file has so many bytes.
+pub fn expect_length<R: Files + AllocGlobal + Abort>(rt: &R, file: &str, bytes: usize) {
+    let found = fs::read(rt, file).ok().expect(rt, "a file");
+    assert_eq!(rt; found.len(), bytes);
 }
 
 /// A connection to a service that is starting. A read that waits 10 seconds fails.
@@ -121,25 +150,30 @@ pub fn ask_in_turn<R: Net<Stream = TcpStream> + Clock + Abort>(
     }
 }
 
+/// The files of a service without a log.
+pub fn files_at<'a>(config: &'a str, seed: &'a str, journal: &'a str) -> Paths<'a> {
+    Paths {
+        config,
+        seed,
+        journal,
+        log: None,
+    }
+}
+
 // The former run's message is refused, and a new one taken 301 seconds after the start.
 #[test]
 fn a_second_start(rt: HostRuntime) -> Result<(), Fail> {
-    write_config(&rt)?;
-    fs::write(&rt, "restarts.seed", [1; 32].as_slice())?;
-    let _ = fs::remove_file(&rt, "restarts.journal");
-    let alloc = rt.alloc();
-    let former = request(&rt, alloc, "alice", moment(START), "New-pass2")?;
-    let later = request(&rt, alloc, "alice", moment(START + 301), "New-pass3")?;
-    let listener = TcpListener::bind(&rt, ("127.0.0.1", 0u16))?;
-    let port = listener.local_addr()?.port();
-    drop(listener);
-    let options = options("restarts.seed", "restarts.journal", port);
+    let paths = files_at("restarts.toml", "restarts.seed", "restarts.journal");
+    let port = prepare(&rt, paths, "")?;
+    let former = request(&rt, rt.alloc(), "alice", moment(START), "New-pass2");
+    let later = request(&rt, rt.alloc(), "alice", moment(START + 301), "New-pass3");
+    let options = options(paths, port, 1, 1);
     let clock = SetClock::new(START);
     let once = [(START, &former, CHANGED)];
     let (first, ()) = join(
         &rt,
         || serve_by(&rt, &clock, options).is_ok(),
-        || ask_in_turn(&rt, alloc, &clock, port, &once),
+        || ask_in_turn(&rt, rt.alloc(), &clock, port, &once),
     );
     let again = [
         (START, &former, QUIET),
@@ -150,10 +184,10 @@ fn a_second_start(rt: HostRuntime) -> Result<(), Fail> {
     let (second, ()) = join(
         &rt,
         || serve_by(&rt, &clock, options).is_ok(),
-        || ask_in_turn(&rt, alloc, &clock, port, &again),
+        || ask_in_turn(&rt, rt.alloc(), &clock, port, &again),
     );
     assert!(rt; first && second);
-    assert_eq!(rt; fs::read(&rt, "restarts.journal")?.len(), 2 * 66);
+    expect_length(&rt, "restarts.journal", 2 * 66);
     Ok(())
 }
 
@@ -167,7 +201,7 @@ fn count_of(raises: bool) -> Option<u32>
 // A service that raises the count first, or doesn't.
 fn raising<'a>(port: u16, raises: bool) -> ServeOptions<'a> {
     ServeOptions {
-        config: CONFIG_FILE,
+        config: "raised.toml",
         journal: "raised.journal",
         seed: "raised.seed",
         port,
@@ -191,48 +225,52 @@ fn change_later<R: Net<Stream = TcpStream> + Clock + Abort>(
     password: &str,
 ) {
     let second = START + u64::from(later) + 301;
-    match request(rt, alloc, "alice", moment(second), password) {
-        Ok(sent) => ask_in_turn(rt, alloc, clock, port, &[(second, &sent, CHANGED)]),
-        Err(_) => panic!(rt; "a request"),
-    }
+    let sent = request(rt, alloc, "alice", moment(second), password);
+    ask_in_turn(rt, alloc, clock, port, &[(second, &sent, CHANGED)]);
 }
 
 // The first run raises the count from 4 to 8 before it listens; the second has no such option, and the third
-// asks for the same count. All that is changed after the raise is changed under 8.
+// asks for the same count.
+const RAISES: [(u32, &str, bool); 3] = [
+    (0, "New-pass2", true),
+    (400, "New-pass3", false),
+    (800, "New-pass4", true),
+];
+
+// All that is changed after the raise is changed under 8.
 #[test]
 fn a_second_start_behind_a_raise(rt: HostRuntime) -> Result<(), Fail> {
-    write_config(&rt)?;
-    fs::write(&rt, "raised.seed", [1; 32].as_slice())?;
-    let _ = fs::remove_file(&rt, "raised.journal");
-    let alloc = rt.alloc();
-    let listener = TcpListener::bind(&rt, ("127.0.0.1", 0u16))?;
-    let port = listener.local_addr()?.port();
-    drop(listener);
+    let paths = files_at("raised.toml", "raised.seed", "raised.journal");
+    let port = prepare(&rt, paths, "")?;
     let clock = SetClock::new(START);
-    for (later, password, raises) in [
-        (0u32, "New-pass2", true),
-        (400, "New-pass3", false),
-        (800, "New-pass4", true),
-    ] {
+    for (later, password, raises) in RAISES {
         let options = raising(port, raises);
         clock.set(START + u64::from(later));
         let (served, ()) = join(
             &rt,
             || serve_by(&rt, &clock, options).is_ok(),
-            || change_later(&rt, alloc, &clock, port, later, password),
+            || change_later(&rt, rt.alloc(), &clock, port, later, password),
         );
         assert!(rt; served);
     }
     let journal = fs::read(&rt, "raised.journal")?;
     assert_eq!(rt; journal.len(), 7 + 3 * 66);
-    let (_, table) = opening(alloc, 100)?;
-    let restored = restore(alloc, table, &mut journal.as_slice());
-    let restored = restored.ok().expect(&rt, "a table");
-    let alice = name(alloc, "alice")?;
-    let shown = restored.table.lookup(&alice).expect(&rt, "a principal");
+    restore_raised(&rt, rt.alloc(), journal.as_slice());
+    Ok(())
+}
+
+fn restore_raised<R: Abort>(rt: &R, alloc: Global, mut journal: &[u8]) {
+    let (_, table) = opening(rt, alloc, 100);
+    let restored = restore(alloc, table, &mut journal);
+    expect_raised(rt, alloc, &restored.ok().expect(rt, "a table"));
+}
+
+// The raise and three changes of alice.
+fn expect_raised<R: Abort>(rt: &R, alloc: Global, restored: &Restored) {
+    let alice = name(alloc, "alice").ok().expect(rt, "a name");
+    let shown = restored.table.lookup(&alice).expect(rt, "a principal");
     assert!(rt; restored.records == 4 && shown.policy == 8 && shown.kvno == 4);
     assert!(rt; shown.held.as_slice() == [8, 8].as_slice());
-    Ok(())
 }
 
 // Asks, and is answered so; the reply.
@@ -250,8 +288,7 @@ fn answered<R: Abort>(
 }
 
 // Fills a history of two and asks once more: over the same connection, and the next history answers. It knows what
-// the former one had decided. The replies to the first request and to the third are sealed under the same keys, and
-// have the same moment in their AP-REPs: they differ where their words do.
+// the former one had decided.
 fn ask_beyond_the_end<R: Net<Stream = TcpStream> + Clock + Abort>(
     rt: &R,
     alloc: Global,
@@ -264,46 +301,34 @@ fn ask_beyond_the_end<R: Net<Stream = TcpStream> + Clock + Abort>(
     let _ = answered(rt, alloc, &stream, second, CHANGED);
     let two = answered(rt, alloc, &stream, third, CHANGED);
     let _ = answered(rt, alloc, &other, first, REPLAYED);
-    let one = split_reply(&one).ok().expect(rt, "a reply");
-    let two = split_reply(&two).ok().expect(rt, "a reply");
+    expect_other_words(rt, &one, &two);
+}
+
+// Replies that are sealed under the same keys, and have the same moment in their AP-REPs: they differ where their words
+// do.
+fn expect_other_words<R: Abort>(rt: &R, one: &[u8], two: &[u8]) {
+    let one = split_reply(one).ok().expect(rt, "a reply");
+    let two = split_reply(two).ok().expect(rt, "a reply");
     assert!(rt; one.ap.len() == two.ap.len() && one.ap != two.ap);
 }
 
 // A full history is followed by another one, which knows the requests of the former.
 #[test]
 fn a_full_history_and_the_next(rt: HostRuntime) -> Result<(), Fail> {
-    let alloc = rt.alloc();
-    let config = format!(in alloc; "[service]\nmax_entries = 2\n{SETTINGS}")?;
-    fs::write(&rt, "full.toml", config.as_bytes())?;
-    fs::write(&rt, "full.seed", [1; 32].as_slice())?;
-    let _ = fs::remove_file(&rt, "full.journal");
-    let first = request(&rt, alloc, "alice", moment(START), "New-pass2")?;
-    let second = request(&rt, alloc, "alice", moment(START + 1), "New-pass3")?;
-    let third = request(&rt, alloc, "bob", moment(START), "New-pass4")?;
-    let listener = TcpListener::bind(&rt, ("127.0.0.1", 0u16))?;
-    let port = listener.local_addr()?.port();
-    drop(listener);
-    let options = ServeOptions {
-        config: "full.toml",
-        journal: "full.journal",
-        seed: "full.seed",
-        port,
-        workers: 1,
-        connections: 2,
-        idle: 10,
-        clients: 1024,
-        buffers: 32,
-        raise: None,
-        log: None,
-    };
+    let paths = files_at("full.toml", "full.seed", "full.journal");
+    let port = prepare(&rt, paths, "max_entries = 2\n")?;
+    let first = request(&rt, rt.alloc(), "alice", moment(START), "New-pass2");
+    let second = request(&rt, rt.alloc(), "alice", moment(START + 1), "New-pass3");
+    let third = request(&rt, rt.alloc(), "bob", moment(START), "New-pass4");
+    let options = options(paths, port, 1, 2);
     let clock = SetClock::new(START);
     let (served, ()) = join(
         &rt,
         || serve_by(&rt, &clock, options).is_ok(),
-        || ask_beyond_the_end(&rt, alloc, port, [&first, &second, &third]),
+        || ask_beyond_the_end(&rt, rt.alloc(), port, [&first, &second, &third]),
     );
     assert!(rt; served);
-    assert_eq!(rt; fs::read(&rt, "full.journal")?.len(), 66 + 66 + 64);
+    expect_length(&rt, "full.journal", 66 + 66 + 64);
     Ok(())
 }
 
@@ -323,35 +348,32 @@ fn ask_once<R: Net<Stream = TcpStream> + Clock + Abort>(
 // One seed gives one reply to a request, another seed another.
 #[test]
 fn words_of_the_seed(rt: HostRuntime) -> Result<(), Fail> {
-    write_config(&rt)?;
-    fs::write(&rt, "one.seed", [1; 32].as_slice())?;
+    let port = prepare(&rt, files_at("words.toml", "one.seed", "words.journal"), "")?;
     fs::write(&rt, "other.seed", [2; 32].as_slice())?;
-    let alloc = rt.alloc();
-    let sent = request(&rt, alloc, "alice", moment(START), "New-pass2")?;
-    let listener = TcpListener::bind(&rt, ("127.0.0.1", 0u16))?;
-    let port = listener.local_addr()?.port();
-    drop(listener);
+    let sent = request(&rt, rt.alloc(), "alice", moment(START), "New-pass2");
     let clock = SetClock::new(START);
-    let mut replies = Vec::new(alloc);
+    let mut replies = Vec::new(rt.alloc());
     for seed in ["one.seed", "one.seed", "other.seed"] {
         let _ = fs::remove_file(&rt, "words.journal");
-        let options = options(seed, "words.journal", port);
+        let options = options(files_at("words.toml", seed, "words.journal"), port, 1, 1);
         let (served, found) = join(
             &rt,
             || serve_by(&rt, &clock, options).is_ok(),
-            || ask_once(&rt, alloc, port, &sent),
+            || ask_once(&rt, rt.alloc(), port, &sent),
         );
         assert!(rt; served);
-        replies.push(found)?;
+        replies.push(found).ok().expect(&rt, "memory");
     }
-    let [one, again, other] = replies.as_slice() else {
-        return Err(Fail::new("not three replies"));
+    compare(&rt, replies.as_slice());
+    Ok(())
+}
+
+fn compare<R: Abort>(rt: &R, replies: &[Vec<u8>]) {
+    let [one, again, other] = replies else {
+        panic!(rt; "not three replies")
     };
     assert!(rt; one == again);
-    let one = split_reply(one).ok().expect(&rt, "a reply");
-    let other = split_reply(other).ok().expect(&rt, "a reply");
-    assert!(rt; one.ap.len() == other.ap.len() && one.ap != other.ap);
-    Ok(())
+    expect_other_words(rt, one, other);
 }
 
 // A clock that notes whether another open file has the journal's lock when it is asked for the first time.
@@ -382,14 +404,9 @@ impl<R: Files<File = File>> Clock for LookingClock<'_, R> {
 // What a start is refused that other processes may have preceded depends on its moment, so it is read behind the lock.
 #[test]
 fn a_start_that_is_read_behind_the_lock(rt: HostRuntime) -> Result<(), Fail> {
-    write_config(&rt)?;
-    fs::write(&rt, "looking.seed", [1; 32].as_slice())?;
-    let _ = fs::remove_file(&rt, "looking.journal");
-    let alloc = rt.alloc();
-    let sent = request(&rt, alloc, "alice", moment(START), "New-pass2")?;
-    let listener = TcpListener::bind(&rt, ("127.0.0.1", 0u16))?;
-    let port = listener.local_addr()?.port();
-    drop(listener);
+    let paths = files_at("looking.toml", "looking.seed", "looking.journal");
+    let port = prepare(&rt, paths, "")?;
+    let sent = request(&rt, rt.alloc(), "alice", moment(START), "New-pass2");
     let clock = LookingClock {
         rt: &rt,
         journal: "looking.journal",
@@ -398,13 +415,8 @@ fn a_start_that_is_read_behind_the_lock(rt: HostRuntime) -> Result<(), Fail> {
     };
     let (served, _) = join(
         &rt,
-        || serve_by(
-            &rt,
-            &clock,
-            options("looking.seed", "looking.journal", port),
-        )
-        .is_ok(),
-        || ask_once(&rt, alloc, port, &sent),
+        || serve_by(&rt, &clock, options(paths, port, 1, 1)).is_ok(),
+        || ask_once(&rt, rt.alloc(), port, &sent),
     );
     assert!(rt; served && clock.was_locked.load(Ordering::SeqCst));
     Ok(())

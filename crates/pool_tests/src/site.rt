@@ -66,6 +66,28 @@ pub fn serve_all<
     Ok(())
 }
 
+/// Runs a pool of so many workers by the machine's clock beside its clients, and all connections are served.
+pub fn serve_here<R: Machine, K: Clients<R> + Sync>(
+    rt: &R,
+    alloc: Global,
+    listener: &TcpListener,
+    workers: u8,
+    terms: Terms,
+    clients: &K,
+) -> Result<(), Fail>
+    requires workers { (1 ≤ workers) × (workers ≤ 16) }
+{
+    let port = listener.local_addr()?.port();
+    let site = Site {
+        time: rt,
+        listener,
+        port,
+        workers,
+        terms,
+    };
+    serve_all(rt, alloc, &site, clients)
+}
+
 /// Runs the pool beside its clients, and gives what it did.
 pub fn run<
     R: Machine,
@@ -73,7 +95,7 @@ pub fn run<
     L: OpenListener<Stream = TcpStream> + AsRawFd + Sync,
     K: Clients<R> + Sync,
 >(rt: &R, alloc: Global, site: &Site<'_, T, L>, clients: &K) -> Result<Pool, Fail> {
-    let (service, table) = opening(alloc, 100)?;
+    let (service, table) = opening(rt, alloc, 100);
     let unnamed = UnnamedDesk::of(table, site.workers);
     run_at::<Brand, R, T, L, K>(rt, alloc, unnamed, &service, site, clients)
 }
@@ -147,10 +169,15 @@ pub fn expect_line<R: Abort>(rt: &R, alloc: Global, sent: &Sent, stream: &TcpStr
     assert_eq!(rt; told(rt, alloc, sent, &reply).as_slice(), line);
 }
 
-/// Requests of alice and of bob at the machine's moment.
+/// The same as [`both_requests`], for those who end with an error.
 pub fn requests<R: Machine>(rt: &R, alloc: Global) -> Result<(Sent, Sent), Fail> {
+    Ok(both_requests(rt, alloc))
+}
+
+/// Requests of alice and of bob at the machine's moment.
+pub fn both_requests<R: Machine>(rt: &R, alloc: Global) -> (Sent, Sent) {
     let now = machine_moment(rt).expect(rt, "a moment");
-    let alice = request(rt, alloc, "alice", now, "New-pass2")?;
-    let bob = request(rt, alloc, "bob", now, "New-pass2")?;
-    Ok((alice, bob))
+    let alice = request(rt, alloc, "alice", now, "New-pass2");
+    let bob = request(rt, alloc, "bob", now, "New-pass2");
+    (alice, bob)
 }

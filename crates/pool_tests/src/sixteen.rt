@@ -2,12 +2,11 @@
 ghost use Rattle.std.specs.Prelude.{◌≡◌, ◌<◌};
 ghost use Rattle.chpw_book.specs.Starting.{IsNamed, workers_of};
 
-use crate::answers::{NOW, REPLAYED, ROOM, answered, closed};
+use crate::answers::{NOW, REPLAYED, answered, expect_closed, started};
 use crate::gates::Together;
 use crate::realm::{CHANGED, opening, request};
-use chpw_book::{Desk, DeskName, UnnamedDesk};
+use chpw_book::{DeskName, UnnamedDesk};
 use chpw_client::Sent;
-use chpw_journal::MemorySink;
 use chpw_messages::Service;
 use std::alloc::Global;
 use std::marker::Brand;
@@ -20,8 +19,8 @@ use std::thread::Threads;
 
 #[test]
 fn one_message_of_sixteen_workers(rt: HostRuntime) -> Result<(), Fail> {
-    let (service, table) = opening(rt.alloc(), 100)?;
-    let sent = request(&rt, rt.alloc(), "alice", NOW, "New-pass2")?;
+    let sent = request(&rt, rt.alloc(), "alice", NOW, "New-pass2");
+    let (service, table) = opening(&rt, rt.alloc(), 100);
     all_at::<Brand, _>(&rt, rt.alloc(), UnnamedDesk::of(table, 16), &service, &sent)
 }
 
@@ -36,8 +35,7 @@ fn all_at<D: DeskName + Send + Sync, R: Threads + Wait + Abort + Sync>(
     requires name { IsNamed unnamed D.name D.parts D.book D.root D.workers }
     requires workers { workers_of unnamed ≡ 16 }
 {
-    let sink = MemorySink::new(alloc, ROOM)?;
-    let (desk, mut passes) = Desk::<D, MemorySink>::start(rt, alloc, unnamed, sink)?;
+    let (desk, mut passes) = started::<D, R>(rt, alloc, unnamed)?;
     let told = Told::new();
     let barrier = Barrier::new(16);
     let (shared, told_ref, barrier_ref) = (&desk, &told, &barrier);
@@ -54,8 +52,7 @@ fn all_at<D: DeskName + Send + Sync, R: Threads + Wait + Abort + Sync>(
         },
     );
     assert!(rt; told.counts() == (1, 15));
-    let (history, journal) = closed(rt, desk, passes).expect(rt, "all agree");
-    assert!(rt; history.len() == 16 && journal.bytes().len() == 66);
+    expect_closed(rt, desk, passes, 16, 66);
     Ok(())
 }
 
