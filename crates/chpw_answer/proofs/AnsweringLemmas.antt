@@ -19,12 +19,6 @@ use Rattle.chpw_answer.specs.Trying.{IsVerdict}
 use Rattle.chpw_answer.proofs.CompletingLemmas.{completed_on, under}
 
 module _ (error_frame : Answer → Moment → List ℕ) (private_frame : Seal → Answer → List ℕ → List ℕ) (full : Type 0) (words : List ℕ) (now : Moment) (old new : List Receipt) where
-  -- what answers its request answers the message
-  pub answers_message : (opens : Opens → Type 0) (found : OpenResult) (i : Incoming) (bytes : List ℕ) → found ≡ program.Opened i → ((o : Opens) × opens o × IsOpenResult o found)
-      → ((q : Request) → IsIncoming q i → AnswersRequest error_frame private_frame full q words now old new bytes) → IsAnswer error_frame private_frame full opens words now old new bytes
-  answers_message opens found i bytes e (refused a, is, h) f = absurd (subst (λ (x : OpenResult). IsOpenResult (refused a) x) e h)
-  answers_message opens found i bytes e (opened q, is, h) f = (opened q, is, f q (subst (λ (x : OpenResult). IsOpenResult (opened q) x) e h))
-
   -- a full history
   pub answers_full : (password : List ℕ) (ready : Opened) (mid : List Receipt) (d : Option Verdict) (r : Refusal) (q : Request) (bytes : List ℕ) → mid ≡ old → d ≡ None → IsVerdict full d password ready now mid new
       → answer_in r ≡ history_full → bytes ≡ error_frame (answer_in r) now → AnswersRequest error_frame private_frame full q words now old new bytes

@@ -1,4 +1,5 @@
 pub mod AnsweringLemmas
 pub mod CompletingLemmas
+pub mod HearingLemmas
 pub mod JudgingLemmas
 pub mod TextLemmas

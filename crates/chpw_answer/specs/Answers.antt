@@ -40,22 +40,7 @@ module _ (error_frame : Answer → Moment → List ℕ) (private_frame : Seal �
   abbrev pub IsAnswer : Type 0 → (Opens → Type 0) → List ℕ → Moment → List Receipt → List Receipt → List ℕ → Type 0
   IsAnswer full opens words now old new bytes = (o : Opens) × opens o × AnswersOpened full o words now old new bytes
 
-  -- a message was answered by these bytes, which fit a frame, and who decides went on: its receipts
-  -- are these, and it may be full with them
-  pub record Answering {D : Type 0} (opens : List ℕ → Opens → Type 0) (gathered : D → List Receipt) (full : D → List Receipt → Type 0) (follows : D → D → Type 0) (text words : List ℕ) (now : Moment) (before after : D) (bytes : List ℕ) : Type 0 where
-    pub reply : IsAnswer (full after (gathered after)) (opens text) words now (gathered before) (gathered after) bytes
-    pub fits : length bytes ≤ 65535
-    pub goes_on : follows before after
-
 -- whether a message opened
 abbrev pub is_opened : Opens → Bool
 is_opened (refused a) = false
 is_opened (opened q) = true
-
--- the receipts grew by one at the most
-abbrev pub AddsAtMostOne : List Receipt → List Receipt → Type 0
-AddsAtMostOne old new = (own : List Receipt) × (new ≡ old ++ own) × (length own ≤ 1)
-
--- who decides went on, and has a receipt more at the most
-abbrev pub AddsOne : {D : Type 0} → (D → List Receipt) → (D → D → Type 0) → D → D → Type 0
-AddsOne gathered follows before after = AddsAtMostOne (gathered before) (gathered after) × follows before after

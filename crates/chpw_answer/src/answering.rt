@@ -1,9 +1,9 @@
 //! The answer to one message.
-ghost use Rattle.std.specs.Prelude.{◌≡◌, ◌≤◌, ◌<◌, length, IfOk, OnErr};
+ghost use Rattle.std.specs.Prelude.{◌≡◌, ◌≤◌, ◌<◌, Bool, length, IfOk, OnErr};
 ghost use Rattle.chpw_table.specs.Times.{IsMoment};
-ghost use Rattle.chpw_answer.specs.Requests.{Opens};
 ghost use Rattle.chpw_answer.specs.Holding.{IsReplyTime, answer_in};
-ghost use Rattle.chpw_answer.specs.Answers.{Answering, AddsOne, is_opened, history_full as full_answer, reply as reply_to};
+ghost use Rattle.chpw_answer.specs.Answers.{history_full as full_answer, reply as reply_to};
+ghost use Rattle.chpw_answer.specs.Answering.{Answering, Unanswered};
 
 use crate::completing::derive_wanted;
 use crate::drawing::Drawing;
@@ -25,8 +25,8 @@ pub struct Answered {
 
 /// The reply to a message from this peer, an IPv4 address, high byte first. Its request is judged at
 /// the moment `now`, whose seconds are 0 to `chpw_table::LAST_SECOND`, and microseconds below
-/// 1,000,000; the words make its confounders and its sequence number. After `AllocError` there may be
-/// a receipt more.
+/// 1,000,000; the words make its confounders and its sequence number. The gate hears what came of it.
+/// After `AllocError` there may be a receipt more, of which the gate heard.
 pub fn answer<M: Messages, D: Decider, G: Gate>(
     alloc: Global,
     service: &M,
@@ -39,10 +39,12 @@ pub fn answer<M: Messages, D: Decider, G: Gate>(
 ) -> Result<Vec<u8>, AllocError>
     requires moment { IsMoment now }
     requires micros { now.micros < 1000000 }
-    ensures answers { IfOk result (λ bytes. Answering (M.error_frame service.now) (M.private_frame service.now)
-        (M.opens service.now peer) D.gathered D.may_be_full D.follows
-        message.now words now decider.old decider.new bytes.items) }
-    ensures refused { OnErr result (AddsOne D.gathered D.follows decider.old decider.new) }
+    ensures answers { IfOk result (λ bytes. (is_open : Bool)
+        × Answering (M.error_frame service.now) (M.private_frame service.now) D.may_be_full D.gathered
+        D.follows D.made G.hears (M.opens service.now peer) peer
+        message.now words now decider.old decider.new gate.old gate.new bytes.items is_open) }
+    ensures refused { OnErr result (Unanswered D.gathered D.follows D.made G.hears (M.opens service.now peer) peer
+        message.now now decider.old decider.new gate.old gate.new) }
 {
     let drawn = Drawing { now, words };
     let answer = answer_message(alloc, service, peer, message, decider, gate, drawn)?;
@@ -59,12 +61,12 @@ pub fn answer_message<M: Messages, D: Decider, G: Gate>(
     gate: &mut G,
     drawn: Drawing,
 ) -> Result<Answered, AllocError>
-    ensures answers { IfOk result (λ a. Answering (M.error_frame service.now) (M.private_frame service.now)
-        (M.opens service.now peer) D.gathered D.may_be_full D.follows
-        message.now drawn.words drawn.now decider.old decider.new a.bytes.items) }
-    ensures opened { IfOk result (λ a.
-        (o : Opens) × M.opens service.now peer message.now o × (a.opened ≡ is_opened o)) }
-    ensures refused { OnErr result (AddsOne D.gathered D.follows decider.old decider.new) }
+    ensures answers { IfOk result (λ a.
+        Answering (M.error_frame service.now) (M.private_frame service.now) D.may_be_full D.gathered
+        D.follows D.made G.hears (M.opens service.now peer) peer
+        message.now drawn.words drawn.now decider.old decider.new gate.old gate.new a.bytes.items a.opened) }
+    ensures refused { OnErr result (Unanswered D.gathered D.follows D.made G.hears (M.opens service.now peer) peer
+        message.now drawn.now decider.old decider.new gate.old gate.new) }
 {
     let incoming = match service.open(alloc, peer, message)? {
         OpenResult::Opened(incoming) => incoming,

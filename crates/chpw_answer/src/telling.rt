@@ -1,7 +1,7 @@
 //! What a gate is told of a decision.
 ghost use Rattle.std.specs.Prelude.{◌≡◌, ◌<◌, IfOk, OnErr};
 ghost use Rattle.chpw_table.specs.Times.{IsMoment};
-ghost use Rattle.chpw_answer.specs.Trying.{IsVerdict};
+ghost use Rattle.chpw_answer.specs.Trying.{IsVerdict, HearsVerdict, HearsLast, EndsWithVerdict};
 
 use crate::answering::history_full;
 use crate::deciding::{Decision, decide};
@@ -23,7 +23,10 @@ pub(crate) fn decide_telling<D: Decider, G: Gate>(
     requires micros { now.micros < 1000000 }
     ensures verdict { IfOk result (λ v. IsVerdict (D.may_be_full decider.new (D.gathered decider.new))
         v password.now opened now (D.gathered decider.old) (D.gathered decider.new)) }
+    ensures heard { IfOk result (λ v. HearsVerdict G.hears peer now (D.made decider.new)
+        (D.gathered decider.new) password.now opened v gate.old gate.new) }
     ensures refused { OnErr result (D.gathered decider.new ≡ D.gathered decider.old) }
+    ensures unheard { OnErr result (gate.new ≡ gate.old) }
     ensures follows { D.follows decider.old decider.new }
 {
     match decide(decider, now, opened, password)? {
@@ -48,13 +51,16 @@ fn tell_decided<D: Decider, G: Gate>(
 )
     requires moment { IsMoment now }
     requires micros { now.micros < 1000000 }
+    requires last { EndsWithVerdict (D.gathered decider.now) now verdict }
+    ensures heard { HearsLast G.hears peer now (D.made decider.now) (D.gathered decider.now) gate.old gate.new }
 {
     let kvno = if verdict == Verdict::Done {
         decider.made_kvno()
     } else {
         None
     };
-    if let Some(receipt) = decider.receipts().last() {
-        gate.decided(peer, now, receipt, kvno);
+    match decider.receipts().last() {
+        Some(receipt) => gate.decided(peer, now, receipt, kvno),
+        None => unreachable!(),
     }
 }

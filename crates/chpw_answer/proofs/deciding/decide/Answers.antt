@@ -2,7 +2,8 @@ use Rattle.std.proofs.Common.{List, refl, ◌∙◌, subst}
 use Rattle.chpw_table.specs.declared.request.Opened.{Opened}
 use Rattle.chpw_table.specs.Completing.{completed}
 use Rattle.chpw_table.specs.declared.history.Receipt.{Receipt}
-use Rattle.chpw_decider.specs.Deciding.{AddsReceipt}
+use Rattle.chpw_table.specs.declared.outcome.DecideFault.{DecideFault}
+use Rattle.chpw_decider.specs.Deciding.{AddsReceipt, MayBe}
 use Rattle.chpw_answer.specs.declared.deciding.Try.{Try}
 use Rattle.chpw_answer.specs.Trying.{IsTry}
 use Rattle.chpw_answer.proofs.CompletingLemmas.{completed_on}
@@ -40,3 +41,12 @@ returns-in-Ok-clause-follows g c = g.met.D.Decider.goes_on c.args.decider.now c.
 
 pub returns-in-Full-fault-clause-follows : goal.returns-in-Full-fault-clause-follows
 returns-in-Full-fault-clause-follows g c = g.met.D.Decider.goes_on c.args.decider.now c.loop.decider c.decide_deriving.new.self c.loop.invariant.2 c.decide_deriving.ensures.follows
+
+pub returns-in-Full-fault-clause-decision : goal.returns-in-Full-fault-clause-decision
+returns-in-Full-fault-clause-decision g c =
+    let new = g.D.Decider.gathered c.decide_deriving.new.self in
+    let full = g.D.Decider.may_be_full c.decide_deriving.new.self new in (
+      c.in-Err.ensures.refused.0 ∙ c.loop.invariant.0,
+      subst (λ (f : DecideFault). MayBe full f) c.in-Full-fault.is c.in-Err.ensures.fault.0,
+      completed_on c.args.password.now c.args.opened c.loop.opened c.in-Err.refused.opened c.loop.invariant.1 c.in-Err.ensures.refused.1,
+    )
