@@ -52,11 +52,11 @@ module _ {G : Type 0} (hears : G → Heard → G → Type 0) (peer : List ℕ) (
 
   -- a message that didn't open
   pub hears_refused : (opens : Opens → Type 0) (found : OpenResult) (r : Refusal) → found ≡ program.Refused r → ((o : Opens) × opens o × IsOpenResult o found)
-      → hears gate (refusal peer now None (answer_in r)) later → (o : Opens) × opens o × HearsAll o
-  hears_refused opens found r e (refused a, is, h) k =
+      → new ≡ old → hears gate (refusal peer now None (answer_in r)) later → (o : Opens) × opens o × HearsAll o
+  hears_refused opens found r e (refused a, is, h) unchanged k =
       let same : a ≡ answer_in r = subst (λ (x : OpenResult). IsOpenResult (refused a) x) e h in
-      (refused a, is, (refusal peer now None a ∷ [], refl, (later, subst (λ (b : Answer). hears gate (refusal peer now None b) later) (sym same) k, refl)))
-  hears_refused opens found r e (opened q, is, h) k = absurd (subst (λ (x : OpenResult). IsOpenResult (opened q) x) e h)
+      (refused a, is, (refusal peer now None a ∷ [], (unchanged, refl), (later, subst (λ (b : Answer). hears gate (refusal peer now None b) later) (sym same) k, refl)))
+  hears_refused opens found r e (opened q, is, h) unchanged k = absurd (subst (λ (x : OpenResult). IsOpenResult (opened q) x) e h)
 
   -- one that did
   pub hears_opened : (opens : Opens → Type 0) (found : OpenResult) (i : Incoming) → found ≡ program.Opened i → ((o : Opens) × opens o × IsOpenResult o found)
@@ -95,7 +95,7 @@ module _ {G : Type 0} (hears : G → Heard → G → Type 0) (peer : List ℕ) (
         record {
           reply = (refused a, is, (same, is_reply ∙ ap (λ (b : Answer). error_frame b now) (sym answer)));
           opened_is = refl;
-          hears_all = (refusal peer now None a ∷ [], refl, (later, subst (λ (b : Answer). hears gate (refusal peer now None b) later) (sym answer) k, refl));
+          hears_all = (refusal peer now None a ∷ [], (same, refl), (later, subst (λ (b : Answer). hears gate (refusal peer now None b) later) (sym answer) k, refl));
         }
     told_refused found r e (opened q, is, h) same is_reply k = absurd (subst (λ (x : OpenResult). IsOpenResult (opened q) x) e h)
 

@@ -20,6 +20,10 @@ pub data Heard : Type 0 where
   decision : List ℕ → Moment → Receipt → Option ℕ → Heard
   refusal : List ℕ → Moment → Option Opened → Answer → Heard
 
+-- of a gate that takes no note
+abbrev pub HearsNothing : {G : Type 0} → G → Heard → G → Type 0
+HearsNothing gate h later = Unit {0}
+
 -- the version that is told with a decision: behind a change one that may be the new key's, and else none
 abbrev pub IsKvnoUnder : (Option ℕ → Type 0) → Verdict → Option ℕ → Type 0
 IsKvnoUnder made Done kvno = made kvno
@@ -39,7 +43,7 @@ module _ (peer : List ℕ) (now : Moment) (made : Option ℕ → Type 0) (old ne
       × (heard ≡ passed spot.Opened ∷ decision peer now r kvno ∷ []))
 
   abbrev pub HearsOpened : Opens → List Heard → Type 0
-  HearsOpened (refused a) heard = heard ≡ refusal peer now None a ∷ []
+  HearsOpened (refused a) heard = (new ≡ old) × (heard ≡ refusal peer now None a ∷ [])
   HearsOpened (opened q) heard = HearsRequest (λ counts. opened_under counts q) heard
 
   -- of a message for whose answer memory ran out: nothing but, perhaps, that it opened; or all of that

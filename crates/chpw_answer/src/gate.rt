@@ -47,7 +47,9 @@ pub trait Gate {
 pub struct NoGate;
 
 impl Gate for NoGate {
-    ghost hears = { λ a h b. Unit {0} };
+    ghost use Rattle.chpw_answer.specs.Hearing.{HearsNothing};
+
+    ghost hears = { HearsNothing };
 
     fn at(&mut self, _spot: Spot) {}
 

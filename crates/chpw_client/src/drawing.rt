@@ -1,7 +1,7 @@
 //! The random words of a request.
 ghost use Rattle.std.specs.Prelude.{◌≡◌, ◌++◌};
 ghost use Rattle.krb_msgs.specs.Making.{word_bytes};
-ghost use Rattle.chpw_serve.specs.Draws.{Drawn};
+ghost use Rattle.chpw_answer.specs.InTurn.{InTurn};
 ghost use Rattle.chpw_client.specs.Words.{words_of};
 
 use chpw_serve::Words;
@@ -20,7 +20,7 @@ pub(crate) struct Drawing {
 
 /// Draws them in turn.
 pub(crate) fn draw<X: Words>(words: &mut X) -> Drawing
-    ensures words { Drawn X.gives words.old (words_of result) words.new }
+    ensures words { InTurn X.gives words.old (words_of result) words.new }
 {
     let session = next_eight(words);
     let subkey = next_eight(words);
@@ -37,7 +37,7 @@ pub(crate) fn draw<X: Words>(words: &mut X) -> Drawing
 }
 
 fn next_four<X: Words>(words: &mut X) -> [u32; 4]
-    ensures words { Drawn X.gives words.old result words.new }
+    ensures words { InTurn X.gives words.old result words.new }
 {
     let w0 = words.next();
     let w1 = words.next();
@@ -47,7 +47,7 @@ fn next_four<X: Words>(words: &mut X) -> [u32; 4]
 }
 
 fn next_eight<X: Words>(words: &mut X) -> [u32; 8]
-    ensures words { Drawn X.gives words.old result words.new }
+    ensures words { InTurn X.gives words.old result words.new }
 {
     let w0 = words.next();
     let w1 = words.next();

@@ -3,7 +3,7 @@ ghost use Rattle.std.specs.Prelude.{◌≡◌, ◌≤◌, ◌<◌, ◌≤ℤ◌,
 ghost use Rattle.std.specs.List.{list_all};
 ghost use Rattle.chpw_rules.specs.Fitting.{config_fits, service_key_fits};
 ghost use Rattle.chpw_rules.specs.Names.{is_name};
-ghost use Rattle.chpw_serve.specs.Draws.{Drawn};
+ghost use Rattle.chpw_answer.specs.InTurn.{InTurn};
 ghost use Rattle.chpw_client.specs.Requests.{IsRequest};
 ghost use Rattle.chpw_client.specs.Questions.{IsAskable, latest_second, question_of};
 ghost use Rattle.chpw_client.specs.Configured.{IsFirstKey};
@@ -74,7 +74,7 @@ pub fn client_request<X: Words>(
     requires micros { now.micros < 1000000 }
     ensures sent { IfOk result (λ sent. (key : ServiceKey) × (drawn : Drawing)
         × IsFirstKey config.now.service key
-        × Drawn X.gives words.old (words_of drawn) words.new
+        × InTurn X.gives words.old (words_of drawn) words.new
         × IsRequest (record {
           realm = config.now.realm;
           service = key;

@@ -1,5 +1,5 @@
 -- The version of the key that the newest decision made.
-use Rattle.std.specs.Prelude.{ℕ, ◌-◌, List, length, slice_get, Option, Some, None, option_map}
+use Rattle.std.specs.Prelude.{◌≡◌, ℕ, ◌-◌, List, length, slice_get, Option, Some, None, option_map}
 use Rattle.std.specs.Option.{option_flatten}
 use Rattle.chpw_rules.specs.declared.name.Name.{Name}
 use Rattle.chpw_table.specs.declared.history.Event.{Event}
@@ -12,6 +12,7 @@ use Rattle.chpw_table.specs.declared.verdict.Verdict.TheVariants.{Done}
 use Rattle.chpw_table.specs.Agreement.{Held}
 use Rattle.chpw_table.specs.Lookups.{lookup_of}
 use Rattle.chpw_table.specs.Requests.{target_of}
+use Rattle.chpw_decider.specs.Keeping.{Kept}
 
 abbrev pub name_done : Opened → Verdict → Option Name
 name_done o Done = Some (target_of o).name
@@ -30,3 +31,7 @@ kvno_made t r =
 -- that of the newest receipt
 abbrev pub newest_made : Held → List Receipt → Option ℕ
 newest_made t receipts = option_flatten (option_map (kvno_made t) (slice_get receipts (length receipts - 1)))
+
+-- a table that one thread has alone tells this
+abbrev pub Makes : Kept → Option ℕ → Type 0
+Makes k kvno = kvno ≡ newest_made k.table k.receipts

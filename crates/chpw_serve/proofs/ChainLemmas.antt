@@ -1,5 +1,5 @@
 -- The turns of a stream, one after the other, are those of the machine of one thread.
-use Rattle.std.proofs.Common.{◌≡◌, ℕ, ◌+◌, ◌≤◌, List, [], ◌∷◌, ◌++◌, Option, Some, None, refl, sym, ◌∙◌, ap, subst, append_assoc, length, arith}
+use Rattle.std.proofs.Common.{◌≡◌, ℕ, ◌+◌, ◌≤◌, List, [], ◌∷◌, ◌++◌, Bool, true, Option, Some, None, refl, sym, ◌∙◌, ap, subst, append_assoc, length, arith}
 use Rattle.std.specs.Prelude.{map}
 use Rattle.std.specs.List.{flat_map}
 use Rattle.std.proofs.lemmas.List.{append-nil}
@@ -15,7 +15,8 @@ use Rattle.chpw_table.specs.Replies.{Answer}
 use Rattle.chpw_decider.specs.Keeping.{Kept, IsFullAt, entries}
 use Rattle.chpw_answer.specs.declared.messages.Seal.{Seal}
 use Rattle.chpw_answer.specs.Requests.{Opens}
-use Rattle.chpw_serve.specs.Draws.{Drawn}
+use Rattle.chpw_answer.specs.Hearing.{Heard}
+use Rattle.chpw_answer.specs.InTurn.{InTurn}
 use Rattle.chpw_serve.specs.Serving.{StreamState, Turn, Serves, Answers, message_too_long}
 use Rattle.chpw_serve.specs.StreamReplies.{Draw, Run, run_after, written_for, replies}
 use Rattle.chpw_serve.specs.ServedAlone.{AnsweringAlone, AddsOneAlone, IsDrawnFor, AreDrawnFor, left_behind, AreReceipts}
@@ -39,21 +40,21 @@ moments_of draws = map (λ (d : Draw). d.moment) draws
 abbrev pub words_of : List Draw → List ℕ
 words_of draws = flat_map (λ (d : Draw). d.words) draws
 
-module _ {C X : Type 0} (error_frame : Answer → Moment → List ℕ) (private_frame : Seal → Answer → List ℕ → List ℕ) (opens : List ℕ → Opens → Type 0) (moments : C → Moment → C → Type 0) (random : X → ℕ → X → Type 0) where
+module _ {C X G : Type 0} (error_frame : Answer → Moment → List ℕ) (private_frame : Seal → Answer → List ℕ → List ℕ) (opens : List ℕ → Opens → Type 0) (hears : G → Heard → G → Type 0) (peer : List ℕ) (moments : C → Moment → C → Type 0) (random : X → ℕ → X → Type 0) where
   abbrev pub refusal : Moment → List ℕ
   refusal now = error_frame message_too_long now
 
-  abbrev pub ServesAlone : StreamState C X Kept → Turn → StreamState C X Kept → Type 0
-  ServesAlone before t after = Serves (AnsweringAlone error_frame private_frame opens) AddsOneAlone refusal moments random before t after
+  abbrev pub ServesAlone : StreamState C X Kept G → Turn → StreamState C X Kept G → Type 0
+  ServesAlone before t after = Serves (AnsweringAlone hears error_frame private_frame opens peer) (AddsOneAlone hears opens peer) refusal moments random hears peer before t after
 
   -- the opening stays
-  pub opening_stays : (start : StreamState C X Kept) (turns : List Turn) (last : StreamState C X Kept) → Drawn ServesAlone start turns last → last.decider.opening ≡ start.decider.opening
-  opening_stays start [] last h = ap (λ (p : StreamState C X Kept). p.decider.opening) (sym h)
+  pub opening_stays : (start : StreamState C X Kept G) (turns : List Turn) (last : StreamState C X Kept G) → InTurn ServesAlone start turns last → last.decider.opening ≡ start.decider.opening
+  opening_stays start [] last h = ap (λ (p : StreamState C X Kept G). p.decider.opening) (sym h)
   opening_stays start (t ∷ ts) last h = opening_stays h.0 ts last h.2 ∙ h.1.1.answer.goes_on
 
   module _ (opening : Held) (all : List Receipt) (legal : IsLegal opening.state (entries all)) (room : opening.events + length all ≤ opening.max_entries) where
     -- from the start of these turns to behind them, whatever is drawn after that
-    pub record Chain (start last : StreamState C X Kept) (turns : List Turn) (stream : List ℕ) : Type 0 where
+    pub record Chain (start last : StreamState C X Kept G) (turns : List Turn) (stream : List ℕ) : Type 0 where
       pub rest : List ℕ
       pub bytes : List ℕ
       pub draws : List Draw
@@ -62,8 +63,8 @@ module _ {C X : Type 0} (error_frame : Answer → Moment → List ℕ) (private_
       pub written : Appends start.around.out last.around.out bytes
       pub grown : last.decider.receipts ≡ start.decider.receipts ++ added
       pub count : (ds : List Draw) → length (draws ++ ds) ≡ length turns + length ds
-      pub moments_on : (ds : List Draw) (c : C) → Drawn moments last.around.clock (moments_of ds) c → Drawn moments start.around.clock (moments_of (draws ++ ds)) c
-      pub words_on : (ds : List Draw) (x : X) → Drawn random last.around.words (words_of ds) x → Drawn random start.around.words (words_of (draws ++ ds)) x
+      pub moments_on : (ds : List Draw) (c : C) → InTurn moments last.around.clock (moments_of ds) c → InTurn moments start.around.clock (moments_of (draws ++ ds)) c
+      pub words_on : (ds : List Draw) (x : X) → InTurn random last.around.words (words_of ds) x → InTurn random start.around.words (words_of (draws ++ ds)) x
       pub drawn_on : (ds : List Draw) → AreDrawnFor opens rest ds → AreDrawnFor opens stream (draws ++ ds)
       pub behind : (ds : List Draw) → left_behind stream (draws ++ ds) ≡ left_behind rest ds
       pub replies_on : (ds : List Draw) → replies opening.max_entries error_frame private_frame stream (run_at error_frame private_frame opens opening start.decider.receipts) (draws ++ ds)
@@ -74,19 +75,19 @@ module _ {C X : Type 0} (error_frame : Answer → Moment → List ℕ) (private_
     abbrev pub run_behind : List Receipt → Run
     run_behind receipts = run_at error_frame private_frame opens opening receipts
 
-    abbrev pub IsTurn : StreamState C X Kept → Turn → StreamState C X Kept → Type 0
+    abbrev pub IsTurn : StreamState C X Kept G → Turn → StreamState C X Kept G → Type 0
     IsTurn before t after = Answered error_frame private_frame opens opening before.decider.receipts after.decider.receipts t.text t.words t.moment t.reply
 
     -- a turn is one of the machine
-    pub turn_of : (before after : StreamState C X Kept) (t : Turn) → Answers (AnsweringAlone error_frame private_frame opens) AddsOneAlone refusal moments random before t after → after.decider.opening ≡ opening
+    pub turn_of : (is_written : Bool) (before after : StreamState C X Kept G) (t : Turn) → Answers (AnsweringAlone hears error_frame private_frame opens peer) (AddsOneAlone hears opens peer) refusal moments random hears peer is_written before t after → after.decider.opening ≡ opening
         → IsFront error_frame private_frame opens opening all legal room after.decider.receipts → IsTurn before t after
-    turn_of before after t a like front =
+    turn_of is_written before after t a like front =
         let rs = after.decider.receipts in
         answered error_frame private_frame opens opening all legal room (IsFullAt after.decider rs) before.decider.receipts rs t.text t.words t.moment t.reply front
         (λ h. ap (λ (o : Held). o.events + length rs) (sym like) ∙ (h ∙ ap (λ (o : Held). o.max_entries) like)) a.answer.reply
 
     -- its reply stands in front of the others
-    pub first : (before after : StreamState C X Kept) (t : Turn) (stream : List ℕ) (one : IsTurn before t after) (ds : List Draw) → next_piece stream ≡ message t.text
+    pub first : (before after : StreamState C X Kept G) (t : Turn) (stream : List ℕ) (one : IsTurn before t after) (ds : List Draw) → next_piece stream ≡ message t.text
         → replies opening.max_entries error_frame private_frame stream (run_behind before.decider.receipts) (one.draw ∷ ds)
         ≡ sent t.reply ++ replies opening.max_entries error_frame private_frame (behind_piece (message t.text) stream) (run_behind after.decider.receipts) ds
     first before after t stream one ds e =
@@ -97,11 +98,11 @@ module _ {C X : Type 0} (error_frame : Answer → Moment → List ℕ) (private_
         ∙ (ap (λ (bs : List ℕ). sent bs ++ replies opening.max_entries error_frame private_frame (behind_piece (message t.text) stream) next ds) (sym one.reply_is)
         ∙ ap (λ (r : Run). sent t.reply ++ replies opening.max_entries error_frame private_frame (behind_piece (message t.text) stream) r ds) (sym one.goes_on))
 
-    pub drawn_first : (before after : StreamState C X Kept) (t : Turn) (stream : List ℕ) (one : IsTurn before t after) (ds : List Draw) → length t.words ≡ 9 → next_piece stream ≡ message t.text
+    pub drawn_first : (before after : StreamState C X Kept G) (t : Turn) (stream : List ℕ) (one : IsTurn before t after) (ds : List Draw) → length t.words ≡ 9 → next_piece stream ≡ message t.text
         → IsDrawnFor opens (next_piece stream) one.draw ds
     drawn_first before after t stream one ds nine e = subst (λ (p : Piece). IsDrawnFor opens p one.draw ds) (sym e) (one.opens_so, ap length one.words_are ∙ nine)
 
-    here : (start : StreamState C X Kept) (stream : List ℕ) → start.left ≡ Some stream → Chain start start [] stream
+    here : (start : StreamState C X Kept G) (stream : List ℕ) → start.left ≡ Some stream → Chain start start [] stream
     here start stream e = record {
       rest = stream;
       bytes = [];
@@ -119,7 +120,7 @@ module _ {C X : Type 0} (error_frame : Answer → Moment → List ℕ) (private_
       receipts_on = λ ds rs h. h;
     }
 
-    one_more : (start mid last : StreamState C X Kept) (t : Turn) (ts : List Turn) (stream : List ℕ) → ServesAlone start t mid → next_piece stream ≡ message t.text
+    one_more : (start mid last : StreamState C X Kept G) (t : Turn) (ts : List Turn) (stream : List ℕ) → ServesAlone start t mid → next_piece stream ≡ message t.text
         → IsTurn start t mid → Chain mid last ts (behind_piece (message t.text) stream) → Chain start last (t ∷ ts) stream
     one_more start mid last t ts stream h e one more = record {
       rest = more.rest;
@@ -131,7 +132,7 @@ module _ {C X : Type 0} (error_frame : Answer → Moment → List ℕ) (private_
       grown = more.grown ∙ (ap (λ (rs : List Receipt). rs ++ more.added) one.added ∙ append_assoc start.decider.receipts one.own more.added);
       count = λ ds. let k = more.count ds in omega (arith, k);
       moments_on = λ ds c g. (mid.around.clock, subst (λ (m : Moment). moments start.around.clock m mid.around.clock) (sym one.moment_is) h.1.moment, more.moments_on ds c g);
-      words_on = λ ds x g. drawn_more random start.around.words one.draw.words mid.around.words (words_of (more.draws ++ ds)) x (subst (λ (ws : List ℕ). Drawn random start.around.words ws mid.around.words) (sym one.words_are) h.1.words) (more.words_on ds x g);
+      words_on = λ ds x g. drawn_more random start.around.words one.draw.words mid.around.words (words_of (more.draws ++ ds)) x (subst (λ (ws : List ℕ). InTurn random start.around.words ws mid.around.words) (sym one.words_are) h.1.words) (more.words_on ds x g);
       drawn_on = λ ds g. (drawn_first start mid t stream one (more.draws ++ ds) h.1.nine e, subst (λ (p : Piece). AreDrawnFor opens (behind_piece p stream) (more.draws ++ ds)) (sym e) (more.drawn_on ds g));
       behind = λ ds. ap (λ (p : Piece). left_behind (behind_piece p stream) (more.draws ++ ds)) e ∙ more.behind ds;
       replies_on = λ ds. first start mid t stream one (more.draws ++ ds) e
@@ -140,12 +141,12 @@ module _ {C X : Type 0} (error_frame : Answer → Moment → List ℕ) (private_
       receipts_on = λ ds rs g. (one.own, more.added ++ rs, append_assoc one.own more.added rs, one.own_are, subst (λ (r : Run). AreReceipts opening.max_entries r (more.draws ++ ds) (more.added ++ rs)) one.goes_on (more.receipts_on ds rs g));
     }
 
-    pub chain : (start : StreamState C X Kept) (turns : List Turn) (last : StreamState C X Kept) (stream : List ℕ) → Drawn ServesAlone start turns last → start.left ≡ Some stream → start.decider.opening ≡ opening
+    pub chain : (start : StreamState C X Kept G) (turns : List Turn) (last : StreamState C X Kept G) (stream : List ℕ) → InTurn ServesAlone start turns last → start.left ≡ Some stream → start.decider.opening ≡ opening
         → IsFront error_frame private_frame opens opening all legal room last.decider.receipts → Chain start last turns stream
-    chain start [] last stream h e like front = subst (λ (p : StreamState C X Kept). Chain start p [] stream) h (here start stream e)
+    chain start [] last stream h e like front = subst (λ (p : StreamState C X Kept G). Chain start p [] stream) h (here start stream e)
     chain start (t ∷ ts) last stream h e like front =
         let k = took (message t.text) stream start.left h.0.left e h.1.0 in
         let then_like = h.1.1.answer.goes_on ∙ like in
         let more = chain h.0 ts last (behind_piece (message t.text) stream) h.2 k.1 then_like front in
         let ahead : IsFront error_frame private_frame opens opening all legal room h.0.decider.receipts = (more.added ++ front.0, front.1 ∙ (ap (λ (rs : List Receipt). rs ++ front.0) more.grown ∙ append_assoc h.0.decider.receipts more.added front.0)) in
-        one_more start h.0 last t ts stream h.1 k.0 (turn_of start h.0 t h.1.1 then_like ahead) more
+        one_more start h.0 last t ts stream h.1 k.0 (turn_of true start h.0 t h.1.1 then_like ahead) more

@@ -11,24 +11,27 @@ use Rattle.chpw_table.specs.declared.history.Receipt.{Receipt}
 use Rattle.chpw_table.specs.History.{outcome}
 use Rattle.chpw_table.specs.Replies.{Answer}
 use Rattle.chpw_decider.specs.Keeping.{Kept, IsFullAt, IsOpenedLike, entries}
+use Rattle.chpw_decider.specs.Making.{Makes}
 use Rattle.chpw_answer.specs.declared.messages.Seal.{Seal}
 use Rattle.chpw_answer.specs.Requests.{Request, Opens, refused, opened, opened_under}
-use Rattle.chpw_answer.specs.Answers.{Answering, AddsOne}
+use Rattle.chpw_answer.specs.Hearing.{Heard}
+use Rattle.chpw_answer.specs.Answering.{Answering, Unanswered}
 use Rattle.chpw_serve.specs.declared.serving.Ended.{Ended}
 use Rattle.chpw_serve.specs.declared.serving.Ended.TheVariants as end
-use Rattle.chpw_serve.specs.Draws.{Drawn}
+use Rattle.chpw_answer.specs.InTurn.{InTurn}
 use Rattle.chpw_serve.specs.Serving.{StreamState, TakesAtMostOne, message_too_long}
 use Rattle.chpw_serve.specs.StreamReplies.{Draw, Run, verdict_of, is_full, run_after, replies}
 
 -- what a message is answered by a table that one thread has alone
-abbrev pub AnsweringAlone : (Answer → Moment → List ℕ) → (Seal → Answer → List ℕ → List ℕ) → (List ℕ → Opens → Type 0)
-    → List ℕ → List ℕ → Moment → Kept → Kept → List ℕ → Type 0
-AnsweringAlone error_frame private_frame opens text words now before after bytes =
-    Answering error_frame private_frame opens (λ (k : Kept). k.receipts) IsFullAt IsOpenedLike text words now before after bytes
+abbrev pub AnsweringAlone : {G : Type 0} → (G → Heard → G → Type 0) → (Answer → Moment → List ℕ) → (Seal → Answer → List ℕ → List ℕ) → (List ℕ → Opens → Type 0) → List ℕ
+    → List ℕ → List ℕ → Moment → Kept → Kept → G → G → List ℕ → Bool → Type 0
+AnsweringAlone hears error_frame private_frame opens peer text words now before after gate later bytes is_open =
+    Answering error_frame private_frame IsFullAt (λ (k : Kept). k.receipts) IsOpenedLike Makes hears opens peer text words now before after gate later bytes is_open
 
 -- a receipt was added, or none
-abbrev pub AddsOneAlone : Kept → Kept → Type 0
-AddsOneAlone before after = AddsOne (λ (k : Kept). k.receipts) IsOpenedLike before after
+abbrev pub AddsOneAlone : {G : Type 0} → (G → Heard → G → Type 0) → (List ℕ → Opens → Type 0) → List ℕ → List ℕ → Moment → Kept → Kept → G → G → Type 0
+AddsOneAlone hears opens peer text now before after gate later =
+    Unanswered (λ (k : Kept). k.receipts) IsOpenedLike Makes hears opens peer text now before after gate later
 
 -- the machine after the history so far
 abbrev pub run_of : Kept → Run
@@ -85,8 +88,8 @@ Writes _ old new bytes = Appends old new bytes
 
 -- the source gave these and no more; after want of memory it may have given more
 abbrev pub HasDrawn : {S A : Type 0} → (S → A → S → Type 0) → Ended → S → List A → S → Type 0
-HasDrawn {S} gives end.Memory before xs after = (m : S) × Drawn gives before xs m
-HasDrawn gives _ before xs after = Drawn gives before xs after
+HasDrawn {S} gives end.Memory before xs after = (m : S) × InTurn gives before xs m
+HasDrawn gives _ before xs after = InTurn gives before xs after
 
 -- the receipt of a request: of this moment, this append, and the machine's verdict
 pub record IsReceiptOf (run : Run) (d : Draw) (q : Request) (r : Receipt) : Type 0 where
@@ -124,7 +127,7 @@ AddsReceipts e limit run draws old new =
     × AreReceipts limit run draws added × AreMore e more
 
 -- with these frames, where messages open so, and clock and words give so: the whole
-pub record IsServedAlone {C X : Type 0} (error_frame : Answer → Moment → List ℕ) (private_frame : Seal → Answer → List ℕ → List ℕ) (opens : List ℕ → Opens → Type 0) (moments : C → Moment → C → Type 0) (random : X → ℕ → X → Type 0) (e : Ended) (stream : List ℕ) (start final : StreamState C X Kept) : Type 0 where
+pub record IsServedAlone {C X G : Type 0} (error_frame : Answer → Moment → List ℕ) (private_frame : Seal → Answer → List ℕ → List ℕ) (opens : List ℕ → Opens → Type 0) (moments : C → Moment → C → Type 0) (random : X → ℕ → X → Type 0) (e : Ended) (stream : List ℕ) (start final : StreamState C X Kept G) : Type 0 where
   pub draws : List Draw
   pub drawn_for : AreDrawnFor opens stream draws
   pub few : length draws ≤ 65536

@@ -2,7 +2,7 @@
 use Rattle.std.specs.Prelude.{◌≡◌, ℕ, ◌+◌, ◌%◌, ◌^◌, List, length, map}
 use Rattle.std.specs.List.{range_with_len}
 use Rattle.rand_chacha.specs.ChaCha.{word_at}
-use Rattle.chpw_serve.specs.Draws.{Drawn}
+use Rattle.chpw_answer.specs.InTurn.{InTurn}
 
 -- the key's eight words, the stream, and the place of the next word
 pub record WordStream : Type 0 where
@@ -23,4 +23,4 @@ first_words key stream count = map (λ place. word_at 10 key stream (place % 2 ^
 
 -- whatever is drawn from here on is the key's stream from its first word on
 abbrev pub GivesFromTheFirst : List ℕ → ℕ → WordStream → Type 0
-GivesFromTheFirst key stream s = (words : List ℕ) (t : WordStream) → Drawn gives_word s words t → words ≡ first_words key stream (length words)
+GivesFromTheFirst key stream s = (words : List ℕ) (t : WordStream) → InTurn gives_word s words t → words ≡ first_words key stream (length words)

@@ -2,7 +2,7 @@
 ghost use Rattle.std.specs.Prelude.{◌≡◌, ℕ, ◌<◌, length};
 ghost use Rattle.chpw_table.specs.declared.times.Moment.{Moment};
 ghost use Rattle.chpw_table.specs.Times.{IsMoment};
-ghost use Rattle.chpw_serve.specs.Draws.{Drawn};
+ghost use Rattle.chpw_answer.specs.InTurn.{InTurn};
 
 use chpw_answer::Drawing;
 use chpw_table::Moment;
@@ -31,7 +31,7 @@ pub trait Words {
 /// Draws for a message: its moment, and nine words.
 pub(crate) fn draw<C: Clock, X: Words>(clock: &mut C, words: &mut X) -> Drawing
     ensures moment { C.gives clock.old result.now clock.new }
-    ensures words { Drawn X.gives words.old result.words words.new }
+    ensures words { InTurn X.gives words.old result.words words.new }
     ensures nine { length result.words ≡ 9 }
 {
     let now = clock.now();
@@ -41,7 +41,7 @@ pub(crate) fn draw<C: Clock, X: Words>(clock: &mut C, words: &mut X) -> Drawing
 
 /// Nine words in turn.
 fn next_nine<X: Words>(words: &mut X) -> [u32; 9]
-    ensures words { Drawn X.gives words.old result words.new }
+    ensures words { InTurn X.gives words.old result words.new }
     ensures nine { length result ≡ 9 }
 {
     let w0 = words.next();

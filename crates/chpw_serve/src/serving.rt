@@ -1,8 +1,10 @@
 //! Serving a stream.
 ghost use Rattle.std.specs.Prelude.{◌≡◌, IfSome};
-ghost use Rattle.chpw_answer.specs.Answers.{Answering, AddsOne};
+ghost use Rattle.chpw_answer.specs.Answering.{Answering, Unanswered};
+ghost use Rattle.chpw_answer.specs.Hearing.{HearsNothing};
 ghost use Rattle.chpw_answer.specs.Holding.{answer_in};
-ghost use Rattle.chpw_serve.specs.Serving.{stream_state, message_too_long, IsServed, IsRefused};
+ghost use Rattle.chpw_serve.specs.Serving.{stream_state, message_too_long, IsServed, IsRefused, Passes};
+ghost use Rattle.chpw_answer.specs.declared.gate.NoGate.{NoGate};
 ghost use Rattle.chpw_serve.specs.ServedAlone.{AnsweringAlone, AddsOneAlone, IsServedAlone};
 
 use crate::draws::{Clock, Words, draw};
@@ -52,12 +54,12 @@ pub fn serve_stream<R: Read, W: Write, M: Messages, D: Decider, G: Gate, C: Cloc
     clock: &mut C,
     words: &mut X,
 ) -> Ended
-    ensures served { IsServed (Answering (M.error_frame service.now) (M.private_frame service.now)
-        (M.opens service.now peer) D.gathered D.may_be_full D.follows)
-        (AddsOne D.gathered D.follows) (λ now. M.error_frame service.now message_too_long now)
-        C.gives X.gives result
-        (stream_state (R.remaining reader.old) decider.old (W.contents writer.old) clock.old words.old)
-        (stream_state (R.remaining reader.new) decider.new (W.contents writer.new) clock.new words.new) }
+    ensures served { IsServed (Answering (M.error_frame service.now) (M.private_frame service.now) D.may_be_full
+        D.gathered D.follows D.made G.hears (M.opens service.now peer) peer)
+        (Unanswered D.gathered D.follows D.made G.hears (M.opens service.now peer) peer)
+        (λ now. M.error_frame service.now message_too_long now) C.gives X.gives G.hears peer result
+        (stream_state (R.remaining reader.old) decider.old (W.contents writer.old) clock.old words.old gate.old)
+        (stream_state (R.remaining reader.new) decider.new (W.contents writer.new) clock.new words.new gate.new) }
 {
     let mut served = 0;
     while served < MAX_MESSAGES {
@@ -86,7 +88,9 @@ pub fn serve_stream<R: Read, W: Write, M: Messages, D: Decider, G: Gate, C: Cloc
 }
 
 /// Passes the gate where the message opened.
-fn pass_answered<G: Gate>(gate: &mut G, opened: bool) {
+fn pass_answered<G: Gate>(gate: &mut G, opened: bool)
+    ensures passes { Passes G.hears opened gate.old gate.new }
+{
     if opened {
         gate.at(Spot::Answered);
     }
@@ -102,9 +106,9 @@ fn refuse<W: Write, M: Messages, G: Gate, C: Clock, X: Words>(
     clock: &mut C,
     words: &mut X,
 ) -> Ended
-    ensures end { IsRefused (λ now. M.error_frame service.now message_too_long now) C.gives X.gives result
-        (record { out = W.contents writer.old; clock = clock.old; words = words.old })
-        (record { out = W.contents writer.new; clock = clock.new; words = words.new }) }
+    ensures end { IsRefused (λ now. M.error_frame service.now message_too_long now) C.gives X.gives G.hears peer result
+        (record { out = W.contents writer.old; clock = clock.old; words = words.old; gate = gate.old })
+        (record { out = W.contents writer.new; clock = clock.new; words = words.new; gate = gate.new }) }
 {
     let drawn = draw(clock, words);
     gate.refused(peer, drawn.now, None, &too_long());
@@ -141,18 +145,18 @@ pub fn serve_alone<R: Read, W: Write, M: Messages, S: JournalSink, C: Clock, X: 
     clock: &mut C,
     words: &mut X,
 ) -> Ended
-    ensures served { IsServed
-        (AnsweringAlone (M.error_frame service.now) (M.private_frame service.now)
-        (M.opens service.now peer))
-        AddsOneAlone (λ now. M.error_frame service.now message_too_long now)
-        C.gives X.gives result
-        (stream_state (R.remaining reader.old) alone.old (W.contents writer.old) clock.old words.old)
-        (stream_state (R.remaining reader.new) alone.new (W.contents writer.new) clock.new words.new) }
-    ensures replies { IfSome (R.remaining reader.old) (λ stream. IsServedAlone
+    ensures served { (gate later : NoGate) × IsServed
+        (AnsweringAlone HearsNothing (M.error_frame service.now) (M.private_frame service.now)
+        (M.opens service.now peer) peer)
+        (AddsOneAlone HearsNothing (M.opens service.now peer) peer)
+        (λ now. M.error_frame service.now message_too_long now) C.gives X.gives HearsNothing peer result
+        (stream_state (R.remaining reader.old) alone.old (W.contents writer.old) clock.old words.old gate)
+        (stream_state (R.remaining reader.new) alone.new (W.contents writer.new) clock.new words.new later) }
+    ensures replies { IfSome (R.remaining reader.old) (λ stream. (gate later : NoGate) × IsServedAlone
         (M.error_frame service.now) (M.private_frame service.now) (M.opens service.now peer)
         C.gives X.gives result stream
-        (stream_state (R.remaining reader.old) alone.old (W.contents writer.old) clock.old words.old)
-        (stream_state (R.remaining reader.new) alone.new (W.contents writer.new) clock.new words.new)) }
+        (stream_state (R.remaining reader.old) alone.old (W.contents writer.old) clock.old words.old gate)
+        (stream_state (R.remaining reader.new) alone.new (W.contents writer.new) clock.new words.new later)) }
 {
     let ended = serve_stream(
         alloc,

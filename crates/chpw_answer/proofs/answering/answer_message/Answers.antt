@@ -17,7 +17,7 @@ fits_too a b e h = subst (λ (v : Vec ℕ Global). length v.items ≤ 65535) (sy
 pub returns-in_err-bytes-in-Refused-clause-refused : goal.returns-in_err-bytes-in-Refused-clause-refused
 returns-in_err-bytes-in-Refused-clause-refused g c = on_err c.from_residual-in_err-bytes-in-Refused.result (
     let t = hears_refused g.G.Gate.hears c.args.peer c.args.drawn.now (g.D.Decider.made c.args.decider.now) (g.D.Decider.gathered c.args.decider.now) (g.D.Decider.gathered c.args.decider.now) c.args.gate.now c.refused.new.self
-    _ c.in_ok-incoming.field-0 c.in-Refused.refusal c.in-Refused.is c.in_ok-incoming.ensures.opening c.refused.ensures.heard in
+    _ c.in_ok-incoming.field-0 c.in-Refused.refusal c.in-Refused.is c.in_ok-incoming.ensures.opening refl c.refused.ensures.heard in
     record { goes_on = g.met.D.Decider.stays c.args.decider.now; heard = t.2.0; hears_it = inr (t.0, t.1, t.2.1); in_turn = t.2.2 }
     )
 
