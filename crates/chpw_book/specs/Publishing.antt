@@ -14,8 +14,8 @@ use Rattle.chpw_table.specs.Decision.{newest_kvno}
 use Rattle.chpw_table.specs.History.{is_accepted}
 use Rattle.chpw_table.specs.declared.change.Accepted.{Accepted}
 use Rattle.chpw_table.specs.Versions.{change_by, accepted}
-use Rattle.chpw_fronts.specs.declared.change.NumberedKey.{NumberedKey}
-use Rattle.chpw_fronts.specs.declared.change.NumberedChange.TheVariants.{Key}
+use Rattle.chpw_fronts.specs.declared.change.NumberedChange.{NumberedChange}
+use Rattle.chpw_fronts.specs.declared.change.NumberedChange.TheVariants.{Key, Count}
 use Rattle.chpw_fronts.specs.Changes.{EndsWith}
 use Rattle.chpw_versions.specs.declared.rows.Row.{Row}
 use Rattle.chpw_versions.specs.Known.{Known, Shelved}
@@ -80,10 +80,17 @@ pub record Tells (opening : State) (before later : List Entry) (mine more : Know
 abbrev pub MayShow : Held → Known → Known → Name → Option Lookup → Type 0
 MayShow opening mine more name found = ((found ≡ None) × (more ≡ mine)) ⊎ LooksUp opening mine more name found
 
--- what was told ends, unless it is empty, with the change to a key of this version
-abbrev pub EndsInKvno : State → Option (List Accepted) → ℕ → Type 0
-EndsInKvno opening own kvno =
-    (front : List Accepted) × (own ≡ Some front) × (key : NumberedKey) × (key.kvno ≡ kvno) × EndsWith opening front (Key key)
+-- the version in a change of a key
+abbrev pub kvno_in : NumberedChange → Option ℕ
+kvno_in (Key key) = Some key.kvno
+kvno_in (Count count) = None
+
+-- nothing was told and there is no version; or this is the version in the change with which what was told ends,
+-- unless it is empty
+abbrev pub IsKvnoTold : State → Option (List Accepted) → Option ℕ → Type 0
+IsKvnoTold opening own kvno =
+    ((own ≡ None) × (kvno ≡ None))
+    ⊎ ((front : List Accepted) × (own ≡ Some front) × (change : NumberedChange) × (kvno ≡ kvno_in change) × EndsWith opening front change)
 
 -- the row of a name of which this is shown
 abbrev pub row_showing : Name → Lookup → Row

@@ -1,6 +1,6 @@
 //! A worker, and what it answers to a message.
 ghost use Rattle.std.specs.Prelude.{◌≡◌, ℕ, List, Option, Some, []};
-ghost use Rattle.chpw_answer.specs.Answers.{Answering, AddsOne};
+ghost use Rattle.chpw_answer.specs.Answering.{Answering, Unanswered};
 ghost use Rattle.chpw_serve.specs.Serving.{stream_state, message_too_long, IsServed};
 ghost use Rattle.chpw_serve.specs.declared.serving.Ended.{Ended};
 ghost use Rattle.chpw_pool.specs.Pools.{peer_in};
@@ -82,13 +82,13 @@ fn reply_to<M: Messages, K: Decider, G: Gate, C: Clock, X: Words>(
 ) -> Option<Reply>
     ensures replied { (ended : Ended) × (bytes : List ℕ) × (left : Option (List ℕ))
         × IsServed (Answering (M.error_frame worker.old.service.now)
-        (M.private_frame worker.old.service.now)
-        (M.opens worker.old.service.now peer) K.gathered K.may_be_full K.follows)
-        (AddsOne K.gathered K.follows)
+        (M.private_frame worker.old.service.now) K.may_be_full K.gathered K.follows K.made G.hears
+        (M.opens worker.old.service.now peer) peer)
+        (Unanswered K.gathered K.follows K.made G.hears (M.opens worker.old.service.now peer) peer)
         (λ now. M.error_frame worker.old.service.now message_too_long now)
-        C.gives X.gives ended
-        (stream_state (Some message.now) worker.old.decider (Some []) worker.old.clock worker.old.words)
-        (stream_state left worker.new.decider (Some bytes) worker.new.clock worker.new.words)
+        C.gives X.gives G.hears peer ended
+        (stream_state (Some message.now) worker.old.decider (Some []) worker.old.clock worker.old.words worker.old.gate.now)
+        (stream_state left worker.new.decider (Some bytes) worker.new.clock worker.new.words worker.new.gate.now)
         × IsReplyBehind ended bytes result }
 {
     let mut left = message;
