@@ -58,6 +58,7 @@ impl<D: DeskName, S: JournalSink> Desk<D, S> {
         requires room { (table_of unnamed).state.broken ≡ false → S.failed sink < 2 ^ 64 - 1 }
         ensures passes { IfOk result (λ r.
             r.1.items ≡ map new_pass (range_with_len 0 (workers_of unnamed))) }
+        ensures opening { OnOk result (opening_table D.root ≡ table_of unnamed) }
     {
         let standing = OpeningRules::of(&unnamed.table)?;
         let (book, passes) = Book::start(rt, alloc, unnamed, sink)?;

@@ -9,6 +9,7 @@ use Rattle.chpw_table.specs.declared.request.Body.{Body}
 use Rattle.chpw_table.specs.declared.request.Body.TheVariants.{Ask, BadPrivate, BadData}
 use Rattle.chpw_table.specs.declared.request.Opened.{Opened}
 use Rattle.chpw_table.specs.declared.request.Target.{Target}
+use Rattle.chpw_table.specs.declared.times.Moment.{Moment}
 use Rattle.chpw_table.specs.Requests.{client_of, named_or}
 use Rattle.chpw_table.specs.Replies.{Answer, answer_of}
 use Rattle.krb_protocol.specs.declared.refusal.Refusal.{Refusal}
@@ -91,15 +92,22 @@ outcome_fields o =
     ∷ codes "kvno" ∷ or_dash decimal o.kvno
     ∷ codes "text" ∷ words_text o.text ∷ []
 
+-- of a message that this worker answered, from a peer and at a moment
+abbrev pub fields_with : Moment → ℕ → List ℕ → Outcome → List (List ℕ)
+fields_with moment worker peer outcome =
+    moment_text moment
+    ∷ codes "worker" ∷ decimal worker
+    ∷ codes "peer" ∷ address_text peer
+    ∷ outcome_fields outcome
+
+abbrev pub line_with : Moment → ℕ → List ℕ → Outcome → List ℕ
+line_with moment worker peer outcome = join_with_byte 32 (fields_with moment worker peer outcome) ++ codes "\n"
+
 abbrev pub fields_of : Line → List (List ℕ)
-fields_of l =
-    moment_text l.moment
-    ∷ codes "worker" ∷ decimal l.worker
-    ∷ codes "peer" ∷ address_text l.peer
-    ∷ outcome_fields (outcome_of l.news)
+fields_of l = fields_with l.moment l.worker l.peer (outcome_of l.news)
 
 abbrev pub line_of : Line → List ℕ
-line_of l = join_with_byte 32 (fields_of l) ++ codes "\n"
+line_of l = line_with l.moment l.worker l.peer (outcome_of l.news)
 
 -- ---- what a line is
 

@@ -1,2 +1,3 @@
 pub mod OpeningLemmas
 pub mod FaultLemmas
+pub mod ServiceRunLemmas

@@ -2,9 +2,11 @@ pub mod Faults
 pub mod Following
 pub mod Opening
 pub mod Notices
+pub mod Noting
 pub mod Places
 pub mod Sheets
 pub mod Serving
+pub mod ServiceRuns
 pub mod Tallies
 pub mod Raised
 pub mod Telling

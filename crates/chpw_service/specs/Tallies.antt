@@ -8,6 +8,7 @@ use Rattle.chpw_table.specs.Verdicts.{is_done}
 use Rattle.chpw_table.specs.declared.history.Entry.{Entry}
 use Rattle.chpw_table.specs.declared.history.Event.{Event}
 use Rattle.chpw_table.specs.declared.history.Event.TheVariants.{Ask, Raise}
+use Rattle.chpw_journal.specs.Runs.{AreWhole}
 use Rattle.chpw_book.specs.Receipts.{IsNumbered}
 use Rattle.chpw_book.specs.Passes.{Carried}
 use Rattle.chpw_book.specs.Stored.{Stored, Replays}
@@ -28,10 +29,11 @@ abbrev pub password_changes : List Entry → ℕ
 password_changes history = count_by (λ (e : Entry). changes_a_password e.event) history
 
 -- the entries and changes of a history that the one-thread machine replays from the opening to this table, in
--- which each worker's calls are the receipts that its pass has
+-- which what the accepted entries bring in is whole, and each worker's calls are the receipts that its pass has
 pub record IsTally (opening : State) (workers : ℕ) (passes : List Carried) (tally : Tally) (table : Held) : Type 0 where
   pub history : List Entry
   pub legal : IsLegal opening history
+  pub whole : AreWhole opening history
   pub state : Agrees table.state (outcome opening history)
   pub numbered : IsNumbered history
   pub calls : (w : ℕ) → w < workers → HasCalls history passes w

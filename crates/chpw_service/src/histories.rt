@@ -1,16 +1,18 @@
 //! One history after the other.
-ghost use Rattle.std.specs.Prelude.{◌≡◌, ◌≤◌, ◌<◌, ◌-◌, ◌^◌, IfOk, IfErr, IfSome, OnErr, false, true, length};
-ghost use Rattle.chpw_fronts.specs.Pens.{opening_state};
+ghost use Rattle.std.specs.Prelude.{◌≡◌, ◌≤◌, ◌<◌, ◌-◌, ◌^◌, IfOk, IfErr, OnOk, OnErr, false, true, length};
+ghost use Rattle.chpw_fronts.specs.Pens.{opening_state, opening_table};
 ghost use Rattle.chpw_book.specs.Starting.{IsNamed, table_of, workers_of};
 ghost use Rattle.chpw_pool.specs.Engines.{workers_at};
 ghost use Rattle.chpw_service.specs.Faults.{IsLate};
-ghost use Rattle.chpw_service.specs.Following.{IsFollowed, reopened};
+ghost use Rattle.chpw_service.specs.Following.{reopened};
+ghost use Rattle.chpw_service.specs.ServiceRuns.{IsHistory, IsServiceRun};
 ghost use Rattle.chpw_service.specs.Serving.{is_full_with};
 ghost use Rattle.chpw_service.specs.declared.fault.ServeFault.TheVariants.{CannotPrint, Memory};
 
 use crate::closing::{Left, Tally, close_desk};
 use crate::fault::ServeFault;
-use crate::logging::{Log, Logging};
+use crate::gates::Logging;
+use crate::logging::{Log, LogLines};
 use crate::notices::{Notice, is_first, unreported};
 use chpw_book::{Desk, DeskName, Pass, StartFault, UnnamedDesk};
 use chpw_journal::FileSink;
@@ -25,9 +27,9 @@ use std::time::Clock;
 
 /// What is served with, at all desks.
 #[derive(Drop)]
-pub(crate) struct Hall<'l, R> {
+pub struct Hall<'l, R: Wait + Eprint> {
     pub service: Service,
-    pub engine: Engine<Logging<'l, R>>,
+    pub engine: Engine<Logging<LogLines<'l, R>>>,
     pub workers: u8,
     /// How many entries a history has at the most.
     pub max_entries: u32,
@@ -59,31 +61,44 @@ pub(crate) fn first_opening(table: Table, sink: FileSink<File>, workers: u8) -> 
 }
 
 /// Answers the messages of the engine's connections at this desk, and then at one after the other, until no more come.
-/// Where a history is full, its desk is closed and the next one opens with the table that was closed.
-pub(crate) fn serve_histories<
+/// Where a history is full, its desk is closed and the next one opens with the table that was closed. The table of the
+/// last desk is given back.
+#[tactic(auto, using(crate::proofs::ServiceRunLemmas::first_history, crate::proofs::ServiceRunLemmas::next_history))]
+pub fn serve_histories<
     'a,
     'l,
     D: DeskName + Send + Sync,
     R: Threads + Wait + Clock + Print + Eprint + AllocGlobal + Sync,
     T: Clock + Sync,
->(rt: &R, time: &T, hall: &Hall<'l, R>, first: Opened<D>) -> Result<(), ServeFault<'a>>
+>(rt: &R, time: &T, hall: &Hall<'l, R>, first: Opened<D>) -> Result<Table, ServeFault<'a>>
     requires passes { length first.passes.items ≡ hall.now.workers }
+    ensures served { IfOk result (λ table. IsServiceRun (opening_state D.root) table) }
     ensures fault { IfErr result IsLate }
 {
     let mut reported = Reported {
         is_lost: false,
         expired: 0,
     };
-    let mut next = serve_desk(rt, time, hall, first, &mut reported)?;
+    let mut served = serve_desk(rt, time, hall, first, &mut reported)?;
     for _ in rt.forever() {
-        match next {
-            None => return Ok(()),
-            Some(opening) => {
-                next = serve_history::<Brand, R, T>(rt, time, hall, opening, &mut reported)?;
-            }
+        if served.is_over {
+            return Ok(served.table);
         }
+        let opening = next_opening(served.table, served.sink, hall.workers)?;
+        served = serve_history::<Brand, R, T>(rt, time, hall, opening, &mut reported)?;
     }
-    Ok(())
+    Ok(served.table)
+}
+
+// What a desk left that was closed, and whether no more messages come. The sink has room for one failure more, or the
+// table is broken.
+#[derive(Drop)]
+struct Served {
+    table: Table,
+    sink: FileSink<File>,
+    is_over: bool,
+    ghost room: { table.state.broken ≡ false
+        → ⟦<FileSink<File> as JournalSink>⟧.failed sink < 2 ^ 64 - 1 },
 }
 
 /// What was reported on standard error so far.
@@ -108,13 +123,10 @@ fn serve_history<
     hall: &Hall<'l, R>,
     opening: Opening,
     reported: &mut Reported,
-) -> Result<Option<Opening>, ServeFault<'a>>
+) -> Result<Served, ServeFault<'a>>
     requires name { IsNamed opening.unnamed D.name D.parts D.book D.root D.workers }
     requires workers { workers_of opening.unnamed ≡ hall.now.workers }
-    ensures workers { IfOk result (λ o. IfSome o (λ next.
-        workers_of next.unnamed ≡ hall.now.workers)) }
-    ensures next { IfOk result (λ o. IfSome o (λ next.
-        IsFollowed (opening_state D.root) (table_of next.unnamed))) }
+    ensures served { IfOk result (λ served. IsHistory (table_of opening.unnamed).state served.table) }
     ensures fault { IfErr result IsLate }
 {
     match start_desk::<D, R>(rt, opening) {
@@ -123,7 +135,7 @@ fn serve_history<
     }
 }
 
-// Serves at a desk, closes it and prints what it did. What the next desk opens with, where messages may still come.
+// Serves at a desk, closes it and prints what it did.
 fn serve_desk<
     'a,
     'l,
@@ -136,12 +148,9 @@ fn serve_desk<
     hall: &Hall<'l, R>,
     opened: Opened<D>,
     reported: &mut Reported,
-) -> Result<Option<Opening>, ServeFault<'a>>
+) -> Result<Served, ServeFault<'a>>
     requires passes { length opened.passes.items ≡ hall.now.workers }
-    ensures workers { IfOk result (λ o. IfSome o (λ next.
-        workers_of next.unnamed ≡ hall.now.workers)) }
-    ensures next { IfOk result (λ o. IfSome o (λ next.
-        IsFollowed (opening_state D.root) (table_of next.unnamed))) }
+    ensures served { IfOk result (λ served. IsHistory (opening_state D.root) served.table) }
     ensures fault { IfErr result IsLate }
 {
     let Opened { desk, mut passes } = opened;
@@ -154,10 +163,11 @@ fn serve_desk<
     if served.is_err() {
         return Err(ServeFault::Memory);
     }
-    if over {
-        return Ok(None);
-    }
-    Ok(Some(next_opening(table, sink, hall.workers)?))
+    Ok(Served {
+        table,
+        sink,
+        is_over: over,
+    })
 }
 
 // Answers messages at a desk, unless a raise has taken the only entry that its history has room for.
@@ -202,7 +212,7 @@ fn is_full<D: DeskName>(passes: &[Pass<D>], max_entries: u32) -> bool
 }
 
 /// A desk that is open, with its passes.
-pub(crate) struct Opened<D: DeskName> {
+pub struct Opened<D: DeskName> {
     pub desk: Desk<D, FileSink<File>>,
     pub passes: Vec<Pass<D>>,
 }
@@ -214,6 +224,7 @@ pub(crate) fn start_desk<D: DeskName, R: Wait + AllocGlobal>(
 ) -> Result<Opened<D>, StartFault>
     requires name { IsNamed opening.unnamed D.name D.parts D.book D.root D.workers }
     ensures passes { IfOk result (λ opened. length opened.passes.items ≡ workers_of opening.unnamed) }
+    ensures opening { OnOk result (opening_table D.root ≡ table_of opening.unnamed) }
 {
     let Opening { unnamed, sink } = opening;
     match Desk::start(rt, rt.alloc(), unnamed, sink) {

@@ -5,7 +5,9 @@
 mod closing;
 mod fault;
 mod files;
+mod gates;
 mod histories;
+pub mod laws;
 mod logging;
 mod notices;
 mod places;
@@ -18,5 +20,8 @@ mod table;
 
 pub use fault::ServeFault;
 pub use files::{read_seed, read_settings};
+pub use histories::{Hall, Opened, serve_histories};
+pub use gates::{Lines, Logging};
+pub use logging::{Log, LogLines};
 pub use serving::{serve, serve_by};
 pub use table::{tell_table, write_table};

@@ -1,18 +1,17 @@
 //! The log of a service: what came of each message, a line each.
-ghost use Rattle.std.specs.Prelude.{◌+◌, ◌≤◌, ◌≡◌, ◌<◌, vec_len, IfOk, IfErr};
+ghost use Rattle.std.specs.Prelude.{◌+◌, ◌≤◌, ◌≡◌, ◌<◌, IfErr};
 ghost use Rattle.std.specs.Option.{ForSome};
 ghost use Rattle.chpw_table.specs.Times.{IsMoment};
 ghost use Rattle.chpw_service.specs.Faults.{IsOfClash, IsOfLog, IsUnlogged};
 
 use crate::fault::ServeFault;
+use crate::gates::Lines;
 use crate::notices::{Losses, Notice, is_first};
 use crate::places::keep_apart;
 use crate::sheets::{Sheet, is_standard_error};
-use chpw_answer::{Gate, Spot};
 use chpw_invocation::ServeOptions;
-use chpw_log::{Asked, Held, Limit, Line, News, micros_of, write_held, write_line};
-use chpw_table::{Event, Moment, Opened, Receipt, Verdict};
-use krb_protocol::Refusal;
+use chpw_log::{Held, Limit, Line, micros_of, write_held, write_line};
+use chpw_table::Moment;
 use std::alloc::{AllocError, Global};
 use std::fs::{File, Files};
 use std::io::{self, ErrorKind};
@@ -27,7 +26,7 @@ use std::sync::{Mutex, Wait};
 /// an empty line, shows where. The first time that is told on standard error, too; and so is the first change that the
 /// journal did not take.
 #[derive(Drop)]
-pub(crate) struct Log<'l, R> {
+pub struct Log<'l, R> {
     rt: &'l R,
     alloc: Global,
     journal: &'l str,
@@ -203,68 +202,25 @@ impl Book<'_> {
     }
 }
 
-/// What a worker passes with its messages.
+/// The lines of a log, as a worker's gate puts them. They go to a file or a terminal that the others share, so nothing is
+/// told of them here.
 #[derive(Drop)]
-pub(crate) struct Logging<'l, R> {
-    log: &'l Log<'l, R>,
-    worker: u8,
+pub struct LogLines<'l, R> {
+    pub(crate) log: &'l Log<'l, R>,
 }
 
-/// One for each worker.
-pub(crate) fn log_gates<'l, R>(
-    alloc: Global,
-    log: &'l Log<'l, R>,
-    workers: u8,
-) -> Result<Vec<Logging<'l, R>>, AllocError>
-    ensures count { IfOk result (λ gates. vec_len gates ≡ workers) }
-{
-    let mut gates = Vec::with_capacity(alloc, usize::from(workers))?;
-    for worker in 0..workers {
-        gates.push(Logging { log, worker })?;
-    }
-    Ok(gates)
-}
+impl<R: Wait + Eprint> Lines for LogLines<'_, R> {
+    ghost takes = { λ a n b. Unit {0} };
 
-impl<R: Wait + Eprint> Gate for Logging<'_, R> {
-    fn at(&mut self, _spot: Spot) {}
-
-    // A raise is no message's.
-    fn decided(&mut self, peer: [u8; 4], now: Moment, receipt: &Receipt, kvno: Option<u32>) {
-        if let Event::Ask { opened, verdict } = &receipt.entry.event {
-            if matches!(verdict, Verdict::Broken) {
-                self.log.tell_failed();
-            }
-            self.log.put(&Line {
-                moment: now,
-                worker: self.worker,
-                peer,
-                news: News::Decided {
-                    asked: Asked::of(opened),
-                    verdict: *verdict,
-                    kvno,
-                },
-            });
-        }
+    fn put(&mut self, line: &Line<'_>) {
+        self.log.put(line);
     }
 
-    fn refused(&mut self, peer: [u8; 4], now: Moment, opened: Option<&Opened>, refusal: &Refusal) {
-        let (moment, worker) = (now, self.worker);
-        match opened {
-            Some(opened) => self.log.put(&Line {
-                moment,
-                worker,
-                peer,
-                news: News::Full {
-                    asked: Asked::of(opened),
-                    refusal,
-                },
-            }),
-            None => self.log.put_unopened(&Line {
-                moment,
-                worker,
-                peer,
-                news: News::Unopened { refusal },
-            }),
-        }
+    fn put_unopened(&mut self, line: &Line<'_>) {
+        self.log.put_unopened(line);
+    }
+
+    fn tell_failed(&mut self) {
+        self.log.tell_failed();
     }
 }

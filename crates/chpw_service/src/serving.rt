@@ -9,7 +9,8 @@ ghost use Rattle.chpw_service.specs.declared.fault.ServeFault.TheVariants.{Canno
 use crate::fault::{LateFault, ServeFault};
 use crate::files::{read_seed, read_settings};
 use crate::histories::{Hall, Opened, Opening, first_opening, serve_histories, start_desk};
-use crate::logging::{Log, Logging, log_gates, log_of};
+use crate::gates::{Logging, log_gates};
+use crate::logging::{Log, LogLines, log_of};
 use crate::notices::Notice;
 use crate::raising::raise_where_asked;
 use crate::starting::open_table;
@@ -266,7 +267,7 @@ fn engine_of<'a, 'l, R: Net + Wait + Eprint>(
     workers: u8,
     terms: &Terms,
     log: &'l Log<'l, R>,
-) -> Result<Engine<Logging<'l, R>>, ServeFault<'a>>
+) -> Result<Engine<Logging<LogLines<'l, R>>>, ServeFault<'a>>
     requires some_workers { 1 ≤ workers }
     ensures workers { IfOk result (λ engine. workers_at engine ≡ workers) }
     ensures fault { IfErr result IsLate }
@@ -346,7 +347,7 @@ fn serve_or_desert<
         return Ok(());
     };
     match serve_histories(rt, time, hall, opened) {
-        Ok(()) => Ok(()),
+        Ok(_) => Ok(()),
         Err(fault) => {
             hall.engine.desert(rt);
             Err(LateFault::of(fault))

@@ -1,0 +1,59 @@
+-- What the log notes of what a gate hears.
+use Rattle.std.specs.Prelude.{ℕ, List, [], ◌∷◌, ◌++◌, Option, Some, None}
+use Rattle.chpw_table.specs.declared.times.Moment.{Moment}
+use Rattle.chpw_table.specs.declared.request.Opened.{Opened}
+use Rattle.chpw_table.specs.declared.request.Target.{Target}
+use Rattle.chpw_table.specs.declared.history.Event.{Event}
+use Rattle.chpw_table.specs.declared.history.Event.TheVariants.{Ask, Raise}
+use Rattle.chpw_table.specs.declared.verdict.Verdict.{Verdict}
+use Rattle.chpw_table.specs.declared.verdict.Verdict.TheVariants.{Broken}
+use Rattle.chpw_table.specs.Requests.{client_of}
+use Rattle.chpw_table.specs.Replies.{Answer, answer_of}
+use Rattle.chpw_answer.specs.Hearing.{Heard, passed, decision, refusal}
+use Rattle.chpw_log.specs.Lines.{Outcome, target_asked, line_with}
+
+-- the line of a message that opened, of this moment; that of one that didn't, which may be held back, with its peer;
+-- or that the journal did not take a change
+pub data Noted : Type 0 where
+  opened : Moment → List ℕ → Noted
+  unopened : Moment → List ℕ → List ℕ → Noted
+  journal_failed : Noted
+
+-- what came of a message, with the reply's answer
+abbrev pub outcome_with : Option Target → Option Target → Answer → Option ℕ → Outcome
+outcome_with client target a kvno = record {
+  client = client;
+  target = target;
+  code = a.code;
+  error = a.error;
+  kvno = kvno;
+  text = a.text;
+}
+
+abbrev pub decided_line : ℕ → List ℕ → Moment → Opened → Verdict → Option ℕ → List ℕ
+decided_line worker peer now o v kvno =
+    line_with now worker peer (outcome_with (Some (client_of o)) (target_asked o) (answer_of v) kvno)
+
+-- of a request that was refused undecided
+abbrev pub refused_line : ℕ → List ℕ → Moment → Opened → Answer → List ℕ
+refused_line worker peer now o a = line_with now worker peer (outcome_with (Some (client_of o)) (target_asked o) a None)
+
+-- of a message that didn't open
+abbrev pub unopened_line : ℕ → List ℕ → Moment → Answer → List ℕ
+unopened_line worker peer now a = line_with now worker peer (outcome_with None None a None)
+
+abbrev pub failed_under : Verdict → List Noted
+failed_under Broken = journal_failed ∷ []
+failed_under v = []
+
+-- of a decision: its line, and before it that the journal failed, where it did; a raise is no message's
+abbrev pub noted_event : ℕ → List ℕ → Moment → Event → Option ℕ → List Noted
+noted_event worker peer now (Ask o v) kvno = failed_under v ++ opened now (decided_line worker peer now o v kvno) ∷ []
+noted_event worker peer now (Raise count v) kvno = []
+
+-- by the gate of this worker
+abbrev pub noted : ℕ → Heard → List Noted
+noted worker (passed spot) = []
+noted worker (decision peer now r kvno) = noted_event worker peer now r.entry.event kvno
+noted worker (refusal peer now (Some o) a) = opened now (refused_line worker peer now o a) ∷ []
+noted worker (refusal peer now None a) = unopened now peer (unopened_line worker peer now a) ∷ []
