@@ -51,7 +51,7 @@ count_history t s (e ∷ es) legal same =
     ∙ count_history (restored t (event_records s e.event)) (step_entry s e) es legal.1
     (count_after t s e.now e.io_failed e.event legal.0 same (is_accepted e.event) refl)
 
-count_runs : (t s : State) (runs : List Run) → AreRuns s runs → KeepCount s runs → new_count t ≡ new_count s → new_count (restored t (records_in runs)) ≡ new_count (last_state s runs)
+pub count_runs : (t s : State) (runs : List Run) → AreRuns s runs → KeepCount s runs → new_count t ≡ new_count s → new_count (restored t (records_in runs)) ≡ new_count (last_state s runs)
 count_runs t s [] h k same = same
 count_runs t s (r ∷ rs) h k same =
     ap new_count (restored_joined t (records_of r.opening r.history) (records_in rs))

@@ -48,12 +48,12 @@ append_done io v h = at (is_done v && io) h
     at false k = k
 
 -- no row refuses what was accepted, were its append not to fail
-accepted_row : (s : State) (now : Moment) (o : Opened) (io : Bool) (v : Verdict) → IsDecided s now o io v → is_done v ≡ true → is_done (key_row s o false) ≡ true
+pub accepted_row : (s : State) (now : Moment) (o : Opened) (io : Bool) (v : Verdict) → IsDecided s now o io v → is_done v ≡ true → is_done (key_row s o false) ≡ true
 accepted_row s now o io v d h =
     let is : verdict s now o io ≡ Done = sym d.verdict_is ∙ done_is v h in
     done_key_row s now o (append_done io (verdict s now o false) (sym (verdict_written s now o io) ∙ is))
 
-some_keys : (o : Option (List KeyRow)) → is_none o ≡ false → (keys : List KeyRow) × (o ≡ Some keys)
+pub some_keys : (o : Option (List KeyRow)) → is_none o ≡ false → (keys : List KeyRow) × (o ≡ Some keys)
 some_keys None h = absurd (cc)
 some_keys (Some keys) h = (keys, refl)
 
@@ -105,7 +105,7 @@ module _ (s : State) (now : Moment) (o : Opened) (io : Bool) (v : Verdict) (soun
 -- ---- what an event leaves
 
 -- the keys of a name after a decision
-after_decision : (s : State) (now : Moment) (o : Opened) (io : Bool) (v : Verdict) → IsDecided s now o io v → (name : Name)
+pub after_decision : (s : State) (now : Moment) (o : Opened) (io : Bool) (v : Verdict) → IsDecided s now o io v → (name : Name)
     → keys_held (step s now o io) name ≡ (if is_done v && is_same_name (target_of o).name name then option_map (put (kept_count s) (new_key s o)) (keys_held s name) else keys_held s name)
 after_decision s now o io v d name =
     keys_after s (verdict s now o io) now o io name
@@ -169,7 +169,7 @@ count_fits : (m n : ℕ) (b : Bool) → is_in iteration_counts n ≡ true → (b
 count_fits m n true h w = w refl
 count_fits m n false h w = h
 
-sound_event : (s : State) (now : Moment) (io : Bool) (event : Event) → IsSound s → IsJudged s now io event → (is_accepted event ≡ true → BringsWhole s event) → IsSound (step_event s now io event)
+pub sound_event : (s : State) (now : Moment) (io : Bool) (event : Event) → IsSound s → IsJudged s now io event → (is_accepted event ≡ true → BringsWhole s event) → IsSound (step_event s now io event)
 sound_event s now io (Ask o v) sound d w = sound_after s now o io v sound d
 sound_event s now io (Raise count v) sound d w = record {
   count = count_fits count (new_count s) (is_raised (raise_verdict s count io)) sound.count (λ h. w (ap is_raised d.verdict_is ∙ h));
@@ -179,7 +179,7 @@ sound_event s now io (Raise count v) sound d w = record {
 
 -- ---- histories and runs
 
-abbrev Follows : State → List Record → State → Type 0
+abbrev pub Follows : State → List Record → State → Type 0
 Follows t records last = AreNext t records × SameKeys (restored t records) last
 
 event_next : (t s last : State) (now : Moment) (io : Bool) (event : Event) (rs : List Record) → SameKeys t s → IsSound s → IsJudged s now io event
@@ -202,10 +202,10 @@ history_next t s (e ∷ es) same sound legal w =
     (λ u same2. history_next u (step_entry s e) es same2 (sound_event s e.now e.io_failed e.event sound legal.0 w.0) legal.1 w.1)
     (is_accepted e.event) refl
 
-same_next : (t s u : State) → SameKeys t s → SameKeys s u → SameKeys t u
+pub same_next : (t s u : State) → SameKeys t s → SameKeys s u → SameKeys t u
 same_next t s u h g = record { kept = h.kept ∙ g.kept; keys = λ name. h.keys name ∙ g.keys name }
 
-runs_next : (t s : State) (runs : List Run) → SameKeys t s → AreRuns s runs → Follows t (records_in runs) (last_state s runs)
+pub runs_next : (t s : State) (runs : List Run) → SameKeys t s → AreRuns s runs → Follows t (records_in runs) (last_state s runs)
 runs_next t s [] same h = (tt, same)
 runs_next t s (r ∷ rs) same h =
     let n = history_next t r.opening r.history (same_next t s r.opening same h.0) h.1 h.2 h.3 in
@@ -214,7 +214,7 @@ runs_next t s (r ∷ rs) same h =
       subst (λ (u : State). SameKeys u (last_state (outcome r.opening r.history) rs)) (sym (restored_joined t (records_of r.opening r.history) (records_in rs))) m.1,
     )
 
-same_itself : (s : State) → SameKeys s s
+pub same_itself : (s : State) → SameKeys s s
 same_itself s = record { kept = refl; keys = λ name. refl }
 
 event_text : (s : State) (event : Event) (rs : List Record) (more : List ℕ) → records_text rs ≡ more → (b : Bool)
