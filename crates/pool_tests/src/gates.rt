@@ -1,5 +1,7 @@
 //! What holds workers: gates, and a clock.
 use chpw_answer::{Gate, Spot};
+use chpw_table::{Moment, Opened, Receipt};
+use krb_protocol::Refusal;
 use std::process::Abort;
 use std::sync::{Barrier, Mutex, Wait};
 use std::time::{Clock, Duration};
@@ -13,6 +15,10 @@ pub struct Together<'a, R: Wait> {
 }
 
 impl<R: Wait> Gate for Together<'_, R> {
+    ghost use Rattle.chpw_answer.specs.Hearing.{HearsNothing};
+
+    ghost hears = { HearsNothing };
+
     fn at(&mut self, spot: Spot) {
         match spot {
             Spot::Opened => {
@@ -20,6 +26,17 @@ impl<R: Wait> Gate for Together<'_, R> {
             }
             Spot::Answered => {}
         }
+    }
+
+    fn decided(&mut self, _peer: [u8; 4], _now: Moment, _receipt: &Receipt, _kvno: Option<u32>) {}
+
+    fn refused(
+        &mut self,
+        _peer: [u8; 4],
+        _now: Moment,
+        _opened: Option<&Opened>,
+        _refusal: &Refusal,
+    ) {
     }
 }
 
@@ -37,6 +54,10 @@ pub struct SecondFirst<'a, R: Wait + Clock + Abort> {
 }
 
 impl<R: Wait + Clock + Abort> Gate for SecondFirst<'_, R> {
+    ghost use Rattle.chpw_answer.specs.Hearing.{HearsNothing};
+
+    ghost hears = { HearsNothing };
+
     fn at(&mut self, spot: Spot) {
         match (spot, self.is_first) {
             (Spot::Opened, true) => {
@@ -45,6 +66,17 @@ impl<R: Wait + Clock + Abort> Gate for SecondFirst<'_, R> {
             (Spot::Answered, false) => *self.answered.lock(self.rt) = true,
             _ => {}
         }
+    }
+
+    fn decided(&mut self, _peer: [u8; 4], _now: Moment, _receipt: &Receipt, _kvno: Option<u32>) {}
+
+    fn refused(
+        &mut self,
+        _peer: [u8; 4],
+        _now: Moment,
+        _opened: Option<&Opened>,
+        _refusal: &Refusal,
+    ) {
     }
 }
 
@@ -56,11 +88,26 @@ pub struct UntilTold<'a, R: Wait + Clock + Abort> {
 }
 
 impl<R: Wait + Clock + Abort> Gate for UntilTold<'_, R> {
+    ghost use Rattle.chpw_answer.specs.Hearing.{HearsNothing};
+
+    ghost hears = { HearsNothing };
+
     fn at(&mut self, spot: Spot) {
         match spot {
             Spot::Opened => wait_for(self.rt, self.is_told, "nobody told the worker to go on"),
             Spot::Answered => {}
         }
+    }
+
+    fn decided(&mut self, _peer: [u8; 4], _now: Moment, _receipt: &Receipt, _kvno: Option<u32>) {}
+
+    fn refused(
+        &mut self,
+        _peer: [u8; 4],
+        _now: Moment,
+        _opened: Option<&Opened>,
+        _refusal: &Refusal,
+    ) {
     }
 }
 

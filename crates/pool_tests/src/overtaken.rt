@@ -55,6 +55,8 @@ fn count_raised_to(decision: u32) -> u32
 impl<D: DeskName, R: Wait + Abort> Decider for Overtaken<'_, D, R> {
     ghost use Rattle.std.specs.Prelude.{◌≡◌, refl, true};
     ghost use Rattle.std.proofs.Common.{◌∙◌};
+    ghost use Rattle.chpw_fronts.specs.Pens.{opening_state};
+    ghost use Rattle.chpw_book.specs.Publishing.{IsKvnoTold};
 
     ghost gathered = { λ a. a.place.pass.now.receipts };
 
@@ -63,6 +65,8 @@ impl<D: DeskName, R: Wait + Abort> Decider for Overtaken<'_, D, R> {
     ghost follows = { λ a b. (b.place.pass.ghost_name ≡ a.place.pass.ghost_name)
         × (b.place.pass.now.worker ≡ a.place.pass.now.worker)
         × (a.place.pass.now.was_full ≡ true → b.place.pass.now.was_full ≡ true) };
+
+    ghost made = { λ a kvno. IsKvnoTold (opening_state D.root) a.place.pass.now.place.own kvno };
 
     fn lookup(&mut self, name: &Name) -> Option<Lookup> {
         self.place.lookup(name)

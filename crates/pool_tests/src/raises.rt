@@ -13,7 +13,8 @@ use chpw_book::{AtDesk, Desk, DeskName, Pass, UnnamedDesk};
 use chpw_client::Sent;
 use chpw_journal::{MemorySink, Restored, restore};
 use chpw_messages::Service;
-use chpw_table::{Entry, Event, Lookup, RaiseVerdict, Verdict};
+use chpw_table::{Entry, Event, Lookup, Moment, Opened, RaiseVerdict, Receipt, Verdict};
+use krb_protocol::Refusal;
 use std::alloc::Global;
 use std::marker::Brand;
 use std::process::Abort;
@@ -33,6 +34,10 @@ struct Raises<'a, D: DeskName, R: Wait + Abort> {
 }
 
 impl<D: DeskName, R: Wait + Abort> Gate for Raises<'_, D, R> {
+    ghost use Rattle.chpw_answer.specs.Hearing.{HearsNothing};
+
+    ghost hears = { HearsNothing };
+
     fn at(&mut self, spot: Spot) {
         match spot {
             Spot::Opened => {
@@ -41,6 +46,17 @@ impl<D: DeskName, R: Wait + Abort> Gate for Raises<'_, D, R> {
             }
             Spot::Answered => {}
         }
+    }
+
+    fn decided(&mut self, _peer: [u8; 4], _now: Moment, _receipt: &Receipt, _kvno: Option<u32>) {}
+
+    fn refused(
+        &mut self,
+        _peer: [u8; 4],
+        _now: Moment,
+        _opened: Option<&Opened>,
+        _refusal: &Refusal,
+    ) {
     }
 }
 

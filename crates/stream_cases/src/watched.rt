@@ -91,6 +91,8 @@ impl<S: JournalSink> Decider for Watched<S> {
 
     ghost follows = { λ _ _. Unit {0} };
 
+    ghost made = { λ _ _. Unit {0} };
+
     fn lookup(&mut self, name: &Name) -> Option<Lookup> {
         add_name(&mut self.names, name);
         self.alone.lookup(name)
