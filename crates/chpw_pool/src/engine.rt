@@ -127,12 +127,9 @@ impl<G> Engine<G> {
     pub(crate) fn answer<R: Wait + Clock>(&self, rt: &R, slot: usize, reply: Option<Reply>) {
         let now = milliseconds(rt);
         let mut hub = self.hub.lock(rt);
-        let next = hub.answer(slot, reply, now);
+        hub.answer(slot, reply, now);
         let is_left = hub.state.wants_reactor();
         MutexGuard::unlock(hub);
-        if let Some(worker) = next {
-            self.call(worker);
-        }
         if is_left {
             self.wake();
         }

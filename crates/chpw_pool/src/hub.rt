@@ -53,31 +53,29 @@ impl Hub {
     }
 
     /// A worker's reply to a connection's message, or the word that there is none. The reply is written as far as the
-    /// socket takes it, and behind it the next message is read as far as it is there; the worker for whom that one waits
-    /// then.
-    pub fn answer(&mut self, slot: usize, reply: Option<Reply>, now: u64) -> Option<usize>
+    /// socket takes it, and behind it the next message is read as far as it is there: it waits for the same worker, which
+    /// looks into its queue next.
+    pub fn answer(&mut self, slot: usize, reply: Option<Reply>, now: u64)
         ensures answers { Answers (bounds_of self.old.state.connections) now reply (slots_of self.old.state.connections) (slots_of self.new.state.connections) slot }
     {
         self.state.answer(slot, reply, now);
-        self.run(slot, now)
+        self.run(slot, now);
     }
 
-    // Does one thing after the other for a connection, as far as its socket goes along; the worker for whom a message
-    // waits then. A connection that has ended is left to the reactor, which counts them.
-    fn run(&mut self, slot: usize, now: u64) -> Option<usize>
+    // Does one thing after the other for a connection, as far as its socket goes along, or until a message waits for its
+    // worker. A connection that has ended is left to the reactor, which counts them.
+    fn run(&mut self, slot: usize, now: u64)
         ensures runs { RunsTo (bounds_of self.old.state.connections) now slot (slots_of self.old.state.connections) (slots_of self.new.state.connections) }
     {
         for _ in 0..STEPS {
             if self.state.todo(slot) == Todo::Close {
-                return None;
+                return;
             }
             match self.step(slot, now) {
                 Progress::Some => {}
-                Progress::Queued(worker) => return Some(worker),
-                Progress::None => return None,
+                Progress::Queued(_) | Progress::None => return,
             }
         }
         self.state.connections.look_again(slot);
-        None
     }
 }

@@ -1,4 +1,5 @@
-//! The reactor: one thread that has the listener and all sockets, and never waits for one of them alone.
+//! The reactor: one thread that has the listener and waits for all sockets, and never for one of them alone. The sockets
+//! lie under the lock that it shares with the workers.
 
 use crate::accepting::{Accepting, is_passing};
 use crate::engine::{Engine, milliseconds};

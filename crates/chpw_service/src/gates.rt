@@ -71,7 +71,15 @@ impl<L: Lines> Gate for Logging<L> {
     fn decided(&mut self, peer: [u8; 4], now: Moment, receipt: &Receipt, kvno: Option<u32>) {
         if let Event::Ask { opened, verdict } = &receipt.entry.event {
             tell_failed(&mut self.lines, *verdict);
-            put_decided(&mut self.lines, self.worker, peer, now, opened, *verdict, kvno);
+            put_decided(
+                &mut self.lines,
+                self.worker,
+                peer,
+                now,
+                opened,
+                *verdict,
+                kvno,
+            );
         }
     }
 

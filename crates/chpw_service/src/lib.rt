@@ -20,8 +20,8 @@ mod table;
 
 pub use fault::ServeFault;
 pub use files::{read_seed, read_settings};
-pub use histories::{Hall, Opened, serve_histories};
 pub use gates::{Lines, Logging};
+pub use histories::{Hall, Opened, serve_histories};
 pub use logging::{Log, LogLines};
 pub use serving::{serve, serve_by};
 pub use table::{tell_table, write_table};

@@ -8,8 +8,8 @@ ghost use Rattle.chpw_service.specs.declared.fault.ServeFault.TheVariants.{Canno
 
 use crate::fault::{LateFault, ServeFault};
 use crate::files::{read_seed, read_settings};
-use crate::histories::{Hall, Opened, Opening, first_opening, serve_histories, start_desk};
 use crate::gates::{Logging, log_gates};
+use crate::histories::{Hall, Opened, Opening, first_opening, serve_histories, start_desk};
 use crate::logging::{Log, LogLines, log_of};
 use crate::notices::Notice;
 use crate::raising::raise_where_asked;
