@@ -1,5 +1,5 @@
 -- What `serve --raise COUNT` prints before it listens.
-use Rattle.std.specs.Prelude.{◌≡◌, ℕ, List, ◌++◌, codes, Option, Some, None, Result, Ok, Err, IfOk, IfErr}
+use Rattle.std.specs.Prelude.{◌≡◌, ℕ, List, [], ◌∷◌, ◌++◌, codes, Option, Some, None, Result, Ok, Err, IfOk, IfErr}
 use Rattle.std.specs.Fmt.{decimal}
 use Rattle.chpw_table.specs.State.{State}
 use Rattle.chpw_table.specs.declared.times.Moment.{Moment}
@@ -37,3 +37,14 @@ pub record IsRaise {C : Type 0} (gives : C → Moment → C → Type 0) (opening
   pub told_is : told ≡ told_as count raised
   pub noted : IfOk raised (λ verdict. Notes opening mine more now (Raise count verdict))
   pub refused : IfErr raised (λ fault. more ≡ raise_refused_with fault mine)
+
+-- it was asked by the first of these passes, and the others are as they were
+abbrev pub IsRaiseOfFirst : {C : Type 0} → (C → Moment → C → Type 0) → State → C → C → List Carried → List Carried → ℕ → Type 0
+IsRaiseOfFirst gives opening before after [] new count = new ≡ []
+IsRaiseOfFirst gives opening before after (mine ∷ others) new count =
+    (more : Carried) × (told : RaiseTold) × (new ≡ more ∷ others) × IsRaise gives opening before after mine more count (Some told)
+
+-- where it is wanted
+abbrev pub IsRaisedWhereAsked : {C : Type 0} → (C → Moment → C → Type 0) → State → C → C → List Carried → List Carried → Option ℕ → Type 0
+IsRaisedWhereAsked gives opening before after old new None = new ≡ old
+IsRaisedWhereAsked gives opening before after old new (Some count) = IsRaiseOfFirst gives opening before after old new count

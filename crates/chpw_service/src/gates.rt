@@ -13,6 +13,7 @@ use chpw_log::{Asked, Line, News};
 use chpw_table::{Event, Moment, Opened, Receipt, Verdict};
 use krb_protocol::Refusal;
 use std::alloc::{AllocError, Global};
+use std::sync::Wait;
 
 /// Where the lines of a log go.
 pub trait Lines {

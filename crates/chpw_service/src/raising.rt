@@ -1,9 +1,9 @@
 //! A raise of the iteration count of new keys, before the service listens.
-ghost use Rattle.std.specs.Prelude.{◌≡◌, ◌≤◌, ℕ, IfErr, Some, true, length};
+ghost use Rattle.std.specs.Prelude.{◌≡◌, ◌≤◌, ℕ, IfErr, OnOk, Some, true, length};
 ghost use Rattle.chpw_rules.specs.Limits.{is_in, iteration_counts};
 ghost use Rattle.chpw_fronts.specs.Pens.{opening_state};
 ghost use Rattle.chpw_service.specs.Faults.{IsLate};
-ghost use Rattle.chpw_service.specs.Raised.{told_as, IsRaise};
+ghost use Rattle.chpw_service.specs.Raised.{told_as, IsRaise, IsRaiseOfFirst, IsRaisedWhereAsked};
 ghost use Rattle.chpw_service.specs.declared.fault.ServeFault.TheVariants.{CannotPrint};
 
 use crate::fault::ServeFault;
@@ -54,10 +54,32 @@ pub(crate) fn raise_where_asked<'a, D: DeskName, R: Wait + Print, C: Clock>(
     asked: Option<u32>,
 ) -> Result<(), ServeFault<'a>>
     requires count { (count : ℕ) → asked ≡ Some count → (1 ≤ count) × (count ≤ 16777216) }
+    ensures raised { OnOk result (IsRaisedWhereAsked C.gives (opening_state D.root) clock.old clock.new
+        passes.old passes.new asked) }
     ensures passes { length passes.new ≡ length passes.old }
     ensures fault { IfErr result IsLate }
 {
-    let (Some(count), Some(pass)) = (asked, passes.first_mut()) else {
+    match asked {
+        None => Ok(()),
+        Some(count) => raise_by_first(rt, desk, passes, clock, count),
+    }
+}
+
+// Raises by the first pass, and prints what came of it.
+fn raise_by_first<'a, D: DeskName, R: Wait + Print, C: Clock>(
+    rt: &R,
+    desk: &Desk<D, FileSink<File>>,
+    passes: &mut [Pass<D>],
+    clock: &mut C,
+    count: u32,
+) -> Result<(), ServeFault<'a>>
+    requires count { is_in iteration_counts count ≡ true }
+    ensures raised { OnOk result (IsRaiseOfFirst C.gives (opening_state D.root) clock.old clock.new
+        passes.old passes.new count) }
+    ensures passes { length passes.new ≡ length passes.old }
+    ensures fault { IfErr result IsLate }
+{
+    let [pass, ..] = passes else {
         return Ok(());
     };
     match raise(rt, desk, pass, clock, count) {

@@ -3,6 +3,8 @@ ghost use Rattle.std.specs.Prelude.{◌≡◌, ◌≤◌, IfOk, IfErr, IfSome, N
 ghost use Rattle.chpw_book.specs.Starting.{IsNamed, workers_of};
 ghost use Rattle.chpw_pool.specs.Engines.{workers_at};
 ghost use Rattle.chpw_service.specs.Faults.{IsLate, IsOfService, told_as};
+ghost use Rattle.chpw_fronts.specs.Pens.{opening_state};
+ghost use Rattle.chpw_service.specs.Raised.{IsRaisedWhereAsked};
 ghost use Rattle.chpw_service.specs.Serving.{IsAskedFor};
 ghost use Rattle.chpw_service.specs.declared.fault.ServeFault.TheVariants.{CannotListen};
 
@@ -166,6 +168,8 @@ fn prepared<
     clock: &mut C,
 ) -> Result<(TcpListener, Hall<'l, R>), ServeFault<'a>>
     ensures workers { IfOk result (λ r. r.1.workers ≡ start.entry.options.now.workers) }
+    ensures raised { OnOk result (IsRaisedWhereAsked C.gives (opening_state D.root) clock.old clock.new
+        passes.old passes.new start.entry.options.now.raise) }
     ensures passes { length passes.new ≡ length passes.old }
     ensures fault { IfErr result IsLate }
 {

@@ -36,8 +36,7 @@ impl<R: Wait> Gate for Together<'_, R> {
         _now: Moment,
         _opened: Option<&Opened>,
         _refusal: &Refusal,
-    ) {
-    }
+    ) {}
 }
 
 /// Turns of a millisecond that a worker is held for at the most.
@@ -76,8 +75,7 @@ impl<R: Wait + Clock + Abort> Gate for SecondFirst<'_, R> {
         _now: Moment,
         _opened: Option<&Opened>,
         _refusal: &Refusal,
-    ) {
-    }
+    ) {}
 }
 
 /// Holds a worker before its decision until it is told to go on. After too many turns the test fails.
@@ -107,8 +105,7 @@ impl<R: Wait + Clock + Abort> Gate for UntilTold<'_, R> {
         _now: Moment,
         _opened: Option<&Opened>,
         _refusal: &Refusal,
-    ) {
-    }
+    ) {}
 }
 
 /// The machine's clock, for which a worker waits five milliseconds.

@@ -56,8 +56,7 @@ impl<D: DeskName, R: Wait + Abort> Gate for Raises<'_, D, R> {
         _now: Moment,
         _opened: Option<&Opened>,
         _refusal: &Refusal,
-    ) {
-    }
+    ) {}
 }
 
 #[test]
