@@ -203,7 +203,7 @@ pub struct NotStarted;
 
 /// Answers the messages of an engine's connections at a desk, until no more come, or until the desk's history has no
 /// room for one more entry: it has room for so many. The workers then finish the messages that they have, and the
-/// others wait for the next desk. After `NotStarted` none was answered.
+/// others wait for the next desk. After `NotStarted` the workers that had started may have answered some.
 pub fn run_shift<
     R: Threads + Wait + time::Clock + Sync,
     T: time::Clock + Sync,
