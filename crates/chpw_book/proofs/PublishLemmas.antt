@@ -1,5 +1,5 @@
 -- The published list goes on with the history.
-use Rattle.std.proofs.Common.{◌≡◌, ℕ, ◌+◌, ◌^◌, ◌<◌, List, [], ◌∷◌, ◌++◌, length, Bool, true, false, ◌&&◌, ◌||◌, Option, None, refl, sym, ◌∙◌, ap, subst, arith, if◌then◌else◌, append-nil}
+use Rattle.std.proofs.Common.{◌≡◌, ℕ, ◌+◌, ◌^◌, ◌<◌, List, [], ◌∷◌, ◌++◌, ◌≤◌, length, length-append, Bool, true, false, ◌&&◌, ◌||◌, Option, None, refl, sym, ◌∙◌, ap, subst, arith, if◌then◌else◌, append-nil}
 use Rattle.std.proofs.lemmas.List.Sums.{count_by-le-length}
 use mathlib.Core.List.{IsPrefix}
 use Rattle.chpw_rules.specs.declared.name.Name.{Name}
@@ -22,7 +22,7 @@ use Rattle.chpw_table.specs.Agreement.{Agrees}
 use Rattle.chpw_table.specs.Preparing.{IsNextRow}
 use Rattle.chpw_table.proofs.DoneLemmas.{done_key_row, done_whole}
 use Rattle.chpw_versions.specs.Known.{Known, Shelved}
-use Rattle.chpw_changes.proofs.ChangeLemmas.{changes_counted}
+use Rattle.chpw_changes.proofs.ChangeLemmas.{accepted_on, changes_counted}
 use Rattle.chpw_changes.proofs.KeptLemmas.{kept_list}
 use Rattle.chpw_book.specs.Passes.{Carried}
 use Rattle.chpw_book.specs.Stored.{Stored}
@@ -44,6 +44,30 @@ change_at s now o name row count n c =
     rw (n.target, c, ← kvno) refl
 
 -- ---- the list
+
+shorter : (xs ys : List Accepted) → IsPrefix xs ys → length xs ≤ length ys
+shorter xs ys p =
+    let a = length-append xs p.0 in
+    let same : length (xs ++ p.0) ≡ length ys = ap (λ (l : List Accepted). length l) p.1 in
+    omega (arith, a, same)
+
+-- after an accepted event the pass was told more than it knew
+told_more : (opening : State) (before : List Entry) (e : Entry) (mine more : Known) → IsPrefix mine.told (accepted opening before) → IsPrefix mine.seen (accepted opening before)
+    → more ≡ told_list (is_accepted e.event) (accepted opening (before ++ e ∷ [])) mine → is_accepted e.event ≡ true
+    → (length mine.told < length more.told) × (length mine.seen < length more.told)
+told_more opening before e mine more begins saw is done =
+    let c : Accepted = change_by (outcome opening before) e.event in
+    let all : List Accepted = accepted opening before in
+    let longer : accepted opening (before ++ e ∷ []) ≡ all ++ c ∷ [] =
+    accepted_on opening before e ∙ ap (λ (d : Bool). all ++ (if d then c ∷ [] else [])) done in
+    let told : more.told ≡ all ++ c ∷ [] =
+    ap (λ (k : Known). k.told) is
+    ∙ (ap (λ (d : Bool). (told_list d (accepted opening (before ++ e ∷ [])) mine).told) done ∙ longer) in
+    let long : length more.told ≡ length (all ++ c ∷ []) = ap (λ (l : List Accepted). length l) told in
+    let one = length-append all (c ∷ []) in
+    let a = shorter mine.told all begins in
+    let b = shorter mine.seen all saw in
+    (omega (arith, long, one, a), omega (arith, long, one, b))
 
 published_at : (opening : State) (before : List Entry) (e : Entry) (b : State) (broken : Bool) (event : Event) (s t : Shelved)
     → Publishes opening before b.broken s → Agrees b (outcome opening before) → e.event ≡ event → Shelves b broken event s t
@@ -87,13 +111,23 @@ notes_next opening workers b later mine mid more s t u now event p h q begins is
     ap (λ (c : Carried). c.place) is
     ∙ (ap (λ (xs : List Accepted). told_list (is_accepted event) xs mid.place) (q.list ∙ ap (λ (es : List Entry). accepted opening es) h.adds.history)
     ∙ ap (λ (k : Known). told_list (is_accepted event) (accepted opening (b.history ++ h.adds.entry ∷ [])) k) h.place) in
+    let told : IsPrefix mine.place.told (accepted opening b.history) = subst (λ (xs : List Accepted). IsPrefix mine.place.told xs) p.list begins in
+    let saw : IsPrefix mine.place.seen (accepted opening b.history) = subst (λ (xs : List Accepted). IsPrefix mine.place.seen xs) p.list h.saw in
+    let event_is : h.adds.entry.event ≡ event = ap (λ (e : Entry). e.event) h.adds.entry_is in
+    let place_is : more.place ≡ told_list (is_accepted h.adds.entry.event) (accepted opening (b.history ++ h.adds.entry ∷ [])) mine.place =
+    place ∙ ap (λ (x : Event). told_list (is_accepted x) (accepted opening (b.history ++ h.adds.entry ∷ [])) mine.place) (sym event_is) in
     record {
       before = b.history;
       entry = h.adds.entry;
       entry_is = h.adds.entry_is;
       legal = subst (λ (es : List Entry). IsLegal opening es) h.adds.history h.replays.1.legal;
       gains = rw is (record { receipts = h.adds.gains.receipts; share = h.adds.gains.share; same = h.adds.gains.same });
-      tells = record { begins = subst (λ (xs : List Accepted). IsPrefix mine.place.told xs) p.list begins; tells = place };
+      tells = record {
+        begins = told;
+        saw = saw;
+        tells = place;
+        grows = λ done. told_more opening b.history h.adds.entry mine.place more.place told saw place_is (ap (λ (x : Event). is_accepted x) event_is ∙ done);
+      };
     }
 
 -- ---- the shelf after a decision

@@ -53,6 +53,7 @@ pub record Shelves (before : State) (broken : Bool) (event : Event) (s t : Shelv
 pub record IsStored (opening : State) (workers : ℕ) (before later : Stored) (mine more : Carried) (s t : Shelved) (now : Moment) (event : Event) : Type 0 where
   pub adds : Adds before later mine more now event
   pub place : more.place ≡ mine.place
+  pub saw : IsPrefix mine.place.seen s.list
   pub shelves : Shelves before.table.state later.table.state.broken event s t
   pub replays : Replays opening workers before × Replays opening workers later
   pub few : length later.history < 2 ^ 31
@@ -70,11 +71,13 @@ abbrev pub told_list : Bool → List Accepted → Known → Known
 told_list done list k = if done then record k { told = list; own = Some list } else k
 
 -- A call whose event was accepted or not, before it that history and after it this one: what the pass
--- was told before begins the accepted changes; where the event was accepted, the pass is told them all,
--- its own the last, and else nothing.
+-- was told before begins the accepted changes, and so does what its lookups showed; where the event was
+-- accepted, the pass is told them all, its own the last, which are more than it knew, and else nothing.
 pub record Tells (opening : State) (before later : List Entry) (mine more : Known) (done : Bool) : Type 0 where
   pub begins : IsPrefix mine.told (accepted opening before)
+  pub saw : IsPrefix mine.seen (accepted opening before)
   pub tells : more ≡ told_list done (accepted opening later) mine
+  pub grows : done ≡ true → (length mine.told < length more.told) × (length mine.seen < length more.told)
 
 -- a lookup shows nothing and leaves what is known, or it looks up
 abbrev pub MayShow : Held → Known → Known → Name → Option Lookup → Type 0

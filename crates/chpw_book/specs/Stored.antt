@@ -7,6 +7,7 @@ use Rattle.chpw_table.specs.State.{State}
 use Rattle.chpw_table.specs.History.{IsLegal, outcome}
 use Rattle.chpw_table.specs.Journal.{journal}
 use Rattle.chpw_table.specs.Agreement.{Held, Agrees}
+use Rattle.chpw_journal.specs.Runs.{AreWhole}
 use Rattle.chpw_book.specs.Receipts.{IsNumbered, IsCounted, changes_of, next_entry, receipt_of}
 use Rattle.chpw_book.specs.Passes.{Carried}
 
@@ -24,10 +25,12 @@ abbrev pub new_store : Held → ℕ → Option (List ℕ) → Stored
 new_store t workers told = record { table = t; history = []; counts = replicate workers 0; changes = 0; total = 0; told = told }
 
 -- the one-thread machine, replaying the history from the opening, gives each verdict stored and leads to
--- the table; each worker's calls stand in it once each, numbered; what the sink tells is its journal
+-- the table; what each accepted entry brings in is whole; each worker's calls stand in it once each,
+-- numbered; what the sink tells is its journal
 pub record Replays (opening : State) (workers : ℕ) (b : Stored) : Type 0 where
   pub legal : IsLegal opening b.history
   pub agrees : Agrees b.table.state (outcome opening b.history)
+  pub whole : AreWhole opening b.history
   pub numbered : IsNumbered b.history
   pub counted : IsCounted b.counts b.history
   pub all : length b.counts ≡ workers

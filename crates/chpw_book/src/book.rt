@@ -22,7 +22,7 @@ ghost use Rattle.chpw_book.specs.Passes.{new_pass};
 ghost use Rattle.chpw_book.specs.Starting.{IsNamed, table_of, workers_of};
 ghost use Rattle.chpw_book.specs.Publishing.{new_book, published, told_list};
 
-use crate::closing::{CloseFault, Closed};
+use crate::closing::{BookRefused, CloseFault, Closed};
 use crate::naming::DeskName;
 use crate::pass::Pass;
 use crate::raising::RaiseFault;
@@ -224,8 +224,34 @@ impl<D: DeskName, S: JournalSink> Book<D, S> {
         Ok(verdict)
     }
 
-    /// Why these passes leave the book open; none where it may be closed.
-    pub(crate) fn close_fault(&self, passes: &[Pass<D>]) -> Option<CloseFault>
+    /// What is left of the book where these passes are all there and have their workers' receipts; otherwise
+    /// book and passes come back as they were.
+    pub(crate) fn close<R: Wait>(
+        self,
+        rt: &R,
+        passes: Vec<Pass<D>>,
+    ) -> Result<Closed<S>, BookRefused<D, S>>
+        ensures whole { IfOk result (λ _. IsWhole self.kept.history (is_full self.kept.table)
+            D.workers passes.items) }
+        ensures history { IfOk result (λ c. (c.history.items ≡ self.kept.history)
+            × (c.table ≡ self.kept.table) × (S.told c.sink ≡ self.kept.told)) }
+        ensures refusal { IfErr result (λ r. IsRefusal self.kept.history (is_full self.kept.table)
+            D.workers passes.items r.fault) }
+        ensures back { IfErr result (λ r. (r.book ≡ self) × (r.passes.items ≡ passes.items)) }
+        ensures replays { Replays (opening_state D.root) D.workers self.kept }
+    {
+        match self.close_fault(passes.as_slice()) {
+            None => Ok(self.into_closed(rt)),
+            Some(fault) => Err(BookRefused {
+                fault,
+                book: self,
+                passes,
+            }),
+        }
+    }
+
+    // Why these passes leave the book open; none where it may be closed.
+    fn close_fault(&self, passes: &[Pass<D>]) -> Option<CloseFault>
         ensures whole { IfNone result (IsWhole self.now.kept.history
             (is_full self.now.kept.table) D.workers passes.now) }
         ensures refusal { IfSome result (λ fault. IsRefusal self.now.kept.history
@@ -235,8 +261,8 @@ impl<D: DeskName, S: JournalSink> Book<D, S> {
         self.store.close_fault(passes)
     }
 
-    /// What is left of it, once no lookup reads.
-    pub(crate) fn into_closed<R: Wait>(self, rt: &R) -> Closed<S>
+    // What is left of it, once no lookup reads.
+    fn into_closed<R: Wait>(self, rt: &R) -> Closed<S>
         ensures history { result.history.items ≡ self.kept.history }
         ensures table { result.table ≡ self.kept.table }
         ensures told { S.told result.sink ≡ self.kept.told }

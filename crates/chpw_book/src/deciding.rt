@@ -1,9 +1,11 @@
 //! One decision of the table, with its entry.
-ghost use Rattle.std.specs.Prelude.{◌≡◌, ◌<◌, IfOk, IfErr, OnOk, OnErr, vec_len, vec_capacity};
+ghost use Rattle.std.specs.Prelude.{◌≡◌, ◌<◌, IfOk, IfErr, OnOk, OnErr, true, length, vec_len, vec_capacity};
+ghost use mathlib.Core.List.{IsPrefix};
 ghost use Rattle.chpw_table.specs.declared.outcome.DecideFault.TheVariants.{Full, Memory};
 ghost use Rattle.chpw_fronts.specs.Pens.{opening_state};
 ghost use Rattle.chpw_table.specs.declared.history.Event.TheVariants.{Ask};
 ghost use Rattle.chpw_table.specs.declared.verdict.Verdict.TheVariants.{Done};
+ghost use Rattle.chpw_table.specs.State.{keys_held};
 ghost use Rattle.chpw_table.specs.History.{IsLegal, outcome};
 ghost use Rattle.chpw_table.specs.Versions.{change_by};
 ghost use Rattle.chpw_table.specs.Agreement.{Agrees};
@@ -16,13 +18,16 @@ ghost use Rattle.chpw_table.specs.Verdicts.{is_done};
 ghost use Rattle.chpw_decider.specs.Deciding.{IsCompletedFrom, IsFinal};
 ghost use Rattle.chpw_book.specs.Stored.{Replays};
 ghost use Rattle.chpw_book.specs.Publishing.{IsStored, Publishes, with_waiting};
+ghost use Rattle.chpw_book.specs.Wholeness.{IsWholeKey, FirstIsWhole, NewestIsWhole};
 
 use crate::naming::DeskName;
 use crate::pass::Pass;
 use crate::store::Store;
+use chpw_decider::JournaledTable;
+use chpw_rules::Name;
 use chpw_table::{
-    DecideFault, Entry, Event, JournalSink, Moment, Opened, Outcome, Prepared, Receipt, Refused,
-    Table, Verdict,
+    Body, DecideFault, Entry, Event, JournalSink, KeyRow, Moment, Opened, Outcome, Prepared,
+    Receipt, Refused, Table, Verdict,
 };
 use chpw_versions::Shelf;
 use std::alloc::AllocError;
@@ -51,7 +56,7 @@ impl<D: DeskName, S: JournalSink> Store<D, S> {
             ((self.new ≡ self.old) × (pass.new ≡ pass.old) × (shelf.new ≡ shelf.old)) }
         ensures replays { Replays (opening_state D.root) D.workers self.old }
     {
-        let prepared = self.journaled.prepare(now, opened)?;
+        let prepared = prepare(&mut self.journaled, shelf, pass, now, opened)?;
         let Ok(copy) = make_room(
             &mut self.history.entries,
             &mut pass.calls.receipts,
@@ -66,6 +71,7 @@ impl<D: DeskName, S: JournalSink> Store<D, S> {
             io_failed,
             opened,
         } = self.journaled.finish(prepared);
+        read_newest(self.journaled.table(), &opened, verdict);
         let event = Event::Ask { opened, verdict };
         let copy = Event::Ask {
             opened: copy,
@@ -118,6 +124,82 @@ impl<D: DeskName, S: JournalSink> Store<D, S> {
             }
             fault => Err(Refused { fault, opened }),
         }
+    }
+}
+
+// Prepares a step for a pass whose lookups showed nothing but what the shelf published; else memory is
+// wanting, since the pass's reader can't enter.
+fn prepare<D: DeskName, S: JournalSink>(
+    journaled: &mut JournaledTable<S>,
+    shelf: &Shelf<D>,
+    pass: &mut Pass<D>,
+    now: Moment,
+    opened: Opened,
+) -> Result<Prepared, Refused>
+    requires moment { IsMoment now }
+    ensures ready { IfOk result (λ p. IsReady journaled.old.table p) }
+    ensures parts { IfOk result (λ p. (p.moment ≡ now) × (p.opened ≡ opened)) }
+    ensures saw { OnOk result (IsPrefix pass.old.place.seen shelf.now.list) }
+    ensures refused { IfErr result (λ r. IsRefused journaled.old.table now opened r) }
+    ensures unchanged { (journaled.new.table ≡ journaled.old.table)
+        × (journaled.new.sink ≡ journaled.old.sink) }
+    ensures same { pass.new ≡ pass.old }
+{
+    let prepared = journaled.prepare(now, opened)?;
+    if pass.was_shown(shelf) {
+        Ok(prepared)
+    } else {
+        Err(given_up(prepared))
+    }
+}
+
+// Where the request was accepted: reads the newest key of its target, which is whole as each key that a
+// table holds.
+fn read_newest(table: &Table, opened: &Opened, verdict: Verdict)
+    ensures whole { is_done verdict ≡ true
+        → NewestIsWhole (keys_held table.now.state (target_of opened.now).name) }
+{
+    if verdict != Verdict::Done {
+        return;
+    }
+    match table.keys_of(target_name(opened)) {
+        None => {}
+        Some(keys) => read_first(keys),
+    }
+}
+
+// The first of some keys is whole.
+fn read_first(keys: &[KeyRow])
+    ensures whole { FirstIsWhole keys.now }
+{
+    match keys {
+        [] => {}
+        [newest, ..] => read_key(newest),
+    }
+}
+
+fn read_key(key: &KeyRow)
+    ensures whole { IsWholeKey key.now }
+{
+    read_bytes(&key.aes128);
+    read_bytes(&key.aes256);
+}
+
+// An array has as many bytes as its type says.
+fn read_bytes<const N: usize>(bytes: &[u8; N])
+    ensures length { length bytes.now ≡ N }
+{}
+
+// Whose password was to be new.
+fn target_name(opened: &Opened) -> &Name
+    ensures value { result.now ≡ (target_of opened.now).name }
+{
+    match &opened.body {
+        Body::Ask {
+            target: Some(target),
+            ..
+        } => &target.name,
+        _ => &opened.client,
     }
 }
 

@@ -1,5 +1,6 @@
 //! One raise of the iteration count of new keys, with its entry.
 ghost use Rattle.std.specs.Prelude.{◌≡◌, ◌<◌, IfOk, IfErr, OnOk, OnErr, vec_len, vec_capacity, true};
+ghost use mathlib.Core.List.{IsPrefix};
 ghost use Rattle.chpw_rules.specs.Limits.{is_in, iteration_counts};
 ghost use Rattle.chpw_fronts.specs.Pens.{opening_state};
 ghost use Rattle.chpw_table.specs.declared.change.Accepted.TheVariants.{Count};
@@ -64,6 +65,7 @@ impl<D: DeskName, S: JournalSink> Store<D, S> {
             ((self.new ≡ self.old) × (pass.new ≡ pass.old) × (shelf.new ≡ shelf.old)) }
         ensures replays { Replays (opening_state D.root) D.workers self.old }
     {
+        has_room(self.journaled.table(), shelf, pass)?;
         make_room(
             &mut self.history.entries,
             &mut pass.calls.receipts,
@@ -83,9 +85,31 @@ impl<D: DeskName, S: JournalSink> Store<D, S> {
     }
 }
 
-// Room for one event more, then all growths: a place in both lists, and, where the raise is accepted
-// unless its append fails, the change that waits on the shelf, which is the last before the journal is
-// appended to.
+// Whether there is room for one event more, by a pass whose lookups showed nothing but what the shelf
+// published; else memory is wanting, since the pass's reader can't enter.
+fn has_room<D: DeskName>(
+    table: &Table,
+    shelf: &Shelf<D>,
+    pass: &mut Pass<D>,
+) -> Result<(), RaiseFault>
+    ensures room { OnOk result (table.now.events < table.now.max_entries) }
+    ensures saw { OnOk result (IsPrefix pass.old.place.seen shelf.now.list) }
+    ensures first { IfErr result (λ fault. IsFirstFault table.now fault) }
+    ensures same { pass.new ≡ pass.old }
+{
+    if table.is_full() {
+        return Err(RaiseFault::Full);
+    }
+    if pass.was_shown(shelf) {
+        Ok(())
+    } else {
+        Err(RaiseFault::Memory)
+    }
+}
+
+// All growths of a raise for which there is room: a place in both lists, and, where it is accepted unless
+// its append fails, the change that waits on the shelf, which is the last before the journal is appended
+// to.
 fn make_room<D: DeskName>(
     entries: &mut Vec<Entry>,
     receipts: &mut Vec<Receipt>,
@@ -93,6 +117,7 @@ fn make_room<D: DeskName>(
     table: &Table,
     count: u32,
 ) -> Result<(), RaiseFault>
+    requires room { table.now.events < table.now.max_entries }
     requires kept { (es : _) × IsLegal (opening_state D.root) es
         × Agrees table.now.state (outcome (opening_state D.root) es)
         × Publishes (opening_state D.root) es table.now.state.broken shelf.old }
@@ -100,15 +125,11 @@ fn make_room<D: DeskName>(
         × (receipts.new.items ≡ receipts.old.items) }
     ensures places { OnOk result ((vec_len entries.new < vec_capacity entries.new)
         × (vec_len receipts.new < vec_capacity receipts.new)) }
-    ensures room { OnOk result (table.now.events < table.now.max_entries) }
     ensures ok { OnOk result
         (shelf.new ≡ with_waiting (would_raise table.now count) (Count count) shelf.old) }
     ensures first { IfErr result (λ fault. IsFirstFault table.now fault) }
     ensures err { OnErr result (shelf.new ≡ shelf.old) }
 {
-    if table.is_full() {
-        return Err(RaiseFault::Full);
-    }
     entries.reserve(1)?;
     receipts.reserve(1)?;
     if table.would_raise(count) {

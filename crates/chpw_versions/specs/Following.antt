@@ -58,6 +58,10 @@ list_shown root x = list_by (changes_in root x.seen.log) (named (opening_state r
 abbrev pub list_of : List LogEntry → ListShown → List Accepted
 list_of root s = list_by (changes_in root s.seen.log) (named (opening_state root) s.last) s.len
 
+-- what is kept is of this log, and counts the list's changes
+abbrev pub IsKnown : LogName → List LogEntry → ListShown → Type 0
+IsKnown log root s = (s.seen.book ≡ log) × (s.len ≡ length (list_of root s))
+
 -- The version is of the list named by this log and root, and shows these changes of it, along which
 -- versions rise. Its rows count them, and those that the table had accepted before.
 pub record ShowsList (log : LogName) (root : List LogEntry) (list : List Accepted) (x : Version) : Type 0 where

@@ -1,5 +1,5 @@
 //! What lies under the lock: the writer of the versions, beside the one keeper of the list.
-ghost use Rattle.std.specs.Prelude.{◌≡◌, ◌+◌, ◌<◌, ◌^◌, ◌++◌, ◌∷◌, [], length, None, Some, IfOk, IfSome, IsSome, OnOk, OnErr};
+ghost use Rattle.std.specs.Prelude.{◌≡◌, ◌+◌, ◌<◌, ◌^◌, ◌++◌, ◌∷◌, [], length, None, Some, IfOk, IfSome, IfNone, IsTrue, OnOk, OnErr};
 ghost use mathlib.Core.List.{IsPrefix};
 ghost use Rattle.chpw_table.specs.declared.change.Accepted.TheVariants.{Key, Count};
 ghost use Rattle.chpw_table.specs.Versions.{Shown, shown};
@@ -180,16 +180,17 @@ impl<D: ListName> Shelf<D> {
     }
 
     /// The change that waits is accepted: it joins the list and is published. It takes no memory and
-    /// doesn't fail, but waits for readers that still read the copy that it changes.
+    /// doesn't fail, but waits for readers that still read the copy that it changes. Where none waits,
+    /// nothing changes.
     pub fn publish<R: Wait>(&mut self, rt: &R) -> Front<D>
-        requires waiting { IsSome self.old.waiting }
         requires room { length self.old.list + 1 < 2 ^ 31 }
         ensures list { IfSome self.old.waiting (λ change.
             self.new ≡ record { list = self.old.list ++ change ∷ []; waiting = None }) }
+        ensures unchanged { IfNone self.old.waiting (self.new ≡ self.old) }
         ensures front { result ≡ self.new.list }
     {
         let Some(change) = self.waiting else {
-            unreachable!()
+            return self.keeper.front();
         };
         let Some(writer) = self.writer.take() else {
             unreachable!()
@@ -207,6 +208,15 @@ impl<D: ListName> Shelf<D> {
         ensures begins { IsPrefix front.now self.new.list }
     {
         self.keeper.has(front);
+    }
+
+    /// Whether what a place's last lookup showed is a beginning of the published list. False is no certain
+    /// answer: it comes only where the place's reader can't enter.
+    pub fn has_shown(&self, place: &mut Place<D>) -> bool
+        ensures same { place.new ≡ place.old }
+        ensures begins { IsTrue result → IsPrefix place.old.seen self.now.list }
+    {
+        place.was_shown(&self.keeper.front())
     }
 
     /// How long the published list is.

@@ -1,10 +1,10 @@
 //! The published value.
-ghost use Rattle.std.specs.Prelude.{◌≡◌};
+ghost use Rattle.std.specs.Prelude.{◌≡◌, IsTrue};
 ghost use Rattle.chpw_fronts.specs.declared.change.NumberedChange.TheVariants.{Count};
-ghost use Rattle.chpw_versions.specs.Following.{list_of, list_shown};
+ghost use Rattle.chpw_versions.specs.Following.{list_of, list_shown, IsKnown};
 
 use crate::rows::Rows;
-use chpw_fronts::{Mark, NumberedChange};
+use chpw_fronts::{Front, ListName, Mark, NumberedChange};
 use left_right::Absorb;
 use std::alloc::AllocError;
 
@@ -39,6 +39,7 @@ impl Version {
     /// The list that it shows.
     pub(crate) fn shown(&self) -> ListShown
         ensures value { (root : _) → list_of root result ≡ list_shown root self.now }
+        ensures parts { (result.len ≡ self.now.len) × (result.seen ≡ self.now.seen) }
     {
         ListShown {
             len: self.len,
@@ -60,6 +61,16 @@ impl Version {
             seen: root.again(),
             root: root.again(),
         }
+    }
+}
+
+impl ListShown {
+    /// Whether the front is this list. False is no certain answer.
+    pub(crate) fn is<D: ListName>(&self, front: &Front<D>) -> bool
+        requires known { IsKnown D.book D.root self.now }
+        ensures same { IsTrue result → list_of D.root self.now ≡ front.now }
+    {
+        front.len() == self.len && front.begins(&self.seen, self.last, self.len)
     }
 }
 

@@ -1,18 +1,22 @@
-use Rattle.std.proofs.Common.{arith, ap, sym, refl, subst, ℕ, ◌∙◌, ◌≡◌, ◌+◌, ◌≤◌, ◌<◌, ◌++◌, ◌∷◌, [], length, slice_index, slice_set}
+use Rattle.std.proofs.Common.{arith, true, ap, sym, refl, subst, ℕ, ◌∙◌, ◌≡◌, ◌+◌, ◌≤◌, ◌<◌, ◌++◌, ◌∷◌, [], length, slice_index, slice_set}
+use mathlib.Core.List.{IsPrefix}
 use Rattle.chpw_table.specs.declared.request.Opened.{Opened}
 use Rattle.chpw_table.specs.declared.history.Event.TheVariants.{Ask}
 use Rattle.chpw_table.specs.declared.history.Entry.{Entry}
 use Rattle.chpw_table.specs.Outcomes.{Steps, Writes}
 use Rattle.chpw_table.specs.declared.verdict.Verdict.TheVariants.{Done}
-use Rattle.chpw_table.specs.State.{State}
+use Rattle.chpw_table.specs.State.{State, keys_held}
+use Rattle.chpw_table.specs.Requests.{target_of}
 use Rattle.chpw_table.specs.Verdicts.{is_done}
 use Rattle.chpw_table.specs.Versions.{change_by}
 use Rattle.chpw_table.specs.History.{outcome}
 use Rattle.chpw_table.specs.Agreement.{Held, Agrees}
 use Rattle.chpw_fronts.specs.Pens.{opening_state}
+use Rattle.chpw_book.specs.Passes.{Carried}
 use Rattle.chpw_book.specs.Receipts.{next_entry, receipt_of}
 use Rattle.chpw_book.specs.Stored.{Stored, Replays}
 use Rattle.chpw_book.specs.Publishing.{Publishes, with_waiting}
+use Rattle.chpw_book.specs.Wholeness.{NewestIsWhole}
 use Rattle.chpw_book.proofs.GrowsLemmas.{kept_step}
 use Rattle.chpw_book.proofs.PublishLemmas.{shelves_next}
 use Rattle.chpw_book.proofs.store.Store.decide.Goals as goal
@@ -66,7 +70,9 @@ invariant_of-self-2 g c =
     rw (← c.prepare.ensures.unchanged.0, ← c.prepare.ensures.unchanged.1, ← c.in_ok-prepared.ensures.parts.1) c.finish-verdict.ensures.writes in
     let pushed : c.add.new.self.entries.items ≡ b.history ++ next_entry b.history w c.args.now made.io_failed (Ask c.args.opened made.verdict) ∷ [] =
     rw (← c.in-Ok.ensures.same.0, ← steps.opened) c.add.ensures.entry in
-    (kept_step opening g.D.DeskName.workers b w c.args.now c.args.opened made c.finish-verdict.new.self.table c.add.new.self.entries.items c.add.new.self.counts.items c.add.new.self.changes c.add.new.self.totals.total (g.S.JournalSink.told c.finish-verdict.new.self.sink) kept steps writes.tells below pushed c.add.ensures.counts c.add.ensures.changes c.add.ensures.total, c.self.invariant.1)
+    let newest : is_done made.verdict ≡ true → NewestIsWhole (keys_held c.finish-verdict.new.self.table.state (target_of c.args.opened).name) =
+    rw (← c.table-2.ensures.value, ← steps.opened) c.read_newest.ensures.whole in
+    (kept_step opening g.D.DeskName.workers b w c.args.now c.args.opened made c.finish-verdict.new.self.table c.add.new.self.entries.items c.add.new.self.counts.items c.add.new.self.changes c.add.new.self.totals.total (g.S.JournalSink.told c.finish-verdict.new.self.sink) kept steps writes.tells newest below pushed c.add.ensures.counts c.add.ensures.changes c.add.ensures.total, c.self.invariant.1)
 
 pub returns-clause-stored : goal.returns-clause-stored
 unfolding invariant_of-self-2
@@ -92,7 +98,9 @@ returns-clause-stored g c =
     let waits : c.make_room.new.shelf ≡ with_waiting (is_done prepared.row) (change_by b.table.state (Ask c.args.opened Done)) c.args.shelf.now =
     rw (← same, ← c.table.ensures.value, ← c.in_ok-prepared.ensures.parts.1) c.in-Ok.ensures.ok in
     let published : Publishes opening b.history b.table.state.broken c.args.shelf.now = subst (λ (x : Stored). Publishes opening x.history x.table.state.broken c.args.shelf.now) (sym c.self.view_is) c.requires.publishes in
-    rw (← c.self.view_is, ← c.pass.view_is) (record {
+    let pass_is = c.pass.view_is ∙ c.prepare.ensures.same in
+    let saw : IsPrefix c.pass.inside.place.seen c.args.shelf.now.list = subst (λ (p : Carried). IsPrefix p.place.seen c.args.shelf.now.list) (sym pass_is) c.in_ok-prepared.ensures.saw in
+    rw (← c.self.view_is, ← pass_is) (record {
       adds = record {
         entry = e;
         entry_is = refl;
@@ -104,6 +112,7 @@ returns-clause-stored g c =
         gains = record { receipts = mine; share = c.add.ensures.share; same = (c.add.ensures.worker.0, refl) };
       };
       place = refl;
+      saw = saw;
       shelves = shelves_next b.table.state b.table.state.broken t.state.broken made.io_failed c.args.opened prepared.row made.verdict c.args.shelf.now c.make_room.new.shelf published.free c.finish-verdict.ensures.row steps.broken waits;
       replays = (kept, later);
       few = few;

@@ -1,4 +1,4 @@
-use Rattle.std.proofs.Common.{◌≡◌, ◌∙◌, [], append-nil, List, sym, ap, subst, rules}
+use Rattle.std.proofs.Common.{◌≡◌, ◌∙◌, [], append-nil, List, length, sym, ap, subst, rules}
 use Rattle.std.specs.Prelude.{option_map}
 use mathlib.Core.List.{IsPrefix}
 use Rattle.left_right.specs.Sides.{view}
@@ -36,6 +36,10 @@ invariant_of-self-in-Ok g c =
       (ap (λ z. z.known) left ∙ looked.0.0, ap log_of left ∙ (looked.0.1 ∙ old.1), ap (λ z. z.root) left ∙ (looked.0.2 ∙ old.2)),
       whole,
       c.self.invariant.2,
+      (
+        ap (λ m. m.book) (c.shown-shown.ensures.parts.1 ∙ ap (λ (z : Version). z.seen) c.get-version.ensures) ∙ shows.seen_book,
+        c.shown-shown.ensures.parts.0 ∙ (ap (λ (z : Version). z.len) c.get-version.ensures ∙ (shows.len_is ∙ ap (λ (l : List Accepted). length l) list)),
+      ),
     )
 
 pub returns-else-not-begins-clause-found : goal.returns-else-not-begins-clause-found
