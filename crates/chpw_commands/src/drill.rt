@@ -7,17 +7,19 @@ ghost use Rattle.chpw_commands.specs.declared.drill.DrillFault.TheVariants.{Memo
 mod asking;
 mod line;
 mod printed;
+mod reading;
 mod running;
 mod setup;
 mod sink;
 mod stage;
 mod words;
 
+use crate::drill::reading::{MAX_READS, read_script};
 use crate::drill::stage::{Stage, take_turn};
 use chpw_rules::Items;
 use std::alloc::{AllocError, Global};
 use std::fmt;
-use std::io::{ErrorKind, Read, Write};
+use std::io::{Read, Write};
 
 /// Why a drill ends early.
 #[derive(Clone, Copy, Drop)]
@@ -26,7 +28,7 @@ pub enum DrillFault {
     Line(u64),
     /// A growth was refused.
     Memory,
-    /// A read failed.
+    /// A read failed, or there were too many.
     Read,
     /// A write failed.
     Write,
@@ -49,11 +51,12 @@ impl fmt::Display for DrillFault {
 }
 
 /// Runs the script that the reader gives, and writes what it prints. The script is read whole
-/// before its first line runs, and what it prints is written once it has ended.
+/// before its first line runs, in no more than 16,777,216 reads, and what it prints is written once
+/// it has ended.
 ///
 /// `Line` for the first bad line; what the lines before it print is written then. `Read` where a
-/// read failed and `Memory` where a growth was refused, and nothing is written then; `Write` where
-/// the write failed.
+/// read failed or there were too many and `Memory` where a growth was refused, and nothing is
+/// written then; `Write` where the write failed.
 pub fn run_drill<R: Read, W: Write>(
     alloc: Global,
     reader: &mut R,
@@ -65,12 +68,11 @@ pub fn run_drill<R: Read, W: Write>(
     ensures unread { result ≡ Err ReadFault → writer.new ≡ writer.old }
     ensures unchanged { result ≡ Err Memory → writer.new ≡ writer.old }
 {
-    let mut script = Vec::new(alloc);
-    match reader.read_to_end(&mut script) {
-        Ok(_) => {}
-        Err(error) if error.kind() == ErrorKind::OutOfMemory => return Err(DrillFault::Memory),
-        Err(_) => return Err(DrillFault::Read),
-    }
+    let mut reads = MAX_READS;
+    let script = match read_script(alloc, reader, &mut reads) {
+        Ok(script) => script,
+        Err(fault) => return Err(fault),
+    };
     let Ok(drilled) = run_script(alloc, script.as_slice()) else {
         return Err(DrillFault::Memory);
     };

@@ -1,6 +1,7 @@
 -- What a user asks for, of what clap matched: the command's name, and each option's value by its name.
 -- The words are matched by clap's own rules.
 use Rattle.std.specs.Prelude.{◌≡◌, ◌≢◌, ◌⊎◌, ◌≤◌, ℕ, Bool, true, false, List, [], Option, Some, None, option_map, codes, bytes_eq, if◌then◌else◌, length, ◌<◌}
+use Rattle.std.specs.Fmt.{decimal}
 use Rattle.std.specs.Option.{option_map_or}
 use Rattle.std.specs.Str.Parse.{digits_value, without_leading_plus}
 use Rattle.clap.specs.Kinds.{HasKind, Kinds}
@@ -37,6 +38,15 @@ MayHaveNumber low high options name (Some number) = HasNumber low high options n
 abbrev pub HasNumberOr : ℕ → ℕ → ℕ → List Row → Text → ℕ → Type 0
 HasNumberOr usual low high options name number =
     ((first_of name options ≡ None) × (number ≡ usual)) ⊎ HasNumber low high options name number
+
+-- no number within these limits is its value, as numbers are printed
+abbrev pub LacksNumber : ℕ → ℕ → List Row → Text → Type 0
+LacksNumber low high options name =
+    (number : ℕ) → low ≤ number → number ≤ high → one_of name options ≢ Some (decimal number)
+
+-- it is not left out, and no such number is its value
+abbrev pub LacksGiven : ℕ → ℕ → List Row → Text → Type 0
+LacksGiven low high options name = (first_of name options ≢ None) × LacksNumber low high options name
 
 -- the realm is this, of 1 to 255 bytes
 abbrev pub HasRealm : List Row → Text → Type 0

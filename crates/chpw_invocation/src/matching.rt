@@ -1,14 +1,15 @@
 //! The command line matched: what its words ask for.
-ghost use Rattle.std.specs.Prelude.{◌≡◌, ◌≢◌, [], None, true, IfErr, IfOk, IfSome, OnOk, codes, map, option_map, string_bytes};
+ghost use Rattle.std.specs.Prelude.{◌≡◌, ◌≢◌, ◌≤◌, ◌⊎◌, [], None, true, IfErr, IfOk, IfSome, OnOk, codes, map, option_map, string_bytes};
 ghost use Rattle.clap.specs.Faults.{fault_of};
 ghost use Rattle.clap.specs.Words.{first_of, found_of, rows_of, subcommand_of, subcommand_rows_of};
 ghost use Rattle.chpw_invocation.specs.Program.{program};
-ghost use Rattle.chpw_invocation.specs.Invocations.{AimsOld, AsksFor, HasNumber, HasNumberOr, HasRealm, IsGiven, IsOwnRefusal, IsRefusal, LacksRealm, MayHaveNumber, NamesNoForm, NamesNoRealm, form_asked, form_of_name};
+ghost use Rattle.chpw_invocation.specs.Invocations.{AimsOld, AsksFor, HasNumber, HasNumberOr, HasRealm, IsGiven, IsOwnRefusal, IsRefusal, LacksGiven, LacksNumber, LacksRealm, MayHaveNumber, NamesNoForm, NamesNoRealm, form_asked, form_of_name};
 
 use crate::invocation::{
-    ClientOptions, GREATEST_COUNT, ImportOptions, Invocation, KeyOptions, LONGEST_IDLE,
-    LONGEST_REALM, MOST_BUFFERS, MOST_CLIENTS, MOST_WORKERS, ServeOptions, TableForm, TableOptions,
-    USUAL_BUFFERS, USUAL_CLIENTS, USUAL_COUNT, USUAL_IDLE, USUAL_KVNO,
+    ClientOptions, GREATEST_CONNECTIONS, GREATEST_COUNT, GREATEST_KVNO, GREATEST_PORT,
+    ImportOptions, Invocation, KeyOptions, LONGEST_IDLE, LONGEST_REALM, MOST_BUFFERS, MOST_CLIENTS,
+    MOST_WORKERS, ServeOptions, TableForm, TableOptions, USUAL_BUFFERS, USUAL_CLIENTS, USUAL_COUNT,
+    USUAL_IDLE, USUAL_KVNO,
 };
 use crate::program::program as new_program;
 use clap::error::ErrorKind;
@@ -250,87 +251,107 @@ fn is_given(options: &ArgMatches<'_>, name: &str) -> bool
     options.get_flag(name)
 }
 
+// The number of an option, where it is 1 at least and no greater than this.
+fn number_of(options: &ArgMatches<'_>, name: &str, greatest: u32) -> Option<u32>
+    ensures number { IfSome result (HasNumber 1 greatest (rows_of (found_of options.now)) name.now) }
+    ensures range { IfSome result (λ number. (1 ≤ number) × (number ≤ greatest)) }
+    ensures lacks { result ≡ None → LacksNumber 1 greatest (rows_of (found_of options.now)) name.now }
+{
+    match options.get_one::<u32>(name) {
+        Some(number) if 1 <= number && number <= greatest => Some(number),
+        _ => None,
+    }
+}
+
 // The port's number.
 fn port_of(options: &ArgMatches<'_>) -> Option<u16>
     ensures port { IfSome result (HasNumber 1 65535 (rows_of (found_of options.now)) (codes "port")) }
+    ensures lacks { result ≡ None → LacksNumber 1 65535 (rows_of (found_of options.now)) (codes "port") }
 {
-    match options.get_one::<u16>("port") {
-        Some(port) if port > 0 => Some(port),
-        _ => None,
-    }
+    let port = number_of(options, "port", u32::from(GREATEST_PORT))?;
+    Some(port as u16)
 }
 
 // How many workers there are.
 fn workers_of(options: &ArgMatches<'_>) -> Option<u8>
     ensures workers { IfSome result (HasNumber 1 16 (rows_of (found_of options.now)) (codes "workers")) }
+    ensures lacks { result ≡ None → LacksNumber 1 16 (rows_of (found_of options.now)) (codes "workers") }
 {
-    match options.get_one::<u8>("workers") {
-        Some(workers) if 1 <= workers && workers <= MOST_WORKERS => Some(workers),
-        _ => None,
-    }
+    let workers = number_of(options, "workers", u32::from(MOST_WORKERS))?;
+    Some(workers as u8)
 }
 
 // How many connections there are.
 fn connections_of(options: &ArgMatches<'_>) -> Option<u32>
     ensures connections { IfSome result (HasNumber 1 4294967295 (rows_of (found_of options.now)) (codes "connections")) }
+    ensures lacks { result ≡ None
+        → LacksNumber 1 4294967295 (rows_of (found_of options.now)) (codes "connections") }
 {
-    match options.get_one::<u32>("connections") {
-        Some(connections) if connections > 0 => Some(connections),
-        _ => None,
+    number_of(options, "connections", GREATEST_CONNECTIONS)
+}
+
+// The number of an option that may be left out, and is then the usual one.
+fn number_or(options: &ArgMatches<'_>, name: &str, usual: u32, greatest: u32) -> Option<u32>
+    ensures number { IfSome result
+        (HasNumberOr usual 1 greatest (rows_of (found_of options.now)) name.now) }
+    ensures range { IfSome result (λ number. (number ≡ usual) ⊎ ((1 ≤ number) × (number ≤ greatest))) }
+    ensures lacks { result ≡ None → LacksGiven 1 greatest (rows_of (found_of options.now)) name.now }
+{
+    if text_of(options, name).is_none() {
+        return Some(usual);
     }
+    number_of(options, name, greatest)
 }
 
 // How long a connection waits for its client.
 fn idle_of(options: &ArgMatches<'_>) -> Option<u16>
     ensures idle { IfSome result (HasNumberOr 30 1 3600 (rows_of (found_of options.now)) (codes "idle")) }
+    ensures lacks { result ≡ None → LacksGiven 1 3600 (rows_of (found_of options.now)) (codes "idle") }
 {
-    if text_of(options, "idle").is_none() {
-        return Some(USUAL_IDLE);
-    }
-    match options.get_one::<u16>("idle") {
-        Some(idle) if 1 <= idle && idle <= LONGEST_IDLE => Some(idle),
-        _ => None,
-    }
+    let idle = number_or(
+        options,
+        "idle",
+        u32::from(USUAL_IDLE),
+        u32::from(LONGEST_IDLE),
+    )?;
+    Some(idle as u16)
 }
 
 // How many connections are open at a time.
 fn clients_of(options: &ArgMatches<'_>) -> Option<u32>
     ensures clients { IfSome result
         (HasNumberOr 1024 1 65536 (rows_of (found_of options.now)) (codes "clients")) }
+    ensures lacks { result ≡ None → LacksGiven 1 65536 (rows_of (found_of options.now)) (codes "clients") }
 {
-    if text_of(options, "clients").is_none() {
-        return Some(USUAL_CLIENTS);
-    }
-    match options.get_one::<u32>("clients") {
-        Some(clients) if 1 <= clients && clients <= MOST_CLIENTS => Some(clients),
-        _ => None,
-    }
+    number_or(options, "clients", USUAL_CLIENTS, MOST_CLIENTS)
 }
 
 // How many MiB the messages and replies of all connections may hold.
 fn buffers_of(options: &ArgMatches<'_>) -> Option<u16>
     ensures buffers { IfSome result
         (HasNumberOr 32 1 1024 (rows_of (found_of options.now)) (codes "buffers")) }
+    ensures lacks { result ≡ None → LacksGiven 1 1024 (rows_of (found_of options.now)) (codes "buffers") }
 {
-    if text_of(options, "buffers").is_none() {
-        return Some(USUAL_BUFFERS);
-    }
-    match options.get_one::<u16>("buffers") {
-        Some(buffers) if 1 <= buffers && buffers <= MOST_BUFFERS => Some(buffers),
-        _ => None,
-    }
+    let buffers = number_or(
+        options,
+        "buffers",
+        u32::from(USUAL_BUFFERS),
+        u32::from(MOST_BUFFERS),
+    )?;
+    Some(buffers as u16)
 }
 
 // The iteration count to raise to, where one is given.
 fn raise_of(options: &ArgMatches<'_>) -> Option<Option<u32>>
     ensures raise { IfSome result (MayHaveNumber 1 16777216 (rows_of (found_of options.now)) (codes "raise")) }
+    ensures lacks { result ≡ None → LacksGiven 1 16777216 (rows_of (found_of options.now)) (codes "raise") }
 {
     if text_of(options, "raise").is_none() {
         return Some(None);
     }
-    match options.get_one::<u32>("raise") {
-        Some(count) if 1 <= count && count <= GREATEST_COUNT => Some(Some(count)),
-        _ => None,
+    match number_of(options, "raise", GREATEST_COUNT) {
+        Some(count) => Some(Some(count)),
+        None => None,
     }
 }
 
@@ -338,26 +359,17 @@ fn raise_of(options: &ArgMatches<'_>) -> Option<Option<u32>>
 fn iterations_of(options: &ArgMatches<'_>) -> Option<u32>
     ensures iterations { IfSome result
         (HasNumberOr 4096 1 16777216 (rows_of (found_of options.now)) (codes "iterations")) }
+    ensures lacks { result ≡ None
+        → LacksGiven 1 16777216 (rows_of (found_of options.now)) (codes "iterations") }
 {
-    if text_of(options, "iterations").is_none() {
-        return Some(USUAL_COUNT);
-    }
-    match options.get_one::<u32>("iterations") {
-        Some(count) if 1 <= count && count <= GREATEST_COUNT => Some(count),
-        _ => None,
-    }
+    number_or(options, "iterations", USUAL_COUNT, GREATEST_COUNT)
 }
 
 // The version of keys that are made of a password.
 fn kvno_of(options: &ArgMatches<'_>) -> Option<u32>
     ensures kvno { IfSome result
         (HasNumberOr 1 1 4294967295 (rows_of (found_of options.now)) (codes "kvno")) }
+    ensures lacks { result ≡ None → LacksGiven 1 4294967295 (rows_of (found_of options.now)) (codes "kvno") }
 {
-    if text_of(options, "kvno").is_none() {
-        return Some(USUAL_KVNO);
-    }
-    match options.get_one::<u32>("kvno") {
-        Some(kvno) if kvno > 0 => Some(kvno),
-        _ => None,
-    }
+    number_or(options, "kvno", USUAL_KVNO, GREATEST_KVNO)
 }

@@ -1,5 +1,5 @@
 //! A block of cases.
-use crate::case::{checked, drilled, edited, explained, line_ending};
+use crate::case::{checked, drilled, edited, explained, line_ending, of_bytes, streamed};
 use std::alloc::Global;
 use std::io::{Result, Write};
 
@@ -20,6 +20,8 @@ pub fn print_block<'a, W: Write>(
         "drill-cut" => print_drill(alloc, out, body)?,
         "check" => print_check(alloc, out, body)?,
         "lines" => print_lines(alloc, out, base, body)?,
+        "streams" => print_streams(alloc, out, base, body)?,
+        "bytes" => print_bytes(alloc, out, body)?,
         "edits" => print_edits(alloc, out, base, body, false)?,
         "explained" => print_edits(alloc, out, base, body, true)?,
         _ => writeln!(out, "no such kind of block")?,
@@ -59,6 +61,24 @@ fn print_words<W: Write>(alloc: Global, out: &mut W, text: &str) -> Result<()> {
 fn print_lines<W: Write>(alloc: Global, out: &mut W, base: &str, body: &str) -> Result<()> {
     for line in body.lines() {
         let ending = line_ending(alloc, base, line)?;
+        writeln!(out, "{line}: {}", ending.as_str())?;
+    }
+    Ok(())
+}
+
+// The base, read or printed as each line says.
+fn print_streams<W: Write>(alloc: Global, out: &mut W, base: &str, body: &str) -> Result<()> {
+    for line in body.lines() {
+        let ending = streamed(alloc, base, line)?;
+        writeln!(out, "{line}: {}", ending.as_str())?;
+    }
+    Ok(())
+}
+
+// Each line's bytes, as a script and as a configuration.
+fn print_bytes<W: Write>(alloc: Global, out: &mut W, body: &str) -> Result<()> {
+    for line in body.lines() {
+        let ending = of_bytes(alloc, line)?;
         writeln!(out, "{line}: {}", ending.as_str())?;
     }
     Ok(())

@@ -1,17 +1,81 @@
 //! One case of the drill or of the check.
 use chpw_commands::{DrillFault, explain_check, run_check, run_drill};
+use fake_streams::{Course, Giver, Taker, Way};
+use hex::decode;
 use std::alloc::Global;
 use std::io::{Error, ErrorKind, Result};
 
 /// What a script prints, and how it ends.
 pub fn drilled(alloc: Global, script: &str) -> Result<(Vec<u8>, String)> {
-    let mut reader = script.as_bytes();
     let mut printed = Vec::new(alloc);
-    let ending = match run_drill(alloc, &mut reader, &mut printed) {
-        Ok(()) => String::from_str(alloc, "ends")?,
+    let ended = run_drill(alloc, &mut script.as_bytes(), &mut printed);
+    Ok((printed, ending(alloc, ended)?))
+}
+
+fn ending(alloc: Global, ended: std::result::Result<(), DrillFault>) -> Result<String> {
+    match ended {
+        Ok(()) => Ok(String::from_str(alloc, "ends")?),
+        Err(fault) => Ok(fault.to_string(alloc)?),
+    }
+}
+
+/// How the script ends of a case of streams, `read WAY`, `write WAY` or `check WAY`: it is read in this way,
+/// or what it prints, or what is said of it as a configuration, is written in this way.
+pub fn streamed(alloc: Global, script: &str, case: &str) -> Result<String> {
+    let (what, way) = case.split_once(' ').unwrap_or((case, ""));
+    let way = Way::of(way);
+    match what {
+        "read" => read(alloc, script, way),
+        "write" => written(alloc, script, way),
+        "check" => check_written(alloc, script, way),
+        _ => Ok(String::from_str(alloc, "no such case")?),
+    }
+}
+
+fn read(alloc: Global, script: &str, way: Way) -> Result<String> {
+    let mut reader = Giver {
+        left: script.as_bytes(),
+        course: Course::start(way),
+    };
+    let mut printed = Vec::new(alloc);
+    let ended = run_drill(alloc, &mut reader, &mut printed);
+    let ending = ending(alloc, ended)?;
+    let (bytes, reads) = (printed.len(), reader.course.calls);
+    Ok(format!(in alloc; "{ending}, {bytes} bytes printed, {reads} reads")?)
+}
+
+fn taker(alloc: Global, way: Way) -> Taker {
+    Taker {
+        taken: Vec::new(alloc),
+        course: Course::start(way),
+    }
+}
+
+fn written(alloc: Global, script: &str, way: Way) -> Result<String> {
+    let mut writer = taker(alloc, way);
+    let ended = run_drill(alloc, &mut script.as_bytes(), &mut writer);
+    let ending = ending(alloc, ended)?;
+    Ok(format!(in alloc; "{ending}, {} bytes printed", writer.taken.len())?)
+}
+
+fn check_written(alloc: Global, text: &str, way: Way) -> Result<String> {
+    let mut writer = taker(alloc, way);
+    let ending = match run_check(alloc, text.as_bytes(), &mut writer) {
+        Ok(status) => format!(in alloc; "status {status}")?,
         Err(fault) => fault.to_string(alloc)?,
     };
-    Ok((printed, ending))
+    Ok(format!(in alloc; "{ending}, {} bytes printed", writer.taken.len())?)
+}
+
+/// How bytes in hexadecimal end as a script, and what the check says of them.
+pub fn of_bytes(alloc: Global, text: &str) -> Result<String> {
+    let bytes = decode(alloc, text).map_err(|_| Error::from(ErrorKind::InvalidInput))?;
+    let mut printed = Vec::new(alloc);
+    let ended = run_drill(alloc, &mut bytes.as_slice(), &mut printed);
+    let ending = ending(alloc, ended)?;
+    let status = run_check(alloc, &bytes, &mut printed).map_err(no_memory)?;
+    let line = str::from_utf8(&printed).unwrap_or("no UTF-8").trim_end();
+    Ok(format!(in alloc; "{ending}; {line}, status {status}")?)
 }
 
 /// The line that the check prints, without its newline, and the status.

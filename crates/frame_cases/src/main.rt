@@ -7,6 +7,7 @@
 //! - `read HOW: HEX`: what is read of a stream with these bytes, and the bytes that are left of it.
 //! - `reads HOW: HEX`: the same, and in how many reads.
 //! - `write HOW: HEX`: what of that message is written.
+//! - `writes HOW: HEX`: the same, and in how many writes.
 //! - `fail HOW: HEX`: that message is written with a fault behind each byte in turn.
 //! - A line that begins with `#`, or is empty, is passed on.
 //!

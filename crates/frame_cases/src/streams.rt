@@ -17,7 +17,11 @@ pub fn answer(alloc: Global, kind: &str, text: &str) -> io::Result<String> {
             let (shown, calls) = read(alloc, way, &bytes)?;
             Ok(format!(in alloc; "{shown} in {calls} reads")?)
         }
-        "write" => written(alloc, way, &bytes),
+        "write" => Ok(written(alloc, way, &bytes)?.0),
+        "writes" => {
+            let (shown, calls) = written(alloc, way, &bytes)?;
+            Ok(format!(in alloc; "{shown} in {calls} writes")?)
+        }
         "fail" => failing(alloc, way, &bytes),
         _ => Ok(String::from_str(alloc, "no such case")?),
     }
@@ -69,34 +73,35 @@ fn shown_short(alloc: Global, bytes: &[u8]) -> io::Result<String> {
     shown(alloc, bytes)
 }
 
-/// Writes a message: whether that is done, and what was taken.
-fn write(alloc: Global, way: Way, message: &[u8]) -> io::Result<(bool, Vec<u8>)> {
+/// Writes a message: whether that is done, and the writer that took it.
+fn write(alloc: Global, way: Way, message: &[u8]) -> (bool, Taker) {
     let mut writer = Taker {
         taken: Vec::new(alloc),
         course: Course::start(way),
     };
     if message.len() > LONGEST_MESSAGE {
-        return Ok((false, writer.taken));
+        return (false, writer);
     }
     let done = write_tcp(&mut writer, message).is_ok();
-    Ok((done, writer.taken))
+    (done, writer)
 }
 
-fn written(alloc: Global, way: Way, message: &[u8]) -> io::Result<String> {
-    let (done, taken) = write(alloc, way, message)?;
+/// What is written of a message, and the count of writes.
+fn written(alloc: Global, way: Way, message: &[u8]) -> io::Result<(String, u32)> {
+    let (done, Taker { taken, course }) = write(alloc, way, message);
     let taken = shown_short(alloc, &taken)?;
     let word = if done { "written" } else { "write fault after" };
-    Ok(format!(in alloc; "{word} {taken}")?)
+    Ok((format!(in alloc; "{word} {taken}")?, course.calls))
 }
 
 /// Writes a message with a fault behind each byte in turn; how often just the bytes before the fault
 /// were taken.
 fn failing(alloc: Global, way: Way, message: &[u8]) -> io::Result<String> {
-    let (_, whole) = write(alloc, way, message)?;
+    let whole = write(alloc, way, message).1.taken;
     let mut fronts = 0u32;
     for count in 0..whole.len() {
-        let (done, taken) = write(alloc, way.failing_after(count), message)?;
-        if !done && taken.as_slice() == &whole[..count] {
+        let (done, writer) = write(alloc, way.failing_after(count), message);
+        if !done && writer.taken.as_slice() == &whole[..count] {
             fronts = fronts.saturating_add(1);
         }
     }

@@ -2,6 +2,7 @@
 use crate::journal::journal_of;
 use crate::realm::{table, versions};
 use crate::refusal::Refusal;
+use crate::unsynced::Unsynced;
 use chpw_journal::{Journal, JournalFile, OpenFault, open_journal};
 use chpw_table::JournalSink;
 use std::alloc::Global;
@@ -12,7 +13,7 @@ use std::os::unix::fs::PermissionsExt;
 const SCRATCH: &str = "scratch-journal";
 
 /// What comes of a journal with these pieces as a file, of which there is none with `no file`: `open`,
-/// `twice`, or `append PIECES`.
+/// `twice`, `unsynced`, or `append PIECES`.
 pub fn filed<R: Files<File = File>>(
     rt: &R,
     alloc: Global,
@@ -26,6 +27,7 @@ pub fn filed<R: Files<File = File>>(
     let answer = match what.split_once(' ') {
         None if what == "open" => opened(rt, alloc),
         None if what == "twice" => twice(rt, alloc),
+        None if what == "unsynced" => unsynced(rt, alloc),
         Some(("append", more)) => appended(rt, alloc, journal_of(alloc, more)?.as_slice()),
         _ => Err(Refusal::NoSuchCase),
     };
@@ -43,6 +45,17 @@ fn opened<R: Files<File = File>>(rt: &R, alloc: Global) -> Result<String, Refusa
     };
     let left = fs::metadata(rt, SCRATCH)?.len();
     Ok(format!(in alloc; "{told}, {left} bytes")?)
+}
+
+/// The same where the file's folder can't be put on the disk.
+fn unsynced<R: Files<File = File>>(rt: &R, alloc: Global) -> Result<String, Refusal> {
+    opened(
+        &Unsynced {
+            inner: rt,
+            folder: ".",
+        },
+        alloc,
+    )
 }
 
 /// Whether the file was there, the mode of one that wasn't, the versions in the table, and where a torn tail

@@ -15,6 +15,7 @@ mod journal;
 mod realm;
 mod refusal;
 mod restoring;
+mod unsynced;
 
 use case_lines::{Answers, Change, print_answers};
 use changed::changed;
