@@ -54,12 +54,17 @@ pub fn write_keytab<'a, W: Write, E: Write>(
     ensures unchanged { IfErr result (λ fault. IsEarly fault → (writer.new ≡ writer.old) × (left.new ≡ left.old)) }
 {
     let brought = brought_in(alloc, bytes, options)?;
-    let text = stanzas(alloc, brought.service.as_slice(), brought.principals.as_slice())?;
+    let text = stanzas(
+        alloc,
+        brought.service.as_slice(),
+        brought.principals.as_slice(),
+    )?;
     let Ok(lines) = left_text(alloc, options.keytab, &brought) else {
         return Err(KeysFault::Memory);
     };
     write_text(text.as_bytes(), writer)?;
-    write_text(lines.as_slice(), left)
+    write_text(lines.as_slice(), left)?;
+    Ok(())
 }
 
 fn brought_in<'a>(

@@ -58,6 +58,7 @@ pub(crate) fn write_text<'a, W: Write>(text: &[u8], writer: &mut W) -> Result<()
 }
 
 /// Standard error, as a writer of texts.
+#[derive(Drop)]
 pub(crate) struct ErrorWriter<'a, R> {
     pub rt: &'a R,
 }
