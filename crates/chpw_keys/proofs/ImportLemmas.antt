@@ -1,5 +1,5 @@
 -- What `import` writes, put together.
-use Rattle.std.proofs.Common.{◌≡◌, ◌∙◌, ap, subst, sym, ℕ, List, Option, Some}
+use Rattle.std.proofs.Common.{◌≡◌, ◌∙◌, ap, subst, ℕ, List, Option, Some}
 use Rattle.std.specs.Io.KnownBytes.{Appends}
 use Rattle.toml.specs.Parse.{parse_document}
 use Rattle.chpw_rules.specs.declared.config.PrincipalRow.{PrincipalRow}
@@ -9,7 +9,7 @@ use Rattle.chpw_invocation.specs.declared.invocation.ImportOptions.{ImportOption
 use Rattle.chpw_import.specs.declared.keytab.Brought.{Brought}
 use Rattle.chpw_import.specs.Keytabs.{IsBrought}
 use Rattle.chpw_import.specs.LeftLines.{left_lines}
-use Rattle.chpw_keys.specs.Stanzas.{AppendsRows, Imports}
+use Rattle.chpw_keys.specs.Stanzas.{Imports}
 
 pub imported : (o : ImportOptions) (bytes : List ℕ) (b : Brought) (before behind untold told : Option (List ℕ)) (text t lines l : List ℕ) (s : List ServiceRow) (p : List PrincipalRow)
     → IsBrought bytes o.realm.now o.iterations b → s ≡ b.service.items → p ≡ b.principals.items
