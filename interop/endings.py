@@ -25,6 +25,7 @@ from server import PROGRAM, Server
 
 SCRIPT = "realm EXAMPLE.COM\npolicy 0 0 2 4096 no\nprincipal alice 1 4096:a1\nopen 10 -1\n"
 LONGEST_PASSWORD = 60_000
+HEAD = pathlib.Path(__file__).resolve().parent.parent / "samples/head.toml"
 NO_TEXT = "a word of the command line is not UTF-8"
 
 
@@ -183,6 +184,21 @@ def keys_brought_in(program):
                         (stanza("alice", 1, *keys_of("alice", "New-pass2")).split(), "", 0))
     program.tell_unwritten("key: a full disk", "key", *words)
     program.tell("key: no file", ("", "cannot read missing", 1), "key", *words[:-1], "missing")
+
+
+def keys_behind_a_head(program):
+    """What `import` writes, joined behind a configuration's head, is read as both: the head's rule, and these keys."""
+    short, long = bytes(range(16)), bytes(range(32))
+    service = [("EXAMPLE.COM", "kadmin/changepw", 2, 18, long), ("EXAMPLE.COM", "kadmin/changepw", 2, 17, short)]
+    alice = [("EXAMPLE.COM", "alice", kvno, etype, key) for kvno in (3, 2) for etype, key in ((18, long), (17, short))]
+    (program.folder / "keytab").write_bytes(keytab(*service, *alice))
+    stanzas = program.ended("import", "--keytab", "keytab", "--realm", "EXAMPLE.COM", "--iterations", "8192")
+    program.report.tell("import: the service and a user", stanzas[1:], ("", 0))
+    (program.folder / "joined").write_text(HEAD.read_text() + stanzas[0] + "\n")
+    program.tell("import: behind a head", ("ok: principals 1, rules 1, service keys 2", "", 0), "check", "--config", "joined")
+    (program.folder / "journal").write_bytes(b"")
+    lines = "alice kvno 3 counts 8192 8192\nprincipals 1 changes 0"
+    program.tell("import: the keys behind a head", (lines, "", 0), "table", "--config", "joined", "--journal", "journal")
 
 
 def table(program):
@@ -387,6 +403,7 @@ CASES = [
     drill,
     check,
     keys_brought_in,
+    keys_behind_a_head,
     table,
     serve,
     second_service,

@@ -16,9 +16,9 @@ from changepw_client import string_to_key
 SERVICE = (b"kadmin", b"changepw")
 LENGTHS = {18: 32, 17: 16}
 MOST_KEYS, MOST_PRINCIPALS = 16, 10_000
-PLAIN = {ord("\t"): "\\t", ord("\n"): "\\n", ord("\r"): "\\r", ord("\\"): "\\\\", ord('"'): '\\"', ord("'"): "\\'"}
+QUOTED = b" /@\\"
 
-Entry = collections.namedtuple("Entry", "place realm name kvno etype key")
+Entry = collections.namedtuple("Entry", "place realm name timestamp kvno etype key")
 
 
 class Fault(Exception):
@@ -49,11 +49,12 @@ def entry_of(octets, place):
     count = fields.number(2)
     realm = fields.counted()
     name = tuple(fields.counted() for _ in range(count))
-    fields.take(8)
-    kvno, etype, key = fields.number(1), fields.number(2), fields.counted()
+    fields.take(4)
+    timestamp = fields.number(4)
+    kvno, etype, key = fields.number(1), int.from_bytes(fields.take(2), "big", signed=True), fields.counted()
     if len(fields.octets) >= 4 and (longer := fields.number(4)):
         kvno = longer
-    return Entry(place, realm, name, kvno, etype, key)
+    return Entry(place, realm, name, timestamp, kvno, etype, key)
 
 
 def entries_of(octets):
@@ -127,7 +128,7 @@ def principal_keys(versions):
 
 def brought(octets, realm, iterations):
     entries = entries_of(octets)
-    left, slots, repeated, newest = {}, {}, [], collections.defaultdict(set)
+    left, slots, newest = {}, {}, collections.defaultdict(set)
     for index, entry in enumerate(entries):
         reason = alone(entry, realm)
         if reason:
@@ -137,17 +138,16 @@ def brought(octets, realm, iterations):
             continue
         newest[entry.name].add(entry.kvno)
         slot = entry.name, entry.kvno, entry.etype
-        if slot in slots:
-            repeated.append((entry.name, -entry.kvno, -slots[slot]))
-        slots[slot] = index
-    for *_, index in sorted(repeated):
-        left[-index] = "a later entry has the same name, kvno and etype"
+        held = slots.get(slot, index)
+        older = min(held, index) if entries[held].timestamp <= entry.timestamp else index
+        if held != index:
+            left[older] = "an entry put there later has the same name, kvno and etype"
+        slots[slot] = index if older != index or held == index else held
+    found = {name: {kvno: {} for kvno in newest[name]} for name in newest}
+    for (name, kvno, etype), index in slots.items():
+        found[name][kvno][etype] = index
     lines, service, count = [], [], 0
-    for name in sorted(newest):
-        versions = {kvno: {} for kvno in newest[name]}
-        for (who, kvno, etype), index in slots.items():
-            if who == name:
-                versions[kvno][etype] = index
+    for name, versions in sorted(found.items()):
         if name == SERVICE:
             for kvno in sorted(versions, reverse=True):
                 for etype in (18, 17):
@@ -169,7 +169,7 @@ def brought(octets, realm, iterations):
             lines += stanza(name, keys, iterations)
     for kvno, etype, key in service:
         lines += ["[[service.key]]", f"etype = {etype}", f'key = "{key.hex()}"', f"kvno = {kvno}"]
-    return lines, [told(entries[i], why) for i, why in left.items()]
+    return lines, [told(entries[i], why) for i, why in sorted(left.items())]
 
 
 def stanza(name, keys, iterations):
@@ -181,12 +181,12 @@ def stanza(name, keys, iterations):
 
 
 def escaped(octets):
-    return "".join(PLAIN.get(b, chr(b) if 32 <= b < 127 else f"\\x{b:02x}") for b in octets)
+    return "".join(chr(b) if 32 <= b < 127 and b not in QUOTED else f"\\x{b:02x}" for b in octets)
 
 
 def told(entry, why):
     name = "/".join(map(escaped, entry.name))
-    return (f"at {entry.place}: left out: {name}@{escaped(entry.realm)}, kvno {entry.kvno}, "
+    return (f"keytab: at {entry.place}: left out: {name}@{escaped(entry.realm)}, kvno {entry.kvno}, "
             f"etype {entry.etype}: {why}")
 
 
@@ -196,6 +196,22 @@ def keytab(octets, realm, iterations):
     except Fault as fault:
         return f"keytab: {fault}"
     return " | ".join([" ".join(lines) or "nothing", *left])
+
+
+def many(realm, count):
+    """Of so many principals: how many have a stanza, and who is left out."""
+    octets = b"\x05\x02"
+    for number in range(count):
+        for etype, size in LENGTHS.items():
+            octets += record(realm.encode(), b"u%05d" % number, etype, bytes(size))
+    lines, left = brought(octets, realm.encode(), 4096)
+    return " | ".join([f"principals {lines.count('[[principal]]')}", *left])
+
+
+def record(realm, name, etype, key):
+    fields = struct.pack(">H", 1) + b"".join(struct.pack(">H", len(it)) + it for it in (realm, name))
+    fields += struct.pack(">IIBHH", 1, 0, 1, etype, len(key)) + key
+    return struct.pack(">I", len(fields)) + fields
 
 
 def password(realm, name, iterations, kvno, octets):
@@ -216,6 +232,8 @@ def octets_of(word):
 
 def answer(case):
     kind, *words, last = case.split(" ")
+    if kind == "many":
+        return many(words[0], int(last))
     octets = octets_of(last)
     if kind == "keytab":
         return keytab(octets, words[0], int(words[1]))

@@ -3,3 +3,4 @@ pub mod PasswordLemmas
 pub mod RowLemmas
 pub mod SlotLemmas
 pub mod TableLemmas
+pub mod UsedLemmas

@@ -1,8 +1,9 @@
 -- The rows that are made one after the other.
-use Rattle.std.proofs.Common.{◌≡◌, ◌∙◌, sym, ap, refl, subst, ℕ, zero, suc, ◌-◌, ◌<◌, ◌≤◌, Bool, true, false, ◌&&◌, List, [], ◌∷◌, ◌++◌, append_assoc, append-nil, length, length-append, map, get_or, if◌then◌else◌, codes, bytes_eq, Option, Some, None, arith}
+use Rattle.std.proofs.Common.{◌≡◌, ◌∙◌, sym, ap, refl, subst, ℕ, ℤ, zero, suc, ◌-◌, ◌<◌, ◌≤◌, Bool, true, false, ◌&&◌, List, [], ◌∷◌, ◌++◌, append_assoc, append-nil, length, length-append, map, get_or, if◌then◌else◌, codes, bytes_eq, Option, Some, None, arith}
 use Rattle.std.specs.List.{AllByRecursion}
 use Rattle.std.specs.List.Sorted.{IsStrictlySortedBy}
 use Rattle.std.specs.Map.{keys_of}
+use Rattle.std.specs.Option.{option_map}
 use Rattle.std.specs.declared.cmp.Ordering.TheVariants.{Less}
 use Rattle.std.proofs.lemmas.Option.{same_Some}
 use Rattle.chpw_rules.specs.declared.name.Name.{Name}
@@ -11,9 +12,14 @@ use Rattle.chpw_rules.specs.declared.config.PrincipalRow.{PrincipalRow}
 use Rattle.chpw_rules.specs.Names.{name_cmp}
 use Rattle.chpw_import.specs.declared.slot.Slot.{Slot}
 use Rattle.chpw_import.specs.declared.slot.Found.{Found}
-use Rattle.chpw_import.specs.Rows.{keys_from, first_rows, is_service, pair_for, row_for, row_with}
+use Rattle.chpw_import.specs.Rows.{keys_from, first_rows, is_service, key_for, pair_for, row_for, row_with, slot_at}
 
 -- ---- the keys of a name
+
+-- the key of a slot, whose encryption type is z as the code has it
+pub key_is : (keys : Slot → Option Found) (name : Name) (kvno : ℕ) (etype z : ℤ) → z ≡ etype → (r : Option Found) → r ≡ keys (slot_at name kvno z)
+    → option_map (λ (found : Found). found.key) r ≡ key_for keys name kvno etype
+key_is keys name kvno etype z e r h = ap (option_map (λ (found : Found). found.key)) (h ∙ ap (λ (t : ℤ). keys (slot_at name kvno t)) e)
 
 pub no_more : (pair : ℕ → Option KeyBytes) (count kvno : ℕ) → (kvno ≡ 0) → keys_from pair count kvno ≡ []
 unfolding keys_from

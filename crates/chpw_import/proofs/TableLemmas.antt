@@ -6,18 +6,22 @@ use Rattle.krb_keytab.specs.declared.entry.KeytabEntry.{KeytabEntry}
 use Rattle.chpw_rules.specs.declared.name.Name.{Name}
 use Rattle.chpw_import.specs.Entries.{named}
 use Rattle.chpw_import.specs.declared.slot.Slot.{Slot}
+use Rattle.chpw_import.specs.declared.slot.Found.{Found}
 use Rattle.chpw_import.specs.declared.table.Table.{Table}
-use Rattle.chpw_import.specs.Tables.{first_of_two, slot_cmp, found_in, latest, newest, newest_at, version_of, HoldsBefore, Takes}
+use Rattle.chpw_import.specs.Tables.{last_of_two, slot_cmp, found_in, latest, newest, newest_at, version_of, HoldsBefore, Takes}
 
-first_of_three : {A : Type 0} (a b d : Option A) → first_of_two a (first_of_two b d) ≡ first_of_two (first_of_two a b) d
-first_of_three None b d = refl
-first_of_three (Some x) b d = refl
+last_of_three : (a b d : Option Found) → last_of_two (last_of_two a b) d ≡ last_of_two a (last_of_two b d)
+last_of_three a b None = refl
+last_of_three None None (Some z) = refl
+last_of_three (Some x) None (Some z) = refl
+last_of_three None (Some y) (Some z) = grind arith
+last_of_three (Some x) (Some y) (Some z) = grind arith
 
 one_more : (realm : List ℕ) (index : ℕ) (e : KeytabEntry) (rest es : List KeytabEntry) (t u : Table)
     → HoldsBefore realm index (e ∷ rest) es t → Takes realm index e t u → HoldsBefore realm (index + 1) rest es u
 one_more realm index e rest es t u before step = record {
-  found = λ (s : Slot). ap (first_of_two (latest realm s (index + 1) rest)) (step.found s)
-      ∙ (first_of_three (latest realm s (index + 1) rest) (found_in realm s index e) (get slot_cmp t.found s) ∙ before.found s);
+  found = λ (s : Slot). ap (λ (a : Option Found). last_of_two a (latest realm s (index + 1) rest)) (step.found s)
+      ∙ (last_of_three (get slot_cmp t.found s) (found_in realm s index e) (latest realm s (index + 1) rest) ∙ before.found s);
   newest = λ (n : Name). ap (λ (k : ℕ). max k (newest realm n rest)) (step.newest n)
       ∙ (higher (newest_at t.newest n) (version_of n e (named realm e)) (newest realm n rest) ∙ before.newest n);
 }

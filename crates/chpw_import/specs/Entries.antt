@@ -1,5 +1,5 @@
 -- What an entry of a keytab is by itself to a realm.
-use Rattle.std.specs.Prelude.{ℕ, pos, Bool, not, ◌&&◌, ◌==◌, if◌then◌else◌, List, map, bytes_eq, Result, Ok, Err}
+use Rattle.std.specs.Prelude.{ℕ, ℤ, pos, negsuc, Bool, false, not, ◌&&◌, ◌==◌, if◌then◌else◌, List, map, bytes_eq, Result, Ok, Err}
 use Rattle.std.specs.Option.{ok_or}
 use Rattle.krb_keys.specs.Keys.{key_of}
 use Rattle.krb_keys.specs.declared.key.Key.{Key}
@@ -27,8 +27,13 @@ named realm e =
     else if e.kvno == 0 then Err NoVersion
     else Ok (name_in e)
 
+-- an encryption type of a configuration's keys
+abbrev pub is_aes : ℤ → Bool
+is_aes (pos etype) = is_in etypes etype
+is_aes (negsuc _) = false
+
 -- its key, or why no configuration can have it
 unfoldable pub key_in : KeytabEntry → Result Key Reason
 key_in e =
-    if not (is_in etypes e.etype) then Err OtherType
-    else ok_or (key_of (pos e.etype) e.key.items) KeyLength
+    if not (is_aes e.etype) then Err OtherType
+    else ok_or (key_of e.etype e.key.items) KeyLength

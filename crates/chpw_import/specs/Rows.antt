@@ -1,5 +1,5 @@
 -- The rows that the keys of a realm make: those of the service, and the principals'.
-use Rattle.std.specs.Prelude.{ℕ, pos, zero, suc, Bool, if◌then◌else◌, List, [], ◌∷◌, take, codes, Option, Some, None}
+use Rattle.std.specs.Prelude.{ℕ, ℤ, pos, zero, suc, Bool, if◌then◌else◌, List, [], ◌∷◌, take, codes, Option, Some, None}
 use Rattle.std.specs.List.{flat_map}
 use Rattle.std.specs.Option.{option_map, option_to_list}
 use Rattle.krb_keys.specs.declared.key.Key.{Key}
@@ -17,10 +17,10 @@ use Rattle.chpw_import.specs.declared.slot.Found.{Found}
 unfoldable pub is_service : Name → Bool
 is_service name = is_same_name name (record { parts = codes "kadmin" ∷ codes "changepw" ∷ [] })
 
-abbrev pub slot_at : Name → ℕ → ℕ → Slot
+abbrev pub slot_at : Name → ℕ → ℤ → Slot
 slot_at name kvno etype = record { name = name; kvno = record { 0 = kvno }; etype = record { 0 = etype } }
 
-abbrev pub key_for : (Slot → Option Found) → Name → ℕ → ℕ → Option Key
+abbrev pub key_for : (Slot → Option Found) → Name → ℕ → ℤ → Option Key
 key_for keys name kvno etype = option_map (λ found. found.key) (keys (slot_at name kvno etype))
 
 -- a version whose keys of both encryption types are there
@@ -30,7 +30,7 @@ pair_of kvno iterations (Some (Aes128 aes128)) (Some (Aes256 aes256)) =
 pair_of kvno iterations aes128 aes256 = None
 
 abbrev pub pair_for : (Slot → Option Found) → ℕ → Name → ℕ → Option KeyBytes
-pair_for keys iterations name kvno = pair_of kvno iterations (key_for keys name kvno 17) (key_for keys name kvno 18)
+pair_for keys iterations name kvno = pair_of kvno iterations (key_for keys name kvno (pos 17)) (key_for keys name kvno (pos 18))
 
 abbrev pub ahead : Option KeyBytes → List KeyBytes → List KeyBytes
 ahead None others = []
@@ -61,7 +61,7 @@ first_principals keys iterations names = first_rows (row_for keys iterations) 10
 -- a key of the service
 abbrev pub service_row : Slot × Found → Option ServiceRow
 service_row p =
-    if is_service p.0.name then Some (record { kvno = p.0.kvno.0; etype = pos p.0.etype.0; key = bytes_of p.1.key }) else None
+    if is_service p.0.name then Some (record { kvno = p.0.kvno.0; etype = p.0.etype.0; key = bytes_of p.1.key }) else None
 
 abbrev pub first_service_rows : List (Slot × Found) → List ServiceRow
 first_service_rows slots = first_rows service_row 16 slots

@@ -1,8 +1,8 @@
--- What the entries of a keytab offer: to each slot (a name, a version and an encryption type) the last
--- usable key of it, and of each name the newest version.
-use Rattle.std.specs.Prelude.{◌≡◌, ℕ, ◌+◌, if◌then◌else◌, max, List, [], ◌∷◌, Option, Some, None, Result, Ok, Err}
+-- What the entries of a keytab offer: to each slot (a name, a version and an encryption type) the usable key
+-- of it that was put there last, and of each name the newest version.
+use Rattle.std.specs.Prelude.{◌≡◌, ℕ, ◌+◌, nat_lt, Bool, false, if◌then◌else◌, max, List, [], ◌∷◌, Option, Some, None, Result, Ok, Err}
 use Rattle.std.specs.Option.{unwrap_or}
-use Rattle.std.specs.Ordering.{nat_cmp, ordering_then, eq_by_cmp}
+use Rattle.std.specs.Ordering.{int_cmp, nat_cmp, ordering_then, eq_by_cmp}
 use Rattle.std.specs.declared.cmp.Ordering.{Ordering}
 use Rattle.std.specs.BTreeMap.{BTreeMap, get}
 use Rattle.krb_keys.specs.declared.key.Key.{Key}
@@ -17,12 +17,17 @@ use Rattle.chpw_import.specs.Entries.{named, key_in}
 
 -- the order of slots: names in theirs, of each the newest version first, of that etype 18 first
 abbrev pub slot_cmp : Slot → Slot → Ordering
-slot_cmp a b = ordering_then (name_cmp a.name b.name) (ordering_then (nat_cmp b.kvno.0 a.kvno.0) (nat_cmp b.etype.0 a.etype.0))
+slot_cmp a b = ordering_then (name_cmp a.name b.name) (ordering_then (nat_cmp b.kvno.0 a.kvno.0) (int_cmp b.etype.0 a.etype.0))
 
--- the first of two that is there
-abbrev pub first_of_two : {A : Type 0} → Option A → Option A → Option A
-first_of_two (Some a) other = Some a
-first_of_two None other = other
+-- a key that was put there before the one that is held
+abbrev pub is_older : Option Found → Found → Bool
+is_older None next = false
+is_older (Some held) next = nat_lt next.timestamp held.timestamp
+
+-- of two keys, of which the second follows in the file, the one that was put there last
+abbrev pub last_of_two : Option Found → Option Found → Option Found
+last_of_two held None = held
+last_of_two held (Some next) = if is_older held next then held else Some next
 
 -- the slot of an entry with this name
 abbrev pub slot_in : Name → KeytabEntry → Slot
@@ -31,17 +36,17 @@ slot_in name e = record { name = name; kvno = record { 0 = e.kvno }; etype = rec
 -- the key of the index-th entry, where it is of this slot
 abbrev pub offered : Slot → ℕ → KeytabEntry → Result Name Reason → Result Key Reason → Option Found
 offered slot index e (Ok name) (Ok key) =
-    if eq_by_cmp slot_cmp (slot_in name e) slot then Some (record { index = index; key = key }) else None
+    if eq_by_cmp slot_cmp (slot_in name e) slot then Some (record { index = index; timestamp = e.timestamp; key = key }) else None
 offered slot index e (Ok name) (Err why) = None
 offered slot index e (Err why) key = None
 
 abbrev pub found_in : List ℕ → Slot → ℕ → KeytabEntry → Option Found
 found_in realm slot index e = offered slot index e (named realm e) (key_in e)
 
--- the last usable key of a slot, where the first of these entries is the index-th of the file
+-- the usable key of a slot that was put there last, where the first of these entries is the index-th of the file
 abbrev pub latest : List ℕ → Slot → ℕ → List KeytabEntry → Option Found
 latest realm slot index [] = None
-latest realm slot index (e ∷ es) = first_of_two (latest realm slot (index + 1) es) (found_in realm slot index e)
+latest realm slot index (e ∷ es) = last_of_two (found_in realm slot index e) (latest realm slot (index + 1) es)
 
 -- the version of an entry, where it is one of this name's
 abbrev pub version_of : Name → KeytabEntry → Result Name Reason → ℕ
@@ -56,6 +61,11 @@ newest realm name (e ∷ es) = max (version_of name e (named realm e)) (newest r
 abbrev pub newest_at : BTreeMap Name ℕ → Name → ℕ
 newest_at newest name = unwrap_or (get name_cmp newest name) 0
 
+-- keys of slots, to which one is put behind the others in the file
+abbrev pub Puts : Slot → Found → BTreeMap Slot Found → BTreeMap Slot Found → Type 0
+Puts slot next m n = (s : Slot)
+    → get slot_cmp n s ≡ last_of_two (get slot_cmp m s) (if eq_by_cmp slot_cmp slot s then Some next else None)
+
 -- newest versions of which one is raised
 abbrev pub Raises : Name → ℕ → BTreeMap Name ℕ → BTreeMap Name ℕ → Type 0
 Raises name kvno m n = (other : Name) → newest_at n other ≡ max (newest_at m other) (if is_same_name name other then kvno else 0)
@@ -67,10 +77,10 @@ pub record Holds (realm : List ℕ) (es : List KeytabEntry) (t : Table) : Type 0
 
 -- a table that takes the index-th entry
 pub record Takes (realm : List ℕ) (index : ℕ) (e : KeytabEntry) (t u : Table) : Type 0 where
-  pub found : (s : Slot) → get slot_cmp u.found s ≡ first_of_two (found_in realm s index e) (get slot_cmp t.found s)
+  pub found : (s : Slot) → get slot_cmp u.found s ≡ last_of_two (get slot_cmp t.found s) (found_in realm s index e)
   pub newest : (n : Name) → newest_at u.newest n ≡ max (newest_at t.newest n) (version_of n e (named realm e))
 
 -- a table that is to take the rest of the entries, of which the first is the index-th
 pub record HoldsBefore (realm : List ℕ) (index : ℕ) (rest es : List KeytabEntry) (t : Table) : Type 0 where
-  pub found : (s : Slot) → first_of_two (latest realm s index rest) (get slot_cmp t.found s) ≡ latest realm s 0 es
+  pub found : (s : Slot) → last_of_two (get slot_cmp t.found s) (latest realm s index rest) ≡ latest realm s 0 es
   pub newest : (n : Name) → max (newest_at t.newest n) (newest realm n rest) ≡ newest realm n es

@@ -1,6 +1,6 @@
 //! The entries of a keytab, each by itself.
 ghost use Rattle.std.specs.Prelude.{◌≡◌, IfOk, map};
-ghost use Rattle.chpw_import.specs.Entries.{key_in, name_in, named};
+ghost use Rattle.chpw_import.specs.Entries.{is_aes, key_in, name_in, named};
 
 use crate::left::Reason;
 use chpw_config_text::can_be_written;
@@ -36,7 +36,7 @@ pub(crate) fn named_in(
 pub(crate) fn usable_key(entry: &KeytabEntry) -> Result<Key, Reason>
     ensures value { result ≡ key_in entry.now }
 {
-    if !ETYPES.allow(usize::from(entry.etype)) {
+    if !is_aes(entry.etype) {
         return Err(Reason::OtherType);
     }
     match key_of(i32::from(entry.etype), entry.key.as_slice()) {
@@ -45,8 +45,18 @@ pub(crate) fn usable_key(entry: &KeytabEntry) -> Result<Key, Reason>
     }
 }
 
-// The name of the entry, in memory of its own.
-fn name_of(alloc: Global, entry: &KeytabEntry) -> Result<Name, AllocError>
+// Whether it is an encryption type of a configuration's keys.
+fn is_aes(etype: i16) -> bool
+    ensures value { result ≡ is_aes etype }
+{
+    match usize::try_from(etype) {
+        Ok(number) => ETYPES.allow(number),
+        Err(_) => false,
+    }
+}
+
+/// The name of the entry, in memory of its own.
+pub(crate) fn name_of(alloc: Global, entry: &KeytabEntry) -> Result<Name, AllocError>
     ensures value { IfOk result (λ name. name ≡ name_in entry.now) }
 {
     let parts = copies(alloc, entry.components.as_slice())?;

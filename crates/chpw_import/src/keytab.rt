@@ -1,13 +1,12 @@
 //! The keys of a keytab.
-ghost use Rattle.std.specs.Prelude.{◌≡◌, IfErr, IfOk, Ok, map};
+ghost use Rattle.std.specs.Prelude.{◌≡◌, IfErr, IfOk, map};
 ghost use Rattle.std.specs.List.Sorted.{IsStrictlySortedBy};
-ghost use Rattle.krb_keytab.specs.Answers.{views};
-ghost use Rattle.krb_keytab.specs.Keytabs.{keytab};
 ghost use Rattle.chpw_rules.specs.Names.{name_cmp};
-ghost use Rattle.chpw_import.specs.Keytabs.{ArePrincipals, AreServiceKeys, BeginsWithUnusable, IsOfKeytab};
+ghost use Rattle.chpw_import.specs.Keytabs.{ArePrincipals, AreServiceKeys, IsBrought, IsOfKeytab};
+ghost use Rattle.chpw_import.specs.LeftOut.{left_out};
 
 use crate::left::Left;
-use crate::left_out::left_of;
+use crate::left_out::{Used, left_of};
 use crate::rows::{principals_of, service_of};
 use crate::table::table_of;
 use chpw_rules::{PrincipalRow, ServiceRow};
@@ -23,7 +22,7 @@ pub struct Brought {
     pub service: Vec<ServiceRow>,
     /// The others, in the order of their names.
     pub principals: Vec<PrincipalRow>,
-    /// What is left out: what can't be used by itself, in the order of the file, and then the rest.
+    /// What is left out, in the order of the file.
     pub left: Vec<Left>,
 }
 
@@ -38,7 +37,8 @@ pub enum ImportFault {
 
 /// The keys of a realm that a keytab holds, as a configuration has them.
 ///
-/// Of two entries of one name, kvno and encryption type the later one counts. The keys of a principal are
+/// Of two entries of one name, kvno and encryption type the one that was put there last counts: the one with
+/// the greater timestamp, or where that is the same, the one that follows in the file. The keys of a principal are
 /// those of its newest kvno in the realm and of each one below it, as long as that has a key of both
 /// encryption types; what is behind is left out.
 pub fn bring_in(
@@ -48,15 +48,7 @@ pub fn bring_in(
     iterations: u32,
 ) -> Result<Brought, ImportFault>
     ensures fault { IfErr result (IsOfKeytab bytes.now) }
-    ensures entries { IfOk result (λ b. keytab bytes.now ≡ Ok (views b.entries.items)) }
-    ensures service { IfOk result (λ b.
-        AreServiceKeys realm.now b.entries.items b.service.items) }
-    ensures principals { IfOk result (λ b.
-        ArePrincipals realm.now iterations b.entries.items b.principals.items) }
-    ensures sorted { IfOk result (λ b.
-        IsStrictlySortedBy name_cmp (map (λ row. row.name) b.principals.items)) }
-    ensures left { IfOk result (λ b.
-        BeginsWithUnusable realm.now b.entries.items b.left.items) }
+    ensures brought { IfOk result (IsBrought bytes.now realm.now iterations) }
 {
     match read_keytab(alloc, bytes) {
         Err(KeytabError::Fault(fault)) => Err(ImportFault::Keytab(fault)),
@@ -83,18 +75,17 @@ fn brought_of(
     ensures sorted { IfOk result (λ b.
         IsStrictlySortedBy name_cmp (map (λ row. row.name) b.principals.items)) }
     ensures left { IfOk result (λ b.
-        BeginsWithUnusable realm.now b.entries.items b.left.items) }
+        b.left.items ≡ left_out realm.now b.entries.items b.service.items b.principals.items) }
 {
     let table = table_of(alloc, realm, entries.as_slice())?;
     let service = service_of(alloc, &table.found)?;
     let principals = principals_of(alloc, &table, iterations)?;
-    let left = left_of(
-        alloc,
-        realm,
-        entries.as_slice(),
-        &table,
-        principals.as_slice(),
-    )?;
+    let used = Used {
+        table: &table,
+        service: service.as_slice(),
+        principals: principals.as_slice(),
+    };
+    let left = left_of(alloc, realm, entries.as_slice(), &used)?;
     Ok(Brought {
         entries,
         service,

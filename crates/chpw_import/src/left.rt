@@ -1,8 +1,13 @@
-//! What is left out.
+//! What is left out, and what is told of it.
+ghost use Rattle.std.specs.Prelude.{◌≡◌, ◌++◌, IfOk, OnOk};
+ghost use Rattle.std.specs.Option.{option_copied};
+ghost use Rattle.chpw_import.specs.LeftLines.{entry_text, left_lines, left_text, length_text, line_of, reason_text, unpaired_text, words_of};
 
-use chpw_rules::ETYPES;
+use crate::entries::name_of;
+use crate::keytab::Brought;
+use chpw_printing::{put_number, put_principal, put_signed};
 use krb_keytab::KeytabEntry;
-use std::fmt;
+use std::alloc::{AllocError, Global};
 
 /// Why an entry is left out, in the order in which it is looked at.
 #[derive(Clone, Copy, PartialEq, Eq, Debug, Drop)]
@@ -17,16 +22,16 @@ pub enum Reason {
     OtherType,
     /// Its key has another length than its encryption type's.
     KeyLength,
-    /// A later entry has the same name, kvno and encryption type.
+    /// An entry of the same name, kvno and encryption type was put there later.
     Repeated,
+    /// It is older than the newest version of its name that isn't used.
+    BehindGap,
     /// Its version has no key of the other encryption type.
     Unpaired,
-    /// It is no newer than a version that is left out, or versions between are missing.
-    BehindGap,
-    /// Its principal, or the service, has the most keys already.
-    TooManyKeys,
     /// There are the most principals already.
     TooManyPrincipals,
+    /// Its principal, or the service, has the most keys already.
+    TooManyKeys,
 }
 
 /// An entry that is left out: the index-th of the file, from 0.
@@ -36,61 +41,110 @@ pub struct Left {
     pub why: Reason,
 }
 
-/// What is told of an entry that is left out.
-#[derive(Clone, Copy, Drop)]
-pub struct LeftLine<'a> {
-    pub entry: &'a KeytabEntry,
-    pub why: Reason,
-}
-
-impl LeftLine<'_> {
-    // The name and its realm, and whatever can't be printed as an escape.
-    fn write_principal<W: fmt::Write>(&self, f: &mut fmt::Formatter<W>) -> fmt::Result {
-        for (place, part) in self.entry.components.as_slice().iter().enumerate() {
-            if place > 0 {
-                f.write_str("/")?;
-            }
-            write!(f, "{}", part.as_slice().escape_ascii())?;
-        }
-        write!(f, "@{}", self.entry.realm.as_slice().escape_ascii())
-    }
-
-    fn write_reason<W: fmt::Write>(&self, f: &mut fmt::Formatter<W>) -> fmt::Result {
-        match self.why {
-            Reason::OtherRealm => f.write_str("another realm"),
-            Reason::BadName => f.write_str(
-                "a name has 1 to 8 components of 1 to 128 bytes, in UTF-8 and without a /",
-            ),
-            Reason::NoVersion => f.write_str("a version is at least 1"),
-            Reason::OtherType => f.write_str("only 17 and 18 can be used"),
-            Reason::KeyLength => write!(f, "its key has {} bytes", self.entry.key.len()),
-            Reason::Repeated => f.write_str("a later entry has the same name, kvno and etype"),
-            Reason::Unpaired => write!(f, "no key of etype {} has its kvno", self.other()),
-            Reason::BehindGap => f.write_str("behind a version that is missing or left out"),
-            Reason::TooManyKeys => f.write_str("there are 16 keys already"),
-            Reason::TooManyPrincipals => f.write_str("there are 10000 principals already"),
-        }
-    }
-
-    // The other encryption type.
-    fn other(&self) -> usize {
-        if usize::from(self.entry.etype) == ETYPES.low {
-            ETYPES.high
-        } else {
-            ETYPES.low
-        }
-    }
-}
-
-impl fmt::Display for LeftLine<'_> {
-    fn fmt<W: fmt::Write>(&self, f: &mut fmt::Formatter<W>) -> fmt::Result {
-        write!(f, "at {}: left out: ", self.entry.place)?;
-        self.write_principal(f)?;
-        write!(
-            f,
-            ", kvno {}, etype {}: ",
-            self.entry.kvno, self.entry.etype
+/// What is told of what is left out: a line for each entry, behind the file's name.
+pub fn left_text(alloc: Global, file: &str, brought: &Brought) -> Result<Vec<u8>, AllocError>
+    ensures value { IfOk result (λ text.
+        text.items ≡ left_lines file.now brought.now.entries.items brought.now.left.items) }
+{
+    let mut text = Vec::new(alloc);
+    let mut left = brought.left.as_slice();
+    while let [first, rest @ ..] = left {
+        put_line(
+            &mut text,
+            file,
+            brought.entries.as_slice().get(first.index),
+            first.why,
         )?;
-        self.write_reason(f)
+        left = rest;
+    }
+    Ok(text)
+}
+
+// The line of this entry.
+fn put_line(
+    text: &mut Vec<u8>,
+    file: &str,
+    entry: Option<&KeytabEntry>,
+    why: Reason,
+) -> Result<(), AllocError>
+    ensures value { OnOk result (text.new.items ≡ text.old.items ++ line_of file.now why (option_copied entry.entry)) }
+{
+    let Some(entry) = entry else {
+        return Ok(());
+    };
+    text.extend_from_slice(file.as_bytes())?;
+    text.extend_from_slice(b": ")?;
+    put_left(text, entry, why)?;
+    text.extend_from_slice(b"\n")
+}
+
+// What is told of an entry that is left out.
+fn put_left(text: &mut Vec<u8>, entry: &KeytabEntry, why: Reason) -> Result<(), AllocError>
+    ensures value { OnOk result (text.new.items ≡ text.old.items ++ left_text entry.now why) }
+{
+    text.extend_from_slice(b"at ")?;
+    put_number(text, entry.place as u64)?;
+    text.extend_from_slice(b": left out: ")?;
+    put_entry(text, entry)?;
+    text.extend_from_slice(b": ")?;
+    put_reason(text, entry, why)
+}
+
+// An entry's principal, version and encryption type.
+fn put_entry(text: &mut Vec<u8>, entry: &KeytabEntry) -> Result<(), AllocError>
+    ensures value { OnOk result (text.new.items ≡ text.old.items ++ entry_text entry.now) }
+{
+    let name = name_of(*text.allocator(), entry)?;
+    put_principal(text, entry.realm.as_slice(), &name)?;
+    text.extend_from_slice(b", kvno ")?;
+    put_number(text, u64::from(entry.kvno))?;
+    text.extend_from_slice(b", etype ")?;
+    put_signed(text, i64::from(entry.etype))
+}
+
+fn put_reason(text: &mut Vec<u8>, entry: &KeytabEntry, why: Reason) -> Result<(), AllocError>
+    ensures value { OnOk result (text.new.items ≡ text.old.items ++ reason_text entry.now why) }
+{
+    match why {
+        Reason::KeyLength => put_length(text, entry.key.len()),
+        Reason::Unpaired => text.extend_from_slice(unpaired_text(entry.etype)),
+        _ => text.extend_from_slice(words_of(why)),
+    }
+}
+
+fn put_length(text: &mut Vec<u8>, length: usize) -> Result<(), AllocError>
+    ensures value { OnOk result (text.new.items ≡ text.old.items ++ length_text length) }
+{
+    text.extend_from_slice(b"its key has ")?;
+    put_number(text, length as u64)?;
+    text.extend_from_slice(b" bytes")
+}
+
+// What is missing beside a key of this encryption type.
+fn unpaired_text(etype: i16) -> &'static [u8]
+    ensures value { result.now ≡ unpaired_text etype }
+{
+    if etype == 17 {
+        b"no key of etype 18 has its kvno"
+    } else {
+        b"no key of etype 17 has its kvno"
+    }
+}
+
+fn words_of(why: Reason) -> &'static [u8]
+    ensures value { result.now ≡ words_of why }
+{
+    match why {
+        Reason::KeyLength | Reason::Unpaired => b"",
+        Reason::OtherRealm => b"another realm",
+        Reason::BadName => {
+            b"a name has 1 to 8 components of 1 to 128 bytes, in UTF-8 and without a /"
+        }
+        Reason::NoVersion => b"a version is at least 1",
+        Reason::OtherType => b"only 17 and 18 can be used",
+        Reason::Repeated => b"an entry put there later has the same name, kvno and etype",
+        Reason::BehindGap => b"behind a version that is missing or left out",
+        Reason::TooManyKeys => b"there are 16 keys already",
+        Reason::TooManyPrincipals => b"there are 10000 principals already",
     }
 }

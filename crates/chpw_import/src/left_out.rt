@@ -1,54 +1,47 @@
 //! Which entries of a keytab are left out.
-ghost use Rattle.std.specs.Prelude.{◌≡◌, IfOk};
-ghost use Rattle.chpw_import.specs.Entries.{key_in, named};
-ghost use Rattle.chpw_import.specs.Keytabs.{BeginsWithUnusable, unusable, unusable_from};
+ghost use Rattle.std.specs.Prelude.{◌≡◌, Bool, IfOk, map};
+ghost use Rattle.std.specs.BTreeMap.{get};
+ghost use Rattle.std.specs.List.{list_any};
+ghost use Rattle.std.specs.List.Sorted.{IsStrictlySortedBy};
+ghost use Rattle.chpw_rules.specs.Names.{name_cmp};
+ghost use Rattle.chpw_import.specs.Tables.{newest_at, slot_cmp};
+ghost use Rattle.chpw_import.specs.LeftOut.{has_version, is_found, is_key_of, told_from, unused, unused_of_service, usable, used_keys, why_left};
 
 use crate::entries::{named_in, usable_key};
 use crate::left::{Left, Reason};
 use crate::rows::{is_service, pair_at};
-use crate::slot::{Rank, Slot};
-use crate::table::{Table, newest_version, raise, slot_of};
-use chpw_rules::{Name, PrincipalRow, SERVICE_KEY_COUNTS};
+use crate::slot::{Found, Slot};
+use crate::table::{Table, newest_version, slot_of};
+use chpw_rules::{KeyBytes, Name, PrincipalRow, ServiceRow};
 use krb_keytab::KeytabEntry;
 use std::alloc::{AllocError, Global};
-use std::cmp::Reverse;
-use std::collections::{BTreeMap, BTreeSet};
+use std::collections::BTreeMap;
 
-/// The entries that are left out: those that can't be used by themselves, in the order of the file; then
-/// those that a later one stands for; then the others.
+/// What is used of a keytab: its table, and the rows that it makes, the principals in the order of their names.
+#[derive(Clone, Copy, Drop)]
+pub(crate) struct Used<'a> {
+    pub table: &'a Table,
+    pub service: &'a [ServiceRow],
+    pub principals: &'a [PrincipalRow],
+}
+
+/// The entries that are left out, in the order of the file.
 pub(crate) fn left_of(
     alloc: Global,
     realm: &[u8],
     entries: &[KeytabEntry],
-    table: &Table,
-    principals: &[PrincipalRow],
+    used: &Used<'_>,
 ) -> Result<Vec<Left>, AllocError>
-    ensures value { IfOk result (λ left.
-        BeginsWithUnusable realm.now entries.now left.items) }
-{
-    let mut left = unusable_entries(alloc, realm, entries)?;
-    let mut repeated = repeated_entries(alloc, realm, entries, table)?;
-    let lowest = lowest_versions(alloc, principals)?;
-    let behind = versions_behind(alloc, realm, entries, &lowest)?;
-    let mut unused = unused_keys(alloc, table, &lowest, &behind)?;
-    left.append(&mut repeated)?;
-    left.append(&mut unused)?;
-    Ok(left)
-}
-
-// Those that can't be used by themselves.
-fn unusable_entries(
-    alloc: Global,
-    realm: &[u8],
-    entries: &[KeytabEntry],
-) -> Result<Vec<Left>, AllocError>
-    ensures value { IfOk result (λ left. left.items ≡ unusable_from realm.now 0 entries.now) }
+    requires sorted { IsStrictlySortedBy name_cmp (map (λ row. row.name) used.now.principals.now) }
+    ensures value { IfOk result (λ left. left.items ≡ told_from
+        (why_left realm.now (get slot_cmp used.now.table.now.found) (newest_at used.now.table.now.newest)
+        used.now.service.now used.now.principals.now) 0 entries.now) }
 {
     let mut left = Vec::new(alloc);
     let mut rest = entries;
     while let [entry, others @ ..] = rest {
         let index = entries.len() - rest.len();
-        if let Some(why) = why_unusable(alloc, realm, entry)? {
+        if let Some(why) = why_left(alloc, realm, used, index, entry)? {
             left.push(Left { index, why })?;
         }
         rest = others;
@@ -56,171 +49,116 @@ fn unusable_entries(
     Ok(left)
 }
 
-// Why the entry can't be used by itself.
-fn why_unusable(
+// Why the index-th entry is left out, where it is.
+fn why_left(
     alloc: Global,
     realm: &[u8],
+    used: &Used<'_>,
+    index: usize,
     entry: &KeytabEntry,
 ) -> Result<Option<Reason>, AllocError>
-    ensures value { IfOk result (λ why.
-        why ≡ unusable (named realm.now entry.now) (key_in entry.now)) }
+    requires sorted { IsStrictlySortedBy name_cmp (map (λ row. row.name) used.now.principals.now) }
+    ensures value { IfOk result (λ why. why ≡
+        why_left realm.now (get slot_cmp used.now.table.now.found) (newest_at used.now.table.now.newest)
+        used.now.service.now used.now.principals.now index entry.now) }
 {
-    if let Err(why) = named_in(alloc, realm, entry)? {
-        return Ok(Some(why));
-    }
+    let name = match named_in(alloc, realm, entry)? {
+        Ok(name) => name,
+        Err(why) => return Ok(Some(why)),
+    };
     match usable_key(entry) {
-        Ok(_) => Ok(None),
+        Ok(_) => why_unused(alloc, used, index, entry, &name),
         Err(why) => Ok(Some(why)),
     }
 }
 
-// The usable ones that have a later one of the same slot: the names in their order, of each the newest
-// version first, of that the last entry first.
-fn repeated_entries(
+// Why an entry with this name, whose key can be used, is left out, where it is.
+fn why_unused(
     alloc: Global,
-    realm: &[u8],
-    entries: &[KeytabEntry],
-    table: &Table,
-) -> Result<Vec<Left>, AllocError> {
-    let ranks = repeated_ranks(alloc, realm, entries, table)?;
-    let mut left = Vec::new(alloc);
-    for rank in &ranks {
-        left.push(Left {
-            index: rank.index.0,
-            why: Reason::Repeated,
-        })?;
-    }
-    Ok(left)
-}
-
-fn repeated_ranks(
-    alloc: Global,
-    realm: &[u8],
-    entries: &[KeytabEntry],
-    table: &Table,
-) -> Result<BTreeSet<Rank>, AllocError> {
-    let mut ranks = BTreeSet::new(alloc);
-    for (index, entry) in entries.iter().enumerate() {
-        if let Some(slot) = repeated_slot(alloc, realm, index, entry, table)? {
-            ranks.insert(Rank {
-                name: slot.name,
-                kvno: slot.kvno,
-                index: Reverse(index),
-            })?;
-        }
-    }
-    Ok(ranks)
-}
-
-// The slot of the index-th entry, where it is usable and a later one has that too.
-fn repeated_slot(
-    alloc: Global,
-    realm: &[u8],
+    used: &Used<'_>,
     index: usize,
     entry: &KeytabEntry,
-    table: &Table,
-) -> Result<Option<Slot>, AllocError> {
-    let Ok(name) = named_in(alloc, realm, entry)? else {
-        return Ok(None);
-    };
-    if usable_key(entry).is_err() {
-        return Ok(None);
+    name: &Name,
+) -> Result<Option<Reason>, AllocError>
+    requires sorted { IsStrictlySortedBy name_cmp (map (λ row. row.name) used.now.principals.now) }
+    ensures value { IfOk result (λ why. why ≡
+        usable (get slot_cmp used.now.table.now.found) (newest_at used.now.table.now.newest)
+        used.now.service.now used.now.principals.now index entry.now name.now) }
+{
+    if !is_found(&used.table.found, &slot_of(name.clone()?, entry), index) {
+        return Ok(Some(Reason::Repeated));
     }
-    let slot = slot_of(name, entry);
-    match table.found.get(&slot) {
-        Some(found) if found.index != index => Ok(Some(slot)),
-        _ => Ok(None),
+    if is_service(name) {
+        return Ok(unused_of_service(entry, used.service));
     }
+    let is_pair = pair_at(alloc, &used.table.found, name, entry.kvno, 1)?.is_some();
+    let newest = newest_version(&used.table.newest, name);
+    let keys = used_keys(used.principals, name);
+    Ok(unused(entry.kvno, newest, keys, is_pair))
 }
 
-// The lowest version of each principal's keys.
-fn lowest_versions(
-    alloc: Global,
-    principals: &[PrincipalRow],
-) -> Result<BTreeMap<Name, u32>, AllocError> {
-    let mut lowest = BTreeMap::new(alloc);
-    for row in principals {
-        if let Some(key) = row.keys.as_slice().last() {
-            lowest.insert(row.name.clone()?, key.kvno)?;
-        }
-    }
-    Ok(lowest)
-}
-
-// Of each name the newest version that isn't among its principal's keys.
-fn versions_behind(
-    alloc: Global,
-    realm: &[u8],
-    entries: &[KeytabEntry],
-    lowest: &BTreeMap<Name, u32>,
-) -> Result<BTreeMap<Name, u32>, AllocError> {
-    let mut behind = BTreeMap::new(alloc);
-    for entry in entries {
-        if let Ok(name) = named_in(alloc, realm, entry)?
-            && !is_kept(lowest, &name, entry.kvno)
-        {
-            raise(&mut behind, name, entry.kvno)?;
-        }
-    }
-    Ok(behind)
-}
-
-// Whether the version is among the principal's keys.
-fn is_kept(lowest: &BTreeMap<Name, u32>, name: &Name, kvno: u32) -> bool {
-    match lowest.get(name) {
-        Some(low) => *low <= kvno,
+// Whether the slot has the key of the index-th entry.
+fn is_found(found: &BTreeMap<Slot, Found>, slot: &Slot, index: usize) -> bool
+    ensures value { result ≡ is_found index (get slot_cmp found.now slot.now) }
+{
+    match found.get(slot) {
+        Some(found) => found.index == index,
         None => false,
     }
 }
 
-// The keys of slots that aren't used, in the order of the slots.
-fn unused_keys(
-    alloc: Global,
-    table: &Table,
-    lowest: &BTreeMap<Name, u32>,
-    behind: &BTreeMap<Name, u32>,
-) -> Result<Vec<Left>, AllocError> {
-    let mut left = Vec::new(alloc);
-    let mut room = SERVICE_KEY_COUNTS.high;
-    for (slot, found) in &table.found {
-        let index = found.index;
-        if !is_service(&slot.name) {
-            if let Some(why) = why_unused(alloc, table, lowest, behind, slot)? {
-                left.push(Left { index, why })?;
-            }
-        } else if room > 0 {
-            room -= 1;
-        } else {
-            left.push(Left {
-                index,
-                why: Reason::TooManyKeys,
-            })?;
+// Why a key of the service isn't used, where it isn't.
+fn unused_of_service(entry: &KeytabEntry, service: &[ServiceRow]) -> Option<Reason>
+    ensures value { result ≡ unused_of_service entry.now service.now }
+{
+    let mut others = service;
+    while let [row, rest @ ..] = others {
+        if row.kvno == entry.kvno && row.etype == i32::from(entry.etype) {
+            return None;
         }
+        others = rest;
     }
-    Ok(left)
+    Some(Reason::TooManyKeys)
+}
+
+// The keys of a name that are used.
+fn used_keys<'a>(principals: &'a [PrincipalRow], name: &Name) -> &'a [KeyBytes]
+    requires sorted { IsStrictlySortedBy name_cmp (map (λ row. row.name) principals.now) }
+    ensures value { result.now ≡ used_keys name.now principals.now }
+{
+    match principals.binary_search_by(|row| row.name.cmp(name)) {
+        Ok(place) => principals[place].keys.as_slice(),
+        Err(_) => &[],
+    }
 }
 
 // Why a principal's key isn't used, where it isn't.
-fn why_unused(
-    alloc: Global,
-    table: &Table,
-    lowest: &BTreeMap<Name, u32>,
-    behind: &BTreeMap<Name, u32>,
-    slot: &Slot,
-) -> Result<Option<Reason>, AllocError> {
-    let kvno = slot.kvno.0;
-    if is_kept(lowest, &slot.name, kvno) {
-        return Ok(None);
+fn unused(kvno: u32, newest: u32, keys: &[KeyBytes], is_pair: bool) -> Option<Reason>
+    ensures value { result ≡ unused kvno newest keys.now is_pair }
+{
+    if has_version(kvno, keys) {
+        None
+    } else if u64::from(kvno) + keys.len() as u64 != u64::from(newest) {
+        Some(Reason::BehindGap)
+    } else if !is_pair {
+        Some(Reason::Unpaired)
+    } else if keys.is_empty() {
+        Some(Reason::TooManyPrincipals)
+    } else {
+        Some(Reason::TooManyKeys)
     }
-    if kvno < newest_version(behind, &slot.name) {
-        return Ok(Some(Reason::BehindGap));
+}
+
+// Whether one of the keys is of this version.
+fn has_version(kvno: u32, keys: &[KeyBytes]) -> bool
+    ensures value { result ≡ has_version kvno keys.now }
+{
+    let mut others = keys;
+    while let [key, rest @ ..] = others {
+        if key.kvno == kvno {
+            return true;
+        }
+        others = rest;
     }
-    if pair_at(alloc, &table.found, &slot.name, kvno, 1)?.is_none() {
-        return Ok(Some(Reason::Unpaired));
-    }
-    Ok(Some(match lowest.get(&slot.name) {
-        None => Reason::TooManyPrincipals,
-        Some(low) if kvno.checked_add(1) == Some(*low) => Reason::TooManyKeys,
-        Some(_) => Reason::BehindGap,
-    }))
+    false
 }

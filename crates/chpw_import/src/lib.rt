@@ -13,6 +13,6 @@ mod slot;
 mod table;
 
 pub use keytab::{Brought, ImportFault, bring_in};
-pub use left::{Left, LeftLine, Reason};
+pub use left::{Left, Reason, left_text};
 pub use numbers::KeyNumbers;
 pub use password::{default_salt, password_in, password_row};

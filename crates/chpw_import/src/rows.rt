@@ -107,7 +107,7 @@ pub(crate) fn pair_at(
 }
 
 // The key of a slot.
-fn key_at(found: &BTreeMap<Slot, Found>, name: Name, kvno: u32, etype: u16) -> Option<Key>
+fn key_at(found: &BTreeMap<Slot, Found>, name: Name, kvno: u32, etype: i16) -> Option<Key>
     ensures value { result ≡ key_for (get slot_cmp found.now) name kvno etype }
 {
     let slot = Slot {

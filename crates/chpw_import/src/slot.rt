@@ -10,7 +10,7 @@ use std::cmp::Reverse;
 pub(crate) struct Slot {
     pub name: Name,
     pub kvno: Reverse<u32>,
-    pub etype: Reverse<u16>,
+    pub etype: Reverse<i16>,
 }
 
 /// A key that an entry offers.
@@ -18,15 +18,7 @@ pub(crate) struct Slot {
 pub(crate) struct Found {
     /// The entry's place in the file, from 0.
     pub index: usize,
+    /// When the key was put there, in seconds since 1970-01-01T00:00:00Z.
+    pub timestamp: u32,
     pub key: Key,
-}
-
-/// Where an entry stands: those of a name side by side, of these the newest first, and of one version the
-/// one that came last in the file.
-#[derive(PartialEq, Eq, PartialOrd, Ord, Drop)]
-pub(crate) struct Rank {
-    pub name: Name,
-    pub kvno: Reverse<u32>,
-    /// The entry's place in the file, from 0.
-    pub index: Reverse<usize>,
 }

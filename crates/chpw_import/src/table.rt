@@ -1,6 +1,7 @@
 //! The keys that the entries of a keytab offer, by their slots.
 ghost use Rattle.std.specs.Prelude.{◌≡◌, IfOk, OnOk, []};
-ghost use Rattle.chpw_import.specs.Tables.{Holds, Raises, Takes, newest_at, slot_in};
+ghost use Rattle.std.specs.Option.{option_copied};
+ghost use Rattle.chpw_import.specs.Tables.{Holds, Puts, Raises, Takes, is_older, newest_at, slot_in};
 
 use crate::entries::{named_in, usable_key};
 use crate::slot::{Found, Slot};
@@ -13,7 +14,7 @@ use std::collections::BTreeMap;
 /// What the entries hold of a realm.
 #[derive(Drop)]
 pub(crate) struct Table {
-    /// The last usable key of each slot.
+    /// The usable key of each slot that was put there last.
     pub found: BTreeMap<Slot, Found>,
     /// The newest version of each name, its keys usable or not.
     pub newest: BTreeMap<Name, u32>,
@@ -62,19 +63,41 @@ impl Table {
         };
         raise(&mut self.newest, name.clone()?, entry.kvno)?;
         if let Ok(key) = usable_key(entry) {
-            let slot = slot_of(name, entry);
-            self.found.insert(slot, Found { index, key })?;
+            let timestamp = entry.timestamp;
+            let next = Found {
+                index,
+                timestamp,
+                key,
+            };
+            put(&mut self.found, slot_of(name, entry), next)?;
         }
         Ok(())
     }
 }
 
-/// Raises the newest version of a name to this one.
-pub(crate) fn raise(
-    newest: &mut BTreeMap<Name, u32>,
-    name: Name,
-    kvno: u32,
-) -> Result<(), AllocError>
+// Puts a key to its slot, unless the slot has one that was put into the file later.
+fn put(found: &mut BTreeMap<Slot, Found>, slot: Slot, next: Found) -> Result<(), AllocError>
+    ensures step { OnOk result (Puts slot next found.old found.new) }
+{
+    if is_older(found.get(&slot), &next) {
+        return Ok(());
+    }
+    found.insert(slot, next)?;
+    Ok(())
+}
+
+// Whether the key was put there before the one that is held.
+fn is_older(held: Option<&Found>, next: &Found) -> bool
+    ensures value { result ≡ is_older (option_copied held.entry) next.now }
+{
+    match held {
+        Some(held) => next.timestamp < held.timestamp,
+        None => false,
+    }
+}
+
+// Raises the newest version of a name to this one.
+fn raise(newest: &mut BTreeMap<Name, u32>, name: Name, kvno: u32) -> Result<(), AllocError>
     ensures step { OnOk result (Raises name kvno newest.old newest.new) }
 {
     if newest_version(newest, &name) < kvno {

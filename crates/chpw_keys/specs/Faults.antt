@@ -55,6 +55,11 @@ IsOfName text BadName = name_of text ≡ None
 IsOfName text Memory = Unit {0}
 IsOfName text fault = ⊥
 
+-- nothing was written before it
+abbrev pub IsEarly : KeysFault → Type 0
+IsEarly CannotPrint = ⊥
+IsEarly fault = Unit {0}
+
 -- of `import`
 abbrev pub IsOfImport : ImportOptions → KeysFault → Type 0
 IsOfImport o fault = IsUnread o.keytab.now fault

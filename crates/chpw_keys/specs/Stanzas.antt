@@ -1,19 +1,35 @@
 -- What is written: the stanzas of rows.
-use Rattle.std.specs.Prelude.{◌≡◌, ℕ, List, Option, Some}
+use Rattle.std.specs.Prelude.{◌≡◌, ℕ, List, [], ◌∷◌, Option, Some}
 use Rattle.std.specs.Io.KnownBytes.{Appends}
 use Rattle.toml.specs.Parse.{parse_document}
 use Rattle.chpw_rules.specs.declared.name.Name.{Name}
 use Rattle.chpw_rules.specs.declared.config.ServiceRow.{ServiceRow}
 use Rattle.chpw_rules.specs.declared.config.PrincipalRow.{PrincipalRow}
+use Rattle.chpw_rules.specs.Names.{name_of as name_in}
 use Rattle.chpw_config_text.specs.Stanzas.{stanzas_of}
+use Rattle.chpw_invocation.specs.declared.invocation.ImportOptions.{ImportOptions}
 use Rattle.chpw_invocation.specs.declared.invocation.KeyOptions.{KeyOptions}
+use Rattle.chpw_import.specs.declared.keytab.Brought.{Brought}
 use Rattle.chpw_import.specs.declared.numbers.KeyNumbers.{KeyNumbers}
-use Rattle.chpw_import.specs.Passwords.{row_of}
+use Rattle.chpw_import.specs.Keytabs.{IsBrought}
+use Rattle.chpw_import.specs.LeftLines.{left_lines}
+use Rattle.chpw_import.specs.Passwords.{IsPasswordOf, row_of}
 
 -- a text is added that is read as the stanzas of these rows
 abbrev pub AppendsRows : Option (List ℕ) → Option (List ℕ) → List ServiceRow → List PrincipalRow → Type 0
 AppendsRows before behind service principals =
     (text : List ℕ) × Appends before behind text × (parse_document text ≡ Some (stanzas_of service principals))
+
+-- ---- import
+
+-- what a keytab with these bytes holds of the realm, in stanzas; and a line for each entry that isn't used
+pub record Imports (o : ImportOptions) (bytes : List ℕ) (before behind untold told : Option (List ℕ)) : Type 0 where
+  pub brought : Brought
+  pub is_brought : IsBrought bytes o.realm.now o.iterations brought
+  pub written : AppendsRows before behind brought.service.items brought.principals.items
+  pub left : Appends untold told (left_lines o.keytab.now brought.entries.items brought.left.items)
+
+-- ---- key
 
 -- the numbers of the command line
 abbrev pub numbers_of : KeyOptions → KeyNumbers
@@ -22,3 +38,15 @@ numbers_of o = record { kvno = o.kvno; iterations = o.iterations; some_count = o
 -- the keys that string-to-key makes of the password, with those numbers
 abbrev pub key_row : KeyOptions → Name → List ℕ → PrincipalRow
 key_row o name password = row_of o.realm.now name password (numbers_of o)
+
+-- the stanza of this principal with the keys of the password that a file with these bytes holds
+pub record WritesKey (o : KeyOptions) (name : Name) (bytes : List ℕ) (before behind : Option (List ℕ)) : Type 0 where
+  pub password : List ℕ
+  pub is_password : IsPasswordOf bytes password
+  pub written : AppendsRows before behind [] (key_row o name password ∷ [])
+
+-- the same of the name on the command line
+pub record Keys (o : KeyOptions) (bytes : List ℕ) (before behind : Option (List ℕ)) : Type 0 where
+  pub name : Name
+  pub is_name : name_in o.name.now ≡ Some name
+  pub key : WritesKey o name bytes before behind

@@ -1,46 +1,70 @@
 //! `import`: the keys of a keytab.
-ghost use Rattle.std.specs.Prelude.{◌⊎◌, IfOk, IfErr, List, ℕ};
-ghost use Rattle.chpw_keys.specs.Faults.{IsLate, IsOfBytes, IsOfImport, IsUnread};
-ghost use Rattle.chpw_keys.specs.Stanzas.{AppendsRows};
+ghost use Rattle.std.specs.Prelude.{◌≡◌, ◌⊎◌, IfOk, IfErr, OnOk, List, ℕ};
+ghost use Rattle.chpw_import.specs.Keytabs.{IsBrought};
+ghost use Rattle.chpw_keys.specs.Faults.{IsEarly, IsLate, IsOfBytes, IsOfImport, IsUnread};
+ghost use Rattle.chpw_keys.specs.Stanzas.{Imports};
 
 use crate::fault::KeysFault;
-use crate::output::{read_file, write_rows};
-use chpw_import::{Brought, ImportFault, LeftLine, bring_in};
+use crate::output::{ErrorWriter, read_file, stanzas, write_text};
+use chpw_import::{Brought, ImportFault, bring_in, left_text};
 use chpw_invocation::ImportOptions;
 use std::alloc::Global;
 use std::fs::Files;
 use std::io::{self, Write};
 
-/// Prints what a keytab holds of the realm, and tells on standard error what is left out of it. Where the
-/// keytab has a fault nothing is printed.
+/// `import` with standard output and standard error.
 pub fn tell_keytab<'a, R: Files + Print + Eprint + AllocGlobal>(
     rt: &R,
     options: ImportOptions<'a>,
 ) -> Result<(), KeysFault<'a>>
     ensures fault { IfErr result (IsOfImport options.entry) }
 {
-    let bytes = read_file(rt, options.keytab)?;
-    let brought = write_keytab(rt.alloc(), options, bytes.as_slice(), &mut io::writer(rt))?;
-    tell_left(rt, options.keytab, &brought);
-    Ok(())
+    import(rt, options, &mut io::writer(rt), &mut ErrorWriter { rt })
 }
 
-/// Writes the stanzas of what a keytab with these bytes holds of the realm, and gives it, with what is left
-/// out. Where the keytab has a fault nothing is written.
-pub fn write_keytab<'a, W: Write>(
+/// Writes the stanzas of what a keytab holds of the realm, and then a line for each entry that is left out to
+/// `left`. Where the file can't be read, or has a fault, nothing is written.
+pub fn import<'a, R: Files + AllocGlobal, W: Write, E: Write>(
+    rt: &R,
+    options: ImportOptions<'a>,
+    writer: &mut W,
+    left: &mut E,
+) -> Result<(), KeysFault<'a>>
+    ensures written { OnOk result ((bytes : List ℕ) × Imports options.entry bytes
+        (W.contents writer.old) (W.contents writer.new) (E.contents left.old) (E.contents left.new)) }
+    ensures fault { IfErr result (IsOfImport options.entry) }
+    ensures unchanged { IfErr result (λ fault. IsEarly fault → (writer.new ≡ writer.old) × (left.new ≡ left.old)) }
+{
+    let bytes = read_file(rt, options.keytab)?;
+    write_keytab(rt.alloc(), options, bytes.as_slice(), writer, left)
+}
+
+/// Writes the stanzas of what a keytab with these bytes holds of the realm, and then a line for each entry that
+/// is left out to `left`. Where the keytab has a fault nothing is written.
+pub fn write_keytab<'a, W: Write, E: Write>(
     alloc: Global,
     options: ImportOptions<'a>,
     bytes: &[u8],
     writer: &mut W,
-) -> Result<Brought, KeysFault<'a>>
-    ensures written { IfOk result (λ brought. AppendsRows (W.contents writer.old) (W.contents writer.new)
-        brought.service.items brought.principals.items) }
+    left: &mut E,
+) -> Result<(), KeysFault<'a>>
+    ensures written { OnOk result (Imports options.entry bytes.now
+        (W.contents writer.old) (W.contents writer.new) (E.contents left.old) (E.contents left.new)) }
     ensures fault { IfErr result (λ fault. IsOfBytes options.entry.keytab.now bytes.now fault ⊎ IsLate fault) }
+    ensures unchanged { IfErr result (λ fault. IsEarly fault → (writer.new ≡ writer.old) × (left.new ≡ left.old)) }
 {
     let brought = brought_in(alloc, bytes, options)?;
-    let (service, principals) = (brought.service.as_slice(), brought.principals.as_slice());
-    write_rows(alloc, service, principals, writer)?;
-    Ok(brought)
+    let text = stanzas(
+        alloc,
+        brought.service.as_slice(),
+        brought.principals.as_slice(),
+    )?;
+    let Ok(lines) = left_text(alloc, options.keytab, &brought) else {
+        return Err(KeysFault::Memory);
+    };
+    write_text(text.as_bytes(), writer)?;
+    write_text(lines.as_slice(), left)?;
+    Ok(())
 }
 
 fn brought_in<'a>(
@@ -48,24 +72,12 @@ fn brought_in<'a>(
     bytes: &[u8],
     options: ImportOptions<'a>,
 ) -> Result<Brought, KeysFault<'a>>
+    ensures brought { IfOk result (IsBrought bytes.now options.entry.realm.now options.entry.iterations) }
     ensures fault { IfErr result (IsOfBytes options.entry.keytab.now bytes.now) }
 {
     match bring_in(alloc, bytes, options.realm.as_bytes(), options.iterations) {
         Ok(brought) => Ok(brought),
         Err(ImportFault::Keytab(fault)) => Err(KeysFault::Keytab(options.keytab, fault)),
         Err(ImportFault::Memory) => Err(KeysFault::Memory),
-    }
-}
-
-// A line for each entry that is left out.
-fn tell_left<R: Eprint>(rt: &R, file: &str, brought: &Brought) {
-    for left in brought.left.as_slice() {
-        if let Some(entry) = brought.entries.as_slice().get(left.index) {
-            let line = LeftLine {
-                entry,
-                why: left.why,
-            };
-            let _ = eprintln!(rt; "{file}: {line}");
-        }
     }
 }

@@ -7,5 +7,5 @@ mod output;
 mod password;
 
 pub use fault::KeysFault;
-pub use keytab::{tell_keytab, write_keytab};
-pub use password::{tell_password, write_password};
+pub use keytab::{import, tell_keytab, write_keytab};
+pub use password::{key, tell_password, write_password};

@@ -1,12 +1,11 @@
 //! `key`: the keys of a password.
-ghost use Rattle.std.specs.Prelude.{◌≡◌, ◌⊎◌, List, ℕ, IfOk, IfErr, OnOk, Some, [], ◌∷◌};
+ghost use Rattle.std.specs.Prelude.{◌≡◌, ◌⊎◌, List, ℕ, IfOk, IfErr, OnOk, Some};
 ghost use Rattle.chpw_rules.specs.Names.{name_of as name_in};
-ghost use Rattle.chpw_import.specs.Passwords.{IsPasswordOf};
-ghost use Rattle.chpw_keys.specs.Faults.{IsLate, IsOfKey, IsOfName, IsOfPassword, IsUnread};
-ghost use Rattle.chpw_keys.specs.Stanzas.{AppendsRows, key_row};
+ghost use Rattle.chpw_keys.specs.Faults.{IsEarly, IsLate, IsOfKey, IsOfName, IsOfPassword, IsUnread};
+ghost use Rattle.chpw_keys.specs.Stanzas.{Keys, WritesKey, key_row};
 
 use crate::fault::KeysFault;
-use crate::output::{read_file, write_rows};
+use crate::output::{read_file, stanzas, write_text};
 use chpw_import::{KeyNumbers, password_in, password_row};
 use chpw_invocation::KeyOptions;
 use chpw_rules::{Name, PrincipalRow};
@@ -14,27 +13,35 @@ use std::alloc::Global;
 use std::fs::Files;
 use std::io::{self, Write};
 
-/// Prints the principal's keys of the password in a file. The name is looked at first, and then the file is
-/// read.
+/// `key` with standard output.
 pub fn tell_password<'a, R: Files + Print + AllocGlobal>(
     rt: &R,
     options: KeyOptions<'a>,
 ) -> Result<(), KeysFault<'a>>
     ensures fault { IfErr result (IsOfKey options.entry) }
 {
+    key(rt, options, &mut io::writer(rt))
+}
+
+/// Writes the stanza of the principal with the keys of the password in a file. The name is looked at first, and
+/// then the file is read; where either has a fault nothing is written.
+pub fn key<'a, R: Files + AllocGlobal, W: Write>(
+    rt: &R,
+    options: KeyOptions<'a>,
+    writer: &mut W,
+) -> Result<(), KeysFault<'a>>
+    ensures written { OnOk result ((bytes : List ℕ) × Keys options.entry bytes
+        (W.contents writer.old) (W.contents writer.new)) }
+    ensures fault { IfErr result (IsOfKey options.entry) }
+    ensures unchanged { IfErr result (λ fault. IsEarly fault → writer.new ≡ writer.old) }
+{
     let name = name_of(rt.alloc(), options.name)?;
     let bytes = read_file(rt, options.password_file)?;
-    write_password(
-        rt.alloc(),
-        options,
-        name,
-        bytes.as_slice(),
-        &mut io::writer(rt),
-    )
+    write_password(rt.alloc(), options, name, bytes.as_slice(), writer)
 }
 
 /// Writes the stanza of the principal with this name whose keys are those of the password that the bytes of
-/// its file hold.
+/// its file hold. Where they hold none nothing is written.
 pub fn write_password<'a, W: Write>(
     alloc: Global,
     options: KeyOptions<'a>,
@@ -42,15 +49,17 @@ pub fn write_password<'a, W: Write>(
     bytes: &[u8],
     writer: &mut W,
 ) -> Result<(), KeysFault<'a>>
-    ensures written { OnOk result ((password : List ℕ) × IsPasswordOf bytes.now password
-        × AppendsRows (W.contents writer.old) (W.contents writer.new) [] (key_row options.entry name password ∷ [])) }
+    ensures written { OnOk result (WritesKey options.entry name bytes.now
+        (W.contents writer.old) (W.contents writer.new)) }
     ensures fault { IfErr result (λ fault. IsOfPassword options.entry.password_file.now bytes.now fault ⊎ IsLate fault) }
+    ensures unchanged { IfErr result (λ fault. IsEarly fault → writer.new ≡ writer.old) }
 {
     let Some(password) = password_in(bytes) else {
         return Err(KeysFault::EmptyPassword(options.password_file));
     };
     let row = row_of(alloc, options, name, password)?;
-    write_rows(alloc, &[], &[row], writer)
+    let text = stanzas(alloc, &[], &[row])?;
+    write_text(text.as_bytes(), writer)
 }
 
 fn name_of<'a>(alloc: Global, text: &str) -> Result<Name, KeysFault<'a>>

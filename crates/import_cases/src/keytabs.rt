@@ -3,10 +3,9 @@ ghost use Rattle.std.specs.Prelude.{◌≤◌};
 
 use crate::words::{bytes, count, joined, said};
 use case_lines::Census;
-use chpw_import::LeftLine;
 use chpw_invocation::{ImportOptions, LONGEST_REALM, USUAL_COUNT};
 use chpw_keys::write_keytab;
-use std::alloc::Global;
+use std::alloc::{AllocError, Global};
 use std::io::{self, Error, ErrorKind};
 
 /// The file's name in the faults.
@@ -26,25 +25,21 @@ fn options(realm: &str, iterations: u32) -> io::Result<ImportOptions<'_>>
     })
 }
 
-// What is written of these bytes, and what is left out of them; or their fault.
+// What is written of these bytes, and the lines on what is left out of them; or their fault.
 fn brought(alloc: Global, options: ImportOptions<'_>, keytab: &[u8]) -> io::Result<String> {
-    let mut written = Vec::new(alloc);
-    let brought = match write_keytab(alloc, options, keytab, &mut written) {
-        Ok(brought) => brought,
-        Err(fault) => return said(alloc, fault),
-    };
-    let mut text = joined(alloc, &written)?;
-    for left in &brought.left {
-        let entry = brought.entries.get(left.index);
-        let Some(entry) = entry else {
-            return Err(Error::from(ErrorKind::Other));
-        };
-        let line = LeftLine {
-            entry,
-            why: left.why,
-        };
+    let (mut written, mut left) = (Vec::new(alloc), Vec::new(alloc));
+    match write_keytab(alloc, options, keytab, &mut written, &mut left) {
+        Ok(()) => Ok(behind(joined(alloc, &written)?, &left)?),
+        Err(fault) => said(alloc, fault),
+    }
+}
+
+// A text with each of these lines behind it.
+fn behind(text: String, lines: &[u8]) -> Result<String, AllocError> {
+    let mut text = text;
+    for line in str::from_utf8(lines).unwrap_or("no UTF-8").lines() {
         text.push_str(" | ")?;
-        text.push_str(line.to_string(alloc)?.as_str())?;
+        text.push_str(line)?;
     }
     Ok(text)
 }
@@ -69,4 +64,58 @@ pub fn cut(alloc: Global, rest: &str) -> io::Result<String> {
         census.add(alloc, length, answer.as_str())?;
     }
     Ok(census.shown(alloc)?)
+}
+
+/// Of a keytab of so many principals: how many have a stanza, and who is left out.
+pub fn many(alloc: Global, rest: &str) -> io::Result<String> {
+    let (realm, word) = rest.split_once(' ').unwrap_or((rest, ""));
+    let options = options(realm, USUAL_COUNT)?;
+    let keytab = keytab_of(alloc, realm, count(word)?)?;
+    let (mut written, mut left) = (Vec::new(alloc), Vec::new(alloc));
+    if let Err(fault) = write_keytab(alloc, options, &keytab, &mut written, &mut left) {
+        return said(alloc, fault);
+    }
+    let stanzas = str::from_utf8(&written).unwrap_or("").lines();
+    let principals = stanzas.filter(|line| *line == "[[principal]]").count();
+    Ok(behind(format!(in alloc; "principals {principals}")?, &left)?)
+}
+
+// A keytab of so many principals, with a key of each encryption type.
+fn keytab_of(alloc: Global, realm: &str, count: u32) -> Result<Vec<u8>, AllocError> {
+    let mut keytab = Vec::from_slice(alloc, b"\x05\x02")?;
+    for number in 0..count {
+        let name = format!(in alloc; "u{number:05}")?;
+        for (etype, key) in [(18, [0; 32].as_slice()), (17, [0; 16].as_slice())] {
+            let record = record_of(alloc, realm, name.as_str(), etype, key)?;
+            keytab.extend_from_slice(&record)?;
+        }
+    }
+    Ok(keytab)
+}
+
+// A record of version 1: one component, name-type 1 and no time.
+fn record_of(
+    alloc: Global,
+    realm: &str,
+    name: &str,
+    etype: u16,
+    key: &[u8],
+) -> Result<Vec<u8>, AllocError> {
+    let mut fields = Vec::from_slice(alloc, b"\x00\x01")?;
+    put_counted(&mut fields, realm.as_bytes())?;
+    put_counted(&mut fields, name.as_bytes())?;
+    fields.extend_from_slice(b"\x00\x00\x00\x01\x00\x00\x00\x00\x01")?;
+    fields.extend_from_slice(&etype.to_be_bytes())?;
+    put_counted(&mut fields, key)?;
+    let length = u32::try_from(fields.len()).unwrap_or(u32::MAX);
+    let mut record = Vec::from_slice(alloc, &length.to_be_bytes())?;
+    record.extend_from_slice(&fields)?;
+    Ok(record)
+}
+
+// Bytes behind their count in 16 bits.
+fn put_counted(fields: &mut Vec<u8>, octets: &[u8]) -> Result<(), AllocError> {
+    let count = u16::try_from(octets.len()).unwrap_or(u16::MAX);
+    fields.extend_from_slice(&count.to_be_bytes())?;
+    fields.extend_from_slice(octets)
 }

@@ -5,6 +5,8 @@
 //!   line for each entry that is left out; or its fault.
 //! - `cut REALM HEX`: what comes of each of its proper prefixes, behind the count of those prefixes and their
 //!   lengths.
+//! - `many REALM COUNT`: of a keytab of so many principals how many have a stanza, and a line for each entry that
+//!   is left out.
 //! - `password REALM NAME ITERATIONS KVNO HEX`: what is written of the password in a file with these bytes,
 //!   or that there is none.
 //! - `-` is for no bytes.
@@ -28,6 +30,7 @@ impl Answers for Cases {
         match kind {
             "keytab" => keytabs::whole(alloc, rest),
             "cut" => keytabs::cut(alloc, rest),
+            "many" => keytabs::many(alloc, rest),
             "password" => passwords::written(alloc, rest),
             _ => Ok(String::from_str(alloc, "no such case")?),
         }

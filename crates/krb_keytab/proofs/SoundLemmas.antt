@@ -1,10 +1,12 @@
 -- What is read was written so: fields, entries and records.
 use Rattle.std.proofs.Common.{◌≡◌, ℕ, zero, suc, ◌+◌, ◌^◌, ◌<◌, ◌≤◌, Bool, true, false, cond, ltb, List, [], ◌∷◌, ◌++◌, length, get_or, take, drop, Option, Some, None, refl, sym, ap, subst, ◌∙◌, append_assoc, arith, inl, inr}
-use Rattle.std.specs.Int.{Width, w8, w16, w32, byte_len, from_be_bytes, to_be_bytes}
+use Rattle.std.specs.Int.{Width, w8, w16, w32, byte_len, cast_signed, cast_unsigned, from_be_bytes, to_be_bytes}
+use Rattle.std.specs.Int.RustNames.{FitsSigned}
 use Rattle.std.specs.List.{flat_map, AllByRecursion}
 use Rattle.std.proofs.lemmas.Bool.{cases_lt, ltb-false}
 use Rattle.std.proofs.lemmas.List.{take-append-drop, length-take, get_or-drop, get_or-take, get_or_past}
 use Rattle.std.proofs.lemmas.List.Concat.{flat_map-cons}
+use Rattle.std.proofs.lemmas.Int.{ints, of_z-to_z}
 use Rattle.std.proofs.lemmas.Nat.{be_bytes_2, be_bytes_4}
 use Rattle.krb_keytab.specs.Entries.{Entry, ◌>>=◌, number_at, counted_at, components_at, kvno_of, entry_at}
 use Rattle.krb_keytab.specs.Written.{counted, fields, IsShort, Fits}
@@ -101,6 +103,10 @@ components_take (suc n) bytes x fits e =
 
 -- ---- an entry
 
+-- a number of two bytes as a signed one
+signed_fits : (n : ℕ) → n < 2 ^ 16 → FitsSigned w16 (cast_signed w16 n)
+signed_fits n lt = omega (arith, ints)
+
 -- what entry_at does behind each of its fields
 abbrev from_key : (place : ℕ) (realm : List ℕ) (components : List (List ℕ)) (name_type timestamp short etype : ℕ) → List ℕ × List ℕ → Option Entry
 from_key place realm components name_type timestamp short etype key = Some (record {
@@ -110,7 +116,7 @@ from_key place realm components name_type timestamp short etype key = Some (reco
   name_type = name_type;
   timestamp = timestamp;
   kvno = kvno_of short (number_at w32 key.1);
-  etype = etype;
+  etype = cast_signed w16 etype;
   key = key.0;
 })
 
@@ -170,14 +176,16 @@ entry_takes place bytes e fits small h =
       name_type = name_type.0.0;
       timestamp = timestamp.0.0;
       kvno = kvno_of short.0.0 (number_at w32 key.0.1);
-      etype = etype.0.0;
+      etype = cast_signed w16 etype.0.0;
       key = key.0.0;
     } in
     let counted_in : bytes ≡ to_be_bytes w16 (length names.0.0) ++ count.0.1 = t0.0 ∙ ap (λ (n : ℕ). to_be_bytes w16 n ++ count.0.1) (sym t2.2) in
+    let signed_in : short.0.1 ≡ to_be_bytes w16 (cast_unsigned w16 (cast_signed w16 etype.0.0)) ++ etype.0.1 =
+    t6.0 ∙ ap (λ (n : ℕ). to_be_bytes w16 n ++ etype.0.1) (sym (of_z-to_z w16 etype.0.0 t6.2)) in
     let parts : bytes ≡ fields made short.0.0 key.0.1 =
     joined bytes (to_be_bytes w16 (length names.0.0)) count.0.1 (counted realm.0.0) realm.0.1 (flat_map counted names.0.0) names.0.1
     (to_be_bytes w32 name_type.0.0) name_type.0.1 (to_be_bytes w32 timestamp.0.0) timestamp.0.1 (to_be_bytes w8 short.0.0) short.0.1
-    (to_be_bytes w16 etype.0.0) etype.0.1 (counted key.0.0 ++ key.0.1) counted_in t1.0 t2.0 t3.0 t4.0 t5.0 t6.0 t7.0 in
+    (to_be_bytes w16 (cast_unsigned w16 (cast_signed w16 etype.0.0))) etype.0.1 (counted key.0.0 ++ key.0.1) counted_in t1.0 t2.0 t3.0 t4.0 t5.0 signed_in t7.0 in
     let made_fits : Fits made short.0.0 key.0.1 = record {
       realm = t1.2;
       count = subst (λ (n : ℕ). n < 2 ^ 16) (sym t2.2) t0.2;
@@ -185,7 +193,7 @@ entry_takes place bytes e fits small h =
       name_type = t3.2;
       timestamp = t4.2;
       short_kvno = t5.2;
-      etype = t6.2;
+      etype = signed_fits etype.0.0 t6.2;
       key = t7.2;
       kvno = refl;
       size = subst (λ (t : List ℕ). length t < 2 ^ 31) parts small;

@@ -1,6 +1,8 @@
 -- Fields and entries that were written are read again.
-use Rattle.std.proofs.Common.{◌≡◌, ℕ, suc, ◌^◌, ◌<◌, ltb, List, [], ◌∷◌, ◌++◌, length, Some, false, refl, ap, ◌∙◌, append_assoc, arith}
-use Rattle.std.specs.Int.{Width, w8, w16, w32, byte_len, from_be_bytes, to_be_bytes}
+use Rattle.std.proofs.Common.{◌≡◌, ℕ, ℤ, suc, ◌^◌, ◌<◌, ltb, List, [], ◌∷◌, ◌++◌, length, Some, false, refl, ap, ◌∙◌, append_assoc, arith}
+use Rattle.std.specs.Int.{Width, w8, w16, w32, byte_len, cast_signed, cast_unsigned, from_be_bytes, to_be_bytes}
+use Rattle.std.specs.Int.RustNames.{FitsSigned}
+use Rattle.std.proofs.lemmas.Int.{ints}
 use Rattle.std.specs.List.{flat_map, AllByRecursion}
 use Rattle.std.proofs.lemmas.Bool.{le-ltb}
 use Rattle.std.proofs.lemmas.List.{take_at, drop_at, length-append}
@@ -42,11 +44,18 @@ components_again (c ∷ cs) rest short =
     let regrouped : flat_map counted (c ∷ cs) ++ rest ≡ counted c ++ (flat_map counted cs ++ rest) = ap (λ (x : List ℕ). x ++ rest) (flat_map-cons counted c cs) ∙ append_assoc (counted c) (flat_map counted cs) rest in
     ap (components_at (suc (length cs))) regrouped ∙ rw (counted_again c (flat_map counted cs ++ rest) short.0, components_again cs rest short.1) refl
 
+-- a signed number, and the one that its two bytes hold
+small : (z : ℤ) → FitsSigned w16 z → cast_unsigned w16 z < 2 ^ 16
+small z fits = omega (arith, ints)
+
+signed_again : (z : ℤ) → FitsSigned w16 z → cast_signed w16 (cast_unsigned w16 z) ≡ z
+signed_again z fits = omega (arith, ints)
+
 pub entry_again : (e : Entry) (short : ℕ) (behind_key : List ℕ) → Fits e short behind_key → entry_at e.place (fields e short behind_key) ≡ Some e
 unfolding entry_at
 entry_again e short behind_key fits =
     let behind_etype : List ℕ = counted e.key ++ behind_key in
-    let behind_short : List ℕ = to_be_bytes w16 e.etype ++ behind_etype in
+    let behind_short : List ℕ = to_be_bytes w16 (cast_unsigned w16 e.etype) ++ behind_etype in
     let behind_time : List ℕ = to_be_bytes w8 short ++ behind_short in
     let behind_type : List ℕ = to_be_bytes w32 e.timestamp ++ behind_time in
     let behind_names : List ℕ = to_be_bytes w32 e.name_type ++ behind_type in
@@ -59,7 +68,8 @@ entry_again e short behind_key fits =
       number_again w32 (2 ^ 32) wide32 e.name_type behind_type fits.name_type,
       number_again w32 (2 ^ 32) wide32 e.timestamp behind_time fits.timestamp,
       number_again w8 (2 ^ 8) wide8 short behind_short fits.short_kvno,
-      number_again w16 (2 ^ 16) wide16 e.etype behind_etype fits.etype,
+      number_again w16 (2 ^ 16) wide16 (cast_unsigned w16 e.etype) behind_etype (small e.etype fits.etype),
+      signed_again e.etype fits.etype,
       counted_again e.key behind_key fits.key,
       fits.kvno,
     ) refl

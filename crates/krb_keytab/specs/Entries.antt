@@ -1,7 +1,7 @@
 -- The entry of a record (MIT Kerberos, keytab file format 0x0502): its fields stand one after the
 -- other, each number high byte first.
-use Rattle.std.specs.Prelude.{ℕ, zero, suc, List, [], ◌∷◌, ◌==◌, nat_lt, if◌then◌else◌, length, take, drop, Option, Some, None}
-use Rattle.std.specs.Int.{Width, w8, w16, w32, byte_len, from_be_bytes}
+use Rattle.std.specs.Prelude.{ℕ, ℤ, zero, suc, List, [], ◌∷◌, ◌==◌, nat_lt, if◌then◌else◌, length, take, drop, Option, Some, None}
+use Rattle.std.specs.Int.{Width, w8, w16, w32, byte_len, cast_signed, from_be_bytes}
 
 -- an entry without where it lies in memory; its record stands at that place of the file
 pub record Entry : Type 0 where
@@ -11,7 +11,7 @@ pub record Entry : Type 0 where
   pub name_type : ℕ
   pub timestamp : ℕ
   pub kvno : ℕ
-  pub etype : ℕ
+  pub etype : ℤ
   pub key : List ℕ
 
 -- a field, and those after it where it is there
@@ -45,7 +45,9 @@ abbrev pub kvno_of : ℕ → Option (ℕ × List ℕ) → ℕ
 kvno_of short None = short
 kvno_of short (Some long) = if long.0 == 0 then short else long.0
 
--- the entry in the bytes of the record at this place, where none of its fields passes them
+-- The entry in the bytes of the record at this place, where none of its fields passes them. The
+-- encryption type is a signed number (Int32 of RFC 4120 section 5.2.9): from 2 ^ 15 on it stands for that
+-- number less 2 ^ 16.
 unfoldable pub entry_at : ℕ → List ℕ → Option Entry
 entry_at place bytes = do
   count ← number_at w16 bytes
@@ -63,6 +65,6 @@ entry_at place bytes = do
     name_type = name_type.0;
     timestamp = timestamp.0;
     kvno = kvno_of short.0 (number_at w32 key.1);
-    etype = etype.0;
+    etype = cast_signed w16 etype.0;
     key = key.0;
   })

@@ -1,7 +1,8 @@
 -- Keytabs as they are written (MIT Kerberos, keytab file format 0x0502), each number high byte first.
 use Rattle.std.specs.Prelude.{◌≡◌, ℕ, ◌+◌, ◌-◌, ◌<◌, ◌^◌, List, [], ◌∷◌, ◌++◌, length}
 use Rattle.std.specs.List.{flat_map, AllByRecursion}
-use Rattle.std.specs.Int.{to_be_bytes, w8, w16, w32}
+use Rattle.std.specs.Int.{cast_unsigned, to_be_bytes, w8, w16, w32}
+use Rattle.std.specs.Int.RustNames.{FitsSigned}
 use Rattle.krb_keytab.specs.Entries.{Entry, number_at, kvno_of}
 
 -- bytes behind their count
@@ -17,7 +18,7 @@ fields e short behind_key =
     ++ (to_be_bytes w32 e.name_type
     ++ (to_be_bytes w32 e.timestamp
     ++ (to_be_bytes w8 short
-    ++ (to_be_bytes w16 e.etype
+    ++ (to_be_bytes w16 (cast_unsigned w16 e.etype)
     ++ (counted e.key
     ++ behind_key)))))))
 
@@ -60,7 +61,7 @@ pub record Fits (e : Entry) (short : ℕ) (behind_key : List ℕ) : Type 0 where
   pub name_type : e.name_type < 2 ^ 32
   pub timestamp : e.timestamp < 2 ^ 32
   pub short_kvno : short < 2 ^ 8
-  pub etype : e.etype < 2 ^ 16
+  pub etype : FitsSigned w16 e.etype
   pub key : IsShort e.key
   pub kvno : kvno_of short (number_at w32 behind_key) ≡ e.kvno
   pub size : length (fields e short behind_key) < 2 ^ 31

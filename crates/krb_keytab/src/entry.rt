@@ -20,7 +20,8 @@ pub struct KeytabEntry {
     /// When the key was put there, in seconds since 1970-01-01T00:00:00Z.
     pub timestamp: u32,
     pub kvno: u32,
-    pub etype: u16,
+    /// The encryption type, a signed number: private ones are below 0 (RFC 3961 section 8).
+    pub etype: i16,
     pub key: Vec<u8>,
 }
 
@@ -48,7 +49,7 @@ pub(crate) fn read_entry(
         name_type,
         timestamp,
         kvno: full_kvno(short_kvno, rest),
-        etype,
+        etype: etype.cast_signed(),
         key,
     })
 }

@@ -1,10 +1,11 @@
 use mathlib.Core.Path.{fun_ext}
-use Rattle.std.proofs.Common.{◌∙◌, ap, Option, subst, List}
+use Rattle.std.proofs.Common.{rules, ◌∙◌, ap, Option, subst, List}
 use Rattle.chpw_import.specs.declared.slot.Slot.{Slot}
 use Rattle.chpw_import.specs.declared.slot.Found.{Found}
 use Rattle.krb_keytab.specs.declared.entry.KeytabEntry.{KeytabEntry}
 use Rattle.chpw_import.specs.Tables.{Holds}
 use Rattle.chpw_import.specs.Rows.{first_principals}
+use Rattle.chpw_import.proofs.LeftLemmas.{left_is}
 use Rattle.chpw_import.proofs.keytab.brought_of.Goals as goal
 
 pub returns-clause-principals : goal.returns-clause-principals
@@ -20,3 +21,10 @@ returns-clause-principals c =
       first = c.in_ok-principals.ensures.value
           ∙ ap (λ (keys : Slot → Option Found). first_principals keys c.args.iterations t.newest.entries) (fun_ext holds.found);
     }
+
+pub returns-clause-left : goal.returns-clause-left
+returns-clause-left c =
+    let t = c.in_ok-table.table in
+    let holds : Holds c.args.realm.now c.args.entries.items t = subst (λ (zs : List KeytabEntry). Holds c.args.realm.now zs t) c.as_slice.ensures.value c.in_ok-table.ensures.value in
+    left_is c.args.realm.now c.args.entries.items _ t c.in_ok-service.service.items _ c.in_ok-principals.principals.items _ c.in_ok-left.left.items
+    holds (search rules) (search rules) (search rules) c.in_ok-left.ensures.value

@@ -1,0 +1,28 @@
+-- What `import` writes, put together.
+use Rattle.std.proofs.Common.{◌≡◌, ◌∙◌, ap, subst, ℕ, List, Option, Some}
+use Rattle.std.specs.Io.KnownBytes.{Appends}
+use Rattle.toml.specs.Parse.{parse_document}
+use Rattle.chpw_rules.specs.declared.config.PrincipalRow.{PrincipalRow}
+use Rattle.chpw_rules.specs.declared.config.ServiceRow.{ServiceRow}
+use Rattle.chpw_config_text.specs.Stanzas.{stanzas_of}
+use Rattle.chpw_invocation.specs.declared.invocation.ImportOptions.{ImportOptions}
+use Rattle.chpw_import.specs.declared.keytab.Brought.{Brought}
+use Rattle.chpw_import.specs.Keytabs.{IsBrought}
+use Rattle.chpw_import.specs.LeftLines.{left_lines}
+use Rattle.chpw_keys.specs.Stanzas.{Imports}
+
+pub imported : (o : ImportOptions) (bytes : List ℕ) (b : Brought) (before behind untold told : Option (List ℕ)) (text t lines l : List ℕ) (s : List ServiceRow) (p : List PrincipalRow)
+    → IsBrought bytes o.realm.now o.iterations b → s ≡ b.service.items → p ≡ b.principals.items
+    → parse_document text ≡ Some (stanzas_of s p) → t ≡ text → Appends before behind t
+    → lines ≡ left_lines o.keytab.now b.entries.items b.left.items → l ≡ lines → Appends untold told l
+    → Imports o bytes before behind untold told
+imported o bytes b before behind untold told text t lines l s p is e f reads g written h i left = record {
+  brought = b;
+  is_brought = is;
+  written = (
+    t,
+    written,
+    ap parse_document g ∙ (reads ∙ (ap (λ (x : List ServiceRow). Some (stanzas_of x p)) e ∙ ap (λ (x : List PrincipalRow). Some (stanzas_of b.service.items x)) f)),
+  );
+  left = subst (λ (x : List ℕ). Appends untold told x) (i ∙ h) left;
+}
