@@ -19,6 +19,10 @@ struct Noting {
 
 // Without memory only a part is noted, and the case has another answer.
 impl Gate for Noting {
+    ghost use Rattle.chpw_answer.specs.Hearing.{HearsNothing};
+
+    ghost hears = { HearsNothing };
+
     fn at(&mut self, spot: Spot) {
         let _ = self.passed.push_str(match spot {
             Spot::Opened => "opened; ",

@@ -14,13 +14,6 @@ returns-in-Queued c = record {
       c.loop.invariant.bounds c.loop.invariant.runs c.step.ensures.steps;
 }
 
-pub returns-in-None : goal.returns-in-None
-returns-in-None c = record {
-  runs = runs_on (bounds_of c.args.self.now.state.connections) (bounds_of c.loop.self.state.connections) c.args.now c.args.slot
-      (slots_of c.args.self.now.state.connections) (slots_of c.loop.self.state.connections) (slots_of c.step.new.self.state.connections)
-      c.loop.invariant.bounds c.loop.invariant.runs c.step.ensures.steps;
-}
-
 pub loop-preserved : goal.loop-preserved
 loop-preserved c = record {
   bounds = c.step.ensures.bounds ∙ c.loop.invariant.bounds;
