@@ -1,5 +1,6 @@
-use Rattle.std.proofs.Common.{◌≡◌, IfSome}
+use Rattle.chpw_fronts.specs.Pens.{opening_state}
 use Rattle.chpw_book.specs.Starting.{ledger_name, ledger_parts, list_book, list_root, workers_of}
+use Rattle.chpw_service.specs.ServiceRuns.{IsServiceRun}
 use Rattle.chpw_service.proofs.histories.serve_histories.Given as goal
 
 abbrev pub ghosts-serve_history-D-DeskName : goal.ghosts-serve_history-D-DeskName
@@ -12,4 +13,4 @@ abbrev pub ghosts-serve_history-D-ListName : goal.ghosts-serve_history-D-ListNam
 ghosts-serve_history-D-ListName g a = record { book = list_book a.opening.unnamed; root = list_root a.opening.unnamed }
 
 abbrev pub invariant-loop : goal.invariant-loop
-invariant-loop g l = IfSome l.next (λ opening. workers_of opening.unnamed ≡ l.fn.hall.workers)
+invariant-loop g l = IsServiceRun (opening_state g.D.ListName.root) l.served.table
