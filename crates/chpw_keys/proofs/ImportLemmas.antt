@@ -1,7 +1,8 @@
--- What `import` writes, put together.
-use Rattle.std.proofs.Common.{◌≡◌, ◌∙◌, ap, subst, ℕ, List, Option, Some}
+-- What `import` and `key` write, put together.
+use Rattle.std.proofs.Common.{◌≡◌, ◌∙◌, ap, subst, ℕ, List, Option, Some, sym, false, [], ◌∷◌}
 use Rattle.std.specs.Io.KnownBytes.{Appends}
 use Rattle.toml.specs.Parse.{parse_document}
+use Rattle.toml.specs.Text.{IsDocumentText}
 use Rattle.chpw_rules.specs.declared.config.PrincipalRow.{PrincipalRow}
 use Rattle.chpw_rules.specs.declared.config.ServiceRow.{ServiceRow}
 use Rattle.chpw_config_text.specs.Stanzas.{stanzas_of}
@@ -9,20 +10,42 @@ use Rattle.chpw_invocation.specs.declared.invocation.ImportOptions.{ImportOption
 use Rattle.chpw_import.specs.declared.keytab.Brought.{Brought}
 use Rattle.chpw_import.specs.Keytabs.{IsBrought}
 use Rattle.chpw_import.specs.LeftLines.{left_lines}
-use Rattle.chpw_keys.specs.Stanzas.{Imports}
+use Rattle.chpw_import.specs.Passwords.{IsPasswordOf}
+use Rattle.chpw_invocation.specs.declared.invocation.KeyOptions.{KeyOptions}
+use Rattle.chpw_rules.specs.declared.name.Name.{Name}
+use Rattle.chpw_keys.specs.Stanzas.{Imports, WritesKey, key_row}
 
 pub imported : (o : ImportOptions) (bytes : List ℕ) (b : Brought) (before behind untold told : Option (List ℕ)) (text t lines l : List ℕ) (s : List ServiceRow) (p : List PrincipalRow)
     → IsBrought bytes o.realm.now o.iterations b → s ≡ b.service.items → p ≡ b.principals.items
-    → parse_document text ≡ Some (stanzas_of s p) → t ≡ text → Appends before behind t
+    → IsDocumentText false (stanzas_of s p) text → parse_document text ≡ Some (stanzas_of s p) → t ≡ text → Appends before behind t
     → lines ≡ left_lines o.keytab.now b.entries.items b.left.items → l ≡ lines → Appends untold told l
     → Imports o bytes before behind untold told
-imported o bytes b before behind untold told text t lines l s p is e f reads g written h i left = record {
+imported o bytes b before behind untold told text t lines l s p is e f lines_of reads g written h i left = record {
   brought = b;
   is_brought = is;
   written = (
     t,
     written,
+    subst (λ (x : List ℕ). IsDocumentText false (stanzas_of b.service.items b.principals.items) x) (sym g)
+        (subst (λ (x : List PrincipalRow). IsDocumentText false (stanzas_of b.service.items x) text) f
+        (subst (λ (x : List ServiceRow). IsDocumentText false (stanzas_of x p) text) e lines_of)),
     ap parse_document g ∙ (reads ∙ (ap (λ (x : List ServiceRow). Some (stanzas_of x p)) e ∙ ap (λ (x : List PrincipalRow). Some (stanzas_of b.service.items x)) f)),
   );
   left = subst (λ (x : List ℕ). Appends untold told x) (i ∙ h) left;
+}
+
+pub keyed : (o : KeyOptions) (name : Name) (bytes password : List ℕ) (before behind : Option (List ℕ)) (text t : List ℕ) (row : PrincipalRow)
+    → IsPasswordOf bytes password → row ≡ key_row o name password
+    → IsDocumentText false (stanzas_of [] (row ∷ [])) text → parse_document text ≡ Some (stanzas_of [] (row ∷ [])) → t ≡ text → Appends before behind t
+    → WritesKey o name bytes before behind
+keyed o name bytes password before behind text t row is e lines_of reads g written = record {
+  password = password;
+  is_password = is;
+  written = (
+    t,
+    written,
+    subst (λ (x : List ℕ). IsDocumentText false (stanzas_of [] (key_row o name password ∷ [])) x) (sym g)
+        (subst (λ (x : PrincipalRow). IsDocumentText false (stanzas_of [] (x ∷ [])) text) e lines_of),
+    ap parse_document g ∙ (reads ∙ ap (λ (x : PrincipalRow). Some (stanzas_of [] (x ∷ []))) e),
+  );
 }

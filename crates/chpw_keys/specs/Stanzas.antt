@@ -1,7 +1,8 @@
 -- What is written: the stanzas of rows.
-use Rattle.std.specs.Prelude.{◌≡◌, ℕ, List, [], ◌∷◌, Option, Some}
+use Rattle.std.specs.Prelude.{◌≡◌, ℕ, false, List, [], ◌∷◌, Option, Some}
 use Rattle.std.specs.Io.KnownBytes.{Appends}
 use Rattle.toml.specs.Parse.{parse_document}
+use Rattle.toml.specs.Text.{IsDocumentText}
 use Rattle.chpw_rules.specs.declared.name.Name.{Name}
 use Rattle.chpw_rules.specs.declared.config.ServiceRow.{ServiceRow}
 use Rattle.chpw_rules.specs.declared.config.PrincipalRow.{PrincipalRow}
@@ -15,10 +16,12 @@ use Rattle.chpw_import.specs.Keytabs.{IsBrought}
 use Rattle.chpw_import.specs.LeftLines.{left_lines}
 use Rattle.chpw_import.specs.Passwords.{IsPasswordOf, row_of}
 
--- a text is added that is read as the stanzas of these rows
+-- A text is added that is read as the stanzas of these rows. It is a document of lines, each table behind a header
+-- of its own and none inline, so that it can stand behind other tables.
 abbrev pub AppendsRows : Option (List ℕ) → Option (List ℕ) → List ServiceRow → List PrincipalRow → Type 0
 AppendsRows before behind service principals =
-    (text : List ℕ) × Appends before behind text × (parse_document text ≡ Some (stanzas_of service principals))
+    (text : List ℕ) × Appends before behind text × IsDocumentText false (stanzas_of service principals) text
+    × (parse_document text ≡ Some (stanzas_of service principals))
 
 -- ---- import
 

@@ -1,7 +1,8 @@
 //! What both commands read and write.
-ghost use Rattle.std.specs.Prelude.{◌≡◌, IfErr, IfOk, OnOk, string_bytes, Some};
+ghost use Rattle.std.specs.Prelude.{◌≡◌, false, IfErr, IfOk, OnOk, string_bytes, Some};
 ghost use Rattle.std.specs.Io.KnownBytes.{Appends};
 ghost use Rattle.toml.specs.Parse.{parse_document};
+ghost use Rattle.toml.specs.Text.{IsDocumentText};
 ghost use Rattle.chpw_config_text.specs.Stanzas.{stanzas_of};
 ghost use Rattle.chpw_keys.specs.Faults.{IsEarly, IsLate, IsUnread};
 
@@ -33,6 +34,8 @@ pub(crate) fn stanzas<'a>(
     service: &[ServiceRow],
     principals: &[PrincipalRow],
 ) -> Result<String, KeysFault<'a>>
+    ensures text { IfOk result (λ text.
+        IsDocumentText false (stanzas_of service.now principals.now) (string_bytes text)) }
     ensures reads { IfOk result (λ text.
         parse_document (string_bytes text) ≡ Some (stanzas_of service.now principals.now)) }
     ensures fault { IfErr result IsLate }

@@ -59,7 +59,8 @@ pub fn write_password<'a, W: Write>(
     };
     let row = row_of(alloc, options, name, password)?;
     let text = stanzas(alloc, &[], &[row])?;
-    write_text(text.as_bytes(), writer)
+    write_text(text.as_bytes(), writer)?;
+    Ok(())
 }
 
 fn name_of<'a>(alloc: Global, text: &str) -> Result<Name, KeysFault<'a>>
