@@ -98,6 +98,7 @@ def command_lines(program):
         (serve, "--workers 1", "--workers 17"),
         (serve, "--workers 1", "--workers 0"),
         (serve, "--port 1", "--port 65536"),
+        (serve, "--port 1", ""),
         (serve, "--connections 1", "--connections 0"),
         (serve, "--seed s", ""),
         (client, "--port 1", "--port 0"),
@@ -398,6 +399,19 @@ def serve_closed(program, numbers):
     tell("started again", server.last_words(), "entries 0 changes 0")
 
 
+def closed_under_a_notice(program):
+    """`serve` without standard error, which has something to tell there: it isn't written into the journal."""
+    whole = plain_record("alice", 2)
+    for numbers in "2", "012":
+        server = program.server("alice")
+        server.journal.write_bytes(whole + whole[:20])
+        server.process = subprocess.Popen(closing(numbers, server.command(1)), stdout=subprocess.DEVNULL)
+        Client(program, server).told_soon()
+        program.report.tell(f"serve, {numbers} closed, a torn tail: its status", server.process.wait(timeout=10), 0)
+        program.report.tell(f"serve, {numbers} closed, a torn tail: its journal is the whole record",
+                            server.journal.read_bytes() == whole, True)
+
+
 CASES = [
     command_lines,
     drill,
@@ -412,6 +426,7 @@ CASES = [
     client_answered,
     closed_descriptors,
     closed_under_a_change,
+    closed_under_a_notice,
 ]
 
 
