@@ -1,8 +1,12 @@
 -- How a run ends: its status and its line on standard error.
-use Rattle.std.specs.Prelude.{ℕ, List, [], ◌++◌, codes, string_bytes}
+use Rattle.std.specs.Prelude.{ℕ, Bool, true, false, List, [], ◌∷◌, ◌++◌, Result, Ok, Err, codes, string_bytes, if◌then◌else◌}
 use Rattle.chpw_commands.specs.Drilled.{fault_text}
+use Rattle.chpw_commands.specs.declared.drill.DrillFault.{DrillFault}
 use Rattle.chpw_keys.specs.Faults.{line_of as keys_line}
+use Rattle.chpw_keys.specs.declared.fault.KeysFault.{KeysFault}
+use Rattle.chpw_keys.specs.declared.fault.KeysFault.TheVariants.{BadName}
 use Rattle.chpw_service.specs.Faults.{line_of as service_line}
+use Rattle.chpw_service.specs.declared.fault.ServeFault.{ServeFault}
 use Rattle.chpw_server.specs.declared.ending.Ending.{Ending}
 use Rattle.chpw_server.specs.declared.ending.Ending.TheVariants.{Good, Faulty, Early, Unread, Unserved, Unbrought, BadArgument, Unconnected, Unanswered, Refused, Misused, NotText}
 
@@ -34,3 +38,38 @@ line_of Unanswered = codes "connection ended"
 line_of Refused = []
 line_of Misused = []
 line_of NotText = codes "a word of the command line is not UTF-8"
+
+-- whether there is one
+abbrev pub has_line : Ending → Bool
+has_line Good = false
+has_line (Faulty file words) = true
+has_line (Early fault) = true
+has_line (Unread file) = true
+has_line (Unserved fault) = true
+has_line (Unbrought fault) = true
+has_line BadArgument = true
+has_line Unconnected = true
+has_line Unanswered = true
+has_line Refused = false
+has_line Misused = false
+has_line NotText = true
+
+-- what is written there
+abbrev pub told_of : Ending → List ℕ
+told_of ending = if has_line ending then line_of ending ++ 10 ∷ [] else []
+
+-- the end of `serve` and `table`
+abbrev pub ending_served : {T : Type 0} → Result T ServeFault → Ending
+ending_served (Ok x) = Good
+ending_served (Err fault) = Unserved fault
+
+-- of `drill`
+abbrev pub ending_drilled : {T : Type 0} → Result T DrillFault → Ending
+ending_drilled (Ok x) = Good
+ending_drilled (Err fault) = Early fault
+
+-- of `import` and `key`
+abbrev pub ending_brought : {T : Type 0} → Result T KeysFault → Ending
+ending_brought (Ok x) = Good
+ending_brought (Err BadName) = BadArgument
+ending_brought (Err fault) = Unbrought fault

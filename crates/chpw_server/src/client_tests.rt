@@ -7,7 +7,6 @@ use std::fs::{File, Files};
 use std::io::{Read, Write};
 use std::net::{Net, TcpListener, TcpStream};
 use std::process::Abort;
-use std::test::Fail;
 use std::thread::join;
 use std::time::{Clock, Duration};
 use std::{fs, thread};
@@ -67,48 +66,79 @@ const LOGGED: [&str; 8] = [
 
 /// What a request is made of beside its files.
 #[derive(Clone, Copy, Drop)]
-struct Wish<'a> {
-    client: &'a str,
-    password: &'a str,
-    target: Option<&'a str>,
+struct Wish {
+    client: &'static str,
+    password: &'static str,
+    target: Option<&'static str>,
     no_initial: bool,
+    old: bool,
 }
 
-// Alice's own password.
-fn own<'a>(password: &'a str) -> Wish<'a> {
+/// Alice's own password.
+const fn own(password: &'static str) -> Wish {
     Wish {
         client: "alice",
         password,
         target: None,
         no_initial: false,
-    }
-}
-
-// The options for that.
-fn options<'a>(port: u16, wish: Wish<'a>) -> ClientOptions<'a> {
-    ClientOptions {
-        config: CONFIG_FILE,
-        seed: SEED_FILE,
-        port,
-        client: wish.client,
-        password: wish.password,
-        target: wish.target,
-        no_initial: wish.no_initial,
         old: false,
     }
 }
 
-// The options for the same in the earlier protocol, which has no target.
-fn old_options<'a>(port: u16, wish: Wish<'a>) -> ClientOptions<'a> {
+/// Requests, one after the other, and whether each changes a password.
+const ASKED: [(Wish, bool); 7] = [
+    (own("New-pass1"), true),
+    (own("New1"), false),
+    (
+        Wish {
+            no_initial: true,
+            ..own("New-pass2")
+        },
+        false,
+    ),
+    (
+        Wish {
+            target: Some("bob"),
+            ..own("New-pass3")
+        },
+        true,
+    ),
+    (
+        Wish {
+            client: "bob",
+            target: Some("alice"),
+            ..own("New-pass4")
+        },
+        false,
+    ),
+    (
+        Wish {
+            old: true,
+            ..own("New-pass5")
+        },
+        true,
+    ),
+    (
+        Wish {
+            no_initial: true,
+            old: true,
+            ..own("New-pass2")
+        },
+        false,
+    ),
+];
+
+// The options for a request; the earlier protocol has no target.
+fn options(port: u16, wish: Wish) -> ClientOptions<'static> {
     ClientOptions {
         config: CONFIG_FILE,
         seed: SEED_FILE,
         port,
         client: wish.client,
         password: wish.password,
-        target: None,
+        target: if wish.old { None } else { wish.target },
         no_initial: wish.no_initial,
-        old: true,
+        old: wish.old,
     }
 }
 
@@ -126,35 +156,24 @@ where
     Ending::Unconnected
 }
 
-// A connection for each of these.
+// Whether a request changes a password, or is refused.
+fn is_answered(ending: &Ending<'_>, is_change: bool) -> bool {
+    match ending {
+        Ending::Good => is_change,
+        Ending::Refused => !is_change,
+        _ => false,
+    }
+}
+
+// A connection for each of the requests.
 fn ask_all<R>(rt: &R, port: u16)
 where
     R: Files<File = File> + Net<Stream = TcpStream> + Clock + Print + AllocGlobal + Abort,
 {
-    let good = ask_soon(rt, options(port, own("New-pass1")));
-    assert!(rt; matches!(good, Ending::Good));
-    let short = ask(rt, options(port, own("New1")));
-    assert!(rt; matches!(short, Ending::Refused));
-    let not_initial = Wish {
-        no_initial: true,
-        ..own("New-pass2")
-    };
-    assert!(rt; matches!(ask(rt, options(port, not_initial)), Ending::Refused));
-    let of_bob = Wish {
-        target: Some("bob"),
-        ..own("New-pass3")
-    };
-    assert!(rt; matches!(ask(rt, options(port, of_bob)), Ending::Good));
-    let by_bob = Wish {
-        client: "bob",
-        target: Some("alice"),
-        ..own("New-pass4")
-    };
-    assert!(rt; matches!(ask(rt, options(port, by_bob)), Ending::Refused));
-    let old = old_options(port, own("New-pass5"));
-    assert!(rt; matches!(ask(rt, old), Ending::Good));
-    let old_not_initial = old_options(port, not_initial);
-    assert!(rt; matches!(ask(rt, old_not_initial), Ending::Refused));
+    for (wish, is_change) in ASKED {
+        let ending = ask_soon(rt, options(port, wish));
+        assert!(rt; is_answered(&ending, is_change));
+    }
 }
 
 // A message of one byte, and the first byte of its answer.
@@ -185,19 +204,25 @@ fn serving<'a>(port: u16, connections: u32, log: &'a str) -> ServeOptions<'a> {
 }
 
 // Its files, without a journal and a log; and a port where nobody listens.
-fn prepare(rt: &HostRuntime) -> Result<u16, Fail> {
-    fs::write(rt, CONFIG_FILE, CONFIG.as_bytes())?;
-    fs::write(rt, SEED_FILE, [1; 32].as_slice())?;
+fn prepare(rt: &HostRuntime) -> u16 {
+    assert!(rt; fs::write(rt, CONFIG_FILE, CONFIG.as_bytes()).is_ok());
+    assert!(rt; fs::write(rt, SEED_FILE, [1; 32].as_slice()).is_ok());
     for file in [JOURNAL_FILE, LOG_FILE] {
         let _ = fs::remove_file(rt, file);
     }
-    let listener = TcpListener::bind(rt, ("127.0.0.1", 0u16))?;
-    Ok(listener.local_addr()?.port())
+    let listener = TcpListener::bind(rt, ("127.0.0.1", 0u16));
+    let address = listener.ok().expect(rt, "a port").local_addr();
+    address.ok().expect(rt, "an address").port()
+}
+
+// The bytes of a file.
+fn size_of<R: Files + AllocGlobal + Abort>(rt: &R, file: &str) -> usize {
+    fs::read(rt, file).ok().expect(rt, "a file").len()
 }
 
 // The log has those lines and no other.
-fn expect_log<R: Files + AllocGlobal + Abort>(rt: &R) -> Result<(), Fail> {
-    let log = fs::read(rt, LOG_FILE)?;
+fn expect_log<R: Files + AllocGlobal + Abort>(rt: &R) {
+    let log = fs::read(rt, LOG_FILE).ok().expect(rt, "a log");
     let mut lines = str::from_utf8(log.as_slice()).unwrap_or("").lines();
     for logged in LOGGED {
         let line = lines.next().unwrap_or("");
@@ -205,12 +230,11 @@ fn expect_log<R: Files + AllocGlobal + Abort>(rt: &R) -> Result<(), Fail> {
         assert!(rt; behind == logged);
     }
     assert!(rt; lines.next().is_none());
-    Ok(())
 }
 
 #[test]
-fn client_asks_a_service(rt: HostRuntime) -> Result<(), Fail> {
-    let port = prepare(&rt)?;
+fn client_asks_a_service(rt: HostRuntime) {
+    let port = prepare(&rt);
     let options_of_it = serving(port, 8, LOG_FILE);
     let (served, ()) = join(
         &rt,
@@ -222,22 +246,21 @@ fn client_asks_a_service(rt: HostRuntime) -> Result<(), Fail> {
     );
     assert!(rt; served);
     // Two records of alice's, and one of bob's, whose name is shorter by two bytes.
-    assert_eq!(rt; fs::read(&rt, JOURNAL_FILE)?.len(), 66 + 64 + 66);
-    expect_log(&rt)?;
-    let late = options(port, own("New-pass6"));
-    assert!(rt; matches!(ask(&rt, late), Ending::Unconnected));
+    assert!(rt; size_of(&rt, JOURNAL_FILE) == 66 + 64 + 66);
+    expect_log(&rt);
+    let late = ask(&rt, options(port, own("New-pass6")));
+    assert!(rt; matches!(late, Ending::Unconnected));
     let unnamed = Wish {
         client: "",
         ..own("New-pass6")
     };
     assert!(rt; matches!(ask(&rt, options(port, unnamed)), Ending::BadArgument));
-    Ok(())
 }
 
 // No line can be written to /dev/full, and a folder is no log.
 #[test]
-fn log_that_cannot_be_written(rt: HostRuntime) -> Result<(), Fail> {
-    let port = prepare(&rt)?;
+fn log_that_cannot_be_written(rt: HostRuntime) {
+    let port = prepare(&rt);
     let ended = serve(&rt, serving(port, 1, "."));
     assert!(rt; matches!(ended, Err(ServeFault::CannotWrite("."))));
     assert!(rt; fs::read(&rt, JOURNAL_FILE).is_err());
@@ -248,6 +271,5 @@ fn log_that_cannot_be_written(rt: HostRuntime) -> Result<(), Fail> {
         || matches!(ask_soon(&rt, options(port, own("New-pass1"))), Ending::Good),
     );
     assert!(rt; served && changed);
-    assert_eq!(rt; fs::read(&rt, JOURNAL_FILE)?.len(), 66);
-    Ok(())
+    assert!(rt; size_of(&rt, JOURNAL_FILE) == 66);
 }

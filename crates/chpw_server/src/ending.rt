@@ -1,11 +1,13 @@
 //! How a run of the program ends.
-ghost use Rattle.std.specs.Prelude.{◌≡◌};
-ghost use Rattle.chpw_server.specs.Endings.{line_of, status_of};
+ghost use Rattle.std.specs.Prelude.{◌≡◌, OnOk};
+ghost use Rattle.std.specs.Io.KnownBytes.{Appends};
+ghost use Rattle.chpw_server.specs.Endings.{has_line, line_of, status_of, told_of};
 
 use chpw_commands::DrillFault;
 use chpw_keys::KeysFault;
 use chpw_service::ServeFault;
 use std::fmt;
+use std::io::{self, Write};
 
 /// How a run ends.
 #[derive(Drop)]
@@ -52,8 +54,21 @@ impl Ending<'_> {
     }
 
     /// Whether there is a line on standard error.
-    pub fn is_told(&self) -> bool {
+    pub fn is_told(&self) -> bool
+        ensures value { result ≡ has_line self.now }
+    {
         !matches!(self, Ending::Good | Ending::Refused | Ending::Misused)
+    }
+}
+
+/// Writes the line of an ending that has one.
+pub fn tell<W: Write>(errors: &mut W, ending: &Ending<'_>) -> io::Result<()>
+    ensures told { OnOk result (Appends (W.contents errors.old) (W.contents errors.new) (told_of ending.now)) }
+{
+    if ending.is_told() {
+        writeln!(errors, "{ending}")
+    } else {
+        Ok(())
     }
 }
 

@@ -3,6 +3,10 @@
 //! held; `import` and `key`, keys of a keytab and of a password; `serve`, the service on a port of this machine; and `client`, one request to it.
 #![tactic(auto)]
 
+ghost use Rattle.std.specs.Prelude.{◌≡◌, ◌≢◌};
+ghost use Rattle.clap.specs.Values.{kind_of};
+ghost use Rattle.chpw_server.specs.Endings.{ending_brought, ending_drilled, ending_served, status_of};
+
 mod client;
 #[cfg(test)]
 mod client_tests;
@@ -13,17 +17,18 @@ mod ending;
 mod tests;
 
 pub use chpw_commands::{DrillFault, explain_check, run_check, run_drill};
-use chpw_invocation::{Invocation, ServeOptions, TableOptions, command_of};
+use chpw_invocation::{Invocation, command_of};
 use chpw_keys::{KeysFault, tell_keytab, tell_password};
-use chpw_service::{serve, tell_table};
+use chpw_service::{ServeFault, serve, tell_table};
 use clap::Error;
 use clap::error::ErrorKind;
 use client::ask;
 use command_line::words;
 use descriptors::{NOTHING, hold_standard};
-use ending::Ending;
+use ending::{Ending, tell};
 use std::alloc::AllocError;
 use std::fs::{File, Files};
+use std::io::Write;
 use std::net::{Net, TcpListener, TcpStream};
 use std::process::ExitCode;
 use std::sync::Wait;
@@ -34,26 +39,31 @@ use std::{fs, io};
 /// Ends with 0; with 1 after a fault, which is told in a line on standard error; with 2 where the
 /// command line asks for no command or for help, whose text stands on standard error, or isn't UTF-8.
 fn main(rt: HostRuntime) -> ExitCode {
+    let stderr = rt.stderr();
+    let mut errors = io::writer(&stderr);
     if hold_standard(&rt).is_err() {
-        return ExitCode::from(end(&rt, Ending::Unread(NOTHING)));
+        return ExitCode::from(end(&mut errors, Ending::Unread(NOTHING)));
     }
     let status = match words(&rt) {
-        Ok(words) => end(&rt, run(&rt, words.as_slice())),
-        Err(ending) => end(&rt, ending),
+        Ok(words) => {
+            let ending = run(&rt, &mut errors, words.as_slice());
+            end(&mut errors, ending)
+        }
+        Err(ending) => end(&mut errors, ending),
     };
     ExitCode::from(status)
 }
 
 // Tells how the run ended; its status.
-fn end<R: Eprint>(rt: &R, ending: Ending<'_>) -> u8 {
-    if ending.is_told() {
-        let _ = eprintln!(rt; "{ending}");
-    }
+fn end<W: Write>(errors: &mut W, ending: Ending<'_>) -> u8
+    ensures status { result ≡ status_of ending }
+{
+    let _ = tell(errors, &ending);
     ending.status()
 }
 
-// Runs the command of these words.
-fn run<'a, R>(rt: &R, words: &'a [String]) -> Ending<'a>
+// Runs the command of these words; clap's text, where they ask for none, is an error.
+fn run<'a, R, W: Write>(rt: &R, errors: &mut W, words: &'a [String]) -> Ending<'a>
 where
     R: Files<File = File>
         + Net<Listener = TcpListener, Stream = TcpStream>
@@ -67,58 +77,43 @@ where
         + Sync,
 {
     match command_of(rt.alloc(), words) {
-        Err(error) => misused(rt, error),
+        Err(error) => misused(errors, error),
         Ok(Invocation::Drill) => drill(rt),
         Ok(Invocation::Check { config }) => check(rt, config),
-        Ok(Invocation::Table(options)) => table(rt, options),
+        Ok(Invocation::Table(options)) => served(tell_table(rt, options)),
         Ok(Invocation::Import(options)) => brought(tell_keytab(rt, options)),
         Ok(Invocation::Key(options)) => brought(tell_password(rt, options)),
-        Ok(Invocation::Serve(options)) => started(rt, options),
+        Ok(Invocation::Serve(options)) => served(serve(rt, options)),
         Ok(Invocation::Client(options)) => ask(rt, options),
     }
 }
 
 // The command line asks for no command: clap's text says why.
-fn misused<'a, R: Eprint>(rt: &R, error: Error) -> Ending<'a> {
+fn misused<'a, W: Write>(errors: &mut W, error: Error) -> Ending<'a>
+    ensures memory { kind_of error ≡ ErrorKind.OutOfMemory → result ≡ Ending.Early DrillFault.Memory }
+    ensures text { kind_of error ≢ ErrorKind.OutOfMemory → result ≡ Ending.Misused }
+{
     if error.kind() == ErrorKind::OutOfMemory {
         return Ending::Early(DrillFault::Memory);
     }
-    let _ = rt.eprint(error);
+    let _ = write!(errors, "{error}");
     Ending::Misused
 }
 
-// The service.
-fn started<'a, R>(rt: &R, options: ServeOptions<'a>) -> Ending<'a>
-where
-    R: Files<File = File>
-        + Net<Listener = TcpListener, Stream = TcpStream>
-        + Threads
-        + Wait
-        + Clock
-        + Print
-        + Eprint
-        + AllocGlobal
-        + Sync,
+// The service, or the table that is held.
+fn served(ended: Result<(), ServeFault<'_>>) -> Ending<'_>
+    ensures value { result ≡ ending_served ended }
 {
-    match serve(rt, options) {
-        Ok(()) => Ending::Good,
-        Err(fault) => Ending::Unserved(fault),
-    }
-}
-
-// The table that is held.
-fn table<'a, R>(rt: &R, options: TableOptions<'a>) -> Ending<'a>
-where
-    R: Files<File = File> + Print + Eprint + AllocGlobal,
-{
-    match tell_table(rt, options) {
+    match ended {
         Ok(()) => Ending::Good,
         Err(fault) => Ending::Unserved(fault),
     }
 }
 
 // The keys of a keytab or a password.
-fn brought(told: Result<(), KeysFault<'_>>) -> Ending<'_> {
+fn brought(told: Result<(), KeysFault<'_>>) -> Ending<'_>
+    ensures value { result ≡ ending_brought told }
+{
     match told {
         Ok(()) => Ending::Good,
         Err(KeysFault::BadName) => Ending::BadArgument,
@@ -128,7 +123,13 @@ fn brought(told: Result<(), KeysFault<'_>>) -> Ending<'_> {
 
 // The script on standard input.
 fn drill<'a>(rt: &(impl Input + Print + AllocGlobal)) -> Ending<'a> {
-    match run_drill(rt.alloc(), &mut rt.reader(), &mut io::writer(rt)) {
+    drilled(run_drill(rt.alloc(), &mut rt.reader(), &mut io::writer(rt)))
+}
+
+fn drilled<'a>(ended: Result<(), DrillFault>) -> Ending<'a>
+    ensures value { result ≡ ending_drilled ended }
+{
+    match ended {
         Ok(()) => Ending::Good,
         Err(fault) => Ending::Early(fault),
     }

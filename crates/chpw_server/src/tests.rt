@@ -1,65 +1,169 @@
-//! What isn't text: readers and writers that fail, bytes that are no UTF-8, and command lines.
+//! The command lines and what is asked by them, bytes that are no UTF-8, files, and what stands on standard
+//! error.
 use crate::command_line::words as words_of;
-use crate::ending::Ending;
-use crate::{DrillFault, run_check, run_drill};
+use crate::ending::{Ending, tell};
+use crate::misused;
+use chpw_commands::DrillFault;
 use chpw_invocation::{Invocation, TableForm, TableOptions, command_of};
-use chpw_keys::{tell_keytab, tell_password};
+use chpw_keys::{KeysFault, tell_keytab, tell_password};
 use chpw_service::{ServeFault, write_table};
 use std::alloc::{AllocError, Global};
 use std::env::FillError;
 use std::fs::{File, Files};
-use std::io::{ErrorKind, Read, Write};
+use std::io::{ErrorKind, Write};
+use std::process::Abort;
 use std::rt::Env;
-use std::test::Fail;
 use std::{fs, io};
 
-const SCRIPT: &str =
-    "realm EXAMPLE.COM\npolicy 0 0 2 4096 no\nprincipal alice 1 4096:a1\nopen 10 -1\nshow alice\n";
-
-const CLIENT_LINE: &str = "chpw_server client --config realm.toml --seed seed --port 464 \
-    --client alice/admin --password=-New-pass2- --target bob --no-initial";
-
-const SERVE_LINE: &str =
-    "chpw_server serve --config realm.toml --journal journal --seed seed --port 464 \
-    --workers 4 --connections 1000";
-
-/// What stands behind the service's line, and the seconds, connections and MiB that it is then bounded to;
-/// none where it is refused.
-const BOUNDS: [(&str, Option<(u16, u32, u16)>); 11] = [
-    ("", Some((30, 1024, 32))),
-    (" --idle 1 --clients 1 --buffers 1", Some((1, 1, 1))),
+/// Command lines without the program's name, and what they ask for; of one that asks for no command, a word
+/// of clap's text.
+const LINES: [(&str, &str); 45] = [
+    ("drill", "drill"),
+    ("drill --config c", "unexpected"),
+    ("check --config c", "check c"),
+    ("check", "--config"),
+    ("change", "unrecognized"),
+    ("", "Usage"),
+    ("--help", "Usage"),
+    ("help client", "Usage"),
+    ("--version", "chpw_server"),
+    // the service: each value of a whole line, and each bound
     (
-        " --idle=3600 --clients=65536 --buffers=1024",
-        Some((3600, 65_536, 1024)),
+        "serve --config realm.toml --journal journal --seed seed --port 464 --workers 4 --connections 1000 \
+         --idle 1 --clients 2 --buffers 3 --raise 5 --log log",
+        "serve realm.toml journal seed port 464 workers 4 connections 1000 idle 1 clients 2 buffers 3 \
+         raise 5 log log",
     ),
-    (" --clients 64", Some((30, 64, 32))),
-    (" --idle 0", None),
-    (" --idle 3601", None),
-    (" --clients 0", None),
-    (" --clients 65537", None),
-    (" --buffers 0", None),
-    (" --buffers 1025", None),
-    (" --buffers=-1", None),
+    (
+        "serve --config c --journal j --seed s --port 65535 --workers 16 --connections 4294967295 \
+         --idle=3600 --clients=65536 --buffers=1024 --raise=16777216",
+        "serve c j s port 65535 workers 16 connections 4294967295 idle 3600 clients 65536 buffers 1024 \
+         raise 16777216 log -",
+    ),
+    (
+        "serve --config c --journal j --seed s --port 1 --workers 1 --connections 1",
+        "serve c j s port 1 workers 1 connections 1 idle 30 clients 1024 buffers 32 raise - log -",
+    ),
+    (
+        "serve --config c --journal j --seed s --port 1 --workers 17 --connections 1",
+        "--workers",
+    ),
+    (
+        "serve --config c --journal j --seed s --port 1 --workers 0 --connections 1",
+        "--workers",
+    ),
+    (
+        "serve --config c --journal j --seed s --workers 1 --connections 1",
+        "--port",
+    ),
+    (
+        "serve --config c --journal j --seed s --port 0 --workers 1 --connections 1",
+        "--port",
+    ),
+    (
+        "serve --config c --journal j --seed s --port 65536 --workers 1 --connections 1",
+        "--port",
+    ),
+    (
+        "serve --config c --journal j --seed s --port 1 --workers 1 --connections 0",
+        "--connections",
+    ),
+    (
+        "serve --config c --journal j --port 1 --workers 1 --connections 1",
+        "--seed",
+    ),
+    (
+        "serve --config c --journal j --seed s --port 1 --workers 1 --connections 1 --idle 0",
+        "--idle",
+    ),
+    (
+        "serve --config c --journal j --seed s --port 1 --workers 1 --connections 1 --idle 3601",
+        "--idle",
+    ),
+    (
+        "serve --config c --journal j --seed s --port 1 --workers 1 --connections 1 --clients 0",
+        "--clients",
+    ),
+    (
+        "serve --config c --journal j --seed s --port 1 --workers 1 --connections 1 --clients 65537",
+        "--clients",
+    ),
+    (
+        "serve --config c --journal j --seed s --port 1 --workers 1 --connections 1 --buffers 0",
+        "--buffers",
+    ),
+    (
+        "serve --config c --journal j --seed s --port 1 --workers 1 --connections 1 --buffers 1025",
+        "--buffers",
+    ),
+    (
+        "serve --config c --journal j --seed s --port 1 --workers 1 --connections 1 --buffers=-1",
+        "--buffers",
+    ),
+    (
+        "serve --config c --journal j --seed s --port 1 --workers 1 --connections 1 --raise=0",
+        "--raise",
+    ),
+    (
+        "serve --config c --journal j --seed s --port 1 --workers 1 --connections 1 --raise=16777217",
+        "--raise",
+    ),
+    (
+        "serve --config c --journal j --seed s --port 1 --workers 1 --connections 1 --raise=many",
+        "--raise",
+    ),
+    (
+        "serve --config c --journal j --seed s --port 1 --workers 1 --connections 1 --raise=-1",
+        "--raise",
+    ),
+    // a request
+    (
+        "client --config realm.toml --seed seed --port 464 --client alice/admin --password=-New-pass2- \
+         --target bob --no-initial",
+        "client realm.toml seed port 464 client alice/admin password -New-pass2- target bob no-initial true \
+         old false",
+    ),
+    (
+        "client --config c --seed s --port 464 --client alice --password p --old",
+        "client c s port 464 client alice password p target - no-initial false old true",
+    ),
+    (
+        "client --config c --port 464 --client alice --password p",
+        "--seed",
+    ),
+    (
+        "client --config c --seed s --port 0 --client alice --password p",
+        "--port",
+    ),
+    (
+        "client --config c --seed s --port 65536 --client alice --password p",
+        "--port",
+    ),
+    (
+        "client --config c --seed s --port 1 --client alice --password p --target bob --old",
+        "--old",
+    ),
+    // a table
+    ("table --config c --journal j", "table c j Lines"),
+    ("table --config c --journal j --as lines", "table c j Lines"),
+    (
+        "table --config c --journal j --as configuration",
+        "table c j Configuration",
+    ),
+    ("table --config c --journal j --as=keys", "table c j Keys"),
+    ("table --config c --journal j --as key", "--as"),
+    ("table --config c --journal j --as=", "--as"),
+    ("table --config c --journal j --as", "--as"),
+    // keys
+    (
+        "import --keytab k --realm EXAMPLE.COM --iterations 5",
+        "import k EXAMPLE.COM iterations 5",
+    ),
+    (
+        "key --realm EXAMPLE.COM --name alice --password-file f --kvno 4294967295",
+        "key EXAMPLE.COM alice f iterations 4096 kvno 4294967295",
+    ),
 ];
-
-/// Counts to raise to that there are not.
-const NO_COUNTS: [&str; 4] = ["0", "16777217", "many", "-1"];
-
-/// A client's line without --seed, with ports out of range, and with a target in the earlier protocol; a
-/// command that there isn't; none; two calls for help and one for the version.
-const REFUSED: [&str; 9] = [
-    "chpw_server client --config realm.toml --port 464 --client alice --password New-pass2",
-    "chpw_server client --config c --seed s --port 0 --client alice --password New-pass2",
-    "chpw_server client --config c --seed s --port 65536 --client alice --password New-pass2",
-    "chpw_server client --config c --seed s --port 1 --client alice --password p --target bob --old",
-    "chpw_server change",
-    "chpw_server",
-    "chpw_server --help",
-    "chpw_server help client",
-    "chpw_server --version",
-];
-
-const TABLE_LINE: &str = "chpw_server table --config realm.toml --journal journal";
 
 /// Alice has keys of two versions; `depth` is 2.
 const TABLE_CONFIG: &str = "\
@@ -162,20 +266,50 @@ key = \"5a5a5a5a5a5a5a5a5a5a5a5a5a5a5a5a\"
 kvno = 3
 ";
 
-/// Gives its bytes and then fails.
-#[derive(Drop)]
-struct CutOff<'a> {
-    left: &'a [u8],
-}
+/// Each form of that table.
+const FORMS: [(TableForm, &str); 3] = [
+    (TableForm::Lines, TABLE_LINES),
+    (TableForm::Keys, TABLE_KEYS),
+    (TableForm::Configuration, TABLE_CONFIGURATION),
+];
 
-impl Read for CutOff<'_> {
-    fn read(&mut self, buf: &mut [u8]) -> io::Result<usize> {
-        if self.left.is_empty() {
-            return Err(io::Error::from(ErrorKind::Other));
-        }
-        self.left.read(buf)
-    }
-}
+/// Zoe's change to version 2, of whom the configuration knows nothing.
+const OTHER_JOURNAL: [&[u8]; 3] = [
+    b"\x00\x3e\x01\x00\x00\x00\x02\x00\x00\x00\x05",
+    &[0xa8; 48],
+    b"\x01\x03zoe",
+];
+
+/// A configuration's file, a journal's, and why no table is told of them.
+const UNTOLD: [(&str, &str, &str); 7] = [
+    ("good.toml", "missing", "cannot read missing"),
+    ("good.toml", ".", "cannot read ."),
+    ("good.toml", "other.journal", "journal: J3 at 1"),
+    ("good.toml", "good.toml", "journal: J1 at 1"),
+    ("no.toml", "missing", "config: C1 file 0"),
+    ("missing", "empty.journal", "cannot read missing"),
+    (".", "empty.journal", "cannot read ."),
+];
+
+/// Command lines without their realm, and why they bring no keys in.
+const UNBROUGHT: [(&str, &str); 7] = [
+    ("import --keytab missing", "cannot read missing"),
+    ("import --keytab .", "cannot read ."),
+    (
+        "import --keytab no.keytab",
+        "no.keytab: no keytab of format 0x0502",
+    ),
+    (
+        "key --name alice --password-file missing",
+        "cannot read missing",
+    ),
+    ("key --name alice --password-file .", "cannot read ."),
+    (
+        "key --name alice --password-file no.password",
+        "no.password: the password is empty",
+    ),
+    ("key --name a//b --password-file missing", "bad argument"),
+];
 
 /// Takes nothing.
 #[derive(Drop)]
@@ -218,110 +352,81 @@ impl Env for Called<'_> {
     }
 }
 
-#[test]
-fn failing_streams(rt: HostRuntime) -> Result<(), Fail> {
-    let mut reader = CutOff {
-        left: SCRIPT.as_bytes(),
-    };
-    let mut printed = Vec::new(rt.alloc());
-    let ended = run_drill(rt.alloc(), &mut reader, &mut printed);
-    assert!(rt; matches!(ended, Err(DrillFault::Read)));
-    assert_eq!(rt; printed.as_slice(), b"".as_slice());
-    let ended = run_drill(rt.alloc(), &mut SCRIPT.as_bytes(), &mut Closed);
-    assert!(rt; matches!(ended, Err(DrillFault::Write)));
-    let status = run_check(rt.alloc(), b"", &mut Closed);
-    assert!(rt; matches!(status, Err(DrillFault::Write)));
-    Ok(())
-}
-
-#[test]
-fn bytes_that_are_no_text(rt: HostRuntime) -> Result<(), Fail> {
-    let mut printed = Vec::new(rt.alloc());
-    let ended = run_drill(rt.alloc(), &mut b"realm \xff\n".as_slice(), &mut printed);
-    assert!(rt; matches!(ended, Err(DrillFault::Line(1))));
-    assert_eq!(rt; printed.as_slice(), b"".as_slice());
-    let status = run_check(rt.alloc(), b"\xff", &mut printed);
-    assert!(rt; matches!(status, Ok(1)));
-    assert_eq!(rt; printed.as_slice(), b"C1 file 0\n".as_slice());
-    Ok(())
-}
-
-fn words(alloc: Global, line: &str) -> Result<Vec<String>, AllocError> {
+// The words of a line.
+fn words(rt: &impl Abort, alloc: Global, line: &str) -> Vec<String> {
     let mut words = Vec::new(alloc);
     for word in line.split(' ') {
-        words.push(String::from_str(alloc, word)?)?;
+        let word = String::from_str(alloc, word).ok().expect(rt, "memory");
+        assert!(rt; words.push(word).is_ok());
     }
-    Ok(words)
+    words
 }
 
-#[test]
-fn client_line_is_read(rt: HostRuntime) -> Result<(), Fail> {
-    let words = words(rt.alloc(), CLIENT_LINE)?;
-    let Ok(Invocation::Client(asked)) = command_of(rt.alloc(), words.as_slice()) else {
-        return Err(Fail::new("another command"));
-    };
-    assert!(rt; asked.config == "realm.toml" && asked.seed == "seed" && asked.port == 464);
-    assert!(rt; asked.client == "alice/admin" && asked.password == "-New-pass2-");
-    assert!(rt; asked.target == Some("bob") && asked.no_initial && !asked.old);
-    Ok(())
-}
-
-// What the service is asked to raise to by the words behind its line; none where the line is refused.
-fn raise_of(alloc: Global, behind: &str) -> Result<Option<Option<u32>>, AllocError> {
-    let line = format!(in alloc; "{SERVE_LINE}{behind}")?;
-    let words = words(alloc, &line)?;
-    Ok(match command_of(alloc, words.as_slice()) {
-        Ok(Invocation::Serve(options)) => Some(options.raise),
-        _ => None,
-    })
-}
-
-#[test]
-fn count_to_raise_to_is_read(rt: HostRuntime) -> Result<(), Fail> {
-    assert!(rt; raise_of(rt.alloc(), "")? == Some(None));
-    assert!(rt; raise_of(rt.alloc(), " --raise 1")? == Some(Some(1)));
-    assert!(rt; raise_of(rt.alloc(), " --raise 16777216")? == Some(Some(16_777_216)));
-    for count in NO_COUNTS {
-        let behind = format!(in rt.alloc(); " --raise={count}")?;
-        assert!(rt; raise_of(rt.alloc(), &behind)?.is_none());
+// What a command line asks for, in words; else what stands on standard error.
+fn asked(rt: &impl Abort, alloc: Global, line: &str) -> String {
+    let line = format!(in alloc; "chpw_server {line}").ok();
+    let words = words(rt, alloc, line.expect(rt, "memory").trim_end());
+    let mut text = String::new(alloc);
+    match command_of(alloc, words.as_slice()) {
+        Ok(invocation) => assert!(rt; show(&mut text, invocation).is_ok()),
+        Err(error) => {
+            let mut errors = Vec::new(alloc);
+            assert!(rt; matches!(misused(&mut errors, error), Ending::Misused));
+            assert!(rt; text.push_str(str::from_utf8(&errors).unwrap_or("")).is_ok());
+        }
     }
-    Ok(())
+    text
 }
 
-#[test]
-fn bounds_are_read(rt: HostRuntime) -> Result<(), Fail> {
-    for (behind, bounds) in BOUNDS {
-        let line = format!(in rt.alloc(); "{SERVE_LINE}{behind}")?;
-        let words = words(rt.alloc(), &line)?;
-        let read = match command_of(rt.alloc(), words.as_slice()) {
-            Ok(Invocation::Serve(options)) => {
-                Some((options.idle, options.clients, options.buffers))
+fn show(text: &mut String, asked: Invocation<'_>) -> Result<(), AllocError> {
+    match asked {
+        Invocation::Drill => text.push_str("drill"),
+        Invocation::Check { config } => write!(text, "check {config}"),
+        Invocation::Table(it) => write!(text, "table {} {} {:?}", it.config, it.journal, it.form),
+        Invocation::Import(it) => {
+            write!(
+                text,
+                "import {} {} iterations {}",
+                it.keytab, it.realm, it.iterations
+            )
+        }
+        Invocation::Key(it) => {
+            write!(text, "key {} {} {} ", it.realm, it.name, it.password_file)?;
+            write!(text, "iterations {} kvno {}", it.iterations, it.kvno)
+        }
+        Invocation::Serve(it) => {
+            write!(text, "serve {} {} {} ", it.config, it.journal, it.seed)?;
+            write!(text, "port {} workers {} ", it.port, it.workers)?;
+            write!(text, "connections {} idle {} ", it.connections, it.idle)?;
+            write!(text, "clients {} buffers {} raise ", it.clients, it.buffers)?;
+            match it.raise {
+                Some(count) => write!(text, "{count}")?,
+                None => text.push_str("-")?,
             }
-            _ => None,
-        };
-        assert!(rt; read == bounds);
+            write!(text, " log {}", it.log.unwrap_or("-"))
+        }
+        Invocation::Client(it) => {
+            write!(text, "client {} {} port {} ", it.config, it.seed, it.port)?;
+            write!(text, "client {} password {} ", it.client, it.password)?;
+            write!(text, "target {} ", it.target.unwrap_or("-"))?;
+            write!(text, "no-initial {} old {}", it.no_initial, it.old)
+        }
     }
-    Ok(())
+}
+
+// A line that asks for a command is shown whole; of another the text has the word.
+#[test]
+fn command_lines(rt: HostRuntime) {
+    for (line, wanted) in LINES {
+        let asked = asked(&rt, rt.alloc(), line);
+        let asked = asked.as_str();
+        let is_whole = wanted.contains(' ') || wanted == line;
+        assert!(rt; asked == wanted || (!is_whole && asked.contains(wanted)));
+    }
 }
 
 #[test]
-fn other_lines_are_refused(rt: HostRuntime) -> Result<(), Fail> {
-    for line in REFUSED {
-        let words = words(rt.alloc(), line)?;
-        assert!(rt; command_of(rt.alloc(), words.as_slice()).is_err());
-    }
-    let words = words(rt.alloc(), "chpw_server drill")?;
-    assert!(rt;
-        matches!(
-            command_of(rt.alloc(), words.as_slice()),
-            Ok(Invocation::Drill)
-        )
-    );
-    Ok(())
-}
-
-#[test]
-fn words_that_are_no_text(rt: HostRuntime) -> Result<(), Fail> {
+fn words_that_are_no_text(rt: HostRuntime) {
     let called = Called {
         words: &[b"chpw_server", b"drill", b"\xff"],
     };
@@ -330,153 +435,134 @@ fn words_that_are_no_text(rt: HostRuntime) -> Result<(), Fail> {
     let called = Called {
         words: &[b"chpw_server", "Größe".as_bytes()],
     };
-    let Ok(words) = words_of(&(called, rt.alloc())) else {
-        return Err(Fail::new("no words"));
-    };
+    let words = words_of(&(called, rt.alloc())).ok().expect(&rt, "words");
     assert!(rt; words.len() == 2 && words[1].as_str() == "Größe");
-    Ok(())
 }
 
-// What is told of files with these names, and behind how many bytes a torn record stands.
-fn told<'a, R: Files<File = File> + AllocGlobal>(
+// What stands on standard error, by the ending.
+#[test]
+fn endings_are_told(rt: HostRuntime) {
+    let mut errors = Vec::new(rt.alloc());
+    for ending in [Ending::Good, Ending::Refused, Ending::Misused] {
+        assert!(rt; tell(&mut errors, &ending).is_ok() && errors.is_empty());
+    }
+    assert!(rt; tell(&mut errors, &Ending::BadArgument).is_ok());
+    assert!(rt; tell(&mut errors, &Ending::Early(DrillFault::Line(6))).is_ok());
+    assert!(rt; errors.as_slice() == b"bad argument\nline 6: bad\n".as_slice());
+    assert!(rt; tell(&mut Closed, &Ending::BadArgument).is_err());
+}
+
+// A file with these parts.
+fn write_parts<R: Files + AllocGlobal + Abort>(rt: &R, file: &str, parts: &[&[u8]]) {
+    let mut bytes = Vec::new(rt.alloc());
+    for part in parts {
+        assert!(rt; bytes.extend_from_slice(part).is_ok());
+    }
+    assert!(rt; fs::write(rt, file, bytes.as_slice()).is_ok());
+}
+
+// Whether this is told of the table in these files, and behind how many bytes a torn record stands.
+fn is_told<R: Files<File = File> + AllocGlobal>(
     rt: &R,
-    config: &'a str,
-    journal: &'a str,
-    form: TableForm,
-) -> Result<(Vec<u8>, Option<u64>), ServeFault<'a>> {
-    let options = TableOptions {
+    options: TableOptions<'_>,
+    wanted: &str,
+    behind: Option<u64>,
+) -> bool {
+    let mut text = Vec::new(rt.alloc());
+    let torn = write_table(rt, options, &mut text).ok();
+    torn == Some(behind) && text.as_slice() == wanted.as_bytes()
+}
+
+// Whether none is told of them, for this reason.
+fn is_untold<R: Files<File = File> + AllocGlobal>(
+    rt: &R,
+    options: TableOptions<'_>,
+    wanted: &str,
+) -> bool {
+    let mut text = Vec::new(rt.alloc());
+    match write_table(rt, options, &mut text) {
+        Ok(_) => false,
+        Err(fault) => match fault.to_string(rt.alloc()) {
+            Ok(line) => line.as_str() == wanted,
+            Err(_) => false,
+        },
+    }
+}
+
+fn options<'a>(config: &'a str, journal: &'a str, form: TableForm) -> TableOptions<'a> {
+    TableOptions {
         config,
         journal,
         form,
-    };
-    let mut text = Vec::new(rt.alloc());
-    let behind = write_table(rt, options, &mut text)?;
-    Ok((text, behind))
+    }
 }
 
 #[test]
-fn table_is_told_in_each_form(rt: HostRuntime) -> Result<(), Fail> {
-    fs::write(&rt, "table.toml", TABLE_CONFIG.as_bytes())?;
-    let mut journal = Vec::new(rt.alloc());
-    for part in TABLE_JOURNAL {
-        journal.extend_from_slice(part)?;
+fn table_is_told_in_each_form(rt: HostRuntime) {
+    let [raise, head, keys, name] = TABLE_JOURNAL;
+    assert!(rt; fs::write(&rt, "table.toml", TABLE_CONFIG.as_bytes()).is_ok());
+    write_parts(&rt, "table.journal", &TABLE_JOURNAL);
+    for (form, text) in FORMS {
+        assert!(rt;
+            is_told(
+                &rt,
+                options("table.toml", "table.journal", form),
+                text,
+                None
+            )
+        );
     }
-    fs::write(&rt, "table.journal", journal.as_slice())?;
-    for (form, text) in [
-        (TableForm::Lines, TABLE_LINES),
-        (TableForm::Keys, TABLE_KEYS),
-        (TableForm::Configuration, TABLE_CONFIGURATION),
-    ] {
-        let Ok((told, behind)) = told(&rt, "table.toml", "table.journal", form) else {
-            return Err(Fail::new("not told"));
-        };
-        assert!(rt; told.as_slice() == text.as_bytes() && behind.is_none());
-    }
-    journal.extend_from_slice(b"\x00\x05\x02")?;
-    fs::write(&rt, "torn.journal", journal.as_slice())?;
-    let Ok((told, behind)) = told(&rt, "table.toml", "torn.journal", TableForm::Lines) else {
-        return Err(Fail::new("not told"));
-    };
-    assert!(rt; told.as_slice() == TABLE_LINES.as_bytes() && behind == Some(73));
-    assert!(rt; fs::read(&rt, "torn.journal")?.as_slice() == journal.as_slice());
-    Ok(())
+    let torn = [raise, head, keys, name, b"\x00\x05\x02".as_slice()];
+    write_parts(&rt, "torn.journal", &torn);
+    let of_torn = options("table.toml", "torn.journal", TableForm::Lines);
+    assert!(rt; is_told(&rt, of_torn, TABLE_LINES, Some(73)));
+    let left = fs::read(&rt, "torn.journal").ok().expect(&rt, "a journal");
+    assert!(rt; left.len() == 76);
 }
 
 #[test]
-fn table_that_is_not_told(rt: HostRuntime) -> Result<(), Fail> {
-    fs::write(&rt, "good.toml", TABLE_CONFIG.as_bytes())?;
-    fs::write(&rt, "no.toml", b"[")?;
-    fs::write(&rt, "empty.journal", b"")?;
-    let other = b"\x00\x3e\x01\x00\x00\x00\x02\x00\x00\x00\x05".as_slice();
-    let parts = [other, [0xa8; 48].as_slice(), b"\x01\x03zoe".as_slice()];
-    let mut journal = Vec::new(rt.alloc());
-    for part in parts {
-        journal.extend_from_slice(part)?;
-    }
-    fs::write(&rt, "other.journal", journal.as_slice())?;
-    for (config, journal, line) in [
-        ("good.toml", "missing", "cannot read missing"),
-        ("good.toml", ".", "cannot read ."),
-        ("good.toml", "other.journal", "journal: J3 at 1"),
-        ("good.toml", "good.toml", "journal: J1 at 1"),
-        ("no.toml", "missing", "config: C1 file 0"),
-        ("missing", "empty.journal", "cannot read missing"),
-        (".", "empty.journal", "cannot read ."),
-    ] {
-        for form in [TableForm::Lines, TableForm::Keys, TableForm::Configuration] {
-            let Err(fault) = told(&rt, config, journal, form) else {
-                return Err(Fail::new("told"));
-            };
-            assert!(rt; fault.to_string(rt.alloc())?.as_str() == line);
+fn table_that_is_not_told(rt: HostRuntime) {
+    assert!(rt; fs::write(&rt, "good.toml", TABLE_CONFIG.as_bytes()).is_ok());
+    assert!(rt; fs::write(&rt, "no.toml", b"[").is_ok());
+    assert!(rt; fs::write(&rt, "empty.journal", b"").is_ok());
+    write_parts(&rt, "other.journal", &OTHER_JOURNAL);
+    for (config, journal, line) in UNTOLD {
+        for (form, _) in FORMS {
+            assert!(rt; is_untold(&rt, options(config, journal, form), line));
         }
     }
-    for form in [TableForm::Lines, TableForm::Keys, TableForm::Configuration] {
-        let options = TableOptions {
-            config: "good.toml",
-            journal: "empty.journal",
-            form,
-        };
-        let ended = write_table(&rt, options, &mut Closed);
+    for (form, _) in FORMS {
+        let good = options("good.toml", "empty.journal", form);
+        let ended = write_table(&rt, good, &mut Closed);
         assert!(rt; matches!(ended, Err(ServeFault::CannotPrint)));
     }
-    Ok(())
+}
+
+// Whether keys are not brought in for this reason.
+fn is_fault(alloc: Global, ended: Result<(), KeysFault<'_>>, wanted: &str) -> bool {
+    match ended {
+        Ok(()) => false,
+        Err(fault) => match fault.to_string(alloc) {
+            Ok(line) => line.as_str() == wanted,
+            Err(_) => false,
+        },
+    }
 }
 
 #[test]
-fn form_of_a_table_is_read(rt: HostRuntime) -> Result<(), Fail> {
-    for (behind, form) in [
-        ("", Some(TableForm::Lines)),
-        (" --as lines", Some(TableForm::Lines)),
-        (" --as configuration", Some(TableForm::Configuration)),
-        (" --as=keys", Some(TableForm::Keys)),
-        (" --as key", None),
-        (" --as=", None),
-        (" --as", None),
-    ] {
-        let line = format!(in rt.alloc(); "{TABLE_LINE}{behind}")?;
-        let words = words(rt.alloc(), &line)?;
-        let read = match command_of(rt.alloc(), words.as_slice()) {
-            Ok(Invocation::Table(options)) => Some(options.form),
-            _ => None,
+fn keys_that_are_not_brought_in(rt: HostRuntime) {
+    assert!(rt; fs::write(&rt, "no.keytab", b"[").is_ok());
+    assert!(rt; fs::write(&rt, "no.password", b"\n").is_ok());
+    for (line, told) in UNBROUGHT {
+        let line = format!(in rt.alloc(); "chpw_server {line} --realm EXAMPLE.COM").ok();
+        let words = words(&rt, rt.alloc(), line.expect(&rt, "memory").as_str());
+        let is_so = match command_of(rt.alloc(), words.as_slice()) {
+            Ok(Invocation::Import(options)) => {
+                is_fault(rt.alloc(), tell_keytab(&rt, options), told)
+            }
+            Ok(Invocation::Key(options)) => is_fault(rt.alloc(), tell_password(&rt, options), told),
+            _ => false,
         };
-        assert!(rt; read == form);
+        assert!(rt; is_so);
     }
-    Ok(())
-}
-
-#[test]
-fn keys_that_are_not_brought_in(rt: HostRuntime) -> Result<(), Fail> {
-    fs::write(&rt, "no.keytab", b"[")?;
-    fs::write(&rt, "no.password", b"\n")?;
-    for (line, told) in [
-        ("import --keytab missing", "cannot read missing"),
-        ("import --keytab .", "cannot read ."),
-        (
-            "import --keytab no.keytab",
-            "no.keytab: no keytab of format 0x0502",
-        ),
-        (
-            "key --name alice --password-file missing",
-            "cannot read missing",
-        ),
-        ("key --name alice --password-file .", "cannot read ."),
-        (
-            "key --name alice --password-file no.password",
-            "no.password: the password is empty",
-        ),
-        ("key --name a//b --password-file missing", "bad argument"),
-    ] {
-        let line = format!(in rt.alloc(); "chpw_server {line} --realm EXAMPLE.COM")?;
-        let words = words(rt.alloc(), &line)?;
-        let ended = match command_of(rt.alloc(), words.as_slice()) {
-            Ok(Invocation::Import(options)) => tell_keytab(&rt, options),
-            Ok(Invocation::Key(options)) => tell_password(&rt, options),
-            _ => return Err(Fail::new("another command")),
-        };
-        let Err(fault) = ended else {
-            return Err(Fail::new("brought in"));
-        };
-        assert!(rt; fault.to_string(rt.alloc())?.as_str() == told);
-    }
-    Ok(())
 }
