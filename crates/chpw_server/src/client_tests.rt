@@ -64,7 +64,7 @@ const LOGGED: [&str; 8] = [
     "127.0.0.1 client - target - code 1 error 60 kvno - text malformed",
 ];
 
-/// What a request is made of beside its files.
+/// What a request is made of beside its files, and whether it changes a password.
 #[derive(Clone, Copy, Drop)]
 struct Wish {
     client: &'static str,
@@ -72,61 +72,80 @@ struct Wish {
     target: Option<&'static str>,
     no_initial: bool,
     old: bool,
+    changes: bool,
 }
 
-/// Alice's own password.
-const fn own(password: &'static str) -> Wish {
+/// Requests, one after the other.
+const WISHES: [Wish; 7] = [
+    Wish {
+        client: "alice",
+        password: "New-pass1",
+        target: None,
+        no_initial: false,
+        old: false,
+        changes: true,
+    },
+    Wish {
+        client: "alice",
+        password: "New1",
+        target: None,
+        no_initial: false,
+        old: false,
+        changes: false,
+    },
+    Wish {
+        client: "alice",
+        password: "New-pass2",
+        target: None,
+        no_initial: true,
+        old: false,
+        changes: false,
+    },
+    Wish {
+        client: "alice",
+        password: "New-pass3",
+        target: Some("bob"),
+        no_initial: false,
+        old: false,
+        changes: true,
+    },
+    Wish {
+        client: "bob",
+        password: "New-pass4",
+        target: Some("alice"),
+        no_initial: false,
+        old: false,
+        changes: false,
+    },
+    Wish {
+        client: "alice",
+        password: "New-pass5",
+        target: None,
+        no_initial: false,
+        old: true,
+        changes: true,
+    },
+    Wish {
+        client: "alice",
+        password: "New-pass2",
+        target: None,
+        no_initial: true,
+        old: true,
+        changes: false,
+    },
+];
+
+// A change of alice's own password.
+fn own(password: &'static str) -> Wish {
     Wish {
         client: "alice",
         password,
         target: None,
         no_initial: false,
         old: false,
+        changes: true,
     }
 }
-
-/// Requests, one after the other, and whether each changes a password.
-const ASKED: [(Wish, bool); 7] = [
-    (own("New-pass1"), true),
-    (own("New1"), false),
-    (
-        Wish {
-            no_initial: true,
-            ..own("New-pass2")
-        },
-        false,
-    ),
-    (
-        Wish {
-            target: Some("bob"),
-            ..own("New-pass3")
-        },
-        true,
-    ),
-    (
-        Wish {
-            client: "bob",
-            target: Some("alice"),
-            ..own("New-pass4")
-        },
-        false,
-    ),
-    (
-        Wish {
-            old: true,
-            ..own("New-pass5")
-        },
-        true,
-    ),
-    (
-        Wish {
-            no_initial: true,
-            old: true,
-            ..own("New-pass2")
-        },
-        false,
-    ),
-];
 
 // The options for a request; the earlier protocol has no target.
 fn options(port: u16, wish: Wish) -> ClientOptions<'static> {
@@ -156,11 +175,11 @@ where
     Ending::Unconnected
 }
 
-// Whether a request changes a password, or is refused.
-fn is_answered(ending: &Ending<'_>, is_change: bool) -> bool {
+// Whether a request changed a password or was refused, as it is to.
+fn is_answered(ending: &Ending<'_>, wish: Wish) -> bool {
     match ending {
-        Ending::Good => is_change,
-        Ending::Refused => !is_change,
+        Ending::Good => wish.changes,
+        Ending::Refused => !wish.changes,
         _ => false,
     }
 }
@@ -170,9 +189,9 @@ fn ask_all<R>(rt: &R, port: u16)
 where
     R: Files<File = File> + Net<Stream = TcpStream> + Clock + Print + AllocGlobal + Abort,
 {
-    for (wish, is_change) in ASKED {
+    for wish in WISHES {
         let ending = ask_soon(rt, options(port, wish));
-        assert!(rt; is_answered(&ending, is_change));
+        assert!(rt; is_answered(&ending, wish));
     }
 }
 
@@ -204,7 +223,10 @@ fn serving<'a>(port: u16, connections: u32, log: &'a str) -> ServeOptions<'a> {
 }
 
 // Its files, without a journal and a log; and a port where nobody listens.
-fn prepare(rt: &HostRuntime) -> u16 {
+fn prepare<R>(rt: &R) -> u16
+where
+    R: Files<File = File> + Net<Listener = TcpListener, Stream = TcpStream> + Abort,
+{
     assert!(rt; fs::write(rt, CONFIG_FILE, CONFIG.as_bytes()).is_ok());
     assert!(rt; fs::write(rt, SEED_FILE, [1; 32].as_slice()).is_ok());
     for file in [JOURNAL_FILE, LOG_FILE] {
