@@ -56,7 +56,7 @@ fn main(rt: HostRuntime) -> ExitCode {
 
 // Tells how the run ended; its status.
 fn end<W: Write>(errors: &mut W, ending: Ending<'_>) -> u8
-    ensures status { result ≡ status_of ending }
+    ensures status { result ≡ status_of ending.entry }
 {
     let _ = tell(errors, &ending);
     ending.status()
@@ -102,7 +102,7 @@ fn misused<'a, W: Write>(errors: &mut W, error: Error) -> Ending<'a>
 
 // The service, or the table that is held.
 fn served(ended: Result<(), ServeFault<'_>>) -> Ending<'_>
-    ensures value { result ≡ ending_served ended }
+    ensures value { result ≡ ending_served ended.entry }
 {
     match ended {
         Ok(()) => Ending::Good,
@@ -112,7 +112,7 @@ fn served(ended: Result<(), ServeFault<'_>>) -> Ending<'_>
 
 // The keys of a keytab or a password.
 fn brought(told: Result<(), KeysFault<'_>>) -> Ending<'_>
-    ensures value { result ≡ ending_brought told }
+    ensures value { result ≡ ending_brought told.entry }
 {
     match told {
         Ok(()) => Ending::Good,
