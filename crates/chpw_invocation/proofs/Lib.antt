@@ -1,3 +1,7 @@
+pub mod LevelLemmas
+pub mod NeedLemmas
 pub mod PortLemmas
+pub mod ProgramLemmas
 pub mod ShapeLemmas
 pub mod RefusalLemmas
+pub mod RowLemmas

@@ -1,15 +1,16 @@
 -- What a user asks for, of what clap matched: the command's name, and each option's value by its name.
 -- The words are matched by clap's own rules.
-use Rattle.std.specs.Prelude.{◌≡◌, ◌≢◌, ◌⊎◌, ◌≤◌, ℕ, Bool, true, false, List, [], Option, Some, None, option_map, codes, bytes_eq, if◌then◌else◌, length, ◌<◌}
+use Rattle.std.specs.Prelude.{◌≡◌, ◌≢◌, ◌⊎◌, ◌≤◌, ℕ, Bool, true, false, List, [], Option, Some, None, option_map, codes, bytes_eq, if◌then◌else◌, length, pos, ◌<◌}
 use Rattle.std.specs.Fmt.{decimal}
 use Rattle.std.specs.Option.{option_map_or}
 use Rattle.std.specs.Str.Parse.{digits_value, without_leading_plus}
 use Rattle.clap.specs.Kinds.{HasKind, Kinds}
-use Rattle.clap.specs.Values.{kind_of}
+use Rattle.clap.specs.Values.{IsSignedIn, kind_of, read_as}
 use Rattle.clap.specs.Walk.{Row, Text, first_of, one_of}
+use Rattle.clap.specs.declared.builder.value_parser.Reading.TheVariants.{WithoutMinus}
 use Rattle.clap.specs.declared.error.Error.{Error}
 use Rattle.clap.specs.declared.error.kind.ErrorKind.{ErrorKind}
-use Rattle.clap.specs.declared.error.kind.ErrorKind.TheVariants.{ArgumentConflict, InvalidValue, MissingSubcommand}
+use Rattle.clap.specs.declared.error.kind.ErrorKind.TheVariants.{ArgumentConflict, InvalidValue}
 use Rattle.chpw_invocation.specs.declared.invocation.ClientOptions.{ClientOptions}
 use Rattle.chpw_invocation.specs.declared.invocation.ServeOptions.{ServeOptions}
 use Rattle.chpw_invocation.specs.declared.invocation.ImportOptions.{ImportOptions}
@@ -43,6 +44,11 @@ HasNumberOr usual low high options name number =
 abbrev pub LacksNumber : ℕ → ℕ → List Row → Text → Type 0
 LacksNumber low high options name =
     (number : ℕ) → low ≤ number → number ≤ high → one_of name options ≢ Some (decimal number)
+
+-- its value is one that a rule for numbers from 1 to a limit takes
+abbrev pub HasTakenNumber : ℕ → List Row → Text → Type 0
+HasTakenNumber limit options name = (text : Text)
+    × (one_of name options ≡ Some (read_as WithoutMinus text)) × IsSignedIn (pos 1) (pos limit) text
 
 -- it is not left out, and no such number is its value
 abbrev pub LacksGiven : ℕ → ℕ → List Row → Text → Type 0
@@ -143,16 +149,17 @@ abbrev pub NamesNoRealm : Option (Text × List Row) → Type 0
 NamesNoRealm None = ⊥
 NamesNoRealm (Some p) = ((p.0 ≡ codes "import") ⊎ (p.0 ≡ codes "key")) × LacksRealm p.1
 
+-- what the program itself refuses of words in which clap finds no fault
+abbrev pub IsOwnReason : Option (Text × List Row) → Type 0
+IsOwnReason asked = AimsOld asked ⊎ (NamesNoForm asked ⊎ NamesNoRealm asked)
+
 -- Why words in which clap finds no fault are refused: a target in the earlier protocol, a form that
--- there isn't, or a realm of 0 or more than 255 bytes. Words that name no command have a fault, so the
--- last case is left for a command that clap matched without an option that it has to have; that it
--- doesn't come isn't proved.
+-- there isn't, or a realm of 0 or more than 255 bytes.
 abbrev pub IsOwnRefusal : Option (Text × List Row) → ErrorKind → Type 0
 IsOwnRefusal asked kind =
     ((kind ≡ ArgumentConflict) × AimsOld asked)
     ⊎ (((kind ≡ InvalidValue) × NamesNoForm asked)
-    ⊎ (((kind ≡ InvalidValue) × NamesNoRealm asked)
-    ⊎ ((kind ≡ MissingSubcommand) × (asked ≢ None))))
+    ⊎ ((kind ≡ InvalidValue) × NamesNoRealm asked))
 
 -- Why words are refused, of the kinds of fault that clap may find in them: one of these, or memory
 -- ran out; or for want of those a reason of the program's own.

@@ -1,3 +1,4 @@
 pub mod Invocations
+pub mod Needs
 pub mod Options
 pub mod Program

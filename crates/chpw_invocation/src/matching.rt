@@ -1,9 +1,14 @@
 //! The command line matched: what its words ask for.
-ghost use Rattle.std.specs.Prelude.{◌≡◌, ◌≢◌, ◌≤◌, ◌⊎◌, [], None, true, IfErr, IfOk, IfSome, OnOk, codes, map, option_map, string_bytes};
+ghost use Rattle.std.specs.Prelude.{◌≡◌, ◌≢◌, ◌≤◌, ◌⊎◌, [], None, true, false, IfErr, IfOk, IfSome, OnOk, codes, map, option_map, string_bytes};
 ghost use Rattle.clap.specs.Faults.{fault_of};
 ghost use Rattle.clap.specs.Words.{first_of, found_of, rows_of, subcommand_of, subcommand_rows_of};
+ghost use Rattle.clap.specs.Simple.{filled};
+ghost use Rattle.chpw_invocation.specs.Needs.{IsSuited, Meets, Suits};
+ghost use Rattle.chpw_invocation.specs.Options as options_of;
+ghost use Rattle.chpw_invocation.specs.Options.{may_be_numbered, required};
+ghost use Rattle.chpw_invocation.specs.Program as specs_of;
 ghost use Rattle.chpw_invocation.specs.Program.{program};
-ghost use Rattle.chpw_invocation.specs.Invocations.{AimsOld, AsksFor, HasNumber, HasNumberOr, HasRealm, IsGiven, IsOwnRefusal, IsRefusal, LacksGiven, LacksNumber, LacksRealm, MayHaveNumber, NamesNoForm, NamesNoRealm, form_asked, form_of_name};
+ghost use Rattle.chpw_invocation.specs.Invocations.{AimsOld, AsksFor, HasNumber, HasNumberOr, HasRealm, HasTakenNumber, IsGiven, IsOwnReason, IsOwnRefusal, IsRefusal, LacksGiven, LacksNumber, LacksRealm, MayHaveNumber, NamesNoForm, form_asked, form_of_name};
 
 use crate::invocation::{
     ClientOptions, GREATEST_CONNECTIONS, GREATEST_COUNT, GREATEST_KVNO, GREATEST_PORT,
@@ -45,19 +50,18 @@ pub fn command_of<'a>(alloc: Global, words: &'a [String]) -> Result<Invocation<'
     }
 }
 
-// Why the words that clap matched ask for nothing, and the text that says so.
+// Why the words that clap matched ask for nothing, and the text that says so. Without a fault there
+// are three reasons, so the last of them needs no test.
 fn refusal_of(matches: &ArgMatches<'_>) -> (ErrorKind, &'static str)
-    ensures why { subcommand_rows_of matches.now ≢ None
+    ensures why { IsSuited (subcommand_rows_of matches.now) → IsOwnReason (subcommand_rows_of matches.now)
         → IsOwnRefusal (subcommand_rows_of matches.now) result.0 }
 {
     if aims_old(matches) {
         (ErrorKind::ArgumentConflict, OLD_TARGET)
     } else if names_no_form(matches) {
         (ErrorKind::InvalidValue, NO_FORM)
-    } else if names_no_realm(matches) {
-        (ErrorKind::InvalidValue, NO_REALM)
     } else {
-        (ErrorKind::MissingSubcommand, "no command")
+        (ErrorKind::InvalidValue, NO_REALM)
     }
 }
 
@@ -66,6 +70,8 @@ fn refusal_of(matches: &ArgMatches<'_>) -> (ErrorKind, &'static str)
 // in a form that there isn't, or a realm is empty or too long.
 fn asked_of<'a>(matches: &ArgMatches<'a>) -> Option<Invocation<'a>>
     ensures asked { IfSome result (AsksFor (subcommand_rows_of matches.now)) }
+    ensures none { IsSuited (subcommand_rows_of matches.now) → result ≡ None
+        → IsOwnReason (subcommand_rows_of matches.now) }
 {
     let (name, options) = matches.subcommand()?;
     if name == "drill" {
@@ -87,15 +93,20 @@ fn asked_of<'a>(matches: &ArgMatches<'a>) -> Option<Invocation<'a>>
     }
 }
 
+#[tactic(auto, using(crate::proofs::NeedLemmas::required_there))]
 fn check_of<'a>(options: &ArgMatches<'a>) -> Option<Invocation<'a>>
     ensures asked { IfSome result (AsksFor (Some (codes "check", rows_of (found_of options.now)))) }
+    ensures whole { Meets specs_of.check (rows_of (found_of options.now)) → result ≢ None }
 {
     let config = text_of(options, "config")?;
     Some(Invocation::Check { config })
 }
 
+#[tactic(auto, using(crate::proofs::NeedLemmas::required_there))]
 fn table_of<'a>(options: &ArgMatches<'a>) -> Option<Invocation<'a>>
     ensures asked { IfSome result (AsksFor (Some (codes "table", rows_of (found_of options.now)))) }
+    ensures none { Meets specs_of.table (rows_of (found_of options.now)) → result ≡ None
+        → form_asked (rows_of (found_of options.now)) ≡ None }
 {
     Some(Invocation::Table(TableOptions {
         config: text_of(options, "config")?,
@@ -128,6 +139,7 @@ fn form_named(name: &str) -> Option<TableForm>
 // Whether `table` is to tell in a form that there isn't.
 fn names_no_form(matches: &ArgMatches<'_>) -> bool
     ensures names { result ≡ true → NamesNoForm (subcommand_rows_of matches.now) }
+    ensures form { result ≡ false → NamesNoForm (subcommand_rows_of matches.now) → ⊥ }
 {
     match matches.subcommand() {
         None => false,
@@ -135,8 +147,11 @@ fn names_no_form(matches: &ArgMatches<'_>) -> bool
     }
 }
 
+#[tactic(auto, using(crate::proofs::NeedLemmas::required_there))]
 fn import_of<'a>(options: &ArgMatches<'a>) -> Option<Invocation<'a>>
     ensures asked { IfSome result (AsksFor (Some (codes "import", rows_of (found_of options.now)))) }
+    ensures none { Meets specs_of.import_keytab (rows_of (found_of options.now)) → result ≡ None
+        → LacksRealm (rows_of (found_of options.now)) }
 {
     Some(Invocation::Import(ImportOptions {
         keytab: text_of(options, "keytab")?,
@@ -145,8 +160,11 @@ fn import_of<'a>(options: &ArgMatches<'a>) -> Option<Invocation<'a>>
     }))
 }
 
+#[tactic(auto, using(crate::proofs::NeedLemmas::required_there))]
 fn key_of<'a>(options: &ArgMatches<'a>) -> Option<Invocation<'a>>
     ensures asked { IfSome result (AsksFor (Some (codes "key", rows_of (found_of options.now)))) }
+    ensures none { Meets specs_of.key (rows_of (found_of options.now)) → result ≡ None
+        → LacksRealm (rows_of (found_of options.now)) }
 {
     Some(Invocation::Key(KeyOptions {
         realm: realm_of(options)?,
@@ -158,8 +176,11 @@ fn key_of<'a>(options: &ArgMatches<'a>) -> Option<Invocation<'a>>
 }
 
 // The realm, where its length is within the limits.
+#[tactic(auto, using(crate::proofs::NeedLemmas::required_there))]
 fn realm_of<'a>(options: &ArgMatches<'a>) -> Option<&'a str>
     ensures realm { IfSome result (λ realm. HasRealm (rows_of (found_of options.now)) realm.now) }
+    ensures none { Suits (filled (required (codes "realm"))) (rows_of (found_of options.now)) → result ≡ None
+        → LacksRealm (rows_of (found_of options.now)) }
 {
     let realm = text_of(options, "realm")?;
     if realm.is_empty() || realm.len() > LONGEST_REALM {
@@ -168,27 +189,10 @@ fn realm_of<'a>(options: &ArgMatches<'a>) -> Option<&'a str>
     Some(realm)
 }
 
-// Whether a keytab or a password is to be of a realm that is empty or too long.
-fn names_no_realm(matches: &ArgMatches<'_>) -> bool
-    ensures names { result ≡ true → NamesNoRealm (subcommand_rows_of matches.now) }
-{
-    match matches.subcommand() {
-        None => false,
-        Some((name, options)) => (name == "import" || name == "key") && lacks_realm(options),
-    }
-}
-
-fn lacks_realm(options: &ArgMatches<'_>) -> bool
-    ensures lacks { result ≡ true → LacksRealm (rows_of (found_of options.now)) }
-{
-    match text_of(options, "realm") {
-        None => false,
-        Some(realm) => realm.is_empty() || realm.len() > LONGEST_REALM,
-    }
-}
-
+#[tactic(auto, using(crate::proofs::NeedLemmas::required_there))]
 fn serve_of<'a>(options: &ArgMatches<'a>) -> Option<Invocation<'a>>
     ensures asked { IfSome result (AsksFor (Some (codes "serve", rows_of (found_of options.now)))) }
+    ensures whole { Meets specs_of.serve (rows_of (found_of options.now)) → result ≢ None }
 {
     Some(Invocation::Serve(ServeOptions {
         config: text_of(options, "config")?,
@@ -208,6 +212,8 @@ fn serve_of<'a>(options: &ArgMatches<'a>) -> Option<Invocation<'a>>
 // Whether `client` is to ask in the earlier protocol, and has a target.
 fn aims_old(matches: &ArgMatches<'_>) -> bool
     ensures aims { result ≡ true → AimsOld (subcommand_rows_of matches.now) }
+    ensures own { IsSuited (subcommand_rows_of matches.now) → result ≡ false
+        → AimsOld (subcommand_rows_of matches.now) → ⊥ }
 {
     match matches.subcommand() {
         None => false,
@@ -217,8 +223,11 @@ fn aims_old(matches: &ArgMatches<'_>) -> bool
     }
 }
 
+#[tactic(auto, using(crate::proofs::NeedLemmas::required_there))]
 fn client_of<'a>(options: &ArgMatches<'a>) -> Option<Invocation<'a>>
     ensures asked { IfSome result (AsksFor (Some (codes "client", rows_of (found_of options.now)))) }
+    ensures none { Meets specs_of.client (rows_of (found_of options.now)) → result ≡ None
+        → AimsOld (Some (codes "client", rows_of (found_of options.now))) }
 {
     let target = text_of(options, "target");
     let old = is_given(options, "old");
@@ -256,6 +265,7 @@ fn number_of(options: &ArgMatches<'_>, name: &str, greatest: u32) -> Option<u32>
     ensures number { IfSome result (HasNumber 1 greatest (rows_of (found_of options.now)) name.now) }
     ensures range { IfSome result (λ number. (1 ≤ number) × (number ≤ greatest)) }
     ensures lacks { result ≡ None → LacksNumber 1 greatest (rows_of (found_of options.now)) name.now }
+    ensures taken { HasTakenNumber greatest (rows_of (found_of options.now)) name.now → result ≢ None }
 {
     match options.get_one::<u32>(name) {
         Some(number) if 1 <= number && number <= greatest => Some(number),
@@ -264,38 +274,47 @@ fn number_of(options: &ArgMatches<'_>, name: &str, greatest: u32) -> Option<u32>
 }
 
 // The port's number.
+#[tactic(auto, using(crate::proofs::NeedLemmas::number_there))]
 fn port_of(options: &ArgMatches<'_>) -> Option<u16>
     ensures port { IfSome result (HasNumber 1 65535 (rows_of (found_of options.now)) (codes "port")) }
     ensures lacks { result ≡ None → LacksNumber 1 65535 (rows_of (found_of options.now)) (codes "port") }
+    ensures taken { Suits (filled options_of.port) (rows_of (found_of options.now)) → result ≢ None }
 {
     let port = number_of(options, "port", u32::from(GREATEST_PORT))?;
     Some(port as u16)
 }
 
 // How many workers there are.
+#[tactic(auto, using(crate::proofs::NeedLemmas::number_there))]
 fn workers_of(options: &ArgMatches<'_>) -> Option<u8>
     ensures workers { IfSome result (HasNumber 1 16 (rows_of (found_of options.now)) (codes "workers")) }
     ensures lacks { result ≡ None → LacksNumber 1 16 (rows_of (found_of options.now)) (codes "workers") }
+    ensures taken { Suits (filled options_of.workers) (rows_of (found_of options.now)) → result ≢ None }
 {
     let workers = number_of(options, "workers", u32::from(MOST_WORKERS))?;
     Some(workers as u8)
 }
 
 // How many connections there are.
+#[tactic(auto, using(crate::proofs::NeedLemmas::number_there))]
 fn connections_of(options: &ArgMatches<'_>) -> Option<u32>
     ensures connections { IfSome result (HasNumber 1 4294967295 (rows_of (found_of options.now)) (codes "connections")) }
     ensures lacks { result ≡ None
         → LacksNumber 1 4294967295 (rows_of (found_of options.now)) (codes "connections") }
+    ensures taken { Suits (filled options_of.connections) (rows_of (found_of options.now)) → result ≢ None }
 {
     number_of(options, "connections", GREATEST_CONNECTIONS)
 }
 
 // The number of an option that may be left out, and is then the usual one.
+#[tactic(auto, using(crate::proofs::NeedLemmas::given_taken))]
 fn number_or(options: &ArgMatches<'_>, name: &str, usual: u32, greatest: u32) -> Option<u32>
     ensures number { IfSome result
         (HasNumberOr usual 1 greatest (rows_of (found_of options.now)) name.now) }
     ensures range { IfSome result (λ number. (number ≡ usual) ⊎ ((1 ≤ number) × (number ≤ greatest))) }
     ensures lacks { result ≡ None → LacksGiven 1 greatest (rows_of (found_of options.now)) name.now }
+    ensures taken { Suits (filled (may_be_numbered name.now greatest)) (rows_of (found_of options.now))
+        → result ≢ None }
 {
     if text_of(options, name).is_none() {
         return Some(usual);
@@ -307,6 +326,7 @@ fn number_or(options: &ArgMatches<'_>, name: &str, usual: u32, greatest: u32) ->
 fn idle_of(options: &ArgMatches<'_>) -> Option<u16>
     ensures idle { IfSome result (HasNumberOr 30 1 3600 (rows_of (found_of options.now)) (codes "idle")) }
     ensures lacks { result ≡ None → LacksGiven 1 3600 (rows_of (found_of options.now)) (codes "idle") }
+    ensures taken { Suits (filled options_of.idle) (rows_of (found_of options.now)) → result ≢ None }
 {
     let idle = number_or(
         options,
@@ -322,6 +342,7 @@ fn clients_of(options: &ArgMatches<'_>) -> Option<u32>
     ensures clients { IfSome result
         (HasNumberOr 1024 1 65536 (rows_of (found_of options.now)) (codes "clients")) }
     ensures lacks { result ≡ None → LacksGiven 1 65536 (rows_of (found_of options.now)) (codes "clients") }
+    ensures taken { Suits (filled options_of.clients) (rows_of (found_of options.now)) → result ≢ None }
 {
     number_or(options, "clients", USUAL_CLIENTS, MOST_CLIENTS)
 }
@@ -331,6 +352,7 @@ fn buffers_of(options: &ArgMatches<'_>) -> Option<u16>
     ensures buffers { IfSome result
         (HasNumberOr 32 1 1024 (rows_of (found_of options.now)) (codes "buffers")) }
     ensures lacks { result ≡ None → LacksGiven 1 1024 (rows_of (found_of options.now)) (codes "buffers") }
+    ensures taken { Suits (filled options_of.buffers) (rows_of (found_of options.now)) → result ≢ None }
 {
     let buffers = number_or(
         options,
@@ -342,9 +364,11 @@ fn buffers_of(options: &ArgMatches<'_>) -> Option<u16>
 }
 
 // The iteration count to raise to, where one is given.
+#[tactic(auto, using(crate::proofs::NeedLemmas::given_taken))]
 fn raise_of(options: &ArgMatches<'_>) -> Option<Option<u32>>
     ensures raise { IfSome result (MayHaveNumber 1 16777216 (rows_of (found_of options.now)) (codes "raise")) }
     ensures lacks { result ≡ None → LacksGiven 1 16777216 (rows_of (found_of options.now)) (codes "raise") }
+    ensures taken { Suits (filled options_of.raise) (rows_of (found_of options.now)) → result ≢ None }
 {
     if text_of(options, "raise").is_none() {
         return Some(None);
@@ -361,6 +385,7 @@ fn iterations_of(options: &ArgMatches<'_>) -> Option<u32>
         (HasNumberOr 4096 1 16777216 (rows_of (found_of options.now)) (codes "iterations")) }
     ensures lacks { result ≡ None
         → LacksGiven 1 16777216 (rows_of (found_of options.now)) (codes "iterations") }
+    ensures taken { Suits (filled options_of.iterations) (rows_of (found_of options.now)) → result ≢ None }
 {
     number_or(options, "iterations", USUAL_COUNT, GREATEST_COUNT)
 }
@@ -370,6 +395,7 @@ fn kvno_of(options: &ArgMatches<'_>) -> Option<u32>
     ensures kvno { IfSome result
         (HasNumberOr 1 1 4294967295 (rows_of (found_of options.now)) (codes "kvno")) }
     ensures lacks { result ≡ None → LacksGiven 1 4294967295 (rows_of (found_of options.now)) (codes "kvno") }
+    ensures taken { Suits (filled options_of.kvno) (rows_of (found_of options.now)) → result ≢ None }
 {
     number_or(options, "kvno", USUAL_KVNO, GREATEST_KVNO)
 }

@@ -1,10 +1,12 @@
 use Rattle.std.proofs.Common.{◌≡◌, ◌∙◌, [], ap, inl, inr, subst, sym, map, string_bytes, List, Option}
 use Rattle.std.proofs.lemmas.Result.{err_from_is_err_and}
-use Rattle.clap.specs.Words.{App, Row, Text, app_of, is_simple, subcommand_of}
+use Rattle.clap.specs.Words.{App, Row, Text, app_of, is_simple, subcommand_of, subcommand_rows_of}
 use Rattle.clap.specs.Faults.{fault_of, is_simple_and_free}
 use Rattle.clap.specs.Kinds.{HasKind}
 use Rattle.chpw_invocation.specs.Program.{program}
 use Rattle.chpw_invocation.specs.Invocations.{AsksFor, IsOwnRefusal, IsRefusal}
+use Rattle.chpw_invocation.specs.Needs.{IsSuited}
+use Rattle.chpw_invocation.proofs.ProgramLemmas.{command_suits}
 use Rattle.chpw_invocation.proofs.RefusalLemmas.{command_met}
 use Rattle.chpw_invocation.proofs.matching.command_of.Goals as goal
 
@@ -34,7 +36,11 @@ returns-clause-refused c =
     let none : fault_of program (map string_bytes c.args.words.now) ≡ [] =
     ap (λ (a : App). fault_of a (map string_bytes c.args.words.now)) (sym is) ∙ c.in_ok-matches.ensures.kinds (ap is_simple_and_free is) in
     let matched = (c.in_ok-matches.ensures.ok.2 (ap is_simple is)).1 ∙ ap (λ (a : App). subcommand_of a (map string_bytes c.args.words.now)) is in
+    let words = map string_bytes c.args.words.now in
     let met = command_met c.in_ok-program.program _ c.in_ok-matches.matches c.in_ok-program.ensures.local c.in_ok-matches.ensures.ok.0 c.in_ok-matches.ensures.ok.1 (ap (λ (a : App). a.top.subcommand_required) is) in
-    let why : IsOwnRefusal (subcommand_of program (map string_bytes c.args.words.now)) c.refusal_of-kind.result.0 =
-    subst (λ (o : Option (Text × List Row)). IsOwnRefusal o c.refusal_of-kind.result.0) matched (c.refusal_of-kind.ensures.why met) in
+    let suited : IsSuited (subcommand_of program words) = command_suits words none (λ e. met (matched ∙ e)) in
+    let here : IsSuited (subcommand_rows_of c.in_ok-matches.matches) = subst IsSuited (sym matched) suited in
+    let why : IsOwnRefusal (subcommand_of program words) c.refusal_of-kind.result.0 =
+    subst (λ (o : Option (Text × List Row)). IsOwnRefusal o c.refusal_of-kind.result.0) matched
+    (c.refusal_of-kind.ensures.why here (c.asked_of.ensures.none here c.in-None.is)) in
     inr (none, subst (IsOwnRefusal (subcommand_of program (map string_bytes c.args.words.now))) (sym c.in_ok-error-in-None.ensures.kind) why)
