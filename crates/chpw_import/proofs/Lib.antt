@@ -1,4 +1,7 @@
+pub mod EntryLemmas
+pub mod FitLemmas
 pub mod LeftLemmas
+pub mod OrderLemmas
 pub mod PasswordLemmas
 pub mod RowLemmas
 pub mod SlotLemmas

@@ -1,18 +1,11 @@
 -- The rows that are made one after the other.
-use Rattle.std.proofs.Common.{◌≡◌, ◌∙◌, sym, ap, refl, subst, ℕ, ℤ, zero, suc, ◌-◌, ◌<◌, ◌≤◌, Bool, true, false, ◌&&◌, List, [], ◌∷◌, ◌++◌, append_assoc, append-nil, length, length-append, map, get_or, if◌then◌else◌, codes, bytes_eq, Option, Some, None, arith}
-use Rattle.std.specs.List.{AllByRecursion}
-use Rattle.std.specs.List.Sorted.{IsStrictlySortedBy}
-use Rattle.std.specs.Map.{keys_of}
+use Rattle.std.proofs.Common.{◌≡◌, ◌∙◌, sym, ap, refl, subst, ℕ, ℤ, zero, suc, ◌-◌, ◌<◌, ◌≤◌, Bool, true, false, ◌&&◌, List, [], ◌∷◌, ◌++◌, append_assoc, append-nil, length, length-append, get_or, if◌then◌else◌, codes, bytes_eq, Option, Some, None, arith}
 use Rattle.std.specs.Option.{option_map}
-use Rattle.std.specs.declared.cmp.Ordering.TheVariants.{Less}
-use Rattle.std.proofs.lemmas.Option.{same_Some}
 use Rattle.chpw_rules.specs.declared.name.Name.{Name}
 use Rattle.chpw_rules.specs.declared.config.KeyBytes.{KeyBytes}
-use Rattle.chpw_rules.specs.declared.config.PrincipalRow.{PrincipalRow}
-use Rattle.chpw_rules.specs.Names.{name_cmp}
 use Rattle.chpw_import.specs.declared.slot.Slot.{Slot}
 use Rattle.chpw_import.specs.declared.slot.Found.{Found}
-use Rattle.chpw_import.specs.Rows.{keys_from, first_rows, is_service, key_for, pair_for, row_for, row_with, slot_at}
+use Rattle.chpw_import.specs.Rows.{keys_from, first_rows, is_service, key_for, slot_at}
 
 -- ---- the keys of a name
 
@@ -79,7 +72,7 @@ pub passed : {A B : Type 0} (row : A → Option B) (limit : ℕ) (x : A) (xs : L
 unfolding first_rows
 passed row limit x xs h = rw h
 
-one_taken : {A B : Type 0} (row : A → Option B) (limit : ℕ) (x : A) (xs : List A) (y : B) → 0 < limit → row x ≡ Some y → first_rows row limit (x ∷ xs) ≡ y ∷ first_rows row (limit - 1) xs
+pub one_taken : {A B : Type 0} (row : A → Option B) (limit : ℕ) (x : A) (xs : List A) (y : B) → 0 < limit → row x ≡ Some y → first_rows row limit (x ∷ xs) ≡ y ∷ first_rows row (limit - 1) xs
 unfolding first_rows
 one_taken row zero x xs y m h = absurd (omega arith)
 one_taken row (suc limit) x xs y m h =
@@ -111,60 +104,6 @@ goes_past row limit rows whole xs x others h begins is =
 
 pub nothing_follows : {A B : Type 0} (row : A → Option B) (limit : ℕ) (xs : List A) → xs ≡ [] → first_rows row limit xs ≡ []
 nothing_follows row limit xs e = ap (first_rows row limit) e ∙ no_rows row limit
-
--- ---- the principals in the order of their names
-
-abbrev IsKeyed : (Name × ℕ → Option PrincipalRow) → Type 0
-IsKeyed row = (p : Name × ℕ) (y : PrincipalRow) → row p ≡ Some y → y.name ≡ p.0
-
-abbrev names_of : List PrincipalRow → List Name
-names_of rows = map (λ row. row.name) rows
-
-first_is : (row : Name × ℕ → Option PrincipalRow) → IsKeyed row → (P : Name → Type 0) (limit : ℕ) (x : Name × ℕ) (xs : List (Name × ℕ)) (r : Option PrincipalRow) → row x ≡ r
-    → P x.0 → AllByRecursion P (names_of (first_rows row (suc limit) xs)) → AllByRecursion P (names_of (first_rows row (suc limit - 1) xs))
-    → AllByRecursion P (names_of (first_rows row (suc limit) (x ∷ xs)))
-first_is row keyed P limit x xs None e here others fewer = subst (λ (zs : List _). AllByRecursion P (names_of zs)) (sym (passed row (suc limit) x xs e)) others
-first_is row keyed P limit x xs (Some y) e here others fewer = subst (λ (zs : List _). AllByRecursion P (names_of zs)) (sym (one_taken row (suc limit) x xs y (omega arith) e))
-    (subst P (sym (keyed x y e)) here, fewer)
-
-all_rows : (row : Name × ℕ → Option PrincipalRow) → IsKeyed row → (P : Name → Type 0) (limit : ℕ) (xs : List (Name × ℕ))
-    → AllByRecursion P (keys_of xs) → AllByRecursion P (names_of (first_rows row limit xs))
-all_rows row keyed P limit [] h = subst (λ (zs : List _). AllByRecursion P (names_of zs)) (sym (no_rows row limit)) tt
-all_rows row keyed P zero (x ∷ xs) h = subst (λ (zs : List _). AllByRecursion P (names_of zs)) (sym (none_left row zero (x ∷ xs) refl)) tt
-all_rows row keyed P (suc limit) (x ∷ xs) h = first_is row keyed P limit x xs (row x) refl h.0
-    (all_rows row keyed P (suc limit) xs h.1) (all_rows row keyed P (suc limit - 1) xs h.1)
-
-first_sorted : (row : Name × ℕ → Option PrincipalRow) → IsKeyed row → (limit : ℕ) (x : Name × ℕ) (xs : List (Name × ℕ)) (r : Option PrincipalRow) → row x ≡ r
-    → AllByRecursion (λ z. name_cmp x.0 z ≡ Less) (keys_of xs)
-    → IsStrictlySortedBy name_cmp (names_of (first_rows row (suc limit) xs)) → IsStrictlySortedBy name_cmp (names_of (first_rows row (suc limit - 1) xs))
-    → IsStrictlySortedBy name_cmp (names_of (first_rows row (suc limit) (x ∷ xs)))
-unfolding IsStrictlySortedBy
-first_sorted row keyed limit x xs None e above others fewer =
-    subst (λ (zs : List _). IsStrictlySortedBy name_cmp (names_of zs)) (sym (passed row (suc limit) x xs e)) others
-first_sorted row keyed limit x xs (Some y) e above others fewer =
-    subst (λ (zs : List _). IsStrictlySortedBy name_cmp (names_of zs)) (sym (one_taken row (suc limit) x xs y (omega arith) e)) (
-      subst (λ (n : Name). AllByRecursion (λ z. name_cmp n z ≡ Less) (names_of (first_rows row (suc limit - 1) xs))) (sym (keyed x y e))
-          (all_rows row keyed (λ z. name_cmp x.0 z ≡ Less) (suc limit - 1) xs above),
-      fewer,
-    )
-
-sorted_rows : (row : Name × ℕ → Option PrincipalRow) → IsKeyed row → (limit : ℕ) (xs : List (Name × ℕ))
-    → IsStrictlySortedBy name_cmp (keys_of xs) → IsStrictlySortedBy name_cmp (names_of (first_rows row limit xs))
-unfolding IsStrictlySortedBy
-sorted_rows row keyed limit [] h = subst (λ (zs : List _). IsStrictlySortedBy name_cmp (names_of zs)) (sym (no_rows row limit)) tt
-sorted_rows row keyed zero (x ∷ xs) h = subst (λ (zs : List _). IsStrictlySortedBy name_cmp (names_of zs)) (sym (none_left row zero (x ∷ xs) refl)) tt
-sorted_rows row keyed (suc limit) (x ∷ xs) h = first_sorted row keyed limit x xs (row x) refl h.0
-    (sorted_rows row keyed (suc limit) xs h.1) (sorted_rows row keyed (suc limit - 1) xs h.1)
-
-named_as : (is : Bool) (name : Name) (keys : List KeyBytes) (y : PrincipalRow) → (if is then None else row_with name keys) ≡ Some y → y.name ≡ name
-named_as true name keys y h = cc
-named_as false name [] y h = cc
-named_as false name (key ∷ others) y h = sym (ap (λ (r : PrincipalRow). r.name) (same_Some _ y h))
-
-pub in_order : (keys : Slot → Option Found) (iterations : ℕ) (rows : List PrincipalRow) (xs : List (Name × ℕ))
-    → rows ≡ first_rows (row_for keys iterations) 10000 xs → IsStrictlySortedBy name_cmp (keys_of xs) → IsStrictlySortedBy name_cmp (names_of rows)
-in_order keys iterations rows xs e h = subst (λ (zs : List _). IsStrictlySortedBy name_cmp (names_of zs)) (sym e)
-    (sorted_rows (row_for keys iterations) (λ p y f. named_as (is_service p.0) p.0 (keys_from (pair_for keys iterations p.0) 16 p.1) y f) 10000 xs h)
 
 -- ---- the service
 

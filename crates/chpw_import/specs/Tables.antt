@@ -1,6 +1,6 @@
 -- What the entries of a keytab offer: to each slot (a name, a version and an encryption type) the usable key
 -- of it that was put there last, and of each name the newest version.
-use Rattle.std.specs.Prelude.{◌≡◌, ℕ, ◌+◌, nat_lt, Bool, false, if◌then◌else◌, max, List, [], ◌∷◌, Option, Some, None, Result, Ok, Err}
+use Rattle.std.specs.Prelude.{◌≡◌, ℕ, ◌+◌, ◌≤◌, nat_lt, Bool, false, if◌then◌else◌, max, List, [], ◌∷◌, Option, Some, None, Result, Ok, Err}
 use Rattle.std.specs.Option.{unwrap_or}
 use Rattle.std.specs.Ordering.{int_cmp, nat_cmp, ordering_then, eq_by_cmp}
 use Rattle.std.specs.declared.cmp.Ordering.{Ordering}
@@ -8,6 +8,7 @@ use Rattle.std.specs.BTreeMap.{BTreeMap, get}
 use Rattle.krb_keys.specs.declared.key.Key.{Key}
 use Rattle.krb_keytab.specs.declared.entry.KeytabEntry.{KeytabEntry}
 use Rattle.chpw_rules.specs.declared.name.Name.{Name}
+use Rattle.chpw_rules.specs.Limits.{kvnos}
 use Rattle.chpw_rules.specs.Names.{is_same_name, name_cmp}
 use Rattle.chpw_import.specs.declared.left.Reason.{Reason}
 use Rattle.chpw_import.specs.declared.slot.Slot.{Slot}
@@ -47,6 +48,10 @@ found_in realm slot index e = offered slot index e (named realm e) (key_in e)
 abbrev pub latest : List ℕ → Slot → ℕ → List KeytabEntry → Option Found
 latest realm slot index [] = None
 latest realm slot index (e ∷ es) = last_of_two (found_in realm slot index e) (latest realm slot (index + 1) es)
+
+-- a version number that isn't above a configuration's
+abbrev pub HasKvno : KeytabEntry → Type 0
+HasKvno e = e.kvno ≤ kvnos.high
 
 -- the version of an entry, where it is one of this name's
 abbrev pub version_of : Name → KeytabEntry → Result Name Reason → ℕ

@@ -1,6 +1,8 @@
 //! The keys of a keytab.
-ghost use Rattle.std.specs.Prelude.{◌≡◌, IfErr, IfOk, map};
+ghost use Rattle.std.specs.Prelude.{◌≡◌, true, IfErr, IfOk, map};
 ghost use Rattle.std.specs.List.Sorted.{IsStrictlySortedBy};
+ghost use Rattle.chpw_rules.specs.Fitting.{principals_fit, service_fits};
+ghost use Rattle.chpw_rules.specs.Limits.{is_in, iteration_counts};
 ghost use Rattle.chpw_rules.specs.Names.{name_cmp};
 ghost use Rattle.chpw_import.specs.Keytabs.{ArePrincipals, AreServiceKeys, IsBrought, IsOfKeytab};
 ghost use Rattle.chpw_import.specs.LeftOut.{left_out};
@@ -49,6 +51,9 @@ pub fn bring_in(
 ) -> Result<Brought, ImportFault>
     ensures fault { IfErr result (IsOfKeytab bytes.now) }
     ensures brought { IfOk result (IsBrought bytes.now realm.now iterations) }
+    ensures service_fits { IfOk result (λ b. service_fits b.service.items ≡ true) }
+    ensures principals_fit { is_in iteration_counts iterations ≡ true
+        → IfOk result (λ b. principals_fit b.principals.items ≡ true) }
 {
     match read_keytab(alloc, bytes) {
         Err(KeytabError::Fault(fault)) => Err(ImportFault::Keytab(fault)),
@@ -76,6 +81,9 @@ fn brought_of(
         IsStrictlySortedBy name_cmp (map (λ row. row.name) b.principals.items)) }
     ensures left { IfOk result (λ b.
         b.left.items ≡ left_out realm.now b.entries.items b.service.items b.principals.items) }
+    ensures service_fits { IfOk result (λ b. service_fits b.service.items ≡ true) }
+    ensures principals_fit { is_in iteration_counts iterations ≡ true
+        → IfOk result (λ b. principals_fit b.principals.items ≡ true) }
 {
     let table = table_of(alloc, realm, entries.as_slice())?;
     let service = service_of(alloc, &table.found)?;

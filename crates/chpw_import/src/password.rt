@@ -1,7 +1,10 @@
 //! A principal's keys of a password.
-ghost use Rattle.std.specs.Prelude.{◌≡◌, ◌≤◌, ◌++◌, IfOk, IfSome, None};
+ghost use Rattle.std.specs.Prelude.{◌≡◌, ◌≤◌, ◌++◌, ◌&&◌, true, IfOk, IfSome, None};
 ghost use Rattle.std.specs.List.{flat_map};
 ghost use Rattle.krb_keys.specs.Keys.{bytes_of, etype_of};
+ghost use Rattle.chpw_rules.specs.Fitting.{principal_fits};
+ghost use Rattle.chpw_rules.specs.Limits.{is_in, iteration_counts, kvnos};
+ghost use Rattle.chpw_rules.specs.Names.{is_name};
 ghost use Rattle.chpw_import.specs.Passwords.{IsPasswordOf, HoldsNoPassword, row_of, salt_of};
 
 use crate::numbers::KeyNumbers;
@@ -41,7 +44,7 @@ pub fn default_salt(alloc: Global, realm: &[u8], name: &Name) -> Result<Vec<u8>,
 
 /// A principal with one key: that which string-to-key makes of the password with the default salt, of each
 /// encryption type (RFC 3962 section 4).
-#[tactic(auto, using(crate::proofs::PasswordLemmas::aes128_made, crate::proofs::PasswordLemmas::aes256_made))]
+#[tactic(auto, using(crate::proofs::PasswordLemmas::aes128_made, crate::proofs::PasswordLemmas::aes256_made, crate::proofs::PasswordLemmas::row_fits))]
 pub fn password_row(
     alloc: Global,
     realm: &[u8],
@@ -50,6 +53,8 @@ pub fn password_row(
     numbers: KeyNumbers,
 ) -> Result<PrincipalRow, AllocError>
     ensures value { IfOk result (λ row. row ≡ row_of realm.now name password.now numbers) }
+    ensures fits { is_name name && is_in kvnos numbers.kvno && is_in iteration_counts numbers.iterations ≡ true
+        → IfOk result (λ row. principal_fits row ≡ true) }
 {
     let salt = default_salt(alloc, realm, &name)?;
     let made = string_to_keys(password, salt.as_slice(), numbers.iterations);

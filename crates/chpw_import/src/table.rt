@@ -1,7 +1,8 @@
 //! The keys that the entries of a keytab offer, by their slots.
 ghost use Rattle.std.specs.Prelude.{◌≡◌, IfOk, OnOk, []};
+ghost use Rattle.std.specs.List.{AllByRecursion};
 ghost use Rattle.std.specs.Option.{option_copied};
-ghost use Rattle.chpw_import.specs.Tables.{Holds, Puts, Raises, Takes, is_older, newest_at, slot_in};
+ghost use Rattle.chpw_import.specs.Tables.{HasKvno, Holds, Puts, Raises, Takes, is_older, newest_at, slot_in};
 
 use crate::entries::{named_in, usable_key};
 use crate::slot::{Found, Slot};
@@ -27,6 +28,7 @@ pub(crate) fn table_of(
     entries: &[KeytabEntry],
 ) -> Result<Table, AllocError>
     ensures value { IfOk result (Holds realm.now entries.now) }
+    ensures kvnos { IfOk result (λ _. AllByRecursion HasKvno entries.now) }
 {
     let mut table = Table::new(alloc);
     let mut rest = entries;
@@ -57,11 +59,13 @@ impl Table {
         entry: &KeytabEntry,
     ) -> Result<(), AllocError>
         ensures step { OnOk result (Takes realm.now index entry.now self.old self.new) }
+        ensures kvno { OnOk result (HasKvno entry.now) }
     {
+        let kvno = entry.kvno;
         let Ok(name) = named_in(alloc, realm, entry)? else {
             return Ok(());
         };
-        raise(&mut self.newest, name.clone()?, entry.kvno)?;
+        raise(&mut self.newest, name.clone()?, kvno)?;
         if let Ok(key) = usable_key(entry) {
             let timestamp = entry.timestamp;
             let next = Found {

@@ -2,7 +2,8 @@ use Rattle.std.proofs.Common.{◌∙◌, sym, ◌-◌, length, arith}
 use Rattle.std.specs.BTreeMap.{get}
 use Rattle.chpw_import.specs.Tables.{slot_cmp}
 use Rattle.chpw_import.specs.Rows.{row_for}
-use Rattle.chpw_import.proofs.RowLemmas.{none_left, nothing_follows, goes_past, goes_on, finished, in_order}
+use Rattle.chpw_import.proofs.OrderLemmas.{in_order}
+use Rattle.chpw_import.proofs.RowLemmas.{none_left, nothing_follows, goes_past, goes_on, finished}
 use Rattle.chpw_import.proofs.rows.principals_of.Goals as goal
 
 pub returns-then-len-clause-value : goal.returns-then-len-clause-value
