@@ -1,9 +1,9 @@
 -- What the keys and the versions that entries offer are: within the limits of a configuration.
-use Rattle.std.proofs.Common.{◌≡◌, ◌∙◌, sym, ap, refl, subst, ℕ, ℤ, pos, negsuc, ◌+◌, ◌<◌, ◌≤◌, max, Bool, true, false, not, ◌&&◌, ◌==◌, List, [], ◌∷◌, length, if◌then◌else◌, eqb, Option, Some, None, Result, Ok, Err, inl, inr, arith, tests}
+use Rattle.std.proofs.Common.{◌≡◌, ◌∙◌, sym, ap, refl, subst, ℕ, ℤ, pos, ◌+◌, ◌<◌, ◌≤◌, Bool, true, false, not, ◌&&◌, ◌==◌, List, [], ◌∷◌, length, if◌then◌else◌, Option, Some, None, Result, Ok, Err, inl, inr, arith, tests}
 use Rattle.std.specs.List.{AllByRecursion}
 use Rattle.std.specs.Option.{ok_or}
 use Rattle.std.specs.Ordering.{eq_by_cmp, int_eq}
-use Rattle.std.proofs.lemmas.Bool.{and_from, and_parts, cases_lt, eqb-true, le-leb}
+use Rattle.std.proofs.lemmas.Bool.{and_from, and_parts, cases_lt, le-leb}
 use Rattle.std.proofs.lemmas.Bool.Decides.{Decides-int_eq}
 use Rattle.std.proofs.lemmas.Option.{same_Some}
 use Rattle.krb_keys.specs.declared.key.Key.{Key}
@@ -13,13 +13,13 @@ use Rattle.krb_keytab.specs.declared.entry.KeytabEntry.{KeytabEntry}
 use Rattle.chpw_rules.specs.declared.name.Name.{Name}
 use Rattle.chpw_rules.specs.declared.config.ServiceRow.{ServiceRow}
 use Rattle.chpw_rules.specs.Fitting.{is_aes_key, service_key_fits}
-use Rattle.chpw_rules.specs.Limits.{is_in, kvnos}
+use Rattle.chpw_rules.specs.Limits.{kvnos}
 use Rattle.chpw_rules.specs.Names.{is_name, is_same_name}
 use Rattle.chpw_import.specs.declared.left.Reason.{Reason}
 use Rattle.chpw_import.specs.declared.left.Reason.TheVariants.{OtherRealm, BadName, NoVersion, OtherType, KeyLength}
 use Rattle.chpw_import.specs.declared.slot.Slot.{Slot}
 use Rattle.chpw_import.specs.declared.slot.Found.{Found}
-use Rattle.chpw_import.specs.Entries.{is_aes, is_good_name, key_in, name_in, named}
+use Rattle.chpw_import.specs.Entries.{is_aes, key_in, named}
 use Rattle.chpw_import.specs.Tables.{HasKvno, found_in, is_older, last_of_two, latest, newest, offered, slot_cmp, slot_in, version_of}
 use Rattle.chpw_import.proofs.SlotLemmas.{name_exact, slot_exact}
 

@@ -1,11 +1,10 @@
 -- What is brought in is within the limits of a configuration.
-use Rattle.std.proofs.Common.{◌≡◌, ◌∙◌, sym, ap, refl, subst, ℕ, ℤ, pos, negsuc, zero, suc, ◌+◌, ◌<◌, ◌≤◌, Bool, true, false, ◌&&◌, ◌==◌, List, [], ◌∷◌, length, map, min, codes, inl, inr, if◌then◌else◌, Option, Some, None, arith}
+use Rattle.std.proofs.Common.{◌≡◌, ◌∙◌, sym, ap, refl, subst, ℕ, ℤ, pos, negsuc, zero, suc, ◌<◌, ◌≤◌, Bool, true, false, List, [], ◌∷◌, length, codes, inl, inr, if◌then◌else◌, Option, Some, None, arith}
 use Rattle.std.specs.Cmp.{IsTotalOrder}
 use Rattle.std.specs.List.{AllByRecursion, list_all}
-use Rattle.std.specs.List.Sorted.{IsStrictlySortedBy}
-use Rattle.std.specs.Map.{keys_of, lookup}
+use Rattle.std.specs.Map.{lookup}
 use Rattle.std.specs.Option.{unwrap_or}
-use Rattle.std.specs.Ordering.{eq_by_cmp, int_cmp, nat_cmp}
+use Rattle.std.specs.Ordering.{eq_by_cmp}
 use Rattle.std.proofs.lemmas.Bool.{and_from, and_parts, cases_lt, eq-eqb, eqb-true, le-leb}
 use Rattle.std.proofs.lemmas.Cmp.{back_total, int_cmp_total, nat_cmp_total, on_total, then_total}
 use Rattle.std.proofs.lemmas.List.{length-take}
@@ -19,11 +18,11 @@ use Rattle.chpw_rules.specs.declared.config.PrincipalRow.{PrincipalRow}
 use Rattle.chpw_rules.specs.declared.config.ServiceRow.{ServiceRow}
 use Rattle.chpw_rules.specs.Fitting.{descend_from, is_same_etype, is_same_principal, is_same_service_key, key_fits, kvnos_descend, principal_fits, principals_fit, service_fits, service_key_fits}
 use Rattle.chpw_rules.specs.Limits.{is_in, iteration_counts, kvnos, principal_counts}
-use Rattle.chpw_rules.specs.Names.{is_name, is_same_name, name_cmp}
+use Rattle.chpw_rules.specs.Names.{is_name, name_cmp}
 use Rattle.chpw_import.specs.declared.slot.Slot.{Slot}
 use Rattle.chpw_import.specs.declared.slot.Found.{Found}
 use Rattle.chpw_import.specs.Keytabs.{ArePrincipals, AreServiceKeys}
-use Rattle.chpw_import.specs.Rows.{ahead, first_principals, first_rows, first_service_rows, is_service, key_for, keys_from, pair_for, pair_of, row_for, row_with, service_row, slot_at}
+use Rattle.chpw_import.specs.Rows.{ahead, first_principals, first_rows, first_service_rows, is_service, keys_from, pair_for, pair_of, row_for, row_with, service_row, slot_at}
 use Rattle.chpw_import.specs.Tables.{HasKvno, latest, newest, slot_cmp}
 use Rattle.chpw_import.proofs.EntryLemmas.{latest_fits, newest_named, newest_small, row_at}
 use Rattle.chpw_import.proofs.OrderLemmas.{all_rows, distinct, in_order, sorted_rows, stored, tested}
@@ -107,7 +106,7 @@ module _ (pair : ℕ → Option KeyBytes) (iterations : ℕ) (are : (kvno : ℕ)
       at (Some key) e others =
           let (version, count) = are (suc below) key e in
           and_from _ _ (and_from _ _ (and_from _ _ (le-leb 1 key.kvno (omega arith)) (le-leb key.kvno kvnos.high (omega arith)))
-              (subst (λ (n : ℕ). is_in iteration_counts n ≡ true) (sym count) within)) others
+          (subst (λ (n : ℕ). is_in iteration_counts n ≡ true) (sym count) within)) others
 
   descending : (count kvno : ℕ) → descend_from (suc kvno) (keys_from pair count kvno) ≡ true
   unfolding keys_from

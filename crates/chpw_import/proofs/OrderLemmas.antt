@@ -1,10 +1,10 @@
 -- The first rows of a list are in the order of what they are made of, and each differs from the others.
-use Rattle.std.proofs.Common.{◌≡◌, ◌∙◌, sym, ap, refl, subst, ℕ, zero, suc, ◌-◌, ◌<◌, Bool, true, false, ◌||◌, cond, List, [], ◌∷◌, ◌++◌, map, if◌then◌else◌, Option, Some, None, arith}
+use Rattle.std.proofs.Common.{◌≡◌, ◌∙◌, sym, ap, refl, subst, ℕ, zero, suc, ◌-◌, Bool, true, false, List, [], ◌∷◌, ◌++◌, map, if◌then◌else◌, Option, Some, None, arith}
 use Rattle.std.specs.Cmp.{IsTotalOrder}
 use Rattle.std.specs.List.{AllByRecursion, list_all, list_any}
 use Rattle.std.specs.List.Sorted.{IsStrictlySortedBy}
 use Rattle.std.specs.Map.{keys_of, lookup}
-use Rattle.std.specs.Ordering.{eq_by_cmp, is_eq, ordering_reverse}
+use Rattle.std.specs.Ordering.{eq_by_cmp, ordering_reverse}
 use Rattle.std.specs.declared.cmp.Ordering.{Ordering}
 use Rattle.std.specs.declared.cmp.Ordering.TheVariants.{Less, Equal}
 use Rattle.std.proofs.lemmas.Cmp.{tied_itself}
@@ -113,9 +113,12 @@ module _ {K : Type 0} (cmp : K → K → Ordering) (total : IsTotalOrder cmp) wh
     none_again_in : (before rows : List B) → AllByRecursion (λ b. list_any (same b) before ≡ false) rows → IsStrictlySortedBy cmp (map key rows) → none_again same before rows ≡ true
     unfolding IsStrictlySortedBy
     none_again_in before [] new s = refl
-    none_again_in before (a ∷ rows) new s = rw (new.0, none_again_in (before ++ a ∷ []) rows
-        (both (λ b. list_any (same b) before ≡ false) (λ b. cmp (key a) (key b) ≡ Less) (λ b. list_any (same b) (before ++ a ∷ []) ≡ false)
-        more rows new.1 (of_map (λ z. cmp (key a) z ≡ Less) key rows s.0)) s.1)
+    none_again_in before (a ∷ rows) new s = rw (
+      new.0,
+      none_again_in (before ++ a ∷ []) rows
+          (both (λ b. list_any (same b) before ≡ false) (λ b. cmp (key a) (key b) ≡ Less) (λ b. list_any (same b) (before ++ a ∷ []) ≡ false)
+          more rows new.1 (of_map (λ z. cmp (key a) z ≡ Less) key rows s.0)) s.1,
+    )
       where
         more : (b : B) → list_any (same b) before ≡ false → cmp (key a) (key b) ≡ Less → list_any (same b) (before ++ a ∷ []) ≡ false
         more b none less = rw (list_any-append (same b) before (a ∷ []), none, differs a b less) refl

@@ -2,7 +2,7 @@
 use Rattle.std.proofs.Common.{◌≡◌, refl, true, ◌&&◌, ℕ, List}
 use Rattle.krb_keys.specs.declared.etype.Etype.TheVariants as etype
 use Rattle.krb_keys.specs.Keys.{etype_of, s2k, dk}
-use Rattle.std.proofs.lemmas.Bool.{and_from, and_parts}
+use Rattle.std.proofs.lemmas.Bool.{and_parts}
 use Rattle.chpw_rules.specs.declared.name.Name.{Name}
 use Rattle.chpw_rules.specs.Fitting.{principal_fits}
 use Rattle.chpw_rules.specs.Limits.{is_in, iteration_counts, kvnos}
@@ -21,6 +21,6 @@ aes256_made password salt n = refl
 pub row_fits : (realm : List ℕ) (name : Name) (password : List ℕ) (numbers : KeyNumbers)
     → is_name name && is_in kvnos numbers.kvno && is_in iteration_counts numbers.iterations ≡ true → principal_fits (row_of realm name password numbers) ≡ true
 row_fits realm name password numbers h =
-    let (first, counted) = and_parts _ _ h in
-    let (named, versioned) = and_parts _ _ first in
-    and_from _ _ (and_from _ _ (and_from _ _ named refl) (and_from _ _ (and_from _ _ versioned counted) refl)) refl
+    let (first, counted) = and_parts (is_name name && is_in kvnos numbers.kvno) _ h in
+    let (named, versioned) = and_parts (is_name name) _ first in
+    rw (named, versioned, counted) refl

@@ -43,6 +43,9 @@ pub enum ImportFault {
 /// the greater timestamp, or where that is the same, the one that follows in the file. The keys of a principal are
 /// those of its newest kvno in the realm and of each one below it, as long as that has a key of both
 /// encryption types; what is behind is left out.
+///
+/// A configuration can have what is brought in: the service's keys fit, and so do the principals where the
+/// iteration count is within 1 to 16,777,216.
 pub fn bring_in(
     alloc: Global,
     bytes: &[u8],

@@ -43,7 +43,7 @@ pub fn default_salt(alloc: Global, realm: &[u8], name: &Name) -> Result<Vec<u8>,
 }
 
 /// A principal with one key: that which string-to-key makes of the password with the default salt, of each
-/// encryption type (RFC 3962 section 4).
+/// encryption type (RFC 3962 section 4). It fits a configuration where the name and both numbers do.
 #[tactic(auto, using(crate::proofs::PasswordLemmas::aes128_made, crate::proofs::PasswordLemmas::aes256_made, crate::proofs::PasswordLemmas::row_fits))]
 pub fn password_row(
     alloc: Global,
