@@ -1,10 +1,12 @@
 -- What `import` and `key` write, put together.
-use Rattle.std.proofs.Common.{◌≡◌, ◌∙◌, ap, subst, ℕ, List, Option, Some, sym, false, [], ◌∷◌}
+use Rattle.std.proofs.Common.{◌≡◌, ◌∙◌, ap, subst, ℕ, List, Option, Some, sym, true, false, [], ◌∷◌}
 use Rattle.std.specs.Io.KnownBytes.{Appends}
 use Rattle.toml.specs.Parse.{parse_document}
 use Rattle.toml.specs.Text.{IsDocumentText}
 use Rattle.chpw_rules.specs.declared.config.PrincipalRow.{PrincipalRow}
 use Rattle.chpw_rules.specs.declared.config.ServiceRow.{ServiceRow}
+use Rattle.chpw_rules.specs.Fitting.{principal_fits, principals_fit, service_fits}
+use Rattle.chpw_rules.specs.Names.{is_name}
 use Rattle.chpw_config_text.specs.Stanzas.{stanzas_of}
 use Rattle.chpw_invocation.specs.declared.invocation.ImportOptions.{ImportOptions}
 use Rattle.chpw_import.specs.declared.keytab.Brought.{Brought}
@@ -16,13 +18,14 @@ use Rattle.chpw_rules.specs.declared.name.Name.{Name}
 use Rattle.chpw_keys.specs.Stanzas.{Imports, WritesKey, key_row}
 
 pub imported : (o : ImportOptions) (bytes : List ℕ) (b : Brought) (before behind untold told : Option (List ℕ)) (text t lines l : List ℕ) (s : List ServiceRow) (p : List PrincipalRow)
-    → IsBrought bytes o.realm.now o.iterations b → s ≡ b.service.items → p ≡ b.principals.items
+    → IsBrought bytes o.realm.now o.iterations b → (service_fits b.service.items ≡ true) × (principals_fit b.principals.items ≡ true) → s ≡ b.service.items → p ≡ b.principals.items
     → IsDocumentText false (stanzas_of s p) text → parse_document text ≡ Some (stanzas_of s p) → t ≡ text → Appends before behind t
     → lines ≡ left_lines o.keytab.now b.entries.items b.left.items → l ≡ lines → Appends untold told l
     → Imports o bytes before behind untold told
-imported o bytes b before behind untold told text t lines l s p is e f lines_of reads g written h i left = record {
+imported o bytes b before behind untold told text t lines l s p is fits e f lines_of reads g written h i left = record {
   brought = b;
   is_brought = is;
+  fits = fits;
   written = (
     t,
     written,
@@ -35,12 +38,13 @@ imported o bytes b before behind untold told text t lines l s p is e f lines_of 
 }
 
 pub keyed : (o : KeyOptions) (name : Name) (bytes password : List ℕ) (before behind : Option (List ℕ)) (text t : List ℕ) (row : PrincipalRow)
-    → IsPasswordOf bytes password → row ≡ key_row o name password
+    → IsPasswordOf bytes password → row ≡ key_row o name password → (is_name name ≡ true → principal_fits row ≡ true)
     → IsDocumentText false (stanzas_of [] (row ∷ [])) text → parse_document text ≡ Some (stanzas_of [] (row ∷ [])) → t ≡ text → Appends before behind t
     → WritesKey o name bytes before behind
-keyed o name bytes password before behind text t row is e lines_of reads g written = record {
+keyed o name bytes password before behind text t row is e fits lines_of reads g written = record {
   password = password;
   is_password = is;
+  fits = λ named. subst (λ (r : PrincipalRow). principal_fits r ≡ true) e (fits named);
   written = (
     t,
     written,

@@ -1,12 +1,13 @@
 -- What is written: the stanzas of rows.
-use Rattle.std.specs.Prelude.{◌≡◌, ℕ, false, List, [], ◌∷◌, Option, Some}
+use Rattle.std.specs.Prelude.{◌≡◌, ℕ, true, false, List, [], ◌∷◌, Option, Some}
 use Rattle.std.specs.Io.KnownBytes.{Appends}
 use Rattle.toml.specs.Parse.{parse_document}
 use Rattle.toml.specs.Text.{IsDocumentText}
 use Rattle.chpw_rules.specs.declared.name.Name.{Name}
 use Rattle.chpw_rules.specs.declared.config.ServiceRow.{ServiceRow}
 use Rattle.chpw_rules.specs.declared.config.PrincipalRow.{PrincipalRow}
-use Rattle.chpw_rules.specs.Names.{name_of as name_in}
+use Rattle.chpw_rules.specs.Fitting.{principal_fits, principals_fit, service_fits}
+use Rattle.chpw_rules.specs.Names.{is_name, name_of as name_in}
 use Rattle.chpw_config_text.specs.Stanzas.{stanzas_of}
 use Rattle.chpw_invocation.specs.declared.invocation.ImportOptions.{ImportOptions}
 use Rattle.chpw_invocation.specs.declared.invocation.KeyOptions.{KeyOptions}
@@ -25,10 +26,12 @@ AppendsRows before behind service principals =
 
 -- ---- import
 
--- what a keytab with these bytes holds of the realm, in stanzas; and a line for each entry that isn't used
+-- what a keytab with these bytes holds of the realm, in stanzas that a configuration can have; and a line for each
+-- entry that isn't used
 pub record Imports (o : ImportOptions) (bytes : List ℕ) (before behind untold told : Option (List ℕ)) : Type 0 where
   pub brought : Brought
   pub is_brought : IsBrought bytes o.realm.now o.iterations brought
+  pub fits : (service_fits brought.service.items ≡ true) × (principals_fit brought.principals.items ≡ true)
   pub written : AppendsRows before behind brought.service.items brought.principals.items
   pub left : Appends untold told (left_lines o.keytab.now brought.entries.items brought.left.items)
 
@@ -42,10 +45,12 @@ numbers_of o = record { kvno = o.kvno; iterations = o.iterations; some_count = o
 abbrev pub key_row : KeyOptions → Name → List ℕ → PrincipalRow
 key_row o name password = row_of o.realm.now name password (numbers_of o)
 
--- the stanza of this principal with the keys of the password that a file with these bytes holds
+-- the stanza of this principal with the keys of the password that a file with these bytes holds; a configuration
+-- can have it where it can have the name
 pub record WritesKey (o : KeyOptions) (name : Name) (bytes : List ℕ) (before behind : Option (List ℕ)) : Type 0 where
   pub password : List ℕ
   pub is_password : IsPasswordOf bytes password
+  pub fits : is_name name ≡ true → principal_fits (key_row o name password) ≡ true
   pub written : AppendsRows before behind [] (key_row o name password ∷ [])
 
 -- the same of the name on the command line
@@ -53,3 +58,4 @@ pub record Keys (o : KeyOptions) (bytes : List ℕ) (before behind : Option (Lis
   pub name : Name
   pub is_name : name_in o.name.now ≡ Some name
   pub key : WritesKey o name bytes before behind
+  pub fits : principal_fits (key_row o name key.password) ≡ true

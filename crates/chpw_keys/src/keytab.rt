@@ -1,5 +1,6 @@
 //! `import`: the keys of a keytab.
-ghost use Rattle.std.specs.Prelude.{◌≡◌, ◌⊎◌, IfOk, IfErr, OnOk, List, ℕ};
+ghost use Rattle.std.specs.Prelude.{◌≡◌, ◌⊎◌, true, IfOk, IfErr, OnOk, List, ℕ};
+ghost use Rattle.chpw_rules.specs.Fitting.{principals_fit, service_fits};
 ghost use Rattle.chpw_import.specs.Keytabs.{IsBrought};
 ghost use Rattle.chpw_keys.specs.Faults.{IsEarly, IsLate, IsOfBytes, IsOfImport, IsUnread};
 ghost use Rattle.chpw_keys.specs.Stanzas.{Imports};
@@ -73,6 +74,8 @@ fn brought_in<'a>(
     options: ImportOptions<'a>,
 ) -> Result<Brought, KeysFault<'a>>
     ensures brought { IfOk result (IsBrought bytes.now options.entry.realm.now options.entry.iterations) }
+    ensures fits { IfOk result (λ b.
+        (service_fits b.service.items ≡ true) × (principals_fit b.principals.items ≡ true)) }
     ensures fault { IfErr result (IsOfBytes options.entry.keytab.now bytes.now) }
 {
     match bring_in(alloc, bytes, options.realm.as_bytes(), options.iterations) {

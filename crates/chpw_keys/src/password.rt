@@ -1,6 +1,7 @@
 //! `key`: the keys of a password.
-ghost use Rattle.std.specs.Prelude.{◌≡◌, ◌⊎◌, List, ℕ, IfOk, IfErr, OnOk, Some};
-ghost use Rattle.chpw_rules.specs.Names.{name_of as name_in};
+ghost use Rattle.std.specs.Prelude.{◌≡◌, ◌⊎◌, List, ℕ, true, IfOk, IfErr, OnOk, Some};
+ghost use Rattle.chpw_rules.specs.Fitting.{principal_fits};
+ghost use Rattle.chpw_rules.specs.Names.{is_name, name_of as name_in};
 ghost use Rattle.chpw_keys.specs.Faults.{IsEarly, IsLate, IsOfKey, IsOfName, IsOfPassword, IsUnread};
 ghost use Rattle.chpw_keys.specs.Stanzas.{Keys, WritesKey, key_row};
 
@@ -65,6 +66,7 @@ pub fn write_password<'a, W: Write>(
 
 fn name_of<'a>(alloc: Global, text: &str) -> Result<Name, KeysFault<'a>>
     ensures value { IfOk result (λ name. name_in text.now ≡ Some name) }
+    ensures fits { IfOk result (λ name. is_name name ≡ true) }
     ensures fault { IfErr result (IsOfName text.now) }
 {
     match Name::parse(alloc, text) {
@@ -81,6 +83,7 @@ fn row_of<'a>(
     password: &[u8],
 ) -> Result<PrincipalRow, KeysFault<'a>>
     ensures value { IfOk result (λ row. row ≡ key_row options.entry name password.now) }
+    ensures fits { is_name name ≡ true → IfOk result (λ row. principal_fits row ≡ true) }
     ensures fault { IfErr result IsLate }
 {
     let numbers = KeyNumbers {
