@@ -49,15 +49,31 @@ const ASKS: [(i64, i64, Verdict, u32); 12] = [
     (1602, 1301, Verdict::Skew, 0),
 ];
 
+// The same of one request that comes again at the edges of its time, and of another that does.
+const AGAIN: [(i64, i64, Verdict, u32); 6] = [
+    (1000, 700, Verdict::BadBody, 1),
+    (1001, 700, Verdict::Skew, 0),
+    (1000, 700, Verdict::Skew, 0),
+    (1000, 1300, Verdict::BadBody, 1),
+    (1600, 1300, Verdict::Replay, 1),
+    (1601, 1300, Verdict::Skew, 0),
+];
+
+// Each of these requests, one after the other, has its verdict and leaves so many ids held.
+fn each_holds(rt: &impl Abort, alloc: Global, asks: &[(i64, i64, Verdict, u32)]) {
+    let mut table = table(rt, alloc, 20);
+    assert!(rt; table.ids_held() == 0);
+    for (seconds, ctime, expected, held) in asks {
+        let opened = asked(rt, alloc, ("EXAMPLE.COM", "alice", *ctime, 0));
+        assert!(rt; verdict(rt, &mut table, *seconds, opened) == *expected);
+        assert!(rt; table.ids_held() == *held);
+    }
+}
+
 #[test]
 fn held_until_they_are_too_old(rt: HostRuntime) {
-    let mut table = table(&rt, rt.alloc(), 20);
-    assert!(rt; table.ids_held() == 0);
-    for (seconds, ctime, expected, held) in ASKS {
-        let opened = asked(&rt, rt.alloc(), ("EXAMPLE.COM", "alice", ctime, 0));
-        assert!(rt; verdict(&rt, &mut table, seconds, opened) == expected);
-        assert!(rt; table.ids_held() == held);
-    }
+    each_holds(&rt, rt.alloc(), &ASKS);
+    each_holds(&rt, rt.alloc(), &AGAIN);
 }
 
 // A request, and four that differ from it in one part of their ids.
