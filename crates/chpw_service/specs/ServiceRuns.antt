@@ -22,7 +22,7 @@ AreHistories s [] = Unit {0}
 AreHistories s (r ∷ rs) = Agrees r.opening s × IsLegal r.opening r.history × AreWhole r.opening r.history
     × AreHistories (outcome r.opening r.history) rs
 
--- histories like that, the first with this opening, lead to this table; their journal is that of all of them joined
+-- histories like that, the first with this opening, lead to this table
 pub record IsServiceRun (opening : State) (table : Held) : Type 0 where
   pub history : List Entry
   pub more : List Run

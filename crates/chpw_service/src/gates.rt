@@ -1,5 +1,6 @@
 //! What a worker passes with its messages: what it hears there goes into the log.
-ghost use Rattle.std.specs.Prelude.{◌≡◌, ◌<◌, IfOk, vec_len};
+ghost use Rattle.std.specs.Prelude.{◌≡◌, ◌<◌, IfOk, map, vec_len};
+ghost use Rattle.std.specs.List.{range_with_len};
 ghost use Rattle.chpw_table.specs.Times.{IsMoment};
 ghost use Rattle.chpw_answer.specs.Holding.{answer_in};
 ghost use Rattle.chpw_answer.specs.InTurn.{InTurn};
@@ -46,6 +47,8 @@ pub(crate) fn log_gates<'l, R: Wait + Eprint>(
     workers: u8,
 ) -> Result<Vec<Logging<LogLines<'l, R>>>, AllocError>
     ensures count { IfOk result (λ gates. vec_len gates ≡ workers) }
+    ensures workers { IfOk result (λ gates.
+        map (λ gate. gate.worker) gates.items ≡ range_with_len 0 workers) }
 {
     let mut gates = Vec::with_capacity(alloc, usize::from(workers))?;
     for worker in 0..workers {
