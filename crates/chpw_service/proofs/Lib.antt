@@ -1,3 +1,4 @@
 pub mod OpeningLemmas
 pub mod FaultLemmas
 pub mod ServiceRunLemmas
+pub mod NumberLemmas
