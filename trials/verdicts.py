@@ -1,9 +1,9 @@
 """Which edits were refused, and over which texts."""
+import fcntl
 import hashlib
 import os
 import shutil
 import subprocess
-import threading
 
 
 def files_of(folder):
@@ -17,12 +17,16 @@ class Verdicts:
 
     def __init__(self, path, top, all_below):
         self.path, self.top, self.all_below = path, top, all_below
-        self.sums, self.lock = {}, threading.Lock()
+        self.sums = {}
         self.kit = subprocess.run([shutil.which("rt"), "version"], check=True, capture_output=True).stdout
-        self.lines = {}
-        if os.path.exists(path):
-            with open(path, encoding="utf-8") as file:
-                self.lines = dict(line.split() for line in file)
+        self.lines = self.read()
+
+    def read(self):
+        """The lines of the file."""
+        if not os.path.exists(self.path):
+            return {}
+        with open(self.path, encoding="utf-8") as file:
+            return dict(line.split() for line in file)
 
     def crate_sum(self, name):
         """The sum of a crate's own files."""
@@ -52,14 +56,15 @@ class Verdicts:
         self.lines = {}
 
     def note(self, name, edits, found):
-        """Writes down which of these edits were refused."""
-        with self.lock:
+        """Writes down which of these edits were refused, beside what another run wrote meanwhile."""
+        with open(f"{self.path}.lock", "w", encoding="utf-8") as lock:
+            fcntl.flock(lock, fcntl.LOCK_EX)
+            lines = self.read()
             for edit, (is_refused, _) in zip(edits, found):
+                lines.pop(f"{name}/{edit}", None)
                 if is_refused:
-                    self.lines[f"{name}/{edit}"] = self.sum_of(name, edit)
-                else:
-                    self.lines.pop(f"{name}/{edit}", None)
-            there = {it: found for it, found in self.lines.items() if os.path.exists(f"{self.top}/trials/{it}")}
+                    lines[f"{name}/{edit}"] = self.sum_of(name, edit)
+            there = sorted(it for it in lines.items() if os.path.exists(f"{self.top}/trials/{it[0]}"))
             with open(f"{self.path}.new", "w", encoding="utf-8") as file:
-                file.writelines(f"{it} {found}\n" for it, found in sorted(there.items()))
+                file.writelines(f"{it} {found}\n" for it, found in there)
             os.replace(f"{self.path}.new", self.path)
