@@ -237,15 +237,18 @@ size_t asks_files(const struct asks *asks, struct pollfd *files)
     return 1 + asks->count;
 }
 
-/* what happened to one; -1 where it is over. `asked` is set where something was asked */
-static int take_events(struct connection *connection, short events, int *asked)
+/* what happened to one; -1 where it is over */
+static int take_events(struct connection *connection, short events, struct asks *asks)
 {
     size_t before = connection->asks;
 
     if ((events & POLLIN) != 0 && take_lines(connection) < 0)
         return -1;
-    if (connection->asks > before)
-        *asked = 1;
+    if (connection->asks > before) {
+        asks->is_asked = 1;
+        if (connection->asked[connection->asks - 1] > asks->highest)
+            asks->highest = connection->asked[connection->asks - 1];
+    }
     /* nobody is left who could read an answer */
     if ((events & (POLLHUP | POLLERR | POLLNVAL)) != 0 && (events & POLLIN) == 0)
         return -1;
@@ -256,18 +259,18 @@ static int take_events(struct connection *connection, short events, int *asked)
 
 int asks_take(struct asks *asks, const struct pollfd *files)
 {
-    int asked = 0;
     size_t place;
 
+    asks->is_asked = 0;
     if (asks->listener < 0)
         return 0;
     /* from the last one, since the last takes the place of one that ends */
     for (place = asks->count; place-- > 0;)
-        if (take_events(&asks->connections[place], files[1 + place].revents, &asked) < 0)
+        if (take_events(&asks->connections[place], files[1 + place].revents, asks) < 0)
             end_connection(asks, place);
     if (files[0].revents != 0)
         take_connections(asks);
-    return asked;
+    return asks->is_asked;
 }
 
 void asks_answer(struct asks *asks, uint64_t length)

@@ -34,6 +34,9 @@ struct asks {
     const char *path;
     struct connection connections[MOST_CONNECTIONS];
     size_t count;
+    /* whether something was asked, and the greatest length of all that was asked since it was 0 */
+    int is_asked;
+    uint64_t highest;
 };
 
 /* how many files `asks_files` gives at the most */

@@ -38,8 +38,6 @@ struct follower {
     size_t set, failed;
     int64_t begun;
 
-    /* whether records were read that may not be on the disk yet */
-    int is_unsynced;
     struct pause write_pause;
     char *write_fault;
 

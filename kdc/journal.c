@@ -138,10 +138,15 @@ enum found journal_next(struct journal *journal, struct record *record)
     return FOUND_RECORD;
 }
 
-int journal_sync(const struct journal *journal)
+int journal_sync(struct journal *journal)
 {
+    if (journal->position <= journal->synced)
+        return 0;
     /* a file system that can't be written to has nothing that isn't there */
-    return fdatasync(journal->file) == 0 || errno == EROFS || errno == EINVAL ? 0 : -1;
+    if (fdatasync(journal->file) < 0 && errno != EROFS && errno != EINVAL)
+        return -1;
+    journal->synced = journal->position;
+    return 0;
 }
 
 void journal_wipe(struct journal *journal)
@@ -157,6 +162,7 @@ void journal_close(struct journal *journal)
         close(journal->file);
     journal->file = -1;
     journal->position = 0;
+    journal->synced = 0;
     journal_wipe(journal);
     explicit_bzero(journal->last, sizeof journal->last);
     journal->last_length = 0;

@@ -17,6 +17,8 @@ struct journal {
     int file;
     /* where the first record begins that wasn't taken yet */
     uint64_t position;
+    /* up to where it is known to be on the disk */
+    uint64_t synced;
     /* the record that ends there: another one in its place makes it another journal */
     unsigned char last[LONGEST_RECORD];
     size_t last_length;
@@ -56,8 +58,8 @@ int journal_is_same(struct journal *journal);
 
 enum found journal_next(struct journal *journal, struct record *record);
 
-/* waits until all that was read of it is on the disk; 0, or -1 with errno */
-int journal_sync(const struct journal *journal);
+/* waits until all that was taken of it is on the disk; 0, or -1 with errno */
+int journal_sync(struct journal *journal);
 
 /* wipes what is left of a look */
 void journal_wipe(struct journal *journal);

@@ -64,7 +64,6 @@ static void whole_pass(struct follower *follower)
     free(note);
     follower->pass_pause = (struct pause){0, 0};
     follower->is_current = 1;
-    follower->is_unsynced = 1;
     queue_all(follower);
 }
 
@@ -95,8 +94,17 @@ static int take_change(struct follower *follower, const struct record *record)
         return 0;
     principal_add(principal, &record->version, follower->table.kept);
     queue_add(&follower->queue, principal, record->place);
-    follower->is_unsynced = 1;
     return 1;
+}
+
+/* the service asks for a length that is on the disk; one that isn't there yet says nothing */
+static void note_synced(struct follower *follower)
+{
+    struct journal *journal = &follower->journal;
+
+    if (follower->asks.highest <= journal->position && follower->asks.highest > journal->synced)
+        journal->synced = follower->asks.highest;
+    follower->asks.highest = 0;
 }
 
 /* takes all whole records; whether each was one that fits */
@@ -110,6 +118,7 @@ static int take_records(struct follower *follower)
         fits = !record.is_change || take_change(follower, &record);
     explicit_bzero(&record, sizeof record);
     journal_wipe(&follower->journal);
+    note_synced(follower);
     return fits && found == FOUND_END;
 }
 

@@ -57,14 +57,10 @@ static int tell_outcome(struct follower *follower, struct principal *principal,
    leaves no key there that the journal doesn't have. Whether they are */
 static int sync_first(struct follower *follower)
 {
-    if (!follower->is_unsynced)
+    if (journal_sync(&follower->journal) == 0)
         return 1;
-    if (journal_sync(&follower->journal) < 0) {
-        write_failed(follower, follower->journal.path, strerror(errno));
-        return 0;
-    }
-    follower->is_unsynced = 0;
-    return 1;
+    write_failed(follower, follower->journal.path, strerror(errno));
+    return 0;
 }
 
 /* the end of a whole pass */
