@@ -10,10 +10,13 @@
 #include <fcntl.h>
 #include <stdlib.h>
 #include <string.h>
+#include <sys/file.h>
 #include <sys/random.h>
 #include <sys/socket.h>
+#include <sys/syscall.h>
 #include <sys/un.h>
 #include <time.h>
+#include <unistd.h>
 
 #include <krb5.h>
 #include <hdb.h>
@@ -32,6 +35,26 @@
 static krb5_context context;
 static kadm5_server_context *server;
 static const char *realm;
+
+/* ---- waiting */
+
+/*
+ * In place of the C library's, for the calls of libhdb and libkadm5srv, which wait for a lock however long
+ * somebody keeps it, as `kadmin -l` does from `lock` to `unlock`. The follower has to go on with its socket
+ * meanwhile, and to be ended. So a lock that isn't had within some hundredths is refused, and tried again.
+ */
+int flock(int file, int operation)
+{
+    const struct timespec nap = {0, 5000000};
+    int tries;
+
+    for (tries = 0; syscall(SYS_flock, file, operation | LOCK_NB) < 0; tries++) {
+        if (errno != EWOULDBLOCK || (operation & LOCK_NB) != 0 || tries == 20)
+            return -1;
+        nanosleep(&nap, NULL);
+    }
+    return 0;
+}
 
 /* ---- names and salts */
 

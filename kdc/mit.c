@@ -11,6 +11,7 @@
 #include <krb5.h>
 #include <stdlib.h>
 #include <string.h>
+#include <time.h>
 
 #include "backend.h"
 #include "tell.h"
@@ -23,6 +24,22 @@ static krb5_context context;
 static void *server;
 static krb5_principal master, caller;
 static char *realm;
+
+/* ---- waiting */
+
+/*
+ * In place of the C library's, for the calls of libkdb5's module db2, which waits for its lock by a second
+ * thirty times over. The lock is mostly held for less than a thousandth of that, and where somebody keeps
+ * it, the follower has to go on with its socket meanwhile. So each second is a hundredth here.
+ */
+unsigned sleep(unsigned seconds)
+{
+    const struct timespec nap = {0, 10000000};
+
+    (void)seconds;
+    nanosleep(&nap, NULL);
+    return 0;
+}
 
 /* ---- names */
 
@@ -258,16 +275,22 @@ static long create(const struct principal *principal)
 static long open_server(const struct options *options)
 {
     kadm5_config_params params;
+    char *name = NULL, *arguments[] = {NULL, NULL};
+    krb5_error_code error;
 
     memset(&params, 0, sizeof params);
     params.mask = KADM5_CONFIG_REALM;
     params.realm = realm;
+    /* as kadmin.local takes its `-d` */
     if (options->database != NULL) {
-        params.mask |= KADM5_CONFIG_DBNAME;
-        params.dbname = (char *)options->database;
+        name = arguments[0] = text_of("dbname=%s", options->database);
+        if (name == NULL)
+            return ENOMEM;
     }
-    return kadm5_init_with_password(context, "root/admin", NULL, KADM5_ADMIN_SERVICE, &params,
-                                    KADM5_STRUCT_VERSION, KADM5_API_VERSION_4, NULL, &server);
+    error = kadm5_init_with_password(context, "root/admin", NULL, KADM5_ADMIN_SERVICE, &params,
+                                     KADM5_STRUCT_VERSION, KADM5_API_VERSION_4, arguments, &server);
+    free(name);
+    return error;
 }
 
 static long open_database(const struct options *options)

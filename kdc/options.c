@@ -1,6 +1,7 @@
 #include "options.h"
 
 #include <getopt.h>
+#include <stdlib.h>
 #include <string.h>
 
 #include "table.h"
@@ -9,7 +10,7 @@
 static void tell_usage(const char *name)
 {
     tell("usage: %s --config FILE --journal FILE --realm REALM [--program PROGRAM]", name);
-    tell("           [--socket SOCKET] [--database DATABASE] [--create] [--overwrite] [--once]");
+    tell("           [--socket SOCKET] [--database DATABASE] [--every SECONDS] [--create] [--overwrite] [--once]");
 }
 
 /* the place of the option's value; NULL where it has none, or is none */
@@ -33,6 +34,15 @@ static const char **place_of(struct options *options, int letter)
     }
 }
 
+/* seconds from 1 to a day; whether the value is that */
+static int read_seconds(const char *value, long *seconds)
+{
+    char *end;
+
+    *seconds = strtol(value, &end, 10);
+    return value[0] >= '0' && value[0] <= '9' && *end == '\0' && *seconds >= 1 && *seconds <= 86400;
+}
+
 /* takes one option; whether it is one */
 static int take(struct options *options, int letter, const char *value)
 {
@@ -40,6 +50,8 @@ static int take(struct options *options, int letter, const char *value)
 
     if (place != NULL)
         *place = value;
+    else if (letter == 'e')
+        return read_seconds(value, &options->every);
     else if (letter == 'n')
         options->create = 1;
     else if (letter == 'o')
@@ -59,6 +71,7 @@ int options_read(struct options *options, const char *name, int count, char **wo
                                         {"program", required_argument, NULL, 'p'},
                                         {"socket", required_argument, NULL, 's'},
                                         {"database", required_argument, NULL, 'd'},
+                                        {"every", required_argument, NULL, 'e'},
                                         {"create", no_argument, NULL, 'n'},
                                         {"overwrite", no_argument, NULL, 'o'},
                                         {"once", no_argument, NULL, '1'},
@@ -67,6 +80,7 @@ int options_read(struct options *options, const char *name, int count, char **wo
 
     memset(options, 0, sizeof *options);
     options->program = "chpw_server";
+    options->every = 60;
     opterr = 0;
     while (is_good && (letter = getopt_long(count, words, "", all, NULL)) != -1)
         is_good = take(options, letter, optarg);

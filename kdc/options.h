@@ -10,6 +10,8 @@ struct options {
     int create, overwrite;
     /* one whole pass, and no more */
     int once;
+    /* seconds between two looks at the whole database */
+    long every;
 };
 
 /* 0; or -1 for a wrong command line or a call for help, when how it is used was told */

@@ -13,8 +13,6 @@
 /* between two tries of a database that can't be had */
 #define FIRST_PAUSE 50
 #define LONGEST_PAUSE 2000
-/* between two rounds through the whole table */
-#define ROUND 60000
 
 /* tells why nothing can be written, once for as long as it is so */
 static void write_failed(struct follower *follower, const char *what, const char *why)
@@ -69,7 +67,7 @@ static void tell_pass(struct follower *follower)
     if (!follower->is_untold || follower->queue.first != NULL)
         return;
     follower->is_untold = 0;
-    follower->next_round = milliseconds() + ROUND;
+    follower->next_round = milliseconds() + 1000 * follower->options->every;
     tell("principals %zu, set %zu, failed %zu; %" PRIu64 " bytes of the journal, in %.2f s",
          follower->table.count, follower->set, follower->failed, follower->journal.position,
          (double)(milliseconds() - follower->begun) / 1000);
@@ -124,7 +122,7 @@ int follow_round(struct follower *follower)
     if (follower->round_place < follower->table.count)
         return 1;
     follower->round_place = 0;
-    follower->next_round = milliseconds() + ROUND;
+    follower->next_round = milliseconds() + 1000 * follower->options->every;
     return 0;
 }
 
