@@ -33,7 +33,7 @@ class Cases:
     def name(self, known=True):
         """A new one, in the KDC with FIRST as its password where it is to be known there."""
         self.count += 1
-        name = f"user{self.count}"
+        name = f"{type(self).__name__.lower()}{self.count}"
         if known:
             self.realm.add(name, realms.FIRST)
         return name

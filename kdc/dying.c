@@ -75,7 +75,7 @@ int flock(int file, int operation)
 }
 
 /* locks among them */
-int fcntl64(int file, int command, ...)
+int fcntl(int file, int command, ...)
 {
     va_list values;
     void *value;
@@ -85,7 +85,7 @@ int fcntl64(int file, int command, ...)
     va_end(values);
     if (command != F_GETFD && command != F_SETFD && command != F_GETFL)
         step();
-    return ((int (*)(int, int, ...))dlsym(RTLD_NEXT, "fcntl64"))(file, command, value);
+    return ((int (*)(int, int, ...))dlsym(RTLD_NEXT, "fcntl"))(file, command, value);
 }
 
 int bind(int file, const struct sockaddr *address, socklen_t length)

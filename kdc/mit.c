@@ -5,10 +5,13 @@
  * kadm5_setkey_principal_4 won't do: it sets one version, and in 1.20.1 it drops the others even where
  * it is asked to keep them. So the entry is written by the calls below it, libkdb5's.
  */
+#include <dlfcn.h>
 #include <errno.h>
+#include <fcntl.h>
 #include <kadm5/admin.h>
 #include <kdb.h>
 #include <krb5.h>
+#include <stdarg.h>
 #include <stdlib.h>
 #include <string.h>
 #include <time.h>
@@ -28,17 +31,30 @@ static char *realm;
 /* ---- waiting */
 
 /*
- * In place of the C library's, for the calls of libkdb5's module db2, which waits for its lock by a second
- * thirty times over. The lock is mostly held for less than a thousandth of that, and where somebody keeps
- * it, the follower has to go on with its socket meanwhile. So each second is a hundredth here.
+ * In place of the C library's, for libkrb5, by which libkdb5 waits for the database's lock however long
+ * somebody keeps it, as kadmin.local does from `lock` to `unlock`. The follower has to go on with its
+ * socket meanwhile, and to be ended. So a lock that isn't had within a tenth of a second is refused, and
+ * tried again later.
  */
-unsigned sleep(unsigned seconds)
+int fcntl(int file, int command, ...)
 {
-    const struct timespec nap = {0, 10000000};
+    const struct timespec nap = {0, 2000000};
+    int (*next)(int, int, ...) = (int (*)(int, int, ...))dlsym(RTLD_NEXT, "fcntl");
+    int tries = 50, once = command, found;
+    va_list values;
+    void *value;
 
-    (void)seconds;
-    nanosleep(&nap, NULL);
-    return 0;
+    va_start(values, command);
+    value = va_arg(values, void *);
+    va_end(values);
+    if (command == F_OFD_SETLKW)
+        once = F_OFD_SETLK;
+    if (command == F_SETLKW)
+        once = F_SETLK;
+    while ((found = next(file, once, value)) < 0 && once != command &&
+           (errno == EAGAIN || errno == EACCES) && tries-- > 0)
+        nanosleep(&nap, NULL);
+    return found;
 }
 
 /* ---- names */
