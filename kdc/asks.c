@@ -93,18 +93,14 @@ static void end_connection(struct asks *asks, size_t place)
         asks->connections[place] = asks->connections[asks->count];
 }
 
-/* takes connections that wait; those for which there is no place are ended at once */
+/* takes connections, for which there is a place; others wait until one is free */
 static void take_connections(struct asks *asks)
 {
-    for (;;) {
+    while (asks->count < MOST_CONNECTIONS) {
         int file = accept4(asks->listener, NULL, NULL, SOCK_CLOEXEC | SOCK_NONBLOCK);
         struct connection *connection;
         if (file < 0)
             return;
-        if (asks->count == MOST_CONNECTIONS) {
-            close(file);
-            continue;
-        }
         connection = &asks->connections[asks->count++];
         memset(connection, 0, sizeof *connection);
         connection->file = file;
@@ -227,7 +223,7 @@ size_t asks_files(const struct asks *asks, struct pollfd *files)
 
     if (asks->listener < 0)
         return 0;
-    files[0] = (struct pollfd){asks->listener, POLLIN, 0};
+    files[0] = (struct pollfd){asks->listener, asks->count < MOST_CONNECTIONS ? POLLIN : 0, 0};
     for (i = 0; i < asks->count; i++) {
         const struct connection *connection = &asks->connections[i];
         int may_read = !connection->is_read && connection->asks < MOST_ASKS;

@@ -17,12 +17,12 @@ class DeathCases(Cases):
         source = realms.HERE / "dying.c"
         options = ["-std=c11", "-D_GNU_SOURCE", "-Wall", "-Wextra", "-Werror", "-shared", "-fPIC"]
         subprocess.run(["gcc", *options, "-O1", "-o", library, source], check=True)
-        name, other = self.name(), self.name()
-        with self.own(name, other) as files:
+        name = self.name()
+        with self.own(name) as files:
             deaths, faults = self.steps(files, name, str(library))
             self.tell(f"killed at each of {deaths} steps: not carried by the next one", faults, [])
             self.tell("  some of the steps", deaths > 10)
-            self.as_table("  table and database", files, [name, other])
+            self.as_table("  table and database", files, [name])
 
     def steps(self, files, name, library):
         """How many steps there are from the start to the answer, and after which it goes wrong."""

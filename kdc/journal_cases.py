@@ -41,7 +41,9 @@ class JournalCases(Cases):
                 self.tell("  kinit with the new password, at once", self.realm.kinit(name, password))
                 self.tell("  kvno", self.realm.kvno(name), number)
             self.tell("  kinit with the former one", self.realm.kinit(name, "Answer-pass4"), False)
-            self.as_table("all versions", files, [name, other])
+            self.as_table("all versions", files, [name])
+            found = {kvno for _, kvno, *_ in self.realm.keys([other])}
+            self.tell("  who changed nothing: kvnos", found, {1})
             self.tell("told", follower.told(f"{name}@{REALM}: set, kvno"), 4)
 
     def without_asking(self):

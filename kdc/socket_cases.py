@@ -117,16 +117,16 @@ class SocketCases(Cases):
             self.tell("1000 asks at once: answers", found.count(b"0"), 1000)
 
     def places(self, files, name):
-        """So many connections at a time, and no more."""
+        """So many connections at a time; one more waits for a place."""
         with self.following(files), contextlib.ExitStack() as stack:
             askers = [stack.enter_context(Asker(files.socket, 5)) for _ in range(MOST)]
             self.tell("16 connections: answers", [asker.ask(0) for asker in askers].count(True), MOST)
-            with Asker(files.socket, 5) as late:
-                self.tell("  one more is ended", is_over(late))
-            askers[3].connection.close()
-            time.sleep(0.1)
-            with Asker(files.socket, 5) as late:
-                self.tell("  one goes, another comes: an answer", late.ask(0))
+            with Asker(files.socket, 0.3) as late:
+                late.send(b"0\n")
+                self.tell("  one more waits", late.line(), None)
+                askers[3].connection.close()
+                late.connection.settimeout(5)
+                self.tell("  one goes: an answer", late.line(), b"0")
             length = self.record(files, name)
             self.tell("  the others: an answer", askers[9].ask(length))
 
