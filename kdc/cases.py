@@ -64,7 +64,7 @@ class Cases:
         follower = Follower(self.realm, files, *options, wrap=self.wrap, **more)
         if follower.passes(60) is None:
             follower.stop()
-            raise RuntimeError(f"no pass: {follower.all_lines}")
+            raise RuntimeError(f"no pass: {follower.all_lines[-5:]}")
         return follower
 
     def as_table(self, what, files, names):

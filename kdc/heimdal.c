@@ -315,6 +315,8 @@ static long put(const struct principal *principal)
 static long create(const struct principal *principal)
 {
     static const char digits[] = "0123456789abcdef";
+    /* one kind of key will do until ours are there */
+    krb5_key_salt_tuple kind = {ETYPE_AES256_CTS_HMAC_SHA1_96, KRB5_PW_SALT};
     unsigned char bytes[RANDOM_BYTES];
     char password[2 * RANDOM_BYTES + 1] = "";
     kadm5_principal_ent_rec entry;
@@ -330,7 +332,7 @@ static long create(const struct principal *principal)
     memset(&entry, 0, sizeof entry);
     error = name_of(principal, &entry.principal);
     if (error == 0) {
-        error = kadm5_create_principal(server, &entry, KADM5_PRINCIPAL, password);
+        error = kadm5_create_principal_3(server, &entry, KADM5_PRINCIPAL, 1, &kind, password);
         krb5_free_principal(context, entry.principal);
     }
     explicit_bzero(password, sizeof password);
