@@ -25,6 +25,7 @@ HERE = pathlib.Path(__file__).resolve().parent
 sys.path.insert(0, str(HERE.parent / "interop"))
 
 import configuration
+from building import built
 from heimdal_realm import HeimdalRealm, escaped
 from realm import REALM, SERVICE, Realm
 
@@ -38,25 +39,6 @@ ETYPES = "aes256-cts:normal,aes128-cts:normal,camellia256-cts:normal"
 
 def days_until(moment):
     return round((calendar.timegm(moment) - time.time()) / 86400)
-
-
-def built(project, folder, name, flags=()):
-    """The follower of that name, built over the project's unpacked packages."""
-    include, kind = project.folder / "usr/include", name.partition("_")[2]
-    places = [pathlib.Path(place) for place in project.libraries.split(":")]
-    below = {"mit": "mit-krb5", "heimdal": "heimdal"}[kind]
-    linked = {"mit": "kadm5srv_mit kdb5 krb5 k5crypto", "heimdal": "kadm5srv hdb krb5 asn1 roken"}[kind]
-    libraries = [f"-L{place / below}" for place in places if (place / below).is_dir()]
-    libraries += [f"-l{library}" for library in linked.split()]
-    libraries += [f"-Wl,-rpath-link,{place}" for place in places]
-    variables = [
-        f"OUT={folder}",
-        f"{kind.upper()}_CFLAGS=-I{include} -I{include / below}",
-        f"{kind.upper()}_LIBS={' '.join(libraries)}",
-        f"CFLAGS=-O2 -g {' '.join(flags)}",
-    ]
-    subprocess.run(["make", "-s", "-C", HERE, *variables, f"{folder}/{name}"], check=True)
-    return str(folder / name)
 
 
 @contextlib.contextmanager
@@ -94,7 +76,7 @@ class Mit(Realm):
 
     def __enter__(self):
         super().__enter__()
-        self.program = built(self.mit, self.folder / "built", "follow_mit")
+        self.program = built(self.mit, self.folder / "built", "mit")
         for name, password in STRANGERS.items():
             self.kadmin("addprinc", "-e", ETYPES, "-pw", password, name)
         self.kadmin("addpol", "-maxlife", f"{self.LIFE} days", "usual")
@@ -148,7 +130,7 @@ class Heimdal(HeimdalRealm):
 
     def __enter__(self):
         super().__enter__()
-        self.program = built(self.heimdal, self.folder / "built", "follow_heimdal")
+        self.program = built(self.heimdal, self.folder / "built", "heimdal")
         for name, password in STRANGERS.items():
             self.kadmin("add", "--use-defaults", f"--password={password}", name)
         # of five minutes otherwise, which are over where a client's clock is five minutes ahead

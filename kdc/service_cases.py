@@ -15,6 +15,7 @@ from kill import clock_ahead
 from line_cases import quoted
 from realm import REALM
 from realms import DONE, FIRST
+from relay import Relay
 from server import Server
 
 PASSWORDS = {name: FIRST for name in ("alice", "bob", "joe blow", "carol/ops", "admin")}
@@ -56,6 +57,7 @@ class ServiceCases(Cases):
                 self.expired(number)
                 self.without_follower(number)
                 self.past_the_service(number)
+            self.held_back()
             self.at_once()
             self.keys_are_the_tables()
             self.tell("the follower ends by SIGTERM: status", self.follower.stop(), 0)
@@ -196,6 +198,23 @@ class ServiceCases(Cases):
         self.change("  bob changes his", "bob", new, lambda: self.ask("bob", new), CHANGED)
 
     # ---- at the end
+
+    def held_back(self):
+        """A reply that is held back until the follower has answered: MIT's kinit goes on to a ticket."""
+        if self.realm.KIND != "MIT":
+            return
+        relay = Relay(self.server.port, lambda: self.follower.ask(seconds=LIMIT))
+        try:
+            self.realm.point_clients_at(relay.port)
+            self.realm.ask_for_change("carol/ops")
+            new = "Carol-passheld"
+            typed = [self.passwords["carol/ops"], new, new]
+            done = self.realm.run(self.realm.mit, ["kinit", "carol/ops"], typed, "-ahead", **self.ahead)
+            self.tell("kinit with an expired password, the reply held back: status", done.returncode, 0)
+            self.has("carol/ops", new)
+        finally:
+            relay.end()
+        self.realm.point_clients_at(self.server.port)
 
     def at_once(self):
         """Changes of several users at a time, each asked for over a connection of its own."""
