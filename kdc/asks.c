@@ -93,14 +93,35 @@ static void end_connection(struct asks *asks, size_t place)
         asks->connections[place] = asks->connections[asks->count];
 }
 
+/* tells why no connection can be taken, once for as long as it is so */
+static void note_accept(struct asks *asks, int fault)
+{
+    char *line;
+
+    if (fault == EAGAIN) {
+        tell_once(&asks->fault, NULL);
+        return;
+    }
+    /* one that is gone already is none; else there are too many files, or there is no memory */
+    if (fault == EINTR || fault == ECONNABORTED)
+        return;
+    line = text_of("failed: %s: %s", asks->path, strerror(fault));
+    if (line != NULL)
+        tell_once(&asks->fault, line);
+    free(line);
+    asks->is_resting = 1;
+}
+
 /* takes connections, for which there is a place; others wait until one is free */
 static void take_connections(struct asks *asks)
 {
     while (asks->count < MOST_CONNECTIONS) {
         int file = accept4(asks->listener, NULL, NULL, SOCK_CLOEXEC | SOCK_NONBLOCK);
         struct connection *connection;
-        if (file < 0)
+        if (file < 0) {
+            note_accept(asks, errno);
             return;
+        }
         connection = &asks->connections[asks->count++];
         memset(connection, 0, sizeof *connection);
         connection->file = file;
@@ -223,7 +244,9 @@ size_t asks_files(const struct asks *asks, struct pollfd *files)
 
     if (asks->listener < 0)
         return 0;
-    files[0] = (struct pollfd){asks->listener, asks->count < MOST_CONNECTIONS ? POLLIN : 0, 0};
+    files[0] = (struct pollfd){asks->listener, POLLIN, 0};
+    if (asks->count == MOST_CONNECTIONS || asks->is_resting)
+        files[0].events = 0;
     for (i = 0; i < asks->count; i++) {
         const struct connection *connection = &asks->connections[i];
         int may_read = !connection->is_read && connection->asks < MOST_ASKS;
@@ -269,6 +292,11 @@ int asks_take(struct asks *asks, const struct pollfd *files)
     return asks->is_asked;
 }
 
+void asks_try_again(struct asks *asks)
+{
+    asks->is_resting = 0;
+}
+
 void asks_answer(struct asks *asks, uint64_t length)
 {
     size_t place;
@@ -290,4 +318,5 @@ void asks_close(struct asks *asks)
     if (asks->path != NULL)
         unlink(asks->path);
     asks->path = NULL;
+    tell_once(&asks->fault, NULL);
 }

@@ -32,6 +32,9 @@ struct asks {
     /* -1 for none */
     int listener;
     const char *path;
+    /* no connection can be taken at the moment, and why, as it was told */
+    int is_resting;
+    char *fault;
     struct connection connections[MOST_CONNECTIONS];
     size_t count;
     /* whether something was asked, and the greatest length of all that was asked since it was 0 */
@@ -51,6 +54,9 @@ size_t asks_files(const struct asks *asks, struct pollfd *files);
 
 /* takes what happened to these files; whether something was asked */
 int asks_take(struct asks *asks, const struct pollfd *files);
+
+/* connections that couldn't be taken are tried again */
+void asks_try_again(struct asks *asks);
 
 /* answers what was asked up to that length of the journal */
 void asks_answer(struct asks *asks, uint64_t length);

@@ -1,6 +1,7 @@
 #include "follow.h"
 
 #include <errno.h>
+#include <fcntl.h>
 #include <poll.h>
 #include <signal.h>
 #include <stdlib.h>
@@ -59,7 +60,7 @@ static int wait_for(struct follower *follower, int timeout)
         return 0;
     }
     follower->is_ended = files[0].revents != 0;
-    is_changed = files[1].revents != 0 && watch_take(follower->watch, follower->options->journal);
+    is_changed = files[1].revents != 0 && watch_take(&follower->watch, follower->options->journal);
     is_asked = asks_take(&follower->asks, files + 2);
     return is_asked || is_changed;
 }
@@ -99,6 +100,20 @@ static int hold_signals(void)
     return signalfd(-1, &signals, SFD_CLOEXEC | SFD_NONBLOCK);
 }
 
+/* no file that is opened may be taken for standard error: what is told would be written into it */
+static int hold_standard_files(void)
+{
+    int file;
+
+    do
+        file = open("/dev/null", O_RDWR);
+    while (file >= 0 && file <= STDERR_FILENO);
+    if (file < 0)
+        return -1;
+    close(file);
+    return 0;
+}
+
 /* keys are in its memory: it leaves no core, and nobody reads it as it runs */
 static void hide_memory(void)
 {
@@ -115,7 +130,7 @@ static char *begin(struct follower *follower)
     struct stat config;
     char *why = pass_lock(&follower->pass);
 
-    if (why != NULL || options->socket == NULL)
+    if (why != NULL || options->socket == NULL || options->once)
         return why;
     /* the service asks, to whom the configuration belongs */
     if (fstat(follower->pass.lock, &config) < 0)
@@ -145,6 +160,8 @@ int main(int argc, char **argv)
     char *why;
     int status = 1;
 
+    if (hold_standard_files() < 0)
+        return 1;
     if (options_read(&options, backend.name, argc, argv) < 0)
         return 2;
     hide_memory();

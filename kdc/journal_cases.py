@@ -1,8 +1,8 @@
 """Journals that the tests write, and what the database has of them then."""
 
 import contextlib
+import shutil
 import signal
-import threading
 import time
 
 import realms
@@ -26,7 +26,8 @@ class JournalCases(Cases):
         for case in (
             self.at_the_answer, self.without_asking, self.torn, self.begun_anew, self.rewritten,
             self.unreadable, self.unknown, self.above, self.raised, self.thousand, self.late,
-            self.is_locked, self.other_depth, self.no_database, self.program_fails, self.endings,
+            self.is_locked, self.other_depth, self.no_database, self.program_fails, self.no_files,
+            self.endings,
         ):
             case()
 
@@ -269,6 +270,33 @@ class JournalCases(Cases):
             files.program.symlink_to(self.program)
             self.tell("  it is there", follower.passes(30), "principals 1, set 0, failed 0")
             self.tell("  status", follower.stop(), 0)
+
+    def no_files(self):
+        """Started before there is a journal, in a folder that goes and comes; without standard files."""
+        name = self.name()
+        with self.own(name) as files:
+            folder = files.folder / "journals"
+            files.journal = folder / "journal"
+            follower = Follower(self.realm, files, wrap=self.wrap)
+            told = follower.wait_for("failed: ")
+            self.tell("no journal: told", told, f"failed: table: status 1: cannot read {files.journal}")
+            folder.mkdir()
+            files.begin_in(folder)
+            self.tell("  it is there", follower.passes(5), "principals 1, set 0, failed 0")
+            shutil.rmtree(folder)
+            time.sleep(1.5)
+            folder.mkdir()
+            files.begin_in(folder)
+            files.append(files.change(name))
+            self.tell("a folder that went and came: an answer", follower.ask(seconds=15))
+            files.append(files.change(name))
+            self.tell("  and of the next change", follower.ask())
+            self.tell("  status", follower.stop(), 0)
+            follower = Follower(self.realm, files, wrap=[*self.wrap, "sh", "-c", 'exec "$@" <&- >&- 2>&-', "sh"])
+            files.append(files.change(name))
+            self.tell("without standard files: an answer", follower.ask())
+            self.tell("  status", follower.stop(), 0)
+            self.as_table("  its keys", files, [name])
 
     def endings(self):
         """Signals, a second follower, and wrong command lines."""

@@ -144,6 +144,7 @@ static int can_go_on(struct follower *follower)
 void follow_look(struct follower *follower)
 {
     follower->next_look = milliseconds() + EVERY;
+    asks_try_again(&follower->asks);
     if (follower->watch < 0)
         follower->watch = watch_open(follower->options->journal);
     if (can_go_on(follower) && take_records(follower))

@@ -59,7 +59,10 @@ class OwnJournal(Files):
 
     def begin(self):
         """An empty journal in place of the one that is there."""
-        fresh = self.folder / "journal.new"
+        self.begin_in(self.folder)
+
+    def begin_in(self, folder):
+        fresh = folder / "journal.new"
         fresh.write_bytes(b"")
         fresh.chmod(0o600)
         fresh.rename(self.journal)

@@ -128,6 +128,7 @@ static char *skip(struct journal *journal)
         found = journal_next(journal, &record);
     while (found == FOUND_RECORD);
     explicit_bzero(&record, sizeof record);
+    journal_wipe(journal);
     return found == FOUND_FAILURE ? text_of("%s: %s", journal->path, strerror(errno)) : NULL;
 }
 

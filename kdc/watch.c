@@ -52,21 +52,25 @@ int watch_open(const char *path)
     return -1;
 }
 
-int watch_take(int watch, const char *path)
+int watch_take(int *watch, const char *path)
 {
     _Alignas(struct inotify_event) char bytes[4096];
     const struct inotify_event *event;
-    int is_ours = 0;
+    int is_ours = 0, is_gone = 0;
     ssize_t length, place;
 
-    while ((length = read(watch, bytes, sizeof bytes)) > 0) {
+    while ((length = read(*watch, bytes, sizeof bytes)) > 0) {
         for (place = 0; place < length; place += (ssize_t)(sizeof *event + event->len)) {
             event = (const struct inotify_event *)(const void *)(bytes + place);
+            is_gone |= (event->mask & IN_IGNORED) != 0;
             /* where some were lost, ours may have been among them */
-            if ((event->mask & IN_Q_OVERFLOW) != 0 ||
-                (event->len > 0 && strcmp(event->name, name_of(path)) == 0))
-                is_ours = 1;
+            is_ours |= (event->mask & IN_Q_OVERFLOW) != 0 ||
+                       (event->len > 0 && strcmp(event->name, name_of(path)) == 0);
         }
+    }
+    if (is_gone) {
+        close(*watch);
+        *watch = -1;
     }
     return is_ours;
 }

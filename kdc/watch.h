@@ -17,7 +17,8 @@ int is_same_stamp(const struct stamp *one, const struct stamp *other);
    then there are only the looks of each second */
 int watch_open(const char *path);
 
-/* takes what happened; whether it was to the path's own file */
-int watch_take(int watch, const char *path);
+/* takes what happened; whether it was to the path's own file. Where the folder is gone, it is closed,
+   and -1 from now on */
+int watch_take(int *watch, const char *path);
 
 #endif
