@@ -185,20 +185,22 @@ class SocketCases(Cases):
     def slow_pass(self, files, name):
         """Nothing is answered before the first pass is over."""
         program = files.folder / "slow"
-        program.write_text(f'#!/bin/sh\nsleep 1\nexec {files.program} "$@"\n')
+        # a follower under valgrind takes a while until it starts it
+        seconds = 8 if self.wrap else 1
+        program.write_text(f'#!/bin/sh\nsleep {seconds}\nexec {files.program} "$@"\n')
         program.chmod(0o755)
         files.program = program
         files.append(files.change(name))
         follower = Follower(self.realm, files, wrap=self.wrap)
         begun = time.monotonic()
-        self.tell("a slow pass: an answer", follower.ask(seconds=20))
+        self.tell("a slow pass: an answer", follower.ask(seconds=20 + 2 * seconds))
         self.tell("  not before it is over", follower.told("principals "), 1)
         self.tell("  status", follower.stop(), 0)
         follower = Follower(self.realm, files, wrap=self.wrap)
-        time.sleep(0.5)
+        time.sleep(seconds / 2)
         begun = time.monotonic()
         self.tell("ended in the midst of it: status", follower.stop(), 0)
-        self.tell("  at once", time.monotonic() - begun < (5 if self.wrap else 0.9))
+        self.tell("  at once", time.monotonic() - begun < seconds / 2)
 
     def killed(self, files, name):
         """The service sees at once that a follower is gone, and finds the next one."""
