@@ -36,7 +36,7 @@ struct backend {
     /* gives it the table's keys and no others, in one transaction; and what else a change of the
        password brings with it is so, too */
     long (*put)(const struct principal *principal);
-    /* whether the code means that the database can't be had at the moment, by anybody */
+    /* whether the code, one of the project's own, means that the database can't be had at the moment */
     int (*is_away)(long error);
     /* the code in words, to be freed */
     char *(*message)(long error);

@@ -1,5 +1,6 @@
 #include "bring.h"
 
+#include <errno.h>
 #include <inttypes.h>
 #include <string.h>
 
@@ -62,11 +63,25 @@ static char *refusal_by(const struct options *options, const struct principal *p
     return NULL;
 }
 
+/* whether one of the system's numbers says that the database can't be had, and nothing of a principal */
+static int is_system_away(long error)
+{
+    static const int all[] = {EACCES, EAGAIN, EBUSY,  EDEADLK, EDQUOT, EINTR,   EIO,   EMFILE, ENFILE,
+                              ENOENT, ENOLCK, ENOMEM, ENOSPC,  ENOTDIR, EPERM, EROFS, ESTALE, ETXTBSY};
+    size_t i;
+
+    for (i = 0; i < sizeof all / sizeof *all; i++)
+        if (error == all[i])
+            return 1;
+    return 0;
+}
+
 static enum outcome failed(long error, int is_away, char **why)
 {
     *why = backend.message(error);
     bring_end();
-    return is_away || backend.is_away(error) ? BROUGHT_AWAY : BROUGHT_FAILED;
+    return is_away || is_system_away(error) || backend.is_away(error) ? BROUGHT_AWAY
+                                                                      : BROUGHT_FAILED;
 }
 
 enum outcome bring(const struct options *options, const struct principal *principal, char **why)

@@ -1,6 +1,7 @@
 """What all tests of a follower have: a realm, the service's program, and a line for each check."""
 
 import contextlib
+import re
 import shutil
 
 import realms
@@ -59,6 +60,10 @@ class Cases:
         if status != 0:
             self.tell("the follower's status", status, 0)
             print("\n".join(follower.all_lines), flush=True)
+        # a key of AES-128 in hexadecimal, or more
+        secret = [line for line in follower.all_lines if re.search("[0-9A-Fa-f]{32}", line)]
+        if secret:
+            self.tell("lines that may have a key in them", len(secret), 0)
 
     def begin(self, files, *options, **more):
         follower = Follower(self.realm, files, *options, wrap=self.wrap, **more)

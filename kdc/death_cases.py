@@ -28,9 +28,13 @@ class DeathCases(Cases):
         """How many steps there are from the start to the answer, and after which it goes wrong."""
         faults = []
         for step in range(1, MOST_STEPS):
+            # one that the first pass finds, and one that is taken up behind it
             files.append(files.change(name))
             dying = Follower(self.realm, files, LD_PRELOAD=library, DYING_AT=str(step))
             is_answered = self.waits(dying)
+            if is_answered:
+                files.append(files.change(name))
+                is_answered = self.waits(dying)
             dying.stop(9)
             follower = self.begin(files)
             kvno = self.realm.kvno(name)

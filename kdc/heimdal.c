@@ -246,6 +246,24 @@ static krb5_error_code replace_keys(hdb_entry *entry, const struct principal *pr
 
 /* ---- writing */
 
+/* who changed the entry, and when; libhdb's own call for it loses some memory each time */
+static krb5_error_code note_writer(hdb_entry *entry, time_t now)
+{
+    Event event = {.time = now};
+    krb5_error_code error = krb5_copy_principal(context, server->caller, &event.principal);
+
+    if (error == 0 && entry->modified_by == NULL &&
+        (entry->modified_by = calloc(1, sizeof *entry->modified_by)) == NULL)
+        error = ENOMEM;
+    if (error != 0) {
+        krb5_free_principal(context, event.principal);
+        return error;
+    }
+    free_Event(entry->modified_by);
+    *entry->modified_by = event;
+    return 0;
+}
+
 /* what else is so after a change of a password: as kadmind does it */
 static krb5_error_code note_change(hdb_entry *entry)
 {
@@ -258,7 +276,7 @@ static krb5_error_code note_change(hdb_entry *entry)
     if (error == 0)
         error = hdb_clear_extension(context, entry, choice_HDB_extension_data_lm_owf);
     if (error == 0)
-        error = hdb_set_last_modified_by(context, entry, server->caller, now);
+        error = note_writer(entry, now);
     entry->flags.require_pwchange = 0;
     if (entry->pw_end != NULL)
         *entry->pw_end = now + krb5_config_get_time_default(context, NULL, PASSWORD_LIFE, "kadmin",
@@ -378,9 +396,6 @@ static void close_database(void)
 
 static int is_away(long error)
 {
-    /* numbers of the system; memory that is lacking is among them */
-    if (error > 0 && error < 256)
-        return 1;
     return error == HDB_ERR_DB_INUSE || error == HDB_ERR_CANT_LOCK_DB || error == HDB_ERR_NOTLOCKED ||
            error == HDB_ERR_DB_CHANGED || error == HDB_ERR_NO_MKEY;
 }

@@ -110,6 +110,8 @@ static int fill(struct journal *journal, size_t wanted)
     length = read_at(journal->file, journal->bytes, JOURNAL_ROOM, journal->position);
     journal->start = journal->position;
     journal->length = length < 0 ? 0 : (size_t)length;
+    if (journal->used < journal->length)
+        journal->used = journal->length;
     return length < 0 ? -1 : 0;
 }
 
@@ -151,9 +153,10 @@ int journal_sync(struct journal *journal)
 
 void journal_wipe(struct journal *journal)
 {
-    explicit_bzero(journal->bytes, journal->length);
+    explicit_bzero(journal->bytes, journal->used);
     journal->start = 0;
     journal->length = 0;
+    journal->used = 0;
 }
 
 void journal_close(struct journal *journal)

@@ -26,6 +26,8 @@ struct journal {
     unsigned char bytes[JOURNAL_ROOM];
     uint64_t start;
     size_t length;
+    /* how many of them were used since they were wiped */
+    size_t used;
 };
 
 /* a change; the name points into the journal's bytes, and holds until the next call */

@@ -27,7 +27,7 @@ class JournalCases(Cases):
             self.at_the_answer, self.without_asking, self.torn, self.begun_anew, self.rewritten,
             self.unreadable, self.unknown, self.above, self.raised, self.thousand, self.late,
             self.is_locked, self.other_depth, self.no_database, self.program_fails, self.no_files,
-            self.endings,
+            self.memory, self.endings,
         ):
             case()
 
@@ -298,6 +298,23 @@ class JournalCases(Cases):
             self.tell("  status", follower.stop(), 0)
             self.as_table("  its keys", files, [name])
 
+    def memory(self):
+        """Keys that the service keeps no more aren't in the follower's memory; Heimdal's library leaves some."""
+        name = self.name()
+        with self.own(name, depth=1) as files, self.following(files) as follower:
+            former = []
+            for _ in range(3):
+                former += files.versions[name][0][1]
+                files.append(files.change(name))
+                self.tell("a change: an answer", follower.ask())
+            time.sleep(0.2)
+            found = memory_of(follower.process.pid)
+            if found is None or self.realm.KIND == "Heimdal" or self.wrap:
+                return
+            left = [key for key in former if key in found or key.hex().encode() in found]
+            self.tell("  keys of now in its memory", all(key in found for key in files.versions[name][0][1]))
+            self.tell("  former ones", len(left), 0)
+
     def endings(self):
         """Signals, a second follower, and wrong command lines."""
         name = self.name()
@@ -314,6 +331,22 @@ class JournalCases(Cases):
                 wrong = Follower(self.realm, files, *words)
                 self.tell(f"{words}: status", wrong.process.wait(timeout=20), 2)
                 wrong.reader.join()
+
+
+def memory_of(process):
+    """All that it can write to; nothing where we may not look."""
+    parts = []
+    try:
+        with open(f"/proc/{process}/maps") as maps, open(f"/proc/{process}/mem", "rb", 0) as memory:
+            for line in maps:
+                place, rights = line.split()[:2]
+                begin, end = (int(part, 16) for part in place.split("-"))
+                if rights.startswith("rw"):
+                    memory.seek(begin)
+                    parts.append(memory.read(end - begin))
+    except OSError:
+        return None
+    return b"".join(parts)
 
 
 class MoreThan:

@@ -345,9 +345,6 @@ static void close_database(void)
 
 static int is_away(long error)
 {
-    /* numbers of the system; memory that is lacking is among them */
-    if (error > 0 && error < 256)
-        return 1;
     return error == KRB5_KDB_CANTLOCK_DB || error == OSA_ADB_CANTLOCK_DB ||
            error == KRB5_KDB_NOTLOCKED || error == KRB5_KDB_DBNOTINITED ||
            error == KRB5_KDB_DB_INUSE || error == KRB5_KDB_DB_CHANGED || error == KADM5_NOT_INIT;
