@@ -15,6 +15,8 @@ GARBAGE = [
     b"12345678901234567890\n", b"0" * 20, b"1" * 21, b"66\nx\n",
 ]
 MOST = 16
+# another user than root
+NOBODY = 65534
 
 
 def is_over(asker):
@@ -47,6 +49,12 @@ class SocketCases(Cases):
             self.tell("  its mode", oct(found.st_mode & 0o7777), "0o600")
             self.tell("  its owner", found.st_uid, files.configuration.stat().st_uid)
         self.tell("  gone at the end", files.socket.exists(), False)
+        if os.geteuid() == 0:
+            os.chown(files.configuration, NOBODY, -1)
+            with self.following(files):
+                found = files.socket.lstat()
+                owner = found.st_uid, oct(found.st_mode & 0o7777)
+                self.tell("another's configuration: the socket's owner and mode", owner, (NOBODY, "0o600"))
 
     def stale(self, files, name):
         """One that a follower left which was killed."""
