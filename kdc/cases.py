@@ -65,6 +65,12 @@ class Cases:
         if secret:
             self.tell("lines that may have a key in them", len(secret), 0)
 
+    def ends(self, follower):
+        status = follower.stop()
+        self.tell("  status", status, 0)
+        if status != 0:
+            print("\n".join(follower.all_lines), flush=True)
+
     def begin(self, files, *options, **more):
         follower = Follower(self.realm, files, *options, wrap=self.wrap, **more)
         if follower.passes(60) is None:

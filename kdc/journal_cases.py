@@ -206,7 +206,7 @@ class JournalCases(Cases):
                 time.sleep(0.002)
             self.tell("started late, changes meanwhile: an answer", follower.ask(seconds=60))
             self.as_table("  table and database", files, names)
-            self.tell("  status", follower.stop(), 0)
+            self.ends(follower)
 
     def is_locked(self):
         """A database that somebody has locked is written when it can be, and nothing is lost."""
@@ -254,7 +254,7 @@ class JournalCases(Cases):
             time.sleep(1.5)
             self.tell("  how often", follower.told("failed: database: "), 1)
             self.tell("  an answer", follower.ask(0, seconds=0.5), False)
-            self.tell("  status", follower.stop(), 0)
+            self.ends(follower)
 
     def program_fails(self):
         """A program that isn't there, or whose lines are cut off, is told once."""
@@ -269,7 +269,7 @@ class JournalCases(Cases):
             self.tell("  how often", follower.told("failed: "), 1)
             files.program.symlink_to(self.program)
             self.tell("  it is there", follower.passes(30), "principals 1, set 0, failed 0")
-            self.tell("  status", follower.stop(), 0)
+            self.ends(follower)
 
     def no_files(self):
         """Started before there is a journal, in a folder that goes and comes; without standard files."""
@@ -291,11 +291,11 @@ class JournalCases(Cases):
             self.tell("a folder that went and came: an answer", follower.ask(seconds=15))
             files.append(files.change(name))
             self.tell("  and of the next change", follower.ask())
-            self.tell("  status", follower.stop(), 0)
+            self.ends(follower)
             follower = Follower(self.realm, files, wrap=[*self.wrap, "sh", "-c", 'exec "$@" <&- >&- 2>&-', "sh"])
             files.append(files.change(name))
             self.tell("without standard files: an answer", follower.ask())
-            self.tell("  status", follower.stop(), 0)
+            self.ends(follower)
             self.as_table("  its keys", files, [name])
 
     def memory(self):

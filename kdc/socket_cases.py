@@ -203,7 +203,7 @@ class SocketCases(Cases):
         begun = time.monotonic()
         self.tell("a slow pass: an answer", follower.ask(seconds=20 + 2 * seconds))
         self.tell("  not before it is over", follower.told("principals "), 1)
-        self.tell("  status", follower.stop(), 0)
+        self.ends(follower)
         follower = Follower(self.realm, files, wrap=self.wrap)
         time.sleep(seconds / 2)
         begun = time.monotonic()
