@@ -22,6 +22,10 @@ from cases import Cases, Passed
 from follower import Asker
 
 
+# seconds that the principals may take to be made: each wants two syncs
+PATIENCE = 600
+
+
 def flushes(folder, count=50):
     """Milliseconds that the disk takes for a record that is appended and synced: the median."""
     times = []
@@ -87,7 +91,7 @@ def main():
             if kind == "heimdal":
                 make_heimdal(realm, files)
             else:
-                cases.begin(files, "--create").stop()
+                cases.begin(files, "--create", seconds=PATIENCE).stop()
             begun = time.monotonic()
             cases.begin(files).stop()
             passed = time.monotonic() - begun

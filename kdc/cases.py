@@ -71,9 +71,9 @@ class Cases:
         if status != 0:
             print("\n".join(follower.all_lines), flush=True)
 
-    def begin(self, files, *options, **more):
+    def begin(self, files, *options, seconds=60, **more):
         follower = Follower(self.realm, files, *options, wrap=self.wrap, **more)
-        if follower.passes(60) is None:
+        if follower.passes(seconds) is None:
             follower.stop()
             raise RuntimeError(f"no pass: {follower.all_lines[-5:]}")
         return follower

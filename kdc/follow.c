@@ -19,6 +19,8 @@
 
 /* the signals, the journal's folder, and the socket with its connections */
 #define MOST_FILES (2 + MOST_ASKS_FILES)
+/* milliseconds that a service may take from its write to its ask */
+#define LONGEST_EXPECTATION 50
 
 int64_t milliseconds(void)
 {
@@ -46,6 +48,16 @@ static int time_left(const struct follower *follower)
     return next <= now ? 0 : (int)(next - now);
 }
 
+/* a service that is connected asks when it has synced what it writes now. To wait for that saves a sync of
+   the follower's own, during which the other one's would take longer; but it doesn't wait for long */
+static void expect_ask(struct follower *follower)
+{
+    int64_t latest = milliseconds() + LONGEST_EXPECTATION;
+
+    if (follower->next_look > latest)
+        follower->next_look = latest;
+}
+
 /* waits for something to happen, and takes it; whether the files have to be looked at */
 static int wait_for(struct follower *follower, int timeout)
 {
@@ -62,6 +74,10 @@ static int wait_for(struct follower *follower, int timeout)
     follower->is_ended = files[0].revents != 0;
     is_changed = files[1].revents != 0 && watch_take(&follower->watch, follower->options->journal);
     is_asked = asks_take(&follower->asks, files + 2);
+    if (is_changed && !is_asked && follower->asks.count > 0) {
+        expect_ask(follower);
+        return 0;
+    }
     return is_asked || is_changed;
 }
 
