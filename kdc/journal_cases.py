@@ -1,8 +1,10 @@
 """Journals that the tests write, and what the database has of them then."""
 
 import contextlib
+import os
 import shutil
 import signal
+import subprocess
 import time
 
 import realms
@@ -27,7 +29,7 @@ class JournalCases(Cases):
             self.at_the_answer, self.without_asking, self.torn, self.begun_anew, self.rewritten,
             self.unreadable, self.unknown, self.above, self.raised, self.thousand, self.late,
             self.is_locked, self.other_depth, self.no_database, self.program_fails, self.no_files,
-            self.memory, self.endings,
+            self.nobody_reads, self.memory, self.endings,
         ):
             case()
 
@@ -296,6 +298,30 @@ class JournalCases(Cases):
             files.append(files.change(name))
             self.tell("without standard files: an answer", follower.ask())
             self.ends(follower)
+            self.as_table("  its keys", files, [name])
+
+    def nobody_reads(self):
+        """Standard error is a pipe that is full: lines are lost, and nothing else."""
+        name = self.name()
+        with self.own(name) as files:
+            reader, writer = os.pipe()
+            os.set_blocking(writer, False)
+            with contextlib.suppress(BlockingIOError):
+                while True:
+                    os.write(writer, bytes(4096))
+            os.set_blocking(writer, True)
+            command, environment = self.realm.follower(files.words())
+            process = subprocess.Popen(
+                [*self.wrap, *command], stderr=writer, env=environment, start_new_session=True
+            )
+            with Asker(files.socket, 20) as asker:
+                for _ in range(5):
+                    files.append(files.change(name))
+                    self.tell("nobody reads what is told: an answer", asker.ask(files.length()))
+            process.send_signal(signal.SIGTERM)
+            self.tell("  status", process.wait(timeout=20), 0)
+            os.close(reader)
+            os.close(writer)
             self.as_table("  its keys", files, [name])
 
     def memory(self):

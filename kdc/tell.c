@@ -1,15 +1,33 @@
 #include "tell.h"
 
 #include <errno.h>
+#include <poll.h>
 #include <stdarg.h>
 #include <stdio.h>
 #include <stdlib.h>
 #include <string.h>
 #include <unistd.h>
 
+/* milliseconds that a line may wait to be taken */
+#define PATIENCE 500
+
+/* whether standard error takes something */
+static int is_taken(void)
+{
+    static int patience = PATIENCE;
+    struct pollfd file = {STDERR_FILENO, POLLOUT, 0};
+
+    if (poll(&file, 1, patience) == 0) {
+        patience = 0;
+        return 0;
+    }
+    patience = PATIENCE;
+    return 1;
+}
+
 static void put(const char *bytes, size_t length)
 {
-    while (length > 0) {
+    while (length > 0 && is_taken()) {
         ssize_t count = write(STDERR_FILENO, bytes, length);
         if (count < 0 && errno == EINTR)
             continue;

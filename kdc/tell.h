@@ -1,4 +1,7 @@
-/* What the follower tells: lines on standard error, each in one write. No key ever stands in one. */
+/*
+ * What the follower tells: lines on standard error, each in one write. No key ever stands in one. Where
+ * nobody reads them a line is lost after half a second, and the next ones at once until one is taken again.
+ */
 #ifndef TELL_H
 #define TELL_H
 
