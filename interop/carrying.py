@@ -1,24 +1,25 @@
-"""Carries the service's table into the database of an MIT KDC, by into_mit.c."""
+"""Carries the service's table into the database of an MIT KDC, by a whole pass of kdc's follow_mit."""
 
-import subprocess
+import sys
 
-from realm import REALM, Failed
+from realm import HERE, REALM, Failed
 
-LIBRARIES = "kadm5srv_mit", "kdb5", "krb5", "k5crypto"
+sys.path.append(str(HERE.parent / "kdc"))
+
+from building import built
 
 
 class Carrier:
-    """Runs `table --as keys` of a server, and gives what it prints to the program."""
+    """Runs `follow_mit --once` on a server's configuration and journal."""
 
     def __init__(self, realm, server):
         self.realm = realm
-        files = ["--config", server.configuration, "--journal", server.journal]
-        self.table = [server.program, "table", *files, "--as", "keys"]
-        self.program = realm.compiled("into_mit", *LIBRARIES)
+        files = ["--config", str(server.configuration), "--journal", str(server.journal)]
+        program = built(realm.mit, realm.folder / "built", "mit")
+        self.command = [program, *files, "--realm", REALM, "--program", str(server.program), "--once"]
 
     def carry(self):
         """The keys of each principal that was changed since: the KDC has no others then."""
-        lines = subprocess.run(self.table, capture_output=True, text=True, check=True).stdout
-        done = self.realm.run(self.realm.mit, [self.program, REALM], lines.splitlines())
+        done = self.realm.run(self.realm.mit, self.command)
         if done.returncode != 0:
-            raise Failed(f"into_mit: {done.stdout}{done.stderr}")
+            raise Failed(f"follow_mit: {done.stdout}{done.stderr}")

@@ -1,5 +1,5 @@
 #!/usr/bin/env bash
-# Unpacks MIT Kerberos (KDC, kadmind, clients, library and headers) and Heimdal (KDC and clients) from
+# Unpacks MIT Kerberos and Heimdal (of both KDC, kadmin, clients, libraries and headers) from
 # Debian's packages into FOLDER/mit and FOLDER/heimdal. Nothing is installed: the two conflict as
 # packages, and not as folders. The packages are those of the lists that `apt-get update` fetched.
 set -euo pipefail
@@ -17,7 +17,7 @@ heimdal=(heimdal-clients heimdal-kdc libkdc2-heimdal libcap-ng0 libasn1-8-heimda
     libhcrypto5-heimdal libhdb9-heimdal libheimbase1-heimdal libheimntlm0-heimdal libhx509-5-heimdal
     libkadm5clnt7-heimdal libkadm5srv8-heimdal libkafs0-heimdal libkrb5-26-heimdal libotp0-heimdal
     libroken19-heimdal libsl0-heimdal libwind0-heimdal liblmdb0 libcom-err2 libdb5.3 libsqlite3-0
-    libedit2 libbsd0 libmd0)
+    libedit2 libbsd0 libmd0 heimdal-multidev comerr-dev)
 
 # unpack NAME PACKAGE..: into FOLDER/NAME, unless these are there already
 unpack() {

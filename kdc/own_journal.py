@@ -1,0 +1,95 @@
+"""A configuration and a journal that the tests write themselves, and what a KDC should have of them."""
+
+import os
+
+import realms
+from changepw_client import string_to_key
+from follower import Files
+from journal import raise_record
+from realm import REALM
+
+COUNT = 4096
+DEPTH = 3
+
+
+def keys_of(name, password):
+    """Both keys of a password: etype 17's and 18's."""
+    salt = (REALM + name.replace("/", "")).encode()
+    return tuple(string_to_key(size, password.encode(), salt, COUNT) for size in (16, 32))
+
+
+def change_record(name, kvno, keys):
+    """A change's record (docs/JOURNAL.md)."""
+    parts = [part.encode() for part in name.split("/")]
+    body = b"\1" + kvno.to_bytes(4, "big") + COUNT.to_bytes(4, "big") + keys[0] + keys[1]
+    body += bytes([len(parts)]) + b"".join(bytes([len(part)]) + part for part in parts)
+    return len(body).to_bytes(2, "big") + body
+
+
+def stanza(name, versions):
+    rows = "".join(
+        f'[[principal.key]]\nkvno = {kvno}\niterations = {COUNT}\n'
+        f'aes128 = "{keys[0].hex()}"\naes256 = "{keys[1].hex()}"\n'
+        for kvno, keys in versions
+    )
+    return f'[[principal]]\nname = "{name}"\n{rows}'
+
+
+class OwnJournal(Files):
+    """The principals are those of the names, each with the keys of FIRST as its first version."""
+
+    def __init__(self, folder, program, names, depth=DEPTH):
+        super().__init__(folder, program)
+        folder.mkdir()
+        self.depth = depth
+        # of each name its versions, newest first, as pairs of kvno and keys
+        self.versions = {name: [(1, keys_of(name, realms.FIRST))] for name in names}
+        self.write_configuration()
+        self.begin()
+
+    def write_configuration(self):
+        """Of the keys of now, so that an empty journal goes with it."""
+        self.configuration.write_text(
+            f'[service]\nrealm = "{REALM}"\n[[service.key]]\nkvno = 1\netype = 18\nkey = "{"5a" * 32}"\n'
+            f"[policy]\nmin_length = 6\nmin_classes = 2\ndepth = {self.depth}\niterations = {COUNT}\n"
+            "set_needs_initial = false\n"
+            + "".join(stanza(name, versions) for name, versions in sorted(self.versions.items()))
+        )
+        self.configuration.chmod(0o600)
+
+    def begin(self):
+        """An empty journal in place of the one that is there."""
+        self.begin_in(self.folder)
+
+    def begin_in(self, folder):
+        fresh = folder / "journal.new"
+        fresh.write_bytes(b"")
+        fresh.chmod(0o600)
+        fresh.rename(self.journal)
+
+    def append(self, data):
+        """As the service does: written and synced."""
+        with self.journal.open("ab") as file:
+            file.write(data)
+            file.flush()
+            os.fsync(file.fileno())
+
+    def change(self, name, password=None, keys=None):
+        """The record of the next version, which counts as made from now on."""
+        keys = keys or (keys_of(name, password) if password else (os.urandom(16), os.urandom(32)))
+        versions = self.versions[name]
+        kvno = versions[0][0] + 1
+        self.versions[name] = [(kvno, keys), *versions][: max(self.depth, 1)]
+        return change_record(name, kvno, keys)
+
+    def raised(self, count):
+        return raise_record(count)
+
+    def keys(self, names):
+        """What `Realm.keys` has to find."""
+        return {
+            (name, kvno, etype, keys[place].hex())
+            for name in names
+            for kvno, keys in self.versions[name]
+            for place, etype in enumerate((17, 18))
+        }
