@@ -1,4 +1,4 @@
-"""Which edits were refused, and over which texts."""
+"""Which edits were refused, or caught by a test, and over which texts."""
 import fcntl
 import hashlib
 import os
@@ -7,13 +7,14 @@ import subprocess
 
 
 def files_of(folder):
-    """A crate's files that a check reads, in order."""
+    """A crate's files that a check, or a run of its cases, reads, in order."""
     parts = (os.walk(f"{folder}/{part}") for part in ("src", "specs", "proofs"))
-    return sorted(f"{at}/{name}" for part in parts for at, _, names in part for name in names)
+    cases = [f"{folder}/{name}" for name in ("stdin", "stdout") if os.path.exists(f"{folder}/{name}")]
+    return sorted([f"{at}/{name}" for part in parts for at, _, names in part for name in names] + cases)
 
 
 class Verdicts:
-    """A file with a line for each edit that was refused: its crate and name, and the sum of all that the verdict stands on."""
+    """A file with a line for each edit that was refused or caught: its path, and the sum of all that the verdict stands on."""
 
     def __init__(self, path, top, all_below):
         self.path, self.top, self.all_below = path, top, all_below
@@ -39,31 +40,32 @@ class Verdicts:
             self.sums[name] = found.hexdigest()
         return self.sums[name]
 
-    def sum_of(self, name, edit):
-        """The sum of an edit, its crate, all below that, and the toolchain."""
-        with open(f"{self.top}/trials/{name}/{edit}", "rb") as file:
-            found = hashlib.sha256(self.kit + file.read())
-        for it in sorted(self.all_below(name) | {name}):
+    def sum_of(self, edit, crate, script=None):
+        """The sum of an edit, the crate that was checked or tested over it, all below that, a script, and the toolchain."""
+        found = hashlib.sha256(self.kit)
+        for path in [f"trials/{edit}", *([script] if script else [])]:
+            with open(f"{self.top}/{path}", "rb") as file:
+                found.update(file.read())
+        for it in sorted(self.all_below(crate) | {crate}):
             found.update(f"{it} {self.crate_sum(it)}\n".encode())
         return found.hexdigest()[:32]
 
-    def has(self, name, edit):
-        """Whether this edit was refused over the texts as they stand."""
-        return self.lines.get(f"{name}/{edit}") == self.sum_of(name, edit)
+    def has(self, edit, crate, script=None):
+        """Whether this edit was refused or caught over the texts as they stand."""
+        return self.lines.get(edit) == self.sum_of(edit, crate, script)
 
     def forget(self):
         """All are to be tried again."""
         self.lines = {}
 
-    def note(self, name, edits, found):
-        """Writes down which of these edits were refused, beside what another run wrote meanwhile."""
+    def note(self, edit, is_good, crate, script=None):
+        """Writes down what came of an edit, beside what another run wrote meanwhile."""
         with open(f"{self.path}.lock", "w", encoding="utf-8") as lock:
             fcntl.flock(lock, fcntl.LOCK_EX)
             lines = self.read()
-            for edit, (is_refused, _) in zip(edits, found):
-                lines.pop(f"{name}/{edit}", None)
-                if is_refused:
-                    lines[f"{name}/{edit}"] = self.sum_of(name, edit)
+            lines.pop(edit, None)
+            if is_good:
+                lines[edit] = self.sum_of(edit, crate, script)
             there = sorted(it for it in lines.items() if os.path.exists(f"{self.top}/trials/{it[0]}"))
             with open(f"{self.path}.new", "w", encoding="utf-8") as file:
                 file.writelines(f"{it} {found}\n" for it, found in there)
