@@ -1,7 +1,8 @@
 #!/usr/bin/env bash
 # Unpacks MIT Kerberos and Heimdal (of both KDC, kadmin, clients, libraries and headers) from
-# Debian's packages into FOLDER/mit and FOLDER/heimdal. Nothing is installed: the two conflict as
-# packages, and not as folders. The packages are those of the lists that `apt-get update` fetched.
+# Debian's packages into FOLDER/mit and FOLDER/heimdal, and into FOLDER/kpropd what a replica of MIT's
+# runs. Nothing is installed: the two conflict as packages, and not as folders. The packages are those
+# of the lists that `apt-get update` fetched.
 set -euo pipefail
 
 if [[ $# -ne 1 ]]; then
@@ -42,3 +43,4 @@ mkdir -p "$1"
 folder=$(cd "$1" && pwd)
 unpack mit "${mit[@]}"
 unpack heimdal "${heimdal[@]}"
+unpack kpropd krb5-kpropd

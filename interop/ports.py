@@ -19,11 +19,11 @@ def free_ports(count):
         return ports
 
 
-def is_open(port, process):
+def is_open(port, process, address="127.0.0.1"):
     """Whether somebody listens within ten seconds, before the process ends."""
     for _ in range(200):
         with socket.socket() as probe:
-            if probe.connect_ex(("127.0.0.1", port)) == 0:
+            if probe.connect_ex((address, port)) == 0:
                 return True
         if process.poll() is not None:
             return False
