@@ -109,6 +109,8 @@ pub record AsksServe (options : List Row) (asked : ServeOptions) : Type 0 where
   pub buffers : HasNumberOr 32 1 1024 options (codes "buffers") asked.buffers
   pub raise : MayHaveNumber 1 16777216 options (codes "raise") asked.raise
   pub log : option_map (λ file. file.now) asked.log ≡ first_of (codes "log") options
+  pub follower : option_map (λ socket. socket.now) asked.follower ≡ first_of (codes "follower") options
+  pub follower_wait : HasNumberOr 2000 1 60000 options (codes "follower-wait") asked.follower_wait
 
 pub record AsksClient (options : List Row) (asked : ClientOptions) : Type 0 where
   pub config : HasText options (codes "config") asked.config.now

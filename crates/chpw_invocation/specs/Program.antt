@@ -4,7 +4,7 @@ use Rattle.clap.specs.Walk.{Rule, Text}
 use Rattle.clap.specs.Simple.{App, Shape, app_of, new_shape}
 use Rattle.clap.specs.declared.builder.command.Command.{Command}
 use Rattle.clap.specs.declared.builder.command.Command.TheViews.{out-Command}
-use Rattle.chpw_invocation.specs.Options.{required, optional, flag, port, workers, connections, idle, clients, buffers, raise, iterations, kvno}
+use Rattle.chpw_invocation.specs.Options.{required, optional, flag, port, workers, connections, idle, clients, buffers, raise, follower_wait, iterations, kvno}
 
 abbrev pub command : Text → List Rule → Shape
 command name options = record (new_shape name) { rules = options }
@@ -56,7 +56,7 @@ key = command (codes "key")
     ∷ [])
 
 -- serve --config FILE --journal FILE --seed FILE --port N --workers N --connections N [--idle SECONDS]
--- [--clients N] [--buffers MEBIBYTES] [--raise COUNT] [--log FILE]
+-- [--clients N] [--buffers MEBIBYTES] [--raise COUNT] [--log FILE] [--follower SOCKET] [--follower-wait MILLISECONDS]
 abbrev pub serve : Shape
 serve = command (codes "serve")
     (required (codes "config")
@@ -70,6 +70,8 @@ serve = command (codes "serve")
     ∷ buffers
     ∷ raise
     ∷ optional (codes "log")
+    ∷ optional (codes "follower")
+    ∷ follower_wait
     ∷ [])
 
 -- client --config FILE --seed FILE --port N --client NAME --password TEXT [--target NAME]

@@ -29,6 +29,12 @@ pub const MOST_BUFFERS: u16 = 1_024;
 /// given.
 pub const USUAL_BUFFERS: u16 = 32;
 
+/// The greatest `--follower-wait`, in milliseconds: a minute.
+pub const LONGEST_FOLLOWER_WAIT: u32 = 60_000;
+
+/// How many milliseconds the reply to a change waits for a follower, where no `--follower-wait` is given.
+pub const USUAL_FOLLOWER_WAIT: u32 = 2_000;
+
 /// The greatest iteration count.
 pub const GREATEST_COUNT: u32 = 16_777_216;
 
@@ -94,10 +100,16 @@ pub struct ServeOptions<'a> {
     pub raise: Option<u32>,
     /// The file of the log; none where there is none.
     pub log: Option<&'a str>,
+    /// The socket of the follower that says when the KDC has a change; none where replies wait for none.
+    pub follower: Option<&'a str>,
+    /// How many milliseconds the reply to a change waits for the follower, 1 to [`LONGEST_FOLLOWER_WAIT`];
+    /// [`USUAL_FOLLOWER_WAIT`], where none is given.
+    pub follower_wait: u32,
     ghost some_workers: { (1 ≤ workers) × (workers ≤ 16) },
     ghost some_idle: { (1 ≤ idle) × (idle ≤ 3600) },
     ghost some_clients: { (1 ≤ clients) × (clients ≤ 65536) },
     ghost some_buffers: { (1 ≤ buffers) × (buffers ≤ 1024) },
+    ghost some_follower_wait: { (1 ≤ follower_wait) × (follower_wait ≤ 60000) },
     ghost some_count: { (count : ℕ) → raise ≡ Some count → (1 ≤ count) × (count ≤ 16777216) },
 }
 

@@ -12,9 +12,9 @@ ghost use Rattle.chpw_invocation.specs.Invocations.{AimsOld, AsksFor, HasNumber,
 
 use crate::invocation::{
     ClientOptions, GREATEST_CONNECTIONS, GREATEST_COUNT, GREATEST_KVNO, GREATEST_PORT,
-    ImportOptions, Invocation, KeyOptions, LONGEST_IDLE, LONGEST_REALM, MOST_BUFFERS, MOST_CLIENTS,
-    MOST_WORKERS, ServeOptions, TableForm, TableOptions, USUAL_BUFFERS, USUAL_CLIENTS, USUAL_COUNT,
-    USUAL_IDLE, USUAL_KVNO,
+    ImportOptions, Invocation, KeyOptions, LONGEST_FOLLOWER_WAIT, LONGEST_IDLE, LONGEST_REALM,
+    MOST_BUFFERS, MOST_CLIENTS, MOST_WORKERS, ServeOptions, TableForm, TableOptions, USUAL_BUFFERS,
+    USUAL_CLIENTS, USUAL_COUNT, USUAL_FOLLOWER_WAIT, USUAL_IDLE, USUAL_KVNO,
 };
 use crate::program::program as new_program;
 use clap::error::ErrorKind;
@@ -206,6 +206,8 @@ fn serve_of<'a>(options: &ArgMatches<'a>) -> Option<Invocation<'a>>
         buffers: buffers_of(options)?,
         raise: raise_of(options)?,
         log: text_of(options, "log"),
+        follower: text_of(options, "follower"),
+        follower_wait: follower_wait_of(options)?,
     }))
 }
 
@@ -361,6 +363,22 @@ fn buffers_of(options: &ArgMatches<'_>) -> Option<u16>
         u32::from(MOST_BUFFERS),
     )?;
     Some(buffers as u16)
+}
+
+// How many milliseconds the reply to a change waits for the follower.
+fn follower_wait_of(options: &ArgMatches<'_>) -> Option<u32>
+    ensures follower_wait { IfSome result
+        (HasNumberOr 2000 1 60000 (rows_of (found_of options.now)) (codes "follower-wait")) }
+    ensures lacks { result ≡ None
+        → LacksGiven 1 60000 (rows_of (found_of options.now)) (codes "follower-wait") }
+    ensures taken { Suits (filled options_of.follower_wait) (rows_of (found_of options.now)) → result ≢ None }
+{
+    number_or(
+        options,
+        "follower-wait",
+        USUAL_FOLLOWER_WAIT,
+        LONGEST_FOLLOWER_WAIT,
+    )
 }
 
 // The iteration count to raise to, where one is given.

@@ -6,8 +6,8 @@ ghost use Rattle.chpw_invocation.specs.Options.{rule_for};
 ghost use Rattle.chpw_invocation.specs.Program as specs_of;
 
 use crate::invocation::{
-    GREATEST_CONNECTIONS, GREATEST_COUNT, GREATEST_KVNO, GREATEST_PORT, LONGEST_IDLE, MOST_BUFFERS,
-    MOST_CLIENTS, MOST_WORKERS,
+    GREATEST_CONNECTIONS, GREATEST_COUNT, GREATEST_KVNO, GREATEST_PORT, LONGEST_FOLLOWER_WAIT,
+    LONGEST_IDLE, MOST_BUFFERS, MOST_CLIENTS, MOST_WORKERS,
 };
 use crate::options::{OptionLine, argument_of, flag, number, optional, optional_number, required};
 use clap::Command;
@@ -77,6 +77,10 @@ to its worker once it is whole. A client that is silent or slow holds its own pl
 as --idle says. Where --clients or --buffers is reached, the connection that has waited for its client
 the longest is ended to make room.
 
+With --follower SOCKET the reply to a change waits until the KDC has the new key, so that a client can
+use its new password at once. Where the follower says nothing for as long as --follower-wait says, or
+isn't there, the reply goes out all the same, and the log says so.
+
 With --raise COUNT it first prints what came of it: 'raised COUNT', 'count not higher', 'journal failed'
 or 'history full'. It serves after each of them.
 
@@ -104,6 +108,12 @@ const RAISE_HELP: &str =
 
 const LOG_HELP: &str =
     "Where each decision is told in a line, appended; made where it isn't there [default: nowhere]";
+
+const FOLLOWER_HELP: &str =
+    "The socket of a follower: the reply to a change waits until it says that the KDC has the change [default: no wait]";
+
+const FOLLOWER_WAIT_HELP: &str =
+    "How many milliseconds a reply waits for the follower at the most, 1 to 60000 [default: 2000]";
 
 const IMPORT: &str = "Prints a keytab's keys as a configuration has them.";
 
@@ -257,6 +267,13 @@ fn serve<'a>(alloc: Global) -> Result<Command<'a>, AllocError>
         optional_number("buffers", "MEBIBYTES", MOST_BUFFERS as u32, BUFFERS_HELP),
         optional_number("raise", "COUNT", GREATEST_COUNT, RAISE_HELP),
         optional("log", "FILE", LOG_HELP),
+        optional("follower", "SOCKET", FOLLOWER_HELP),
+        optional_number(
+            "follower-wait",
+            "MILLISECONDS",
+            LONGEST_FOLLOWER_WAIT,
+            FOLLOWER_WAIT_HELP,
+        ),
     ];
     described(alloc, "serve", SERVE, SERVE_MORE, &options)
 }

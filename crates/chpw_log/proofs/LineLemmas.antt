@@ -54,12 +54,23 @@ pub held_joined : (a words : List ℕ)
     ∷ codes "text" ∷ words ∷ [])
 held_joined a words = simp append_assoc refl
 
+-- ---- the line of a change that isn't confirmed
+
+pub unconfirmed_joined : (a b words : List ℕ)
+    → [] ++ a ++ codes " worker - peer " ++ b ++ codes " client - target - code - error - kvno - text " ++ words
+    ≡ join_with_byte 32 (a ∷ codes "worker" ∷ codes "-" ∷ codes "peer" ∷ b ∷ codes "client" ∷ codes "-"
+    ∷ codes "target" ∷ codes "-" ∷ codes "code" ∷ codes "-" ∷ codes "error" ∷ codes "-" ∷ codes "kvno" ∷ codes "-"
+    ∷ codes "text" ∷ words ∷ [])
+unconfirmed_joined a b words = simp append_assoc refl
+
+-- ---- the words of what was held back
+
 pub words_joined : (old a b c : List ℕ)
     → old ++ a ++ codes " more did not open: " ++ b ++ codes " from 127.0.0.0/8, " ++ c ++ codes " from elsewhere"
     ≡ old ++ (a ++ codes " more did not open: " ++ b ++ codes " from 127.0.0.0/8, " ++ c ++ codes " from elsewhere")
 words_joined old a b c = simp append_assoc refl
 
-both_printed : (front back : List ℕ) → are_printed front ≡ true → are_printed back ≡ true → are_printed (front ++ back) ≡ true
+pub both_printed : (front back : List ℕ) → are_printed front ≡ true → are_printed back ≡ true → are_printed (front ++ back) ≡ true
 both_printed front back h k =
     list_all-append (is_in (range 0x20 0x7e)) front back ∙ and_from _ _ h k
 

@@ -3,4 +3,5 @@ pub mod Lines
 pub mod Tellings
 pub mod Limits
 pub mod Summaries
+pub mod Unconfirmed
 pub mod Laws

@@ -8,6 +8,7 @@ mod line;
 mod moment;
 mod news;
 mod summing;
+mod unconfirmed;
 mod writing;
 
 pub use held::Held;
@@ -15,4 +16,5 @@ pub use limit::{Leave, Limit};
 pub use line::{Line, micros_of};
 pub use news::{Asked, News, Party};
 pub use summing::write_held;
+pub use unconfirmed::write_unconfirmed;
 pub use writing::write_line;

@@ -136,7 +136,7 @@ fn put_dash(text: &mut Vec<u8>) -> Result<(), AllocError>
 }
 
 // Puts an address at the end: its numbers with `.` between them.
-fn put_address(text: &mut Vec<u8>, address: [u8; 4]) -> Result<(), AllocError>
+pub(crate) fn put_address(text: &mut Vec<u8>, address: [u8; 4]) -> Result<(), AllocError>
     ensures value { OnOk result (text.new.items ≡ text.old.items ++ address_text address) }
     ensures field { OnOk result (is_field (address_text address) ≡ true) }
 {

@@ -2,6 +2,7 @@ pub mod Accepting
 pub mod Bounded
 pub mod Clocks
 pub mod Engines
+pub mod Following
 pub mod Pools
 pub mod Rounds
 pub mod Steps

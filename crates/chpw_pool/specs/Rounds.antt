@@ -6,6 +6,8 @@ use Rattle.chpw_connections.specs.declared.todo.Todo.{Todo}
 use Rattle.chpw_connections.specs.declared.todo.Todo.TheVariants as todo
 use Rattle.chpw_pool.specs.Accepting.{is_waiting, has_failed}
 use Rattle.chpw_pool.specs.declared.accepting.Accepting.{Accepting}
+use Rattle.chpw_follower.specs.Asks.{asks_now}
+use Rattle.chpw_pool.specs.Following.{is_waited_for}
 use Rattle.chpw_pool.specs.declared.state.State.{State}
 
 -- there is something to do for a connection of which nothing was reported: to read, where there was no room
@@ -27,14 +29,16 @@ has_all wanted accepting s = nat_le wanted (accepted_by s.connections) || has_fa
 abbrev pub is_finished : ℕ → Accepting → State → Bool
 is_finished wanted accepting s = s.is_deserted || (has_all wanted accepting s && has_none s)
 
--- connections have ended, or want to be looked at again; or a client waits for room
+-- connections have ended, or want to be looked at again; a client waits for room; or the follower is to be asked
 abbrev pub wants_reactor : State → Bool
-wants_reactor s = s.has_newcomer || nat_lt 0 (length (changed_of s.connections))
+wants_reactor s = s.has_newcomer || (nat_lt 0 (length (changed_of s.connections)) || asks_now s.asking)
 
 -- Where there is something to do at once nothing is waited for, and a second where no connection is there and none can be
--- accepted before the listener is reported. Else a tenth of a second: then time may be up for some.
+-- accepted before the listener is reported. Else a tenth of a second: then time may be up for some; and less while replies
+-- wait for the follower.
 abbrev pub milliseconds_to_wait : Bool → Accepting → State → ℕ
 milliseconds_to_wait can_accept accepting s =
     if can_accept || nat_lt 0 (length (changed_of s.connections)) then 0
     else if has_none s && is_waiting accepting then 1000
+    else if is_waited_for s.asking then 20
     else 100

@@ -3,7 +3,7 @@
 use Rattle.std.specs.Prelude.{◌≡◌, ℕ, ◌≤◌, List, length, take, Option, Some, None, Bool, true, ◌&&◌, MatchBool, if◌then◌else◌, ◌⊎◌}
 use Rattle.std.specs.Io.KnownBytes.{Appends, Consumes, Keeps}
 use Rattle.slab.specs.Slab.{Slab, get, Updates}
-use Rattle.chpw_connections.specs.Stages.{came, replied, unanswered, wrote, closed, failed}
+use Rattle.chpw_connections.specs.Stages.{Event, came, replied, deferred, unanswered, wrote, closed, failed}
 use Rattle.chpw_connections.specs.Sets.{Happens, wanted_at, left_at, is_answering_in}
 use Rattle.chpw_connections.specs.Room.{HappensWithRoom, has_room_besides, for_message, for_reply}
 use Rattle.chpw_connections.specs.declared.bounds.Bounds.{Bounds}
@@ -73,14 +73,19 @@ pub data RunsTo (b : Bounds) (now slot : ℕ) : Slab Connection → Slab Connect
 abbrev pub can_reply : Bounds → ℕ → Slab Connection → ℕ → Reply → Bool
 can_reply b now old slot r = has_room_besides b.bytes (for_reply now) old slot (length r.bytes.items) && is_answering_in (get old slot)
 
-abbrev pub IsAnswered : Bounds → ℕ → Option Reply → Slab Connection → Slab Connection → ℕ → Type 0
-IsAnswered b now None old new slot = Happens now old new slot unanswered
-IsAnswered b now (Some r) old new slot = MatchBool (can_reply b now old slot r)
-    (HappensWithRoom (for_reply now) now old new slot (replied r.bytes.items r.is_last)) (Happens now old new slot unanswered)
+-- where it waits until the KDC has so many bytes of the journal, not before
+abbrev pub reply_event : Option ℕ → Reply → Event
+reply_event None r = replied r.bytes.items r.is_last
+reply_event (Some mark) r = deferred r.bytes.items r.is_last mark
+
+abbrev pub IsAnswered : Bounds → ℕ → Option ℕ → Option Reply → Slab Connection → Slab Connection → ℕ → Type 0
+IsAnswered b now mark None old new slot = Happens now old new slot unanswered
+IsAnswered b now mark (Some r) old new slot = MatchBool (can_reply b now old slot r)
+    (HappensWithRoom (for_reply now) now old new slot (reply_event mark r)) (Happens now old new slot unanswered)
 
 -- and then one thing is done after the other
-abbrev pub Answers : Bounds → ℕ → Option Reply → Slab Connection → Slab Connection → ℕ → Type 0
-Answers b now reply old new slot = (mid : Slab Connection) × (IsAnswered b now reply old mid slot × RunsTo b now slot mid new)
+abbrev pub Answers : Bounds → ℕ → Option ℕ → Option Reply → Slab Connection → Slab Connection → ℕ → Type 0
+Answers b now mark reply old new slot = (mid : Slab Connection) × (IsAnswered b now mark reply old mid slot × RunsTo b now slot mid new)
 
 -- there was no room for messages of this kind
 abbrev pub is_short_for : Bool → Shortage → Bool

@@ -1,8 +1,9 @@
 -- What a worker answers to one message, and when a history is full behind it.
-use Rattle.std.specs.Prelude.{◌≡◌, ℕ, ◌+◌, ◌-◌, List, Bool, true, false, Option, Some, None, IsSomeAnd, nat_le, length, slice_get}
+use Rattle.std.specs.Prelude.{◌≡◌, ℕ, ◌+◌, ◌-◌, List, Bool, true, false, Option, Some, None, IsSomeAnd, nat_le, nat_lt, ◌&&◌, length, slice_get}
 use Rattle.chpw_serve.specs.declared.serving.Ended.{Ended}
 use Rattle.chpw_serve.specs.declared.serving.Ended.TheVariants as end
 use Rattle.chpw_table.specs.declared.history.Receipt.{Receipt}
+use Rattle.chpw_table.specs.History.{is_accepted}
 use Rattle.chpw_pool.specs.declared.worker.Reply.{Reply}
 
 abbrev pub IsReplyWith : List ℕ → Bool → Option Reply → Type 0
@@ -24,3 +25,11 @@ is_last_of (Some r) (Some room) = nat_le room (r.position + 1)
 -- the newest of these receipts is
 abbrev pub fills_at : List Receipt → Option ℕ → Bool
 fills_at receipts room = is_last_of (slice_get receipts (length receipts - 1)) room
+
+abbrev pub is_of_change : Option Receipt → Bool
+is_of_change None = false
+is_of_change (Some r) = is_accepted r.entry.event
+
+-- there is one more than so many, and the newest is of a change
+abbrev pub has_changed_behind : ℕ → List Receipt → Bool
+has_changed_behind before receipts = nat_lt before (length receipts) && is_of_change (slice_get receipts (length receipts - 1))

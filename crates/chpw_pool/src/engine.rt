@@ -30,6 +30,7 @@ pub(crate) struct WorkerSlot<G> {
 /// that wait when a desk is closed are answered at the next one.
 #[derive(Drop)]
 pub struct Engine<G> {
+    pub(crate) alloc: Global,
     pub(crate) workers: Vec<WorkerSlot<G>>,
     pub(crate) seed: [u8; 32],
     pub(crate) hub: Mutex<Hub>,
@@ -61,6 +62,7 @@ impl<G: Drop> Engine<G> {
         let (selector, waker) = Selector::new(rt, alloc)?;
         let sockets = Sockets::new(alloc, &selector, bounds.connections)?;
         Ok(Engine {
+            alloc,
             workers,
             seed,
             hub: Mutex::new(Hub {
@@ -122,12 +124,19 @@ impl<G> Engine<G> {
         None
     }
 
-    /// The reply to a worker's message goes out, or there is none and the connection ends. The reactor is woken only where
-    /// something is left for it.
-    pub(crate) fn answer<R: Wait + Clock>(&self, rt: &R, slot: usize, reply: Option<Reply>) {
+    /// The reply to a worker's message goes out, or there is none and the connection ends. Where it is the reply to a change,
+    /// behind which the journal has so many bytes, it may wait for the follower. The reactor is woken only where something
+    /// is left for it.
+    pub(crate) fn answer<R: Wait + Clock>(
+        &self,
+        rt: &R,
+        slot: usize,
+        reply: Option<Reply>,
+        change: Option<u64>,
+    ) {
         let now = milliseconds(rt);
         let mut hub = self.hub.lock(rt);
-        hub.answer(slot, reply, now);
+        hub.answer(slot, reply, change, now);
         let is_left = hub.state.wants_reactor();
         MutexGuard::unlock(hub);
         if is_left {

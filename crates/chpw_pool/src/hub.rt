@@ -6,6 +6,7 @@ ghost use Rattle.chpw_connections.specs.Todos.{todo_in};
 ghost use Rattle.chpw_connections.specs.Sets.{Happens};
 ghost use Rattle.chpw_connections.specs.Stages.{failed};
 ghost use Rattle.chpw_pool.specs.Steps.{Steps, RunsTo, Answers};
+ghost use Rattle.chpw_pool.specs.Following.{awaited};
 
 use crate::sockets::Sockets;
 use crate::state::{Progress, State};
@@ -52,13 +53,13 @@ impl Hub {
         }
     }
 
-    /// A worker's reply to a connection's message, or the word that there is none. The reply is written as far as the
-    /// socket takes it, and behind it the next message is read as far as it is there: it waits for the same worker, which
-    /// looks into its queue next.
-    pub fn answer(&mut self, slot: usize, reply: Option<Reply>, now: u64)
-        ensures answers { Answers (bounds_of self.old.state.connections) now reply (slots_of self.old.state.connections) (slots_of self.new.state.connections) slot }
+    /// A worker's reply to a connection's message, or the word that there is none. Unless it waits for the follower, the
+    /// reply is written as far as the socket takes it, and behind it the next message is read as far as it is there: it
+    /// waits for the same worker, which looks into its queue next.
+    pub fn answer(&mut self, slot: usize, reply: Option<Reply>, change: Option<u64>, now: u64)
+        ensures answers { Answers (bounds_of self.old.state.connections) now (awaited self.old.state.asking change) reply (slots_of self.old.state.connections) (slots_of self.new.state.connections) slot }
     {
-        self.state.answer(slot, reply, now);
+        self.state.answer(slot, reply, change, now);
         self.run(slot, now);
     }
 

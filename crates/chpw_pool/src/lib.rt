@@ -5,6 +5,8 @@
 mod accepting;
 mod clock;
 mod engine;
+mod follower;
+mod following;
 mod hub;
 mod pool;
 mod reactor;
@@ -16,6 +18,7 @@ mod worker;
 pub use chpw_connections::Bounds;
 pub use clock::{MachineClock, machine_moment};
 pub use engine::Engine;
+pub use follower::{Follower, JournalEnd, NoFollower};
 pub use pool::{
     NotStarted, Pool, PoolFault, no_gates, run_pool, run_pool_by, run_pool_with, run_shift,
 };

@@ -7,6 +7,7 @@ ghost use Rattle.chpw_pool.specs.Pools.{Ends};
 
 use crate::clock::MachineClock;
 use crate::engine::{Engine, outcome_of};
+use crate::follower::{JournalEnd, NoFollower};
 use crate::terms::Terms;
 use crate::worker::{Worker, work};
 use chpw_answer::{Gate, Messages, NoGate};
@@ -41,11 +42,12 @@ pub struct Pool {
 
 /// What all workers share: the clock, the service and the desk.
 #[derive(Drop)]
-struct Shared<'a, T: time::Clock, M, D: DeskName, S: JournalSink> {
+struct Shared<'a, T: time::Clock, M, D: DeskName, S: JournalSink, J> {
     alloc: Global,
     time: &'a T,
     service: &'a M,
     desk: &'a Desk<D, S>,
+    journal: &'a J,
     // How many entries the history has room for; none where no other desk follows it.
     room: Option<u32>,
 }
@@ -104,6 +106,7 @@ pub fn run_pool_with<
         time: rt,
         service,
         desk,
+        journal: &NoFollower,
         room: None,
     };
     let terms = Terms::usual(seed, connections);
@@ -136,6 +139,7 @@ pub fn run_pool_by<
         time,
         service,
         desk,
+        journal: &NoFollower,
         room: None,
     };
     match no_gates(alloc, passes.len()) {
@@ -173,9 +177,10 @@ fn run_gated<
     D: DeskName + Send + Sync,
     S: JournalSink + Send,
     G: Gate + Send + Drop,
+    J: JournalEnd + Sync,
 >(
     rt: &R,
-    shared: &Shared<'_, T, M, D, S>,
+    shared: &Shared<'_, T, M, D, S, J>,
     listener: &L,
     passes: &mut [Pass<D>],
     terms: Terms,
@@ -203,7 +208,8 @@ pub struct NotStarted;
 
 /// Answers the messages of an engine's connections at a desk, until no more come, or until the desk's history has no
 /// room for one more entry: it has room for so many. The workers then finish the messages that they have, and the
-/// others wait for the next desk. After `NotStarted` the workers that had started may have answered some.
+/// others wait for the next desk. The reply to a change waits for the follower where `journal` says how long the journal
+/// is. After `NotStarted` the workers that had started may have answered some.
 pub fn run_shift<
     R: Threads + Wait + time::Clock + Sync,
     T: time::Clock + Sync,
@@ -211,6 +217,7 @@ pub fn run_shift<
     D: DeskName + Send + Sync,
     S: JournalSink + Send,
     G: Gate + Send + Drop,
+    J: JournalEnd + Sync,
 >(
     rt: &R,
     alloc: Global,
@@ -220,6 +227,7 @@ pub fn run_shift<
     desk: &Desk<D, S>,
     passes: &mut [Pass<D>],
     room: u32,
+    journal: &J,
 ) -> Result<(), NotStarted>
     requires workers { workers_at engine.now ≡ length passes.old }
 {
@@ -228,10 +236,11 @@ pub fn run_shift<
         time,
         service,
         desk,
+        journal,
         room: Some(room),
     };
     engine.start(rt);
-    run_workers::<R, T, TcpListener, M, D, S, G>(rt, &shared, engine, passes, None)
+    run_workers::<R, T, TcpListener, M, D, S, G, J>(rt, &shared, engine, passes, None)
 }
 
 // A thread for each worker, while this one is the reactor where there is a listener. It returns once they have ended.
@@ -243,9 +252,10 @@ fn run_workers<
     D: DeskName + Send + Sync,
     S: JournalSink + Send,
     G: Gate + Send + Drop,
+    J: JournalEnd + Sync,
 >(
     rt: &R,
-    shared: &Shared<'_, T, M, D, S>,
+    shared: &Shared<'_, T, M, D, S, J>,
     engine: &Engine<G>,
     passes: &mut [Pass<D>],
     at: Option<(&L, u32)>,
@@ -264,7 +274,7 @@ fn run_workers<
                 }
             }
             if let Some((listener, connections)) = at {
-                engine.react(rt, listener, connections);
+                engine.react(rt, listener, connections, NoFollower);
             }
             Ok(())
         },
@@ -288,9 +298,10 @@ fn begin<
     D: DeskName,
     S: JournalSink,
     G: Gate,
+    J: JournalEnd,
 >(
     rt: &'a R,
-    shared: &'a Shared<'a, T, M, D, S>,
+    shared: &'a Shared<'a, T, M, D, S, J>,
     engine: &'a Engine<G>,
     number: usize,
     pass: &'a mut Pass<D>,
@@ -315,6 +326,6 @@ fn begin<
         clock: MachineClock::new(shared.time),
         words,
     };
-    work(rt, engine, number, shared.room, &mut worker);
+    work(rt, engine, number, shared.room, shared.journal, &mut worker);
     *slot.words.lock(rt) = Some(worker.words);
 }

@@ -3,8 +3,10 @@
 
 use crate::accepting::{Accepting, is_passing};
 use crate::engine::{Engine, milliseconds};
+use crate::follower::Follower;
+use crate::following::Link;
 use crate::hub::STEPS;
-use crate::sockets::{LISTENER, Selector, WAKER};
+use crate::sockets::{FOLLOWER, LISTENER, Selector, WAKER};
 use crate::state::{Progress, Shortage, TICK};
 use crate::worker::peer_of;
 use mio::event::Event;
@@ -22,14 +24,15 @@ const ACCEPTS: u32 = 64;
 
 /// What happens at the sockets is told to the connections, and what they want is done.
 #[derive(Drop)]
-struct Reactor<'a, R, L, G> {
-    rt: &'a R,
-    engine: &'a Engine<G>,
+pub(crate) struct Reactor<'a, R, L, G, F> {
+    pub rt: &'a R,
+    pub engine: &'a Engine<G>,
     listener: &'a L,
+    pub link: Link<F>,
     /// How many connections it accepts.
     connections: u32,
     /// How many there may be at a time: the slots are the numbers below.
-    clients: usize,
+    pub clients: usize,
     accepting: Accepting,
     /// A connection for which there is no room yet.
     pending: Option<(TcpStream, SocketAddr)>,
@@ -42,12 +45,14 @@ struct Reactor<'a, R, L, G> {
 impl<G> Engine<G> {
     /// Accepts so many connections, or as many as the listener can; reads their messages and hands them to the
     /// workers, connection i (from 0) to worker i modulo their number; and writes the replies. It returns once each
-    /// connection has ended, or the engine is deserted. Then no message comes any more.
-    pub fn react<R: Wait + Clock, L: OpenListener<Stream = TcpStream> + AsRawFd>(
+    /// connection has ended, or the engine is deserted. Then no message comes any more. Replies to changes wait for the
+    /// follower, as the workers ask for it.
+    pub fn react<R: Wait + Clock, L: OpenListener<Stream = TcpStream> + AsRawFd, F: Follower>(
         &self,
         rt: &R,
         listener: &L,
         connections: u32,
+        follower: F,
     ) {
         let clients = self.hub.lock(rt).sockets.by_slot.len();
         let mut selector = self.selector.lock(rt);
@@ -55,6 +60,7 @@ impl<G> Engine<G> {
             rt,
             engine: self,
             listener,
+            link: Link::new(follower),
             connections,
             clients,
             accepting: Accepting::Ready,
@@ -68,7 +74,13 @@ impl<G> Engine<G> {
     }
 }
 
-impl<'a, R: Wait + Clock, L: OpenListener<Stream = TcpStream> + AsRawFd, G> Reactor<'a, R, L, G> {
+impl<'a, R: Wait + Clock, L: OpenListener<Stream = TcpStream> + AsRawFd, G, F: Follower> Reactor<
+    'a,
+    R,
+    L,
+    G,
+    F,
+> {
     // Has the listener reported.
     fn listen(&mut self, registry: &Registry) {
         let descriptor = self.listener.as_raw_fd();
@@ -94,6 +106,7 @@ impl<'a, R: Wait + Clock, L: OpenListener<Stream = TcpStream> + AsRawFd, G> Reac
                 return;
             }
             self.look_at_events(events);
+            self.follow(poll.registry());
             self.look_at_changed();
             self.accept();
             self.look_for_late();
@@ -131,6 +144,8 @@ impl<'a, R: Wait + Clock, L: OpenListener<Stream = TcpStream> + AsRawFd, G> Reac
         let Token(slot) = event.token();
         if event.token() == LISTENER {
             self.accepting = self.accepting.reported();
+        } else if event.token() == FOLLOWER {
+            self.link.is_reported = true;
         } else if event.token() != WAKER {
             if event.is_error() {
                 self.engine.hub.lock(self.rt).look_for_error(slot);

@@ -20,6 +20,9 @@ pub(crate) const LISTENER: Token = Token(usize::MAX);
 /// Those of a worker that has something for the reactor.
 pub(crate) const WAKER: Token = Token(usize::MAX - 1);
 
+/// The follower's.
+pub(crate) const FOLLOWER: Token = Token(usize::MAX - 2);
+
 /// How many events are taken at once.
 const EVENTS: usize = 256;
 

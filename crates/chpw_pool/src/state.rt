@@ -1,23 +1,29 @@
 //! The connections, as reactor and workers see them under their lock.
 
-ghost use Rattle.std.specs.Prelude.{◌≡◌, ◌⊎◌, ◌||◌, ◌&&◌, not, IfSome, Some, None, true, false, if◌then◌else◌};
+ghost use Rattle.std.specs.Prelude.{◌≡◌, ◌⊎◌, ◌||◌, ◌&&◌, not, IfOk, IfSome, OnOk, OnErr, is_some, Some, None, true, false, if◌then◌else◌};
 ghost use Rattle.slab.specs.Slab.{get};
 ghost use Rattle.chpw_connections.specs.Held.{slots_of, bounds_of};
 ghost use Rattle.chpw_connections.specs.Todos.{todo_in};
 ghost use Rattle.chpw_connections.specs.Sets.{Happens, queued_at, is_late_in, wanted_at};
 ghost use Rattle.chpw_connections.specs.Stages.{came, taken, failed};
 ghost use Rattle.chpw_connections.specs.Room.{HappensWithRoom, for_message, is_large_in, has_room_to_read};
+ghost use Rattle.chpw_follower.specs.Asks.{at_start, behind_bytes, behind_loss, confirmed_by};
+ghost use Rattle.chpw_pool.specs.Following.{awaited, asking_behind, Releases, ReleasesOne, is_waited_for as is_waited};
 ghost use Rattle.chpw_pool.specs.Steps.{IsAnswered, Takes, TakesNone, LetsGo, Gives, GivesNone, is_short_for, short_of};
 ghost use Rattle.chpw_pool.specs.Rounds.{is_finished, is_looked_at, milliseconds_to_wait, wants_reactor};
 ghost use Rattle.chpw_pool.specs.declared.state.Progress.TheVariants as progress;
 
 use crate::accepting::Accepting;
 use crate::worker::Reply;
-use chpw_connections::{Connections, Taken, Todo};
+use chpw_connections::{Connections, Taken, Todo, Unconfirmed};
+use chpw_follower::{Asking, Misspoken};
 use std::io::{ErrorKind, Read, Write};
 
 /// After how many milliseconds the connections whose time is up are looked for.
 pub(crate) const TICK: u64 = 100;
+
+/// After how many milliseconds replies that wait for the follower are looked for.
+const SOON: u64 = 20;
 
 /// After how many milliseconds a reactor without connections looks round.
 const REST: u64 = 1_000;
@@ -36,6 +42,8 @@ pub(crate) struct State {
     pub has_newcomer: bool,
     /// For what there was no room in this round.
     pub shortage: Shortage,
+    /// What the follower is asked.
+    pub asking: Asking,
 }
 
 /// Whether a message wasn't read for want of room. Others of its kind wait with it for the next round, so that all get
@@ -91,7 +99,7 @@ pub(crate) enum Progress {
 impl State {
     /// These connections, which workers may serve.
     pub fn new(connections: Connections) -> State
-        ensures value { result ≡ record { connections = connections; is_stopped = false; is_over = false; is_deserted = false; has_newcomer = false; shortage = record { of_large = false; of_small = false } } }
+        ensures value { result ≡ record { connections = connections; is_stopped = false; is_over = false; is_deserted = false; has_newcomer = false; shortage = record { of_large = false; of_small = false }; asking = at_start } }
     {
         State {
             connections,
@@ -100,6 +108,7 @@ impl State {
             is_deserted: false,
             has_newcomer: false,
             shortage: Shortage::default(),
+            asking: Asking::new(),
         }
     }
 
@@ -125,15 +134,95 @@ impl State {
         self.connections.take(worker, now)
     }
 
-    /// A worker's reply to a connection's message is to be written, or there is none and the connection ends.
-    pub fn answer(&mut self, slot: usize, reply: Option<Reply>, now: u64)
-        ensures answered { IsAnswered (bounds_of self.old.connections) now reply (slots_of self.old.connections) (slots_of self.new.connections) slot }
+    /// A worker's reply to a connection's message is to be written, or there is none and the connection ends. Where it is
+    /// the reply to a change, behind which the journal has so many bytes, it waits until the follower has said that the
+    /// KDC has as many, unless it has already.
+    pub fn answer(&mut self, slot: usize, reply: Option<Reply>, change: Option<u64>, now: u64)
+        ensures answered { IsAnswered (bounds_of self.old.connections) now (awaited self.old.asking change) reply (slots_of self.old.connections) (slots_of self.new.connections) slot }
+        ensures asking { self.new.asking ≡ asking_behind (awaited self.old.asking change) reply self.old.asking }
         ensures bounds { bounds_of self.new.connections ≡ bounds_of self.old.connections }
     {
-        match reply {
-            Some(Reply { bytes, is_last }) => self.connections.answer(slot, bytes, is_last, now),
-            None => self.connections.leave_unanswered(slot, now),
+        match (reply, self.awaited(change)) {
+            (None, _) => self.connections.leave_unanswered(slot, now),
+            (Some(Reply { bytes, is_last }), None) => {
+                self.connections.answer(slot, bytes, is_last, now);
+            }
+            (Some(Reply { bytes, is_last }), Some(mark)) => {
+                self.asking.want(mark);
+                self.connections.defer(slot, bytes, is_last, mark, now);
+            }
         }
+    }
+
+    // How much of the journal the follower has to have before the reply to a change goes out.
+    fn awaited(&self, change: Option<u64>) -> Option<u64>
+        ensures value { result ≡ awaited self.now.asking change }
+    {
+        match change {
+            Some(mark) if !self.asking.has(mark) => Some(mark),
+            _ => None,
+        }
+    }
+
+    /// The follower said this. Where it has confirmed so many bytes of the journal with it, the replies that waited for no
+    /// more are to be written.
+    pub fn hear(&mut self, bytes: &[u8], now: u64) -> Result<Option<u64>, Misspoken>
+        ensures asking { OnOk result (behind_bytes self.old.asking bytes.now ≡ Some self.new.asking) }
+        ensures confirmed { IfOk result (λ mark. mark ≡ confirmed_by self.old.asking.asked bytes.now) }
+        ensures released { IfOk result (λ mark. Releases mark now (slots_of self.old.connections) (slots_of self.new.connections)) }
+        ensures misspoken { OnErr result (behind_bytes self.old.asking bytes.now ≡ None) }
+        ensures lost { OnErr result (self.new.asking ≡ behind_loss self.old.asking) }
+        ensures same { OnErr result (self.new.connections ≡ self.old.connections) }
+        ensures bounds { bounds_of self.new.connections ≡ bounds_of self.old.connections }
+    {
+        let confirmed = self.asking.hear(bytes)?;
+        if let Some(mark) = confirmed {
+            self.connections.confirm(mark, now);
+        }
+        Ok(confirmed)
+    }
+
+    /// The first reply that has waited for as long as it may, while the follower is waited for: it is to be written.
+    pub fn overdue(&mut self, wait: u64, now: u64) -> Option<Unconfirmed>
+        ensures released { is_waited self.old.asking ≡ true → ReleasesOne wait now (slots_of self.old.connections) (slots_of self.new.connections) result }
+        ensures none { is_waited self.old.asking ≡ false → result ≡ None }
+        ensures unchanged { result ≡ None → self.new ≡ self.old }
+        ensures asking { self.new.asking ≡ self.old.asking }
+    {
+        if !self.is_waited_for() {
+            return None;
+        }
+        self.connections.overdue(wait, now)
+    }
+
+    // Whether an answer of the follower's is due, or something is to be asked.
+    fn is_waited_for(&self) -> bool
+        ensures value { result ≡ is_waited self.now.asking }
+    {
+        self.asking.is_asked() || self.asking.is_to_ask()
+    }
+
+    /// The first reply that waits, where no follower is there: it is to be written.
+    pub fn give_up(&mut self, now: u64) -> Option<Unconfirmed>
+        ensures released { ReleasesOne 0 now (slots_of self.old.connections) (slots_of self.new.connections) result }
+        ensures unchanged { result ≡ None → self.new ≡ self.old }
+        ensures asking { self.new.asking ≡ self.old.asking }
+    {
+        self.connections.overdue(0, now)
+    }
+
+    /// The connection to the follower has ended, or there was none. Whether an answer was due: then none comes, and
+    /// nothing is asked until another change is made.
+    pub fn hang_up(&mut self) -> bool
+        ensures due { result ≡ is_some self.old.asking.asked }
+        ensures asking { self.new.asking ≡ (if result then behind_loss self.old.asking else self.old.asking) }
+        ensures same { self.new.connections ≡ self.old.connections }
+    {
+        let is_due = self.asking.is_asked();
+        if is_due {
+            self.asking.lose();
+        }
+        is_due
     }
 
     /// Reads what is wanted of a connection's message, as far as it is there, the buffer takes it and there is room. Where
@@ -256,11 +345,12 @@ impl State {
         }
     }
 
-    /// Whether something is to be done that is the reactor's: connections have ended, or a client waits for room.
+    /// Whether something is to be done that is the reactor's: connections have ended, a client waits for room, or the
+    /// follower is to be asked.
     pub fn wants_reactor(&self) -> bool
         ensures value { result ≡ wants_reactor self.now }
     {
-        self.has_newcomer || self.connections.has_changed()
+        self.has_newcomer || self.connections.has_changed() || self.asking.is_to_ask()
     }
 
     /// What is to be done for a connection.
@@ -298,6 +388,8 @@ impl State {
             0
         } else if self.connections.is_empty() && accepting.is_waiting() {
             REST
+        } else if self.is_waited_for() {
+            SOON
         } else {
             TICK
         }

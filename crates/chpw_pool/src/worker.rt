@@ -4,9 +4,10 @@ ghost use Rattle.chpw_answer.specs.Answering.{Answering, Unanswered};
 ghost use Rattle.chpw_serve.specs.Serving.{stream_state, message_too_long, IsServed};
 ghost use Rattle.chpw_serve.specs.declared.serving.Ended.{Ended};
 ghost use Rattle.chpw_pool.specs.Pools.{peer_in};
-ghost use Rattle.chpw_pool.specs.Turns.{IsReplyBehind, fills_at};
+ghost use Rattle.chpw_pool.specs.Turns.{IsReplyBehind, fills_at, has_changed_behind};
 
 use crate::engine::Engine;
+use crate::follower::JournalEnd;
 use chpw_answer::{Gate, Messages};
 use chpw_connections::Taken;
 use chpw_decider::Decider;
@@ -38,12 +39,23 @@ pub(crate) struct Reply {
 
 /// Answers the messages of a worker's queue, until none come any more, or it is to take none for now. `room` is how
 /// many entries the desk's history has room for at its start; none where no other desk follows. The worker whose
-/// entry is the last that fits has all of them stop.
-pub(crate) fn work<R: Wait + time::Clock, M: Messages, K: Decider, G: Gate, C: Clock, X: Words, E>(
+/// entry is the last that fits has all of them stop. The reply to a change may wait for the follower, until the KDC has the
+/// journal up to its end behind the change.
+pub(crate) fn work<
+    R: Wait + time::Clock,
+    M: Messages,
+    K: Decider,
+    G: Gate,
+    C: Clock,
+    X: Words,
+    E,
+    J: JournalEnd,
+>(
     rt: &R,
     engine: &Engine<E>,
     number: usize,
     room: Option<u32>,
+    journal: &J,
     worker: &mut Worker<'_, M, K, G, C, X>,
 ) {
     for _ in rt.forever() {
@@ -55,11 +67,28 @@ pub(crate) fn work<R: Wait + time::Clock, M: Messages, K: Decider, G: Gate, C: C
             peer,
             message,
         } = taken;
+        let before = worker.decider.receipts().len();
         let reply = reply_to(peer, &message, worker);
-        if fills(worker.decider.receipts(), room) {
+        let receipts = worker.decider.receipts();
+        let change = if has_changed(receipts, before) {
+            journal.journal_end()
+        } else {
+            None
+        };
+        if fills(receipts, room) {
             engine.stop(rt);
         }
-        engine.answer(rt, slot, reply);
+        engine.answer(rt, slot, reply, change);
+    }
+}
+
+// Whether there is one receipt more than so many, and the newest is of a change.
+fn has_changed(receipts: &[Receipt], before: usize) -> bool
+    ensures value { result ≡ has_changed_behind before receipts.now }
+{
+    match receipts.last() {
+        Some(receipt) => receipts.len() > before && receipt.entry.event.is_accepted(),
+        None => false,
     }
 }
 

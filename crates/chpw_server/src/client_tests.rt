@@ -1,7 +1,9 @@
 //! The command `client`, with each of its options, against a service.
 use crate::client::ask;
 use crate::ending::Ending;
-use chpw_invocation::{ClientOptions, ServeOptions, USUAL_BUFFERS, USUAL_CLIENTS, USUAL_IDLE};
+use chpw_invocation::{
+    ClientOptions, ServeOptions, USUAL_BUFFERS, USUAL_CLIENTS, USUAL_FOLLOWER_WAIT, USUAL_IDLE,
+};
 use chpw_service::{ServeFault, serve};
 use std::fs::{File, Files};
 use std::io::{Read, Write};
@@ -219,6 +221,8 @@ fn serving<'a>(port: u16, connections: u32, log: &'a str) -> ServeOptions<'a> {
         buffers: USUAL_BUFFERS,
         raise: None,
         log: Some(log),
+        follower: None,
+        follower_wait: USUAL_FOLLOWER_WAIT,
     }
 }
 

@@ -11,6 +11,7 @@ ghost use Rattle.chpw_service.specs.declared.fault.ServeFault.TheVariants.{Canno
 
 use crate::closing::{Left, Tally, close_desk};
 use crate::fault::ServeFault;
+use crate::followed::{FollowerTerms, JournalLength};
 use crate::gates::Logging;
 use crate::logging::{Log, LogLines};
 use crate::notices::{Notice, is_first, unreported};
@@ -34,6 +35,9 @@ pub struct Hall<'l, R: Wait + Eprint> {
     /// How many entries a history has at the most.
     pub max_entries: u32,
     pub log: &'l Log<'l, R>,
+    /// How long the journal is, where replies wait for a follower.
+    pub journal: JournalLength,
+    pub follower: FollowerTerms<'l>,
     ghost some_workers: { (1 ≤ workers) × (workers ≤ 16) },
     ghost queues: { workers_at engine ≡ workers },
 }
@@ -198,6 +202,7 @@ fn serve_shift<
         desk,
         passes,
         room,
+        &hall.journal,
     )
 }
 

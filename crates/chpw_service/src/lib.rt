@@ -5,6 +5,7 @@
 mod closing;
 mod fault;
 mod files;
+mod followed;
 mod gates;
 mod histories;
 pub mod laws;
@@ -20,6 +21,7 @@ mod table;
 
 pub use fault::ServeFault;
 pub use files::{read_seed, read_settings};
+pub use followed::{FollowerTerms, JournalLength};
 pub use gates::{Lines, Logging};
 pub use histories::{Hall, Opened, serve_histories};
 pub use logging::{Log, LogLines};

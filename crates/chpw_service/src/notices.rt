@@ -14,6 +14,8 @@ pub(crate) enum Notice<'a> {
     OutputLost,
     /// So many messages more had waited too long for their worker.
     Expired(u32),
+    /// The follower at this socket hasn't confirmed a change that was answered.
+    Unconfirmed(&'a str),
     /// Of the journal at this path so many bytes are kept, and a torn tail behind them was cut off.
     TailCut(&'a str, u64),
 }
@@ -38,6 +40,12 @@ impl fmt::Display for Notice<'_> {
                 write!(
                     f,
                     "messages dropped that waited 5 seconds for a worker: {count}"
+                )
+            }
+            Notice::Unconfirmed(socket) => {
+                write!(
+                    f,
+                    "{socket}: a change was answered that the follower has not confirmed, and maybe more"
                 )
             }
             Notice::TailCut(journal, kept) => {

@@ -10,6 +10,7 @@ ghost use Rattle.chpw_service.specs.declared.fault.ServeFault.TheVariants.{Canno
 
 use crate::fault::{LateFault, ServeFault};
 use crate::files::{read_seed, read_settings};
+use crate::followed::{Followed, FollowerTerms, JournalLength, journal_length};
 use crate::gates::{Logging, log_gates};
 use crate::histories::{Hall, Opened, Opening, first_opening, serve_histories, start_desk};
 use crate::logging::{Log, LogLines, log_of};
@@ -87,6 +88,7 @@ pub fn serve_by<
     if let Some(kept) = cut_at {
         log.tell(Notice::TailCut(options.journal, kept));
     }
+    let journal = journal_length(rt, &options)?;
     let opening = first_opening(table, sink, options.workers);
     let start = Start {
         options: &options,
@@ -94,6 +96,11 @@ pub fn serve_by<
         terms: terms_of(&options, seed),
         max_entries,
         log: &log,
+        journal,
+        follower: FollowerTerms {
+            socket: options.follower,
+            wait: options.follower_wait,
+        },
     };
     let ended = serve_opened::<Brand, R, T>(rt, time, start, opening, &mut clock);
     log.end(clock.now());
@@ -108,6 +115,8 @@ struct Start<'o, 'l, R> {
     terms: Terms,
     max_entries: u32,
     log: &'l Log<'l, R>,
+    journal: JournalLength,
+    follower: FollowerTerms<'l>,
 }
 
 // Serves what is opened: at the first desk the count is raised where that is asked for, and then the port is listened at.
@@ -223,6 +232,8 @@ fn listening<
         terms,
         max_entries,
         log,
+        journal,
+        follower,
     } = start;
     let listener = listen(rt, options.port)?;
     let engine = engine_of(rt, rt.alloc(), options.workers, &terms, log)?;
@@ -232,6 +243,8 @@ fn listening<
         workers: options.workers,
         max_entries,
         log,
+        journal,
+        follower,
     };
     match println!(rt; "listening on 127.0.0.1:{}", options.port) {
         Ok(()) => Ok((listener, hall)),
@@ -310,8 +323,9 @@ fn serve_all<
             requires { IfSome first.now (λ opened. length opened.passes.items ≡ hall.now.workers) }
         {
             let engine = &hall.engine;
+            let followed = Followed::of(rt, time, hall.log, hall.follower);
             if scope
-                .spawn(move || engine.react(rt, listener, connections))
+                .spawn(move || engine.react(rt, listener, connections, followed))
                 .is_err()
             {
                 return Err(LateFault::Memory);

@@ -9,6 +9,8 @@ mod answers;
 #[cfg(test)]
 mod crowds;
 #[cfg(test)]
+mod followers;
+#[cfg(test)]
 mod gates;
 #[cfg(test)]
 mod given_up;

@@ -5,7 +5,7 @@ use crate::realm::{CHANGED, SetClock, opening, request, told};
 use crate::site::{expect_line, reply, send};
 use chpw_client::Sent;
 use chpw_frame::split_reply;
-use chpw_invocation::ServeOptions;
+use chpw_invocation::{ServeOptions, USUAL_FOLLOWER_WAIT};
 use chpw_journal::{Restored, restore};
 use chpw_service::serve_by;
 use chpw_table::Moment;
@@ -103,6 +103,8 @@ pub fn options<'a>(paths: Paths<'a>, port: u16, workers: u8, connections: u32) -
         buffers: 32,
         raise: None,
         log: paths.log,
+        follower: None,
+        follower_wait: USUAL_FOLLOWER_WAIT,
     }
 }
 
@@ -212,6 +214,8 @@ fn raising<'a>(port: u16, raises: bool) -> ServeOptions<'a> {
         buffers: 32,
         raise: count_of(raises),
         log: None,
+        follower: None,
+        follower_wait: USUAL_FOLLOWER_WAIT,
     }
 }
 

@@ -1,0 +1,27 @@
+-- The line of a change whose reply went out though no follower had said that the KDC has it.
+use Rattle.std.specs.Prelude.{ℕ, List, [], ◌∷◌, ◌++◌, codes}
+use Rattle.std.specs.List.{join_with_byte}
+use Rattle.std.specs.Fmt.{decimal}
+use Rattle.chpw_table.specs.declared.times.Moment.{Moment}
+use Rattle.chpw_log.specs.Lines.{address_text}
+use Rattle.chpw_log.specs.Moments.{moment_text}
+
+-- so many bytes of the journal, the change's record among them
+abbrev pub unconfirmed_words : ℕ → List ℕ
+unconfirmed_words mark = codes "not confirmed by the follower: the journal up to byte " ++ decimal mark
+
+-- the peer is whose reply it was; the change itself has a line of its own before it
+abbrev pub unconfirmed_fields : Moment → List ℕ → ℕ → List (List ℕ)
+unconfirmed_fields moment peer mark =
+    moment_text moment
+    ∷ codes "worker" ∷ codes "-"
+    ∷ codes "peer" ∷ address_text peer
+    ∷ codes "client" ∷ codes "-"
+    ∷ codes "target" ∷ codes "-"
+    ∷ codes "code" ∷ codes "-"
+    ∷ codes "error" ∷ codes "-"
+    ∷ codes "kvno" ∷ codes "-"
+    ∷ codes "text" ∷ unconfirmed_words mark ∷ []
+
+abbrev pub unconfirmed_line : Moment → List ℕ → ℕ → List ℕ
+unconfirmed_line moment peer mark = join_with_byte 32 (unconfirmed_fields moment peer mark) ++ codes "\n"

@@ -1,0 +1,164 @@
+//! What the reactor does for replies that wait for the follower.
+
+use crate::engine::milliseconds;
+use crate::follower::Follower;
+use crate::reactor::Reactor;
+use crate::sockets::FOLLOWER;
+use chpw_follower::ask_line;
+use mio::net::UnixStream;
+use mio::{Interest, Registry};
+use std::io::{ErrorKind, Read, Write};
+use std::net::{OpenListener, TcpStream};
+use std::os::fd::AsRawFd;
+use std::sync::Wait;
+use std::time::Clock;
+
+/// How many bytes of what it says are read at once.
+const BUFFER: usize = 64;
+
+/// The connection to the follower.
+#[derive(Drop)]
+pub(crate) struct Link<F> {
+    pub follower: F,
+    pub stream: Option<UnixStream>,
+    /// Whether something is to be read there.
+    pub is_reported: bool,
+}
+
+impl<F: Follower> Link<F> {
+    /// One that isn't open yet.
+    pub fn new(follower: F) -> Link<F> {
+        Link {
+            follower,
+            stream: None,
+            is_reported: false,
+        }
+    }
+
+    // Opens it, where it isn't open.
+    fn open(&mut self, registry: &Registry) {
+        if self.stream.is_some() {
+            return;
+        }
+        if let Some(mut stream) = self.follower.connect() {
+            let both = Interest::READABLE | Interest::WRITABLE;
+            if registry.register(&mut stream, FOLLOWER, both).is_ok() {
+                self.stream = Some(stream);
+            }
+        }
+    }
+
+    // Sends a line, opening the connection where it isn't open; whether all of it went out.
+    fn send(&mut self, registry: &Registry, line: &[u8]) -> bool {
+        self.open(registry);
+        match &mut self.stream {
+            None => false,
+            Some(stream) => matches!(stream.write(line), Ok(count) if count == line.len()),
+        }
+    }
+}
+
+impl<'a, R: Wait + Clock, L: OpenListener<Stream = TcpStream> + AsRawFd, G, F: Follower> Reactor<
+    'a,
+    R,
+    L,
+    G,
+    F,
+> {
+    /// What the follower has said is heard, what is to be asked is asked, and replies that have waited long enough go
+    /// out.
+    pub fn follow(&mut self, registry: &Registry) {
+        if self.link.is_reported {
+            self.link.is_reported = false;
+            self.hear();
+        }
+        self.ask(registry);
+        self.release_overdue();
+    }
+
+    // Hears what the follower has said, to its end.
+    fn hear(&mut self) {
+        let rt = self.rt;
+        let mut buffer = [0; BUFFER];
+        for _ in rt.forever() {
+            let Some(stream) = &mut self.link.stream else {
+                return;
+            };
+            match stream.read(&mut buffer) {
+                Ok(0) => self.lose(),
+                Ok(count) => self.heard(&buffer[..count]),
+                Err(error) => match error.kind() {
+                    ErrorKind::WouldBlock => return,
+                    ErrorKind::Interrupted => {}
+                    _ => self.lose(),
+                },
+            }
+        }
+    }
+
+    // The follower said this. One that says anything but what it was asked isn't heard any more.
+    fn heard(&mut self, bytes: &[u8]) {
+        let now = milliseconds(self.rt);
+        let heard = self.engine.hub.lock(self.rt).state.hear(bytes, now);
+        match heard {
+            Ok(None) => {}
+            Ok(Some(_)) => self.link.follower.confirmed(),
+            Err(_) => {
+                self.link.stream = None;
+                self.release_all();
+            }
+        }
+    }
+
+    // Asks what is to be asked.
+    fn ask(&mut self, registry: &Registry) {
+        let asked = self.engine.hub.lock(self.rt).state.asking.ask();
+        if let Some(mark) = asked {
+            let is_sent = match ask_line(self.engine.alloc, mark) {
+                Ok(line) => self.link.send(registry, &line),
+                Err(_) => false,
+            };
+            if !is_sent {
+                self.lose();
+            }
+        }
+    }
+
+    // The connection has ended, or there was none. Where an answer was due, nothing is waited for any more.
+    fn lose(&mut self) {
+        self.link.stream = None;
+        let was_due = self.engine.hub.lock(self.rt).state.hang_up();
+        if was_due {
+            self.release_all();
+        }
+    }
+
+    // All replies that wait go out.
+    fn release_all(&mut self) {
+        let now = milliseconds(self.rt);
+        for _ in 0..self.clients {
+            let released = self.engine.hub.lock(self.rt).state.give_up(now);
+            match released {
+                None => return,
+                Some(unconfirmed) => self.tell(unconfirmed.peer, unconfirmed.mark),
+            }
+        }
+    }
+
+    // Replies that have waited for as long as they may go out.
+    fn release_overdue(&mut self) {
+        let now = milliseconds(self.rt);
+        let wait = self.link.follower.wait();
+        for _ in 0..self.clients {
+            let released = self.engine.hub.lock(self.rt).state.overdue(wait, now);
+            match released {
+                None => return,
+                Some(unconfirmed) => self.tell(unconfirmed.peer, unconfirmed.mark),
+            }
+        }
+    }
+
+    fn tell(&mut self, peer: [u8; 4], mark: u64) {
+        self.link.follower.unconfirmed(peer, mark);
+    }
+}

@@ -1,0 +1,114 @@
+//! The follower of a service: where it is, and what is told of changes that it hasn't confirmed.
+ghost use Rattle.std.specs.Prelude.{IfErr};
+ghost use Rattle.chpw_service.specs.Faults.{IsOfJournal};
+
+use crate::fault::ServeFault;
+use crate::logging::Log;
+use crate::notices::{Notice, is_first};
+use chpw_invocation::ServeOptions;
+use chpw_pool::{Follower, JournalEnd, MachineClock};
+use chpw_serve::Clock as _;
+use mio::net::UnixStream;
+use std::fs::{File, Files};
+use std::net::Net;
+use std::sync::Wait;
+use std::time::Clock;
+
+/// More bytes than a journal has: the reply to a change whose end can't be told waits for as long as it may.
+const BEYOND: u64 = 9_223_372_036_854_775_807;
+
+/// The journal, of which only the length is looked at; no file where no reply waits for a follower.
+#[derive(Drop)]
+pub struct JournalLength {
+    file: Option<File>,
+}
+
+/// The journal of a service with these options.
+pub(crate) fn journal_length<'a, R: Files<File = File>>(
+    rt: &R,
+    options: &ServeOptions<'a>,
+) -> Result<JournalLength, ServeFault<'a>>
+    ensures fault { IfErr result (IsOfJournal options.now.journal.now) }
+{
+    if options.follower.is_none() {
+        return Ok(JournalLength { file: None });
+    }
+    match File::open(rt, options.journal) {
+        Ok(file) => Ok(JournalLength { file: Some(file) }),
+        Err(_) => Err(ServeFault::CannotRead(options.journal)),
+    }
+}
+
+impl JournalEnd for JournalLength {
+    fn journal_end(&self) -> Option<u64> {
+        match &self.file {
+            None => None,
+            Some(file) => match file.metadata() {
+                Ok(metadata) => Some(metadata.len()),
+                Err(_) => Some(BEYOND),
+            },
+        }
+    }
+}
+
+/// Where the follower is, and how long replies wait for it.
+#[derive(Clone, Copy, Drop)]
+pub struct FollowerTerms<'l> {
+    /// Its socket; none where no reply waits.
+    pub socket: Option<&'l str>,
+    /// In milliseconds.
+    pub wait: u32,
+}
+
+/// The follower at a socket, where one is asked for. What it doesn't confirm is told in the log, each change in a line of
+/// its own, and on standard error once until it confirms one again.
+#[derive(Drop)]
+pub(crate) struct Followed<'l, R, T: Clock> {
+    rt: &'l R,
+    terms: FollowerTerms<'l>,
+    log: &'l Log<'l, R>,
+    clock: MachineClock<'l, T>,
+    /// Whether it was told that a change isn't confirmed.
+    is_told: bool,
+}
+
+impl<'l, R, T: Clock> Followed<'l, R, T> {
+    /// One on these terms.
+    pub fn of(
+        rt: &'l R,
+        time: &'l T,
+        log: &'l Log<'l, R>,
+        terms: FollowerTerms<'l>,
+    ) -> Followed<'l, R, T> {
+        Followed {
+            rt,
+            terms,
+            log,
+            clock: MachineClock::new(time),
+            is_told: false,
+        }
+    }
+}
+
+impl<R: Net + Wait + Eprint, T: Clock> Follower for Followed<'_, R, T> {
+    fn wait(&self) -> u64 {
+        u64::from(self.terms.wait)
+    }
+
+    fn connect(&mut self) -> Option<UnixStream> {
+        UnixStream::connect(self.rt, self.terms.socket?).ok()
+    }
+
+    fn confirmed(&mut self) {
+        self.is_told = false;
+    }
+
+    fn unconfirmed(&mut self, peer: [u8; 4], mark: u64) {
+        self.log.put_unconfirmed(self.clock.now(), peer, mark);
+        if let Some(socket) = self.terms.socket {
+            if is_first(&mut self.is_told) {
+                self.log.tell(Notice::Unconfirmed(socket));
+            }
+        }
+    }
+}

@@ -1,0 +1,256 @@
+//! A service whose replies to changes wait for a follower.
+ghost use Rattle.std.specs.Prelude.{◌≤◌};
+
+use crate::realm::{CHANGED, SetClock, request};
+use crate::services::{Paths, START, ask_in_turn, moment, options, prepare};
+use chpw_client::Sent;
+use chpw_invocation::ServeOptions;
+use chpw_service::serve_by;
+use std::fs;
+use std::io::{Read, Write};
+use std::net::{Net, TcpStream};
+use std::os::unix::net::{UnixListener, UnixStream};
+use std::process::Abort;
+use std::sync::atomic::{AtomicBool, Ordering};
+use std::test::Fail;
+use std::thread::{self, join};
+use std::time::{Clock, Duration};
+
+/// How a request is refused that was decided before.
+const REPLAYED: &[u8] = b"code 3 error 34 request replayed";
+
+/// What a line of the log ends with where a change of 66 bytes wasn't confirmed.
+const UNCONFIRMED: &str =
+    "Z worker - peer 127.0.0.1 client - target - code - error - kvno - text not confirmed by the follower: the journal up to byte 66";
+
+// The files of a service and the socket of its follower.
+#[derive(Clone, Copy, Drop)]
+struct Place<'a> {
+    paths: Paths<'a>,
+    socket: &'a str,
+    log: &'a str,
+}
+
+// A service for one connection, whose replies wait for so many milliseconds.
+fn followed<'a>(place: Place<'a>, port: u16, wait: u32) -> ServeOptions<'a>
+    requires wait { (1 ≤ wait) × (wait ≤ 60000) }
+{
+    let mut options = options(place.paths, port, 1, 1);
+    options.follower = Some(place.socket);
+    options.follower_wait = wait;
+    options
+}
+
+// A follower that listens.
+fn listen(rt: &HostRuntime, socket: &str) -> Result<UnixListener, Fail> {
+    let _ = fs::remove_file(rt, socket);
+    Ok(UnixListener::bind(rt, socket)?)
+}
+
+// The service connects.
+fn accept<R: Abort>(rt: &R, listener: &UnixListener) -> UnixStream {
+    let (stream, _) = listener.accept().ok().expect(rt, "a connection");
+    stream
+}
+
+// The service asks for just this.
+fn expect_ask<R: Abort>(rt: &R, stream: &mut UnixStream, asked: &[u8]) {
+    let mut ask = [0; 16];
+    let count = stream.read(&mut ask).ok().expect(rt, "an ask");
+    assert_eq!(rt; &ask[..count], asked);
+}
+
+// A client changes its password, and is answered then.
+fn change<R: Net<Stream = TcpStream> + Clock + Abort + AllocGlobal>(
+    rt: &R,
+    clock: &SetClock,
+    port: u16,
+    sent: &Sent,
+    is_answered: &AtomicBool,
+) {
+    ask_in_turn(rt, rt.alloc(), clock, port, &[(START, sent, CHANGED)]);
+    is_answered.store(true, Ordering::SeqCst);
+}
+
+// Is asked for 66 bytes, says this a tenth of a second later, and hangs up. The client isn't answered before.
+fn say<R: Clock + Abort>(rt: &R, listener: &UnixListener, said: &[u8], is_answered: &AtomicBool) {
+    let mut stream = accept(rt, listener);
+    expect_ask(rt, &mut stream, b"66\n");
+    thread::sleep(rt, Duration::from_millis(100));
+    assert!(rt; !is_answered.load(Ordering::SeqCst));
+    assert!(rt; stream.write_all(said).is_ok());
+}
+
+fn told_place<'a>() -> Place<'a> {
+    Place {
+        paths: Paths {
+            config: "told.toml",
+            seed: "told.seed",
+            journal: "told.journal",
+            log: Some("told.log"),
+        },
+        socket: "told.socket",
+        log: "told.log",
+    }
+}
+
+// How many lines of the log say that the change of 66 bytes wasn't confirmed; each change has a line before it.
+fn unconfirmed_in(rt: &HostRuntime, log: &str) -> Result<usize, Fail> {
+    let text = fs::read_to_string(rt, log)?;
+    let mut lines = text.as_str().lines();
+    assert!(rt;
+        lines
+            .next()
+            .unwrap_or("")
+            .ends_with("kvno 2 text password changed")
+    );
+    Ok(lines.filter(|line| line.ends_with(UNCONFIRMED)).count())
+}
+
+// What a follower says of the 66 bytes, and how often the log tells that the change isn't confirmed.
+const SAID: [(&[u8], usize); 5] = [
+    (b"66\n", 0),
+    (b"", 1),
+    (b"6", 1),
+    (b"67\n", 1),
+    (b"66\n66\n", 1),
+];
+
+// The reply goes out when the follower has said that the KDC has the change, or anything else, or hangs up; and what it
+// didn't confirm is told.
+#[test]
+fn what_a_follower_says(rt: HostRuntime) -> Result<(), Fail> {
+    let place = told_place();
+    let sent = request(&rt, rt.alloc(), "alice", moment(START), "New-pass2");
+    for (said, unconfirmed) in SAID {
+        let port = prepare(&rt, place.paths, "")?;
+        let listener = listen(&rt, place.socket)?;
+        let clock = SetClock::new(START);
+        let is_answered = AtomicBool::new(false);
+        let (served, _) = join(
+            &rt,
+            || serve_by(&rt, &clock, followed(place, port, 60_000)).is_ok(),
+            || {
+                join(
+                    &rt,
+                    || say(&rt, &listener, said, &is_answered),
+                    || change(&rt, &clock, port, &sent, &is_answered),
+                )
+            },
+        );
+        assert!(rt; served);
+        assert_eq!(rt; unconfirmed_in(&rt, place.log)?, unconfirmed);
+    }
+    Ok(())
+}
+
+fn silent_place<'a>() -> Place<'a> {
+    Place {
+        paths: Paths {
+            config: "silent.toml",
+            seed: "silent.seed",
+            journal: "silent.journal",
+            log: Some("silent.log"),
+        },
+        socket: "silent.socket",
+        log: "silent.log",
+    }
+}
+
+// A client changes its password, which takes at least this long.
+fn change_within<R: Net<Stream = TcpStream> + Clock + Abort + AllocGlobal>(
+    rt: &R,
+    clock: &SetClock,
+    port: u16,
+    sent: &Sent,
+    least: Duration,
+) {
+    let is_answered = AtomicBool::new(false);
+    let before = rt.monotonic().ok().expect(rt, "a moment");
+    change(rt, clock, port, sent, &is_answered);
+    let after = rt.monotonic().ok().expect(rt, "a moment");
+    assert!(rt; after >= before + least);
+}
+
+// A follower that takes the ask and says nothing holds a reply up for as long as it may wait, and one that isn't there
+// doesn't at all: it may wait a minute, and the client reads for ten seconds.
+#[test]
+fn a_follower_that_says_nothing(rt: HostRuntime) -> Result<(), Fail> {
+    let place = silent_place();
+    let sent = request(&rt, rt.alloc(), "alice", moment(START), "New-pass2");
+    for (is_there, least) in [(true, 300), (false, 0)] {
+        let port = prepare(&rt, place.paths, "")?;
+        let listener = listen(&rt, place.socket)?;
+        if !is_there {
+            fs::remove_file(&rt, place.socket)?;
+        }
+        let least = Duration::from_millis(least);
+        let clock = SetClock::new(START);
+        let (served, ()) = join(
+            &rt,
+            || serve_by(
+                &rt,
+                &clock,
+                followed(place, port, if is_there { 300 } else { 60_000 }),
+            )
+            .is_ok(),
+            || change_within(&rt, &clock, port, &sent, least),
+        );
+        assert!(rt; served);
+        assert_eq!(rt; unconfirmed_in(&rt, place.log)?, 1);
+        drop(listener);
+    }
+    Ok(())
+}
+
+fn again_place<'a>() -> Place<'a> {
+    Place {
+        paths: Paths {
+            config: "again.toml",
+            seed: "again.seed",
+            journal: "again.journal",
+            log: Some("again.log"),
+        },
+        socket: "again.socket",
+        log: "again.log",
+    }
+}
+
+// Confirms one change and ends, and another one over a second connection: of what is refused it isn't asked.
+fn confirm_twice<R: Abort>(rt: &R, listener: &UnixListener) {
+    for line in [b"66\n".as_slice(), b"132\n".as_slice()] {
+        let mut stream = accept(rt, listener);
+        expect_ask(rt, &mut stream, line);
+        assert!(rt; stream.write_all(line).is_ok());
+    }
+}
+
+// A follower that starts again confirms what comes then. Between the changes the first one is sent once more and refused.
+#[test]
+fn a_follower_that_starts_again(rt: HostRuntime) -> Result<(), Fail> {
+    let place = again_place();
+    let port = prepare(&rt, place.paths, "")?;
+    let listener = listen(&rt, place.socket)?;
+    let first = request(&rt, rt.alloc(), "alice", moment(START), "New-pass2");
+    let second = request(&rt, rt.alloc(), "bob", moment(START), "New-pass3");
+    let clock = SetClock::new(START);
+    let asked = [
+        (START, &first, CHANGED),
+        (START, &first, REPLAYED),
+        (START, &second, CHANGED),
+    ];
+    let (served, _) = join(
+        &rt,
+        || serve_by(&rt, &clock, followed(place, port, 60_000)).is_ok(),
+        || {
+            join(
+                &rt,
+                || confirm_twice(&rt, &listener),
+                || ask_in_turn(&rt, rt.alloc(), &clock, port, &asked),
+            )
+        },
+    );
+    assert!(rt; served);
+    assert_eq!(rt; unconfirmed_in(&rt, place.log)?, 0);
+    Ok(())
+}
