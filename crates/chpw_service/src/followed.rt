@@ -1,52 +1,54 @@
 //! The follower of a service: where it is, and what is told of changes that it hasn't confirmed.
-ghost use Rattle.std.specs.Prelude.{IfErr};
+ghost use Rattle.std.specs.Prelude.{◌≡◌, IfErr};
 ghost use Rattle.chpw_service.specs.Faults.{IsOfJournal};
 
 use crate::fault::ServeFault;
 use crate::logging::Log;
 use crate::notices::{Notice, is_first};
 use chpw_invocation::ServeOptions;
+use chpw_journal::FileSink;
 use chpw_pool::{Follower, JournalEnd, MachineClock};
 use chpw_serve::Clock as _;
+use chpw_table::JournalSink;
 use mio::net::UnixStream;
-use std::fs::{File, Files};
+use std::alloc::Global;
+use std::fs::File;
+use std::io::ErrorKind;
 use std::net::Net;
-use std::sync::Wait;
+use std::sync::atomic::{AtomicU64, Ordering};
+use std::sync::{Arc, Wait};
 use std::time::Clock;
 
-/// More bytes than a journal has: the reply to a change whose end can't be told waits for as long as it may.
-const BEYOND: u64 = 9_223_372_036_854_775_807;
-
-/// The journal, of which only the length is looked at; no file where no reply waits for a follower.
+/// How long the journal is, as far as it is on the disk; nothing is told where no reply waits for a follower.
 #[derive(Drop)]
 pub struct JournalLength {
-    file: Option<File>,
+    end: Option<Arc<AtomicU64>>,
 }
 
-/// The journal of a service with these options.
-pub(crate) fn journal_length<'a, R: Files<File = File>>(
-    rt: &R,
+/// The one of a service with these options, whose journal this is.
+pub(crate) fn journal_length<'a>(
+    alloc: Global,
     options: &ServeOptions<'a>,
+    sink: &mut FileSink<File>,
 ) -> Result<JournalLength, ServeFault<'a>>
+    ensures failed { ⟦<FileSink<File> as JournalSink>⟧.failed sink.new ≡ ⟦<FileSink<File> as JournalSink>⟧.failed sink.old }
     ensures fault { IfErr result (IsOfJournal options.now.journal.now) }
 {
     if options.follower.is_none() {
-        return Ok(JournalLength { file: None });
+        return Ok(JournalLength { end: None });
     }
-    match File::open(rt, options.journal) {
-        Ok(file) => Ok(JournalLength { file: Some(file) }),
+    match sink.show_end(alloc) {
+        Ok(end) => Ok(JournalLength { end: Some(end) }),
+        Err(error) if error.kind() == ErrorKind::OutOfMemory => Err(ServeFault::Memory),
         Err(_) => Err(ServeFault::CannotRead(options.journal)),
     }
 }
 
 impl JournalEnd for JournalLength {
     fn journal_end(&self) -> Option<u64> {
-        match &self.file {
+        match &self.end {
             None => None,
-            Some(file) => match file.metadata() {
-                Ok(metadata) => Some(metadata.len()),
-                Err(_) => Some(BEYOND),
-            },
+            Some(end) => Some(end.load(Ordering::SeqCst)),
         }
     }
 }

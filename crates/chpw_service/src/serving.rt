@@ -81,14 +81,14 @@ pub fn serve_by<
     let mut clock = MachineClock::new(time);
     let Journal {
         table,
-        sink,
+        mut sink,
         found: _,
         cut_at,
     } = open_table(rt, rt.alloc(), config, options.journal, &mut clock)?;
     if let Some(kept) = cut_at {
         log.tell(Notice::TailCut(options.journal, kept));
     }
-    let journal = journal_length(rt, &options)?;
+    let journal = journal_length(rt.alloc(), &options, &mut sink)?;
     let opening = first_opening(table, sink, options.workers);
     let start = Start {
         options: &options,
