@@ -3,7 +3,7 @@ use Rattle.std.proofs.Common.{◌≡◌, ℕ, List, take, refl, ◌∙◌, arith
 use Rattle.std.proofs.lemmas.List.{take_all, length-take}
 use Rattle.slab.specs.Slab.{Slab, get}
 use Rattle.chpw_connections.specs.Messages.{wanted_behind}
-use Rattle.chpw_connections.specs.Stages.{Stage, reading, queued, answering, writing, lingering, abandoned, ended, Event, came, after, count_after, since_after, stage, wanted_by, IsRoomFor, IsRoomBehind, Goes}
+use Rattle.chpw_connections.specs.Stages.{Stage, reading, queued, answering, confirming, writing, lingering, abandoned, ended, Event, came, after, count_after, since_after, stage, wanted_by, IsRoomFor, IsRoomBehind, Goes}
 use Rattle.chpw_connections.specs.Sets.{Comes, wanted_of}
 use Rattle.chpw_connections.specs.Room.{HappensWithRoom}
 use Rattle.chpw_connections.specs.declared.connection.Connection.{Connection}
@@ -34,6 +34,7 @@ room_for : (now : ℕ) (a b : List ℕ) (old : Phase) (j : Incoming) → IsRoomF
 room_for now a b (phase.Reading i) j is = is
 room_for now a b (phase.Queued message) j is = is
 room_for now a b phase.Answering j is = is
+room_for now a b (phase.Confirming waiting) j is = is
 room_for now a b (phase.Writing outgoing) j is = is
 room_for now a b phase.Lingering j is = is
 room_for now a b phase.Abandoned j is = is
@@ -43,6 +44,7 @@ room_same : (now : ℕ) (a b : List ℕ) (old new : Phase) → IsRoomBehind now 
 room_same now a b old (phase.Reading j) is = room_for now a b old j is
 room_same now a b old (phase.Queued message) is = is
 room_same now a b old phase.Answering is = is
+room_same now a b old (phase.Confirming waiting) is = is
 room_same now a b old (phase.Writing outgoing) is = is
 room_same now a b old phase.Lingering is = is
 room_same now a b old phase.Abandoned is = is
@@ -63,6 +65,7 @@ wanted_same now count since (reading b) more =
     }
 wanted_same now count since (queued m) more = record { stage_too = refl; count_too = refl; since_too = refl; room_too = room_same now (take 0 more) more }
 wanted_same now count since answering more = record { stage_too = refl; count_too = refl; since_too = refl; room_too = room_same now (take 0 more) more }
+wanted_same now count since (confirming r l m) more = record { stage_too = refl; count_too = refl; since_too = refl; room_too = room_same now (take 0 more) more }
 wanted_same now count since (writing w l) more = record { stage_too = refl; count_too = refl; since_too = refl; room_too = room_same now (take 0 more) more }
 wanted_same now count since lingering more = record { stage_too = refl; count_too = refl; since_too = refl; room_too = room_same now (take 0 more) more }
 wanted_same now count since abandoned more = record { stage_too = refl; count_too = refl; since_too = refl; room_too = room_same now (take 0 more) more }

@@ -7,7 +7,7 @@ use Rattle.std.proofs.lemmas.List.Sums.{sum_by-cons}
 use Rattle.std.specs.List.{count_by}
 use Rattle.std.proofs.lemmas.Bool.Decides.{nat_tests}
 use Rattle.slab.specs.Slab.{Slab, get, slab_len, Updates}
-use Rattle.chpw_connections.specs.Stages.{Stage, reading, queued, answering, writing, lingering, abandoned, ended, Event, came, taken, replied, unanswered, wrote, closed, failed, after, stage, is_over, received}
+use Rattle.chpw_connections.specs.Stages.{Stage, reading, queued, answering, confirming, writing, lingering, abandoned, ended, Event, came, taken, replied, deferred, unanswered, released, wrote, closed, failed, after, stage, is_over, received}
 use Rattle.chpw_connections.specs.Holding.{held_by, begun_of}
 use Rattle.chpw_connections.specs.Messages.{wanted_behind}
 use Rattle.chpw_connections.specs.Sets.{queued_by, queued_at, Comes, Happens, waits, waits_since, is_ended, is_ended_in, IsLongest}
@@ -23,7 +23,9 @@ is_quiet (came more) = false
 is_quiet taken = false
 is_quiet failed = false
 is_quiet (replied reply last) = true
+is_quiet (deferred reply last mark) = true
 is_quiet unanswered = true
+is_quiet released = true
 is_quiet (wrote n) = true
 is_quiet closed = true
 
@@ -40,13 +42,31 @@ quiet_kept count s failed is = absurd cc
 quiet_kept count (reading b) (replied r l) is = refl
 quiet_kept count (queued m) (replied r l) is = refl
 quiet_kept count answering (replied r l) is = refl
+quiet_kept count (confirming w l m) (replied r k) is = refl
 quiet_kept count (writing w l) (replied r k) is = refl
 quiet_kept count lingering (replied r l) is = refl
 quiet_kept count abandoned (replied r l) is = refl
 quiet_kept count ended (replied r l) is = refl
+quiet_kept count (reading b) (deferred r k n) is = refl
+quiet_kept count (queued m) (deferred r k n) is = refl
+quiet_kept count answering (deferred r k n) is = refl
+quiet_kept count (confirming w l m) (deferred r k n) is = refl
+quiet_kept count (writing w l) (deferred r k n) is = refl
+quiet_kept count lingering (deferred r k n) is = refl
+quiet_kept count abandoned (deferred r k n) is = refl
+quiet_kept count ended (deferred r k n) is = refl
+quiet_kept count (reading b) released is = refl
+quiet_kept count (queued m) released is = refl
+quiet_kept count answering released is = refl
+quiet_kept count (confirming w l m) released is = refl
+quiet_kept count (writing w l) released is = refl
+quiet_kept count lingering released is = refl
+quiet_kept count abandoned released is = refl
+quiet_kept count ended released is = refl
 quiet_kept count (reading b) unanswered is = refl
 quiet_kept count (queued m) unanswered is = refl
 quiet_kept count answering unanswered is = refl
+quiet_kept count (confirming w l m) unanswered is = refl
 quiet_kept count (writing w l) unanswered is = refl
 quiet_kept count lingering unanswered is = refl
 quiet_kept count abandoned unanswered is = refl
@@ -54,6 +74,7 @@ quiet_kept count ended unanswered is = refl
 quiet_kept count (reading b) (wrote n) is = refl
 quiet_kept count (queued m) (wrote n) is = refl
 quiet_kept count answering (wrote n) is = refl
+quiet_kept count (confirming w l m) (wrote n) is = refl
 quiet_kept count (writing w l) (wrote n) is = written_none (is_over (drop n w)) l (drop n w)
 quiet_kept count lingering (wrote n) is = refl
 quiet_kept count abandoned (wrote n) is = refl
@@ -61,6 +82,7 @@ quiet_kept count ended (wrote n) is = refl
 quiet_kept count (reading b) closed is = refl
 quiet_kept count (queued m) closed is = refl
 quiet_kept count answering closed is = refl
+quiet_kept count (confirming w l m) closed is = refl
 quiet_kept count (writing w l) closed is = refl
 quiet_kept count lingering closed is = refl
 quiet_kept count abandoned closed is = refl
@@ -70,6 +92,7 @@ failed_none : (count : ℕ) (s : Stage) → queued_by (after count s failed) ≡
 failed_none count (reading b) = refl
 failed_none count (queued m) = refl
 failed_none count answering = refl
+failed_none count (confirming w l m) = refl
 failed_none count (writing w l) = refl
 failed_none count lingering = refl
 failed_none count abandoned = refl
@@ -79,6 +102,7 @@ taken_none : (count : ℕ) (s : Stage) → queued_by (after count s taken) ≡ N
 taken_none count (reading b) = refl
 taken_none count (queued m) = refl
 taken_none count answering = refl
+taken_none count (confirming w l m) = refl
 taken_none count (writing w l) = refl
 taken_none count lingering = refl
 taken_none count abandoned = refl
@@ -94,6 +118,7 @@ came_kept : (count : ℕ) (s : Stage) (more : List ℕ) → is_newly_queued (que
 came_kept count (reading b) more is = read_none (wanted_behind (b ++ received b more) == 0) (b ++ received b more) is
 came_kept count (queued m) more is = refl
 came_kept count answering more is = refl
+came_kept count (confirming w l m) more is = refl
 came_kept count (writing w l) more is = refl
 came_kept count lingering more is = refl
 came_kept count abandoned more is = refl
@@ -220,6 +245,7 @@ ended_none (Some c) is = by_stage (stage c) is
     by_stage (reading b) e = absurd cc
     by_stage (queued m) e = absurd cc
     by_stage answering e = absurd cc
+    by_stage (confirming w l m) e = absurd cc
     by_stage (writing w l) e = absurd cc
     by_stage lingering e = absurd cc
     by_stage abandoned e = absurd cc
@@ -238,6 +264,7 @@ client_none (Some c) since is = by_stage (stage c) is
     by_stage (reading b) e = refl
     by_stage (queued m) e = absurd cc
     by_stage answering e = refl
+    by_stage (confirming w l m) e = absurd cc
     by_stage (writing w l) e = refl
     by_stage lingering e = refl
     by_stage abandoned e = refl

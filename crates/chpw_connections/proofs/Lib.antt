@@ -12,4 +12,5 @@ pub mod ReadingLemmas
 pub mod RoomLemmas
 pub mod TakeLemmas
 pub mod TimeLemmas
+pub mod UnchangedLemmas
 pub mod WaitLemmas

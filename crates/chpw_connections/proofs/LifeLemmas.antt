@@ -7,7 +7,7 @@ use Rattle.std.proofs.lemmas.List.{take-append-drop, length-append, append-nil}
 use Rattle.std.proofs.lemmas.List.Elements.{All-append, All-cons}
 use Rattle.std.proofs.lemmas.List.{nil_from_length}
 use Rattle.chpw_connections.specs.Messages.{wanted_behind, IsPiece}
-use Rattle.chpw_connections.specs.Stages.{Stage, reading, queued, answering, writing, lingering, abandoned, ended, Event, came, taken, replied, unanswered, wrote, closed, failed, received, read_to, written_to, is_over, is_last_reply}
+use Rattle.chpw_connections.specs.Stages.{Stage, reading, queued, answering, confirming, writing, lingering, abandoned, ended, Event, came, taken, replied, deferred, unanswered, released, wrote, closed, failed, received, read_to, written_to, is_over, is_last_reply}
 use Rattle.chpw_connections.specs.Lives.{Life, accepted, behind, life, joined, IsOrderly, Orderly, Final}
 use Rattle.chpw_connections.proofs.PieceLemmas.{piece_is_whole}
 
@@ -19,6 +19,7 @@ IsWaiting stage = Unit {0}
 
 -- a connection that goes on counts its replies
 abbrev IsCounted : Stage → ℕ → ℕ → Type 0
+IsCounted (confirming reply last mark) count replies = last ≡ false → count ≡ replies
 IsCounted (writing left last) count replies = last ≡ false → count ≡ replies
 IsCounted lingering count replies = Unit {0}
 IsCounted abandoned count replies = Unit {0}
@@ -167,6 +168,62 @@ replies_to c h r w n reply last o =
     }) in
     rw (append-nil c, append-nil h, append-nil w) step
 
+-- what is said of a reply that isn't confirmed is said of one of which nothing is written
+waits_as : (c : List ℕ) (h r : List (List ℕ)) (w : List ℕ) (n : ℕ) (reply : List ℕ) (last : Bool) (mark : ℕ) → Holds (made c h r w n (writing reply last))
+    → Holds (made c h r w n (confirming reply last mark))
+waits_as c h r w n reply last mark o =
+    let p = o.orderly in
+    record {
+      orderly = record {
+        rest = p.rest;
+        messages = p.messages;
+        held = p.held;
+        pieces = p.pieces;
+        left = p.left;
+        replies = p.replies;
+        unwritten = p.unwritten;
+        answered = p.answered;
+        few = p.few;
+      };
+      waiting = tt;
+      counted = o.counted;
+      small = o.small;
+    }
+
+written_as : (c : List ℕ) (h r : List (List ℕ)) (w : List ℕ) (n : ℕ) (reply : List ℕ) (last : Bool) (mark : ℕ)
+    → Holds (made c h r w n (confirming reply last mark)) → Holds (made c h r w n (writing reply last))
+written_as c h r w n reply last mark o =
+    let p = o.orderly in
+    record {
+      orderly = record {
+        rest = p.rest;
+        messages = p.messages;
+        held = p.held;
+        pieces = p.pieces;
+        left = p.left;
+        replies = p.replies;
+        unwritten = p.unwritten;
+        answered = p.answered;
+        few = p.few;
+      };
+      waiting = tt;
+      counted = o.counted;
+      small = o.small;
+    }
+
+-- a worker's reply is held back
+defers_to : (c : List ℕ) (h r : List (List ℕ)) (w : List ℕ) (n : ℕ) (reply : List ℕ) (last : Bool) (mark : ℕ) → Holds (made c h r w n answering)
+    → Holds (made (c ++ []) (h ++ []) (r ++ reply ∷ []) (w ++ [])
+    (cond (is_last_reply n last) n (n + 1)) (confirming reply (is_last_reply n last) mark))
+defers_to c h r w n reply last mark o =
+    waits_as (c ++ []) (h ++ []) (r ++ reply ∷ []) (w ++ []) (cond (is_last_reply n last) n (n + 1)) reply (is_last_reply n last) mark
+    (replies_to c h r w n reply last o)
+
+-- and released
+releases : (c : List ℕ) (h r : List (List ℕ)) (w : List ℕ) (n : ℕ) (reply : List ℕ) (last : Bool) (mark : ℕ)
+    → Holds (made c h r w n (confirming reply last mark)) → Holds (made (c ++ []) (h ++ []) (r ++ []) (w ++ []) n (writing reply last))
+releases c h r w n reply last mark o = same c h r w n (writing reply last) (written_as c h r w n reply last mark o)
+
 -- bytes of the reply went out
 writes : (c : List ℕ) (h r : List (List ℕ)) (w : List ℕ) (n : ℕ) (left : List ℕ) (last : Bool) (k : ℕ) → Holds (made c h r w n (writing left last))
     → Holds (made (c ++ []) (h ++ []) (r ++ []) (w ++ take k left) n (written_to (drop k left) last))
@@ -307,38 +364,59 @@ keeps_at c h r w n (reading b) closed o = ends c h r w n (reading b) o (let a = 
 keeps_at c h r w n (reading b) failed o = ends c h r w n (reading b) o (let a = o.orderly.answered in (omega arith, omega arith))
 keeps_at c h r w n (reading b) taken o = same c h r w n (reading b) o
 keeps_at c h r w n (reading b) (replied reply last) o = same c h r w n (reading b) o
+keeps_at c h r w n (reading b) (deferred reply last mark) o = same c h r w n (reading b) o
 keeps_at c h r w n (reading b) unanswered o = same c h r w n (reading b) o
+keeps_at c h r w n (reading b) released o = same c h r w n (reading b) o
 keeps_at c h r w n (reading b) (wrote k) o = same c h r w n (reading b) o
 keeps_at c h r w n (queued m) taken o = takes c h r w n m o
 keeps_at c h r w n (queued m) failed o = ends c h r w n (queued m) o (let a = o.orderly.answered in (omega arith, omega arith))
 keeps_at c h r w n (queued m) (came more) o = same c h r w n (queued m) o
 keeps_at c h r w n (queued m) closed o = same c h r w n (queued m) o
 keeps_at c h r w n (queued m) (replied reply last) o = same c h r w n (queued m) o
+keeps_at c h r w n (queued m) (deferred reply last mark) o = same c h r w n (queued m) o
 keeps_at c h r w n (queued m) unanswered o = same c h r w n (queued m) o
+keeps_at c h r w n (queued m) released o = same c h r w n (queued m) o
 keeps_at c h r w n (queued m) (wrote k) o = same c h r w n (queued m) o
 keeps_at c h r w n answering (replied reply last) o = replies_to c h r w n reply last o
+keeps_at c h r w n answering (deferred reply last mark) o = defers_to c h r w n reply last mark o
 keeps_at c h r w n answering unanswered o = lingers c h r w n o
+keeps_at c h r w n answering released o = same c h r w n answering o
 keeps_at c h r w n answering failed o = leaves c h r w n o
 keeps_at c h r w n answering (came more) o = same c h r w n answering o
 keeps_at c h r w n answering closed o = same c h r w n answering o
 keeps_at c h r w n answering taken o = same c h r w n answering o
 keeps_at c h r w n answering (wrote k) o = same c h r w n answering o
+keeps_at c h r w n (confirming reply last mark) released o = releases c h r w n reply last mark o
+keeps_at c h r w n (confirming reply last mark) failed o = ends c h r w n (confirming reply last mark) o (let a = o.orderly.answered in (omega arith, omega arith))
+keeps_at c h r w n (confirming reply last mark) (came more) o = same c h r w n (confirming reply last mark) o
+keeps_at c h r w n (confirming reply last mark) closed o = same c h r w n (confirming reply last mark) o
+keeps_at c h r w n (confirming reply last mark) taken o = same c h r w n (confirming reply last mark) o
+keeps_at c h r w n (confirming reply last mark) (replied reply' last') o = same c h r w n (confirming reply last mark) o
+keeps_at c h r w n (confirming reply last mark) (deferred reply' last' mark') o = same c h r w n (confirming reply last mark) o
+keeps_at c h r w n (confirming reply last mark) unanswered o = same c h r w n (confirming reply last mark) o
+keeps_at c h r w n (confirming reply last mark) (wrote k) o = same c h r w n (confirming reply last mark) o
 keeps_at c h r w n (writing left last) (wrote k) o = writes c h r w n left last k o
 keeps_at c h r w n (writing left last) failed o = ends c h r w n (writing left last) o (let a = o.orderly.answered in (omega arith, omega arith))
 keeps_at c h r w n (writing left last) (came more) o = same c h r w n (writing left last) o
 keeps_at c h r w n (writing left last) closed o = same c h r w n (writing left last) o
 keeps_at c h r w n (writing left last) taken o = same c h r w n (writing left last) o
 keeps_at c h r w n (writing left last) (replied reply last') o = same c h r w n (writing left last) o
+keeps_at c h r w n (writing left last) (deferred reply last' mark) o = same c h r w n (writing left last) o
 keeps_at c h r w n (writing left last) unanswered o = same c h r w n (writing left last) o
+keeps_at c h r w n (writing left last) released o = same c h r w n (writing left last) o
 keeps_at c h r w n lingering closed o = ends c h r w n lingering o o.orderly.answered
 keeps_at c h r w n lingering failed o = ends c h r w n lingering o o.orderly.answered
 keeps_at c h r w n lingering (came more) o = same c h r w n lingering o
 keeps_at c h r w n lingering taken o = same c h r w n lingering o
 keeps_at c h r w n lingering (replied reply last) o = same c h r w n lingering o
+keeps_at c h r w n lingering (deferred reply last mark) o = same c h r w n lingering o
 keeps_at c h r w n lingering unanswered o = same c h r w n lingering o
+keeps_at c h r w n lingering released o = same c h r w n lingering o
 keeps_at c h r w n lingering (wrote k) o = same c h r w n lingering o
 keeps_at c h r w n abandoned (replied reply last) o = ends c h r w n abandoned o (let a = o.orderly.answered in (omega arith, omega arith))
+keeps_at c h r w n abandoned (deferred reply last mark) o = ends c h r w n abandoned o (let a = o.orderly.answered in (omega arith, omega arith))
 keeps_at c h r w n abandoned unanswered o = ends c h r w n abandoned o (let a = o.orderly.answered in (omega arith, omega arith))
+keeps_at c h r w n abandoned released o = same c h r w n abandoned o
 keeps_at c h r w n abandoned (came more) o = same c h r w n abandoned o
 keeps_at c h r w n abandoned closed o = same c h r w n abandoned o
 keeps_at c h r w n abandoned taken o = same c h r w n abandoned o
@@ -348,7 +426,9 @@ keeps_at c h r w n ended (came more) o = same c h r w n ended o
 keeps_at c h r w n ended closed o = same c h r w n ended o
 keeps_at c h r w n ended taken o = same c h r w n ended o
 keeps_at c h r w n ended (replied reply last) o = same c h r w n ended o
+keeps_at c h r w n ended (deferred reply last mark) o = same c h r w n ended o
 keeps_at c h r w n ended unanswered o = same c h r w n ended o
+keeps_at c h r w n ended released o = same c h r w n ended o
 keeps_at c h r w n ended (wrote k) o = same c h r w n ended o
 keeps_at c h r w n ended failed o = same c h r w n ended o
 
@@ -385,7 +465,9 @@ at_end : (c : List ℕ) (h r : List (List ℕ)) (w : List ℕ) (n : ℕ) (e : Ev
 at_end c h r w n (came more) = rw (append-nil c, append-nil h, append-nil r, append-nil w) refl
 at_end c h r w n taken = rw (append-nil c, append-nil h, append-nil r, append-nil w) refl
 at_end c h r w n (replied reply last) = rw (append-nil c, append-nil h, append-nil r, append-nil w) refl
+at_end c h r w n (deferred reply last mark) = rw (append-nil c, append-nil h, append-nil r, append-nil w) refl
 at_end c h r w n unanswered = rw (append-nil c, append-nil h, append-nil r, append-nil w) refl
+at_end c h r w n released = rw (append-nil c, append-nil h, append-nil r, append-nil w) refl
 at_end c h r w n (wrote k) = rw (append-nil c, append-nil h, append-nil r, append-nil w) refl
 at_end c h r w n closed = rw (append-nil c, append-nil h, append-nil r, append-nil w) refl
 at_end c h r w n failed = rw (append-nil c, append-nil h, append-nil r, append-nil w) refl

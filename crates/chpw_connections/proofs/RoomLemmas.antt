@@ -4,7 +4,7 @@ use Rattle.std.proofs.Math.Logic.{⊎_elim}
 use Rattle.std.proofs.lemmas.Bool.{cases_eq}
 use Rattle.std.proofs.lemmas.Bool.Decides.{nat_tests}
 use Rattle.slab.specs.Slab.{Slab, get}
-use Rattle.chpw_connections.specs.Stages.{Stage, reading, queued, answering, writing, lingering, abandoned, ended, Event, failed, after, stage}
+use Rattle.chpw_connections.specs.Stages.{Stage, reading, queued, answering, confirming, writing, lingering, abandoned, ended, Event, failed, after, stage}
 use Rattle.chpw_connections.specs.Holding.{held_by, begun_of}
 use Rattle.chpw_connections.specs.Sets.{waits, Comes, Happens}
 use Rattle.chpw_connections.specs.Room.{is_held_back, is_among, gives_way, gives_way_at, gives_way_since, waits_besides, IsLongestBesides, PutsOut, LongestFirst, MakesRoom, HappensWithRoom}
@@ -40,6 +40,7 @@ pub ends_waiting : (count : ℕ) (s : Stage) → waits s ≡ true → after coun
 ends_waiting count (reading bytes) is = refl
 ends_waiting count (queued message) is = absurd cc
 ends_waiting count answering is = absurd cc
+ends_waiting count (confirming reply last mark) is = absurd cc
 ends_waiting count (writing left last) is = refl
 ends_waiting count lingering is = refl
 ends_waiting count abandoned is = absurd cc

@@ -1,9 +1,9 @@
 -- That nothing is left that nothing can end.
 use Rattle.std.proofs.Common.{◌≡◌, ℕ, ◌+◌, ◌-◌, ◌≤◌, refl, ap, ◌∙◌, subst, arith, Bool, true, nat_le, Option, Some, None, IsSomeAnd, inl, inr, MatchBool}
 use Rattle.std.proofs.lemmas.Bool.Decides.{nat_tests}
-use Rattle.chpw_connections.specs.Stages.{Stage, reading, queued, answering, writing, lingering, abandoned, ended, failed, after, stage}
+use Rattle.chpw_connections.specs.Stages.{Stage, reading, queued, answering, confirming, writing, lingering, abandoned, ended, failed, after, stage}
 use Rattle.chpw_connections.specs.Sets.{time_of, is_late, is_late_at, Passes, Comes}
-use Rattle.chpw_connections.specs.Times.{is_timed, EndsInTime, AllEndInTime, AllGoOnByTheirWorker}
+use Rattle.chpw_connections.specs.Times.{is_timed, EndsInTime, AllEndInTime, AllGoOnByTheirWorker, AllGoOnReleased, NoneStays}
 use Rattle.chpw_connections.specs.declared.bounds.Bounds.{Bounds}
 use Rattle.chpw_connections.specs.declared.connection.Connection.{Connection}
 
@@ -11,6 +11,7 @@ has_time : (b : Bounds) (s : Stage) → is_timed s ≡ true → (most : ℕ) × 
 has_time b (reading bytes) is = (b.idle, refl)
 has_time b (queued message) is = (b.wait, refl)
 has_time b answering is = absurd cc
+has_time b (confirming reply last mark) is = absurd cc
 has_time b (writing left last) is = (b.idle, refl)
 has_time b lingering is = (b.linger, refl)
 has_time b abandoned is = absurd cc
@@ -20,6 +21,7 @@ timed_ends : (count : ℕ) (s : Stage) → is_timed s ≡ true → after count s
 timed_ends count (reading bytes) is = refl
 timed_ends count (queued message) is = refl
 timed_ends count answering is = absurd cc
+timed_ends count (confirming reply last mark) is = absurd cc
 timed_ends count (writing left last) is = refl
 timed_ends count lingering is = refl
 timed_ends count abandoned is = absurd cc
@@ -47,10 +49,31 @@ pub all_end_in_time : AllEndInTime
 all_end_in_time b c is = ends_in_time b c is (has_time b (stage c) is).0 (has_time b (stage c) is).1
 
 pub all_go_on_by_their_worker : AllGoOnByTheirWorker
-all_go_on_by_their_worker count (reading bytes) is differs = absurd cc
-all_go_on_by_their_worker count (queued message) is differs = absurd cc
-all_go_on_by_their_worker count answering is differs = ((λ reply last. inl refl), inl refl)
-all_go_on_by_their_worker count (writing left last) is differs = absurd cc
-all_go_on_by_their_worker count lingering is differs = absurd cc
-all_go_on_by_their_worker count abandoned is differs = ((λ reply last. inr refl), inr refl)
-all_go_on_by_their_worker count ended is differs = absurd (differs refl)
+all_go_on_by_their_worker count (reading bytes) is = absurd cc
+all_go_on_by_their_worker count (queued message) is = absurd cc
+all_go_on_by_their_worker count answering is = ((λ reply last. inl refl), (λ reply last mark. inr (inl refl)), inl refl)
+all_go_on_by_their_worker count (confirming reply last mark) is = absurd cc
+all_go_on_by_their_worker count (writing left last) is = absurd cc
+all_go_on_by_their_worker count lingering is = absurd cc
+all_go_on_by_their_worker count abandoned is = ((λ reply last. inr (inr refl)), (λ reply last mark. inr (inr refl)), inr (inr refl))
+all_go_on_by_their_worker count ended is = absurd cc
+
+pub all_go_on_released : AllGoOnReleased
+all_go_on_released count (reading bytes) is = absurd cc
+all_go_on_released count (queued message) is = absurd cc
+all_go_on_released count answering is = absurd cc
+all_go_on_released count (confirming reply last mark) is = refl
+all_go_on_released count (writing left last) is = absurd cc
+all_go_on_released count lingering is = absurd cc
+all_go_on_released count abandoned is = absurd cc
+all_go_on_released count ended is = absurd cc
+
+pub none_stays : NoneStays
+none_stays (reading bytes) = inl refl
+none_stays (queued message) = inl refl
+none_stays answering = inr (inl refl)
+none_stays (confirming reply last mark) = inr (inr (inl refl))
+none_stays (writing left last) = inl refl
+none_stays lingering = inl refl
+none_stays abandoned = inr (inl refl)
+none_stays ended = inr (inr (inr refl))

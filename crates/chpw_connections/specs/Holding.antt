@@ -12,6 +12,7 @@ abbrev pub held_by : Phase → ℕ
 held_by (phase.Reading incoming) = incoming.room
 held_by (phase.Queued message) = length message.items
 held_by phase.Answering = 0
+held_by (phase.Confirming waiting) = length waiting.reply.items
 held_by (phase.Writing outgoing) = length outgoing.reply.items
 held_by phase.Lingering = 0
 held_by phase.Abandoned = 0
@@ -30,6 +31,7 @@ abbrev pub size_by : Phase → ℕ
 size_by (phase.Reading incoming) = whole_behind incoming.received.items
 size_by (phase.Queued message) = length message.items
 size_by phase.Answering = 0
+size_by (phase.Confirming waiting) = length waiting.reply.items
 size_by (phase.Writing outgoing) = length outgoing.reply.items
 size_by phase.Lingering = 0
 size_by phase.Abandoned = 0

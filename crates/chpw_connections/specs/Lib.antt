@@ -1,3 +1,4 @@
+pub mod Confirming
 pub mod Expiry
 pub mod Held
 pub mod Holding
@@ -11,4 +12,5 @@ pub mod Sets
 pub mod Stages
 pub mod Times
 pub mod Todos
+pub mod Unchanged
 pub mod Waiting

@@ -1,7 +1,7 @@
 -- The whole life of a connection: what came of it, what went to workers, what they replied, what was written.
 use Rattle.std.specs.Prelude.{◌≡◌, ℕ, ◌+◌, ◌≤◌, List, [], ◌∷◌, ◌++◌, length, take, All}
 use Rattle.chpw_connections.specs.Messages.{IsPiece}
-use Rattle.chpw_connections.specs.Stages.{Stage, reading, queued, answering, writing, lingering, abandoned, ended, Event, came, taken, replied, wrote, received, count_after, after}
+use Rattle.chpw_connections.specs.Stages.{Stage, reading, queued, answering, confirming, writing, lingering, abandoned, ended, Event, came, taken, replied, deferred, wrote, received, count_after, after}
 
 pub record Life : Type 0 where
   pub came : List ℕ
@@ -29,6 +29,7 @@ handed_by stage event = []
 -- the reply that it brings
 abbrev pub replied_by : Stage → Event → List (List ℕ)
 replied_by answering (replied reply last) = reply ∷ []
+replied_by answering (deferred reply last mark) = reply ∷ []
 replied_by stage event = []
 
 -- the bytes that go out
@@ -63,8 +64,9 @@ IsHeld abandoned rest = Unit {0}
 IsHeld ended rest = Unit {0}
 IsHeld stage rest = rest ≡ []
 
--- what was replied and isn't written: of a connection that goes on what it writes
+-- what was replied and isn't written: of a connection that goes on what it writes, and a reply that isn't confirmed
 abbrev pub IsLeft : Stage → List ℕ → Type 0
+IsLeft (confirming reply last mark) rest = rest ≡ reply
 IsLeft (writing left last) rest = rest ≡ left
 IsLeft abandoned rest = Unit {0}
 IsLeft ended rest = Unit {0}

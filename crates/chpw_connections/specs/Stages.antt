@@ -6,25 +6,30 @@ use Rattle.chpw_connections.specs.declared.connection.Phase.{Phase}
 use Rattle.chpw_connections.specs.declared.connection.Phase.TheVariants as phase
 use Rattle.chpw_connections.specs.declared.connection.Connection.{Connection}
 
--- It reads these bytes of its next message; this message waits for a worker; a worker answers it; these bytes of its
--- reply are left to write, behind which the connection ends or not; its last reply is out; it is gone while a worker
--- still answers; it has ended
+-- It reads these bytes of its next message; this message waits for a worker; a worker answers it; this reply, behind
+-- which the connection ends or not, waits until its change is confirmed: until the KDC has so many bytes of the journal;
+-- these bytes of its reply are left to write, behind which the connection ends or not; its last reply is out; it is gone
+-- while a worker still answers; it has ended
 pub data Stage : Type 0 where
   reading : List ℕ → Stage
   queued : List ℕ → Stage
   answering : Stage
+  confirming : List ℕ → Bool → ℕ → Stage
   writing : List ℕ → Bool → Stage
   lingering : Stage
   abandoned : Stage
   ended : Stage
 
--- bytes came; its message went to a worker; the worker's reply, maybe the last, is to be written; the worker has
--- none; so many bytes were written; the client closed its side, and all was read; it can't go on
+-- bytes came; its message went to a worker; the worker's reply, maybe the last, is to be written; it is to be written
+-- once the KDC has so many bytes of the journal; the worker has none; its change is confirmed, or isn't waited for any
+-- longer; so many bytes were written; the client closed its side, and all was read; it can't go on
 pub data Event : Type 0 where
   came : List ℕ → Event
   taken : Event
   replied : List ℕ → Bool → Event
+  deferred : List ℕ → Bool → ℕ → Event
   unanswered : Event
+  released : Event
   wrote : ℕ → Event
   closed : Event
   failed : Event
@@ -57,13 +62,17 @@ after count (reading bytes) failed = ended
 after count (queued message) taken = answering
 after count (queued message) failed = ended
 after count answering (replied reply last) = writing reply (is_last_reply count last)
+after count answering (deferred reply last mark) = confirming reply (is_last_reply count last) mark
 after count answering unanswered = lingering
 after count answering failed = abandoned
+after count (confirming reply last mark) released = writing reply last
+after count (confirming reply last mark) failed = ended
 after count (writing left last) (wrote n) = written_to (drop n left) last
 after count (writing left last) failed = ended
 after count lingering closed = ended
 after count lingering failed = ended
 after count abandoned (replied reply last) = ended
+after count abandoned (deferred reply last mark) = ended
 after count abandoned unanswered = ended
 after count stage event = stage
 
@@ -80,15 +89,18 @@ left_of stage = []
 -- the replies behind which it goes on
 abbrev pub count_after : ℕ → Stage → Event → ℕ
 count_after count answering (replied reply last) = if is_last_reply count last then count else count + 1
+count_after count answering (deferred reply last mark) = if is_last_reply count last then count else count + 1
 count_after count stage event = count
 
--- since when it waits: a message for its worker from its last byte on, a reply from its first, the next message from
--- the reply's last
+-- since when it waits: a message for its worker from its last byte on, a reply for its confirmation from when it is there,
+-- and for its client from its first byte on, the next message from the reply's last
 abbrev pub since_after : ℕ → ℕ → Stage → Event → ℕ
 since_after now since (reading bytes) (came more) =
     if wanted_behind (bytes ++ received bytes more) == 0 then now else since
 since_after now since answering (replied reply last) = now
+since_after now since answering (deferred reply last mark) = now
 since_after now since answering unanswered = now
+since_after now since (confirming reply last mark) released = now
 since_after now since (writing left last) (wrote n) = if is_over (drop n left) then now else since
 since_after now since stage event = since
 
@@ -96,6 +108,7 @@ abbrev pub stage_of : Phase → Stage
 stage_of (phase.Reading incoming) = reading incoming.received.items
 stage_of (phase.Queued message) = queued message.items
 stage_of phase.Answering = answering
+stage_of (phase.Confirming waiting) = confirming waiting.reply.items waiting.is_last waiting.mark
 stage_of (phase.Writing outgoing) = writing (drop outgoing.written outgoing.reply.items) outgoing.is_last
 stage_of phase.Lingering = lingering
 stage_of phase.Abandoned = abandoned

@@ -1,7 +1,7 @@
 -- What is to be done for a connection.
 use Rattle.std.specs.Prelude.{Option, Some, None}
 use Rattle.chpw_connections.specs.Messages.{wanted_behind}
-use Rattle.chpw_connections.specs.Stages.{Stage, reading, queued, answering, writing, lingering, abandoned, ended, stage}
+use Rattle.chpw_connections.specs.Stages.{Stage, reading, queued, answering, confirming, writing, lingering, abandoned, ended, stage}
 use Rattle.chpw_connections.specs.declared.connection.Connection.{Connection}
 use Rattle.chpw_connections.specs.declared.todo.Todo.{Todo}
 use Rattle.chpw_connections.specs.declared.todo.Todo.TheVariants as todo
@@ -13,6 +13,7 @@ todo_at lingering = todo.Linger
 todo_at ended = todo.Close
 todo_at (queued message) = todo.Wait
 todo_at answering = todo.Wait
+todo_at (confirming reply last mark) = todo.Wait
 todo_at abandoned = todo.Wait
 
 abbrev pub todo_in : Option Connection → Todo

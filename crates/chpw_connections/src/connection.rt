@@ -1,5 +1,5 @@
 //! What happens to one connection, from its accept to its end.
-ghost use Rattle.std.specs.Prelude.{◌≡◌, ◌==◌, if◌then◌else◌, ◌+◌, ◌≤◌, [], length, IfSome, IfNone, None, IfOk, OnOk, OnErr, take, true, nat_lt};
+ghost use Rattle.std.specs.Prelude.{◌≡◌, ◌==◌, if◌then◌else◌, ◌+◌, ◌≤◌, [], length, IfSome, IfNone, Some, None, IfOk, OnOk, OnErr, take, true, nat_lt};
 ghost use Rattle.chpw_connections.specs.Messages.{wanted_behind as wanted_of, whole_behind as whole_of};
 ghost use Rattle.chpw_connections.specs.Reading.{is_unfinished, is_covered};
 
@@ -24,6 +24,8 @@ pub(crate) enum Phase {
     Queued(Vec<u8>),
     /// A worker answers its message.
     Answering,
+    /// This reply is written once its change is confirmed.
+    Confirming(Deferred),
     /// This reply is being written.
     Writing(Outgoing),
     /// Its last reply is out, and what still comes is let go.
@@ -57,6 +59,16 @@ impl Incoming {
     }
 }
 
+/// A reply that waits until its change is confirmed.
+#[derive(Drop)]
+pub(crate) struct Deferred {
+    pub reply: Vec<u8>,
+    /// Whether the connection ends behind it.
+    pub is_last: bool,
+    /// How many bytes the journal had behind the change.
+    pub mark: u64,
+}
+
 /// A reply, of which so many bytes are out.
 #[derive(Drop)]
 pub(crate) struct Outgoing {
@@ -83,8 +95,9 @@ pub(crate) struct Connection {
 
 impl Connection {
     ghost use Rattle.chpw_connections.specs.Holding.{held_by, size_by, growth_by, begun_of};
-    ghost use Rattle.chpw_connections.specs.Stages.{stage, stage_of, after, reading, queued, Goes, came, taken, replied, unanswered, wrote, closed, failed, wanted_by, left_of};
+    ghost use Rattle.chpw_connections.specs.Stages.{stage, stage_of, after, is_last_reply, reading, queued, Goes, came, taken, replied, deferred, unanswered, released, wrote, closed, failed, wanted_by, left_of};
     ghost use Rattle.chpw_connections.specs.Sets.{waits, is_late, queued_by};
+    ghost use Rattle.chpw_connections.specs.Confirming.{is_confirmed as is_confirmed_by, overdue_in};
     ghost use Rattle.chpw_connections.specs.Waiting.{is_newly_queued};
     ghost use Rattle.chpw_connections.specs.Room.{gives_way as gives_way_of, is_among as is_among_of};
 
@@ -124,6 +137,7 @@ impl Connection {
         match &self.phase {
             Phase::Reading(incoming) => incoming.room,
             Phase::Queued(message) => message.len(),
+            Phase::Confirming(deferred) => deferred.reply.len(),
             Phase::Writing(outgoing) => outgoing.reply.len(),
             Phase::Answering | Phase::Lingering | Phase::Abandoned | Phase::Ended => 0,
         }
@@ -136,6 +150,7 @@ impl Connection {
         match &self.phase {
             Phase::Reading(incoming) => whole_behind(&incoming.received),
             Phase::Queued(message) => message.len(),
+            Phase::Confirming(deferred) => deferred.reply.len(),
             Phase::Writing(outgoing) => outgoing.reply.len(),
             Phase::Answering | Phase::Lingering | Phase::Abandoned | Phase::Ended => 0,
         }
@@ -212,10 +227,7 @@ impl Connection {
     {
         match self.phase {
             Phase::Answering => {
-                let is_last = is_last || self.answered >= MAX_MESSAGES - 1;
-                if !is_last {
-                    self.answered += 1;
-                }
+                let is_last = self.count_reply(is_last);
                 self.since = now;
                 self.phase = Phase::Writing(Outgoing {
                     reply,
@@ -225,6 +237,83 @@ impl Connection {
             }
             Phase::Abandoned => self.phase = Phase::Ended,
             _ => {}
+        }
+    }
+
+    /// The worker's reply is to be written once its change is confirmed: once the KDC has `mark` bytes of the journal.
+    /// Behind the last one the connection ends.
+    pub fn defer(&mut self, reply: Vec<u8>, is_last: bool, mark: u64, now: u64)
+        ensures goes { Goes now self.old self.new (deferred reply.items is_last mark) }
+        ensures held { held_by self.new.phase ≤ held_by self.old.phase + length reply.items }
+    {
+        match self.phase {
+            Phase::Answering => {
+                let is_last = self.count_reply(is_last);
+                self.since = now;
+                self.phase = Phase::Confirming(Deferred {
+                    reply,
+                    is_last,
+                    mark,
+                });
+            }
+            Phase::Abandoned => self.phase = Phase::Ended,
+            _ => {}
+        }
+    }
+
+    // Counts a reply where the connection goes on behind it; whether it is the last one.
+    fn count_reply(&mut self, is_last: bool) -> bool
+        ensures value { result ≡ is_last_reply self.old.answered is_last }
+        ensures count { self.new.answered ≡ (if is_last_reply self.old.answered is_last then self.old.answered else self.old.answered + 1) }
+        ensures phase { self.new.phase ≡ self.old.phase }
+        ensures since { self.new.since ≡ self.old.since }
+        ensures number { self.new.number ≡ self.old.number }
+        ensures peer { self.new.peer ≡ self.old.peer }
+    {
+        let is_last = is_last || self.answered >= MAX_MESSAGES - 1;
+        if !is_last {
+            self.answered += 1;
+        }
+        is_last
+    }
+
+    /// The change of its reply is confirmed, or isn't waited for any longer: the reply is to be written.
+    pub fn release(&mut self, now: u64)
+        ensures goes { Goes now self.old self.new released }
+        ensures held { held_by self.new.phase ≤ held_by self.old.phase }
+    {
+        match mem::replace(&mut self.phase, Phase::Ended) {
+            Phase::Confirming(Deferred { reply, is_last, .. }) => {
+                self.since = now;
+                self.phase = Phase::Writing(Outgoing {
+                    reply,
+                    written: 0,
+                    is_last,
+                });
+            }
+            other => self.phase = other,
+        }
+    }
+
+    /// Whether its reply waits until the KDC has no more bytes of the journal than so many.
+    pub fn is_confirmed(&self, mark: u64) -> bool
+        ensures value { result ≡ is_confirmed_by mark (stage self.now) }
+    {
+        match &self.phase {
+            Phase::Confirming(deferred) => deferred.mark <= mark,
+            _ => false,
+        }
+    }
+
+    /// How many bytes of the journal its reply waits for, if it has waited for so many milliseconds.
+    pub fn overdue(&self, wait: u64, now: u64) -> Option<u64>
+        ensures value { result ≡ overdue_in wait now (Some self.now) }
+    {
+        match &self.phase {
+            Phase::Confirming(deferred) if now.saturating_sub(self.since) >= wait => {
+                Some(deferred.mark)
+            }
+            _ => None,
         }
     }
 
@@ -303,7 +392,7 @@ impl Connection {
             Phase::Reading(_) | Phase::Writing(_) => waited >= bounds.idle,
             Phase::Lingering => waited >= bounds.linger,
             Phase::Queued(_) => waited >= bounds.wait,
-            Phase::Answering | Phase::Abandoned | Phase::Ended => false,
+            Phase::Answering | Phase::Confirming(_) | Phase::Abandoned | Phase::Ended => false,
         }
     }
 
@@ -325,6 +414,7 @@ impl Connection {
             Phase::Reading(incoming) => incoming.begun,
             Phase::Queued(_)
             | Phase::Answering
+            | Phase::Confirming(_)
             | Phase::Writing(_)
             | Phase::Lingering
             | Phase::Abandoned

@@ -12,7 +12,6 @@ ghost use Rattle.chpw_connections.specs.Held.{slots_of, accepted_by, removed_by,
 
 use crate::bounds::Bounds;
 use crate::connection::{Connection, Phase, at_most};
-use crate::room::Candidates;
 use crate::set::Connections;
 use crate::slots::Slots;
 use crate::waiting::Queues;
@@ -353,20 +352,11 @@ impl Connections {
         ensures bounds { bounds_of self.new ≡ bounds_of self.old }
         ensures queues { queues_of self.new ≡ queues_of self.old }
     {
-        if !self.is_answering(slot) {
+        if self.find_room_to_reply(slot, reply.len(), now) {
+            self.slots.answer(slot, reply, is_last, now);
+        } else {
             self.leave_unanswered(slot, now);
-            return;
         }
-        let most = self.bounds.bytes;
-        let who = Candidates {
-            larger_than: 0,
-            begun_by: now,
-        };
-        if !self.find_room(slot, reply.len(), most, who) {
-            self.leave_unanswered(slot, now);
-            return;
-        }
-        self.slots.answer(slot, reply, is_last, now);
     }
 
     /// A worker has no reply to the message that it took. The connection ends.

@@ -1,7 +1,8 @@
 //! What holds of each connection, whatever happens to it and in whatever order.
 ghost use Rattle.chpw_connections.specs.Lives.{Orderly, Final};
 ghost use Rattle.chpw_connections.specs.Orders.{FirstInFirstOut};
-ghost use Rattle.chpw_connections.specs.Times.{AllEndInTime, AllGoOnByTheirWorker};
+ghost use Rattle.chpw_connections.specs.Times.{AllEndInTime, AllGoOnByTheirWorker, AllGoOnReleased, NoneStays};
+ghost use Rattle.chpw_connections.specs.Unchanged.{ChangesNoAnswer};
 
 /// The messages that go to workers are those that came, in order, cut where their lengths say, each once; the bytes
 /// written are their replies, in order, each once; no message is handed out behind the 65,536th.
@@ -16,17 +17,38 @@ pub fn at_its_end()
     ensures { Final }
 {}
 
-/// A connection that no worker has, in whatever stage, doesn't stay for good: from some moment on its time is up, and
-/// whoever passes then ends it.
+/// A connection that waits for no worker's reply and for no confirmation, in whatever stage, doesn't stay for good: from
+/// some moment on its time is up, and whoever passes then ends it.
 #[tactic(auto, using(crate::proofs::TimeLemmas::all_end_in_time))]
 pub fn in_time()
     ensures { AllEndInTime }
 {}
 
-/// One that a worker has goes on, or ends, by the worker's reply, and by the word that there is none.
+/// One that a worker has goes on, or ends, by the worker's reply, be it held back or not, and by the word that there is
+/// none.
 #[tactic(auto, using(crate::proofs::TimeLemmas::all_go_on_by_their_worker))]
 pub fn by_its_worker()
     ensures { AllGoOnByTheirWorker }
+{}
+
+/// One whose reply is held back goes on once that is released: it has only so long from then on.
+#[tactic(auto, using(crate::proofs::TimeLemmas::all_go_on_released))]
+pub fn by_its_release()
+    ensures { AllGoOnReleased }
+{}
+
+/// There is no other one, but those that have ended: so nothing stays for good.
+#[tactic(auto, using(crate::proofs::TimeLemmas::none_stays))]
+pub fn in_each_stage()
+    ensures { NoneStays }
+{}
+
+/// A follower changes no answer: whatever happens to a connection whose replies are held back until a follower has confirmed
+/// them, what comes, is handed to workers, replied and written, and where it is, is as it would be had each of these replies
+/// been an ordinary one.
+#[tactic(auto, using(crate::proofs::UnchangedLemmas::changes_no_answer))]
+pub fn unchanged_by_a_follower()
+    ensures { ChangesNoAnswer }
 {}
 
 /// Whatever happens to a queue, what is taken from it are the slots that joined it, in the order in which they did, but

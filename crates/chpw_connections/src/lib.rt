@@ -4,6 +4,7 @@
 #![tactic(auto)]
 
 mod bounds;
+mod confirming;
 mod connection;
 mod connections;
 pub mod laws;
@@ -17,6 +18,7 @@ mod todo;
 mod waiting;
 
 pub use bounds::Bounds;
+pub use confirming::Unconfirmed;
 pub use connection::MAX_MESSAGES;
 pub use connections::Taken;
 pub use set::Connections;

@@ -1,10 +1,10 @@
 //! How much room there is, and who is ended to make more.
-ghost use Rattle.std.specs.Prelude.{◌≡◌, ◌+◌, ◌≤◌, ◌<◌, ℕ, not, nat_lt, true, false, ◌^◌};
+ghost use Rattle.std.specs.Prelude.{◌≡◌, ◌+◌, ◌≤◌, ◌<◌, ℕ, not, nat_lt, true, false, ◌^◌, ◌&&◌};
 ghost use Rattle.chpw_connections.specs.Holding.{held_in, growth_at};
 ghost use Rattle.chpw_connections.specs.Stages.{failed};
-ghost use Rattle.chpw_connections.specs.Sets.{Happens, IsLongest, NobodyWaits};
+ghost use Rattle.chpw_connections.specs.Sets.{Happens, IsLongest, NobodyWaits, is_answering_in};
 ghost use Rattle.slab.specs.Slab.{get};
-ghost use Rattle.chpw_connections.specs.Room.{MakesRoom, is_large_in, read_within, for_message, has_room_besides, has_room_to_read as has_room_to_read_in};
+ghost use Rattle.chpw_connections.specs.Room.{MakesRoom, is_large_in, read_within, for_message, for_reply, has_room_besides, has_room_to_read as has_room_to_read_in};
 ghost use Rattle.chpw_connections.specs.Queues.{queues_of};
 ghost use Rattle.chpw_connections.specs.Held.{slots_of, accepted_by, removed_by, expired_by, bounds_of, Counts};
 
@@ -102,6 +102,28 @@ impl Connections {
         let (most, who) = self.room_to_read(slot, now);
         let count = self.slots.growth(slot);
         self.find_room(slot, count, most, who)
+    }
+
+    // Makes room for a reply of so many bytes to a connection's message; whether there is, and a worker answers it.
+    pub(crate) fn find_room_to_reply(&mut self, slot: usize, count: usize, now: u64) -> bool
+        ensures makes_room { MakesRoom (for_reply now) (slots_of self.old) (slots_of self.new) slot }
+        ensures value { result ≡ (is_answering_in (get (slots_of self.old) slot) && has_room_besides (bounds_of self.old).bytes (for_reply now) (slots_of self.old) slot count) }
+        ensures within { result ≡ true → held_in (slots_of self.new) + count ≤ (bounds_of self.new).bytes }
+        ensures fits { result ≡ true → held_in (slots_of self.new) + count < 2 ^ 64 }
+        ensures enough { held_in (slots_of self.old) + count ≤ (bounds_of self.old).bytes
+            → (result ≡ is_answering_in (get (slots_of self.old) slot)) × (slots_of self.new ≡ slots_of self.old) }
+        ensures none { result ≡ false → slots_of self.new ≡ slots_of self.old }
+        ensures counts { Counts self.new (accepted_by self.old) (removed_by self.old) }
+        ensures expired { expired_by self.new ≡ expired_by self.old }
+        ensures bounds { bounds_of self.new ≡ bounds_of self.old }
+        ensures queues { queues_of self.new ≡ queues_of self.old }
+    {
+        let most = self.bounds.bytes;
+        let who = Candidates {
+            larger_than: 0,
+            begun_by: now,
+        };
+        self.is_answering(slot) && self.find_room(slot, count, most, who)
     }
 
     /// Whether the message of the connection in a slot has more than 4,096 bytes with its length, as far as that has come.

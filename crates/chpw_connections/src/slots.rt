@@ -2,7 +2,7 @@
 ghost use Rattle.std.specs.Prelude.{◌≡◌, ◌+◌, ◌<◌, ◌≤◌, ◌^◌, ◌%◌, ℕ, Some, None, IfSome, IfNone, IfOk, OnOk, OnErr, OnSome, option_copied, option_map, length, is_some, if◌then◌else◌};
 ghost use Rattle.slab.specs.Slab.{get, slab_len, HasRoomFor, Updates};
 ghost use Rattle.chpw_connections.specs.Holding.{held_by, held_at, held_in, growth_at};
-ghost use Rattle.chpw_connections.specs.Stages.{came, taken, replied, unanswered, wrote, closed, failed};
+ghost use Rattle.chpw_connections.specs.Stages.{came, taken, replied, deferred, unanswered, released, wrote, closed, failed};
 ghost use Rattle.chpw_connections.specs.Sets.{Happens, Stands, wanted_at, left_at, queued_at};
 ghost use Rattle.chpw_connections.specs.Waiting.{waits_for, is_newly_queued};
 
@@ -142,6 +142,31 @@ impl Slots {
     {
         if let Some(mut connection) = self.take_out(slot) {
             connection.answer(reply, is_last, now);
+            self.put_back(connection);
+        }
+    }
+
+    /// A worker replied, maybe for the last time, and the reply is to wait until the KDC has `mark` bytes of the journal.
+    pub fn defer(&mut self, slot: usize, reply: Vec<u8>, is_last: bool, mark: u64, now: u64)
+        requires fits { held_in self.old.connections + length reply.items < 2 ^ 64 }
+        ensures happens { Happens now self.old.connections self.new.connections slot (deferred reply.items is_last mark) }
+        ensures stands { Stands self.old.connections self.new.connections }
+        ensures held { self.new.held ≤ self.old.held + length reply.items }
+    {
+        if let Some(mut connection) = self.take_out(slot) {
+            connection.defer(reply, is_last, mark, now);
+            self.put_back(connection);
+        }
+    }
+
+    /// The change of a reply is confirmed, or isn't waited for any longer.
+    pub fn release(&mut self, slot: usize, now: u64)
+        ensures happens { Happens now self.old.connections self.new.connections slot released }
+        ensures stands { Stands self.old.connections self.new.connections }
+        ensures held { self.new.held ≤ self.old.held }
+    {
+        if let Some(mut connection) = self.take_out(slot) {
+            connection.release(now);
             self.put_back(connection);
         }
     }

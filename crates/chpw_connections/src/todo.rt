@@ -18,7 +18,7 @@ pub enum Todo {
     Linger,
     /// Its socket is to be closed, and then it is to be removed.
     Close,
-    /// Nothing, until its message is answered.
+    /// Nothing, until its message is answered, or its reply released.
     Wait,
 }
 
@@ -35,7 +35,9 @@ impl Connections {
             Phase::Writing(_) => Todo::Write,
             Phase::Lingering => Todo::Linger,
             Phase::Ended => Todo::Close,
-            Phase::Queued(_) | Phase::Answering | Phase::Abandoned => Todo::Wait,
+            Phase::Queued(_) | Phase::Answering | Phase::Confirming(_) | Phase::Abandoned => {
+                Todo::Wait
+            }
         }
     }
 }

@@ -1,0 +1,141 @@
+//! Replies that wait until their changes are confirmed.
+ghost use Rattle.std.specs.Prelude.{◌≡◌, ◌≢◌, ◌+◌, ◌≤◌, ◌<◌, ℕ, true, false, IfSome, IfNone, Some, None, ◌⊎◌, length};
+ghost use Rattle.slab.specs.Slab.{get};
+ghost use Rattle.chpw_connections.specs.Holding.{held_in};
+ghost use Rattle.chpw_connections.specs.Stages.{deferred, unanswered, released};
+ghost use Rattle.chpw_connections.specs.Sets.{Happens, is_answering_in};
+ghost use Rattle.chpw_connections.specs.Room.{HappensWithRoom, has_room_besides, for_reply};
+ghost use Rattle.chpw_connections.specs.Queues.{queues_of};
+ghost use Rattle.chpw_connections.specs.Confirming.{is_confirmed_in, Confirms, overdue_in, ReleasesOverdue, NoneIsOverdue};
+ghost use Rattle.chpw_connections.specs.Held.{slots_of, accepted_by, removed_by, expired_by, bounds_of, Counts};
+
+use crate::set::Connections;
+
+/// A reply that was let go before its change was confirmed.
+#[derive(Clone, Copy, PartialEq, Eq, Debug, Drop)]
+pub struct Unconfirmed {
+    /// Whose it is: an IPv4 address, high byte first.
+    pub peer: [u8; 4],
+    /// How many bytes the journal had behind the change.
+    pub mark: u64,
+}
+
+impl Connections {
+    /// A worker's reply to the message that it took, which is to be written once its change is confirmed: once the KDC has
+    /// `mark` bytes of the journal (`confirm`), or the reply has waited for too long (`overdue`). Behind the last reply the
+    /// connection ends. Room is made for it as `answer` makes it; without room for it it isn't sent, and the connection
+    /// ends. For a connection that no worker answers, or that is gone, no room is made: the reply is let go.
+    #[tactic(auto, using(crate::proofs::RoomLemmas::happens_with_room))]
+    pub fn defer(&mut self, slot: usize, reply: Vec<u8>, is_last: bool, mark: u64, now: u64)
+        ensures happens { HappensWithRoom (for_reply now) now (slots_of self.old) (slots_of self.new) slot (deferred reply.items is_last mark)
+            ⊎ HappensWithRoom (for_reply now) now (slots_of self.old) (slots_of self.new) slot unanswered }
+        ensures enough { held_in (slots_of self.old) + length reply.items ≤ (bounds_of self.old).bytes
+            → Happens now (slots_of self.old) (slots_of self.new) slot (deferred reply.items is_last mark) }
+        ensures sent { has_room_besides (bounds_of self.old).bytes (for_reply now) (slots_of self.old) slot (length reply.items) ≡ true
+            → is_answering_in (get (slots_of self.old) slot) ≡ true
+            → HappensWithRoom (for_reply now) now (slots_of self.old) (slots_of self.new) slot (deferred reply.items is_last mark) }
+        ensures too_much { has_room_besides (bounds_of self.old).bytes (for_reply now) (slots_of self.old) slot (length reply.items) ≡ false
+            → Happens now (slots_of self.old) (slots_of self.new) slot unanswered }
+        ensures unwanted { is_answering_in (get (slots_of self.old) slot) ≡ false → Happens now (slots_of self.old) (slots_of self.new) slot unanswered }
+        ensures counts { Counts self.new (accepted_by self.old) (removed_by self.old) }
+        ensures expired { expired_by self.new ≡ expired_by self.old }
+        ensures bounds { bounds_of self.new ≡ bounds_of self.old }
+        ensures queues { queues_of self.new ≡ queues_of self.old }
+    {
+        if self.find_room_to_reply(slot, reply.len(), now) {
+            self.slots.defer(slot, reply, is_last, mark, now);
+        } else {
+            self.leave_unanswered(slot, now);
+        }
+    }
+
+    /// The KDC has `mark` bytes of the journal: the replies that wait for no more are to be written now, and their slots
+    /// to be looked at. The other connections stay as they are.
+    pub fn confirm(&mut self, mark: u64, now: u64)
+        ensures confirmed { (slot : ℕ) → Confirms mark now (get (slots_of self.old) slot) (get (slots_of self.new) slot) }
+        ensures counts { Counts self.new (accepted_by self.old) (removed_by self.old) }
+        ensures expired { expired_by self.new ≡ expired_by self.old }
+        ensures bounds { bounds_of self.new ≡ bounds_of self.old }
+        ensures queues { queues_of self.new ≡ queues_of self.old }
+    {
+        for slot in 0..self.slots.capacity() {
+            self.confirm_slot(slot, mark, now);
+        }
+    }
+
+    // The same for the connection in a slot.
+    fn confirm_slot(&mut self, slot: usize, mark: u64, now: u64)
+        ensures confirmed { Confirms mark now (get (slots_of self.old) slot) (get (slots_of self.new) slot) }
+        ensures others { (other : ℕ) → other ≢ slot → get (slots_of self.new) other ≡ get (slots_of self.old) other }
+        ensures counts { Counts self.new (accepted_by self.old) (removed_by self.old) }
+        ensures expired { expired_by self.new ≡ expired_by self.old }
+        ensures bounds { bounds_of self.new ≡ bounds_of self.old }
+        ensures queues { queues_of self.new ≡ queues_of self.old }
+    {
+        if self.is_confirmed(slot, mark) {
+            self.release(slot, now);
+        }
+    }
+
+    /// The first reply that has waited for its confirmation for `wait` milliseconds or longer is to be written now, and its
+    /// slot to be looked at: whose it is, and which confirmation it waited for. None where there is no such reply. With a
+    /// `wait` of 0 it is the first of all that wait.
+    pub fn overdue(&mut self, wait: u64, now: u64) -> Option<Unconfirmed>
+        ensures some { IfSome result (λ u. ReleasesOverdue wait now (slots_of self.old) (slots_of self.new) u.peer u.mark) }
+        ensures none { IfNone result (NoneIsOverdue wait now (slots_of self.old)) }
+        ensures unchanged { IfNone result (self.new ≡ self.old) }
+        ensures counts { Counts self.new (accepted_by self.old) (removed_by self.old) }
+        ensures expired { expired_by self.new ≡ expired_by self.old }
+        ensures bounds { bounds_of self.new ≡ bounds_of self.old }
+        ensures queues { queues_of self.new ≡ queues_of self.old }
+    {
+        let (slot, mark) = self.first_overdue(wait, now)?;
+        let peer = self.slots.peer(slot);
+        self.release(slot, now);
+        Some(Unconfirmed { peer, mark })
+    }
+
+    // The first slot whose reply has waited for so long, and how many bytes of the journal it waits for.
+    fn first_overdue(&self, wait: u64, now: u64) -> Option<(usize, u64)>
+        ensures some { IfSome result (λ found. overdue_in wait now (get (slots_of self.now) found.0) ≡ Some found.1) }
+        ensures first { IfSome result (λ found. (other : ℕ) → other < found.0 → overdue_in wait now (get (slots_of self.now) other) ≡ None) }
+        ensures none { IfNone result (NoneIsOverdue wait now (slots_of self.now)) }
+    {
+        for slot in 0..self.slots.capacity() {
+            if let Some(mark) = self.overdue_mark(slot, wait, now) {
+                return Some((slot, mark));
+            }
+        }
+        None
+    }
+
+    // How many bytes of the journal the reply in a slot waits for, if it has waited for so long.
+    fn overdue_mark(&self, slot: usize, wait: u64, now: u64) -> Option<u64>
+        ensures value { result ≡ overdue_in wait now (get (slots_of self.now) slot) }
+    {
+        self.slots.get(slot)?.overdue(wait, now)
+    }
+
+    // Whether the reply in a slot waits until the KDC has no more bytes of the journal than so many.
+    fn is_confirmed(&self, slot: usize, mark: u64) -> bool
+        ensures value { result ≡ is_confirmed_in mark (get (slots_of self.now) slot) }
+    {
+        match self.slots.get(slot) {
+            None => false,
+            Some(connection) => connection.is_confirmed(mark),
+        }
+    }
+
+    // The reply in a slot is to be written.
+    #[tactic(auto, using(crate::proofs::HoldsLemmas::holds_quiet))]
+    fn release(&mut self, slot: usize, now: u64)
+        ensures happens { Happens now (slots_of self.old) (slots_of self.new) slot released }
+        ensures counts { Counts self.new (accepted_by self.old) (removed_by self.old) }
+        ensures expired { expired_by self.new ≡ expired_by self.old }
+        ensures bounds { bounds_of self.new ≡ bounds_of self.old }
+        ensures queues { queues_of self.new ≡ queues_of self.old }
+    {
+        self.slots.release(slot, now);
+        self.note(slot);
+    }
+}
