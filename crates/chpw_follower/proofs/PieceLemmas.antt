@@ -1,0 +1,5 @@
+-- Bytes heard in pieces.
+use Rattle.chpw_follower.specs.Runs.{Piecewise}
+
+pub piecewise : Piecewise
+piecewise s bytes more = ?

@@ -1,0 +1,27 @@
+-- How the fields of `Asking` spell what is asked, and what a line that has come so far is.
+use Rattle.std.specs.Prelude.{ℕ, ◌≤◌, Bool, true, length, take, Option, Some, None, nat_le, if◌then◌else◌}
+use Rattle.chpw_follower.specs.Asks.{Asked, line_of, is_answer, is_begun}
+use Rattle.chpw_follower.specs.declared.line.Answer.{Answer}
+use Rattle.chpw_follower.specs.declared.line.Answer.TheVariants.{Whole, Begun, Wrong}
+
+-- of the answer so many bytes have come
+abbrev pub asked_with : ℕ → ℕ → Asked
+asked_with mark heard = record { mark = mark; said = take heard (line_of mark) }
+
+abbrev pub asked_of : Option ℕ → ℕ → Option Asked
+asked_of None heard = None
+asked_of (Some mark) heard = Some (asked_with mark heard)
+
+-- no more than the answer has
+abbrev pub is_within : Option ℕ → ℕ → Bool
+is_within None heard = true
+is_within (Some mark) heard = nat_le heard (length (line_of mark))
+
+abbrev pub answer_so_far : Asked → Answer
+answer_so_far a = if is_answer a then Whole else if is_begun a then Begun else Wrong
+
+-- an answer that goes on has no more bytes than its line
+abbrev pub IsRoomFor : Answer → ℕ → ℕ → Type 0
+IsRoomFor Whole heard whole = Unit {0}
+IsRoomFor Begun heard whole = heard ≤ whole
+IsRoomFor Wrong heard whole = Unit {0}
