@@ -1,5 +1,5 @@
 //! What a follower is asked, and what it has answered.
-ghost use Rattle.std.specs.Prelude.{◌≡◌, ◌≤◌, length, take, Some, None, IfOk, OnOk, OnErr, true};
+ghost use Rattle.std.specs.Prelude.{◌≡◌, ◌≤◌, length, take, Some, None, is_some, IfOk, OnOk, OnErr, true};
 ghost use Rattle.chpw_follower.specs.Asks.{State, at_start, has_mark, behind_want, asks_now, asked_by, behind_ask, behind_bytes, confirmed_by, behind_loss};
 ghost use Rattle.chpw_follower.specs.Fields.{asked_of, is_within};
 
@@ -61,6 +61,13 @@ impl Asking {
         ensures value { result ≡ asks_now self.now }
     {
         self.asked.is_none() && self.confirmed < self.wanted
+    }
+
+    /// Whether an answer is due.
+    pub fn is_asked(&self) -> bool
+        ensures value { result ≡ is_some self.now.asked }
+    {
+        self.asked.is_some()
     }
 
     /// The mark to be asked for now, which counts as asked: the longest that is wanted, where that isn't confirmed and
