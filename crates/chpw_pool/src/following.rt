@@ -25,7 +25,7 @@ pub(crate) struct Link<F> {
     pub is_reported: bool,
 }
 
-impl<F: Follower> Link<F> {
+impl<F: Follower + Drop> Link<F> {
     /// One that isn't open yet.
     pub fn new(follower: F) -> Link<F> {
         Link {
@@ -58,13 +58,13 @@ impl<F: Follower> Link<F> {
     }
 }
 
-impl<'a, R: Wait + Clock, L: OpenListener<Stream = TcpStream> + AsRawFd, G, F: Follower> Reactor<
+impl<
     'a,
-    R,
-    L,
+    R: Wait + Clock,
+    L: OpenListener<Stream = TcpStream> + AsRawFd,
     G,
-    F,
-> {
+    F: Follower + Drop,
+> Reactor<'a, R, L, G, F> {
     /// What the follower has said is heard, what is to be asked is asked, and replies that have waited long enough go
     /// out.
     pub fn follow(&mut self, registry: &Registry) {

@@ -47,13 +47,11 @@ impl<G> Engine<G> {
     /// workers, connection i (from 0) to worker i modulo their number; and writes the replies. It returns once each
     /// connection has ended, or the engine is deserted. Then no message comes any more. Replies to changes wait for the
     /// follower, as the workers ask for it.
-    pub fn react<R: Wait + Clock, L: OpenListener<Stream = TcpStream> + AsRawFd, F: Follower>(
-        &self,
-        rt: &R,
-        listener: &L,
-        connections: u32,
-        follower: F,
-    ) {
+    pub fn react<
+        R: Wait + Clock,
+        L: OpenListener<Stream = TcpStream> + AsRawFd,
+        F: Follower + Drop,
+    >(&self, rt: &R, listener: &L, connections: u32, follower: F) {
         let clients = self.hub.lock(rt).sockets.by_slot.len();
         let mut selector = self.selector.lock(rt);
         let mut reactor = Reactor {
@@ -74,13 +72,13 @@ impl<G> Engine<G> {
     }
 }
 
-impl<'a, R: Wait + Clock, L: OpenListener<Stream = TcpStream> + AsRawFd, G, F: Follower> Reactor<
+impl<
     'a,
-    R,
-    L,
+    R: Wait + Clock,
+    L: OpenListener<Stream = TcpStream> + AsRawFd,
     G,
-    F,
-> {
+    F: Follower + Drop,
+> Reactor<'a, R, L, G, F> {
     // Has the listener reported.
     fn listen(&mut self, registry: &Registry) {
         let descriptor = self.listener.as_raw_fd();
