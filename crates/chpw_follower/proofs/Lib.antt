@@ -1,3 +1,4 @@
+pub mod LineLemmas
 pub mod PieceLemmas
 pub mod RunLemmas
 pub mod TruthLemmas

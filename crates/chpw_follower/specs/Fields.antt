@@ -1,5 +1,5 @@
 -- How the fields of `Asking` spell what is asked, and what a line that has come so far is.
-use Rattle.std.specs.Prelude.{ℕ, ◌≤◌, Bool, true, length, take, Option, Some, None, nat_le, if◌then◌else◌}
+use Rattle.std.specs.Prelude.{◌≡◌, ℕ, ◌+◌, ◌≤◌, List, ◌++◌, Bool, true, length, take, Option, Some, None, nat_le, if◌then◌else◌}
 use Rattle.chpw_follower.specs.Asks.{Asked, line_of, is_answer, is_begun}
 use Rattle.chpw_follower.specs.declared.line.Answer.{Answer}
 use Rattle.chpw_follower.specs.declared.line.Answer.TheVariants.{Whole, Begun, Wrong}
@@ -20,8 +20,9 @@ is_within (Some mark) heard = nat_le heard (length (line_of mark))
 abbrev pub answer_so_far : Asked → Answer
 answer_so_far a = if is_answer a then Whole else if is_begun a then Begun else Wrong
 
--- an answer that goes on has no more bytes than its line
-abbrev pub IsRoomFor : Answer → ℕ → ℕ → Type 0
-IsRoomFor Whole heard whole = Unit {0}
-IsRoomFor Begun heard whole = heard ≤ whole
-IsRoomFor Wrong heard whole = Unit {0}
+-- an answer that has begun: what has come of it, with these bytes
+abbrev pub GoesOn : Answer → ℕ → ℕ → List ℕ → Type 0
+GoesOn Whole mark heard bytes = Unit {0}
+GoesOn Begun mark heard bytes =
+    (heard + length bytes ≤ length (line_of mark)) × (take (heard + length bytes) (line_of mark) ≡ take heard (line_of mark) ++ bytes)
+GoesOn Wrong mark heard bytes = Unit {0}

@@ -1,5 +1,5 @@
 -- What holds of all that can happen between the service and its follower, in whatever order.
-use Rattle.std.specs.Prelude.{◌≡◌, ℕ, ◌<◌, ◌≤◌, List, [], ◌∷◌, ◌++◌, ◌⊎◌, Option, Some, option_and_then, unwrap_or, IfSome}
+use Rattle.std.specs.Prelude.{◌≡◌, ℕ, ◌<◌, ◌≤◌, List, [], ◌∷◌, ◌++◌, ◌⊎◌, Some, option_and_then, unwrap_or, IfSome}
 use Rattle.chpw_follower.specs.Asks.{State, at_start, behind_want, asked_by, behind_ask, behind_bytes, behind_loss, line_of}
 
 -- a change waits for a mark, the service asks, the follower says bytes, the connection ends
@@ -42,7 +42,7 @@ pub record IsConfirmed (events : List Event) (mark : ℕ) : Type 0 where
   pub before : List Event
   pub between : List Event
   pub later : List Event
-  pub parts : events ≡ before ++ (asks ∷ between) ++ later
+  pub parts : events ≡ before ++ asks ∷ (between ++ later)
   pub asked : asked_by (state_after before) ≡ Some mark
   pub said : said_in between ≡ line_of mark
   pub lasts : Lasts between

@@ -1,9 +1,7 @@
 //! The line of an ask, and of its answer.
-ghost use Rattle.std.specs.Prelude.{◌≡◌, ◌++◌, ◌≤◌, ◌+◌, length, drop, nat_eq, IfOk, IfSome};
-ghost use Rattle.std.specs.List.{starts_with};
-ghost use Rattle.std.specs.Str.{bytes_eq};
+ghost use Rattle.std.specs.Prelude.{◌≡◌, ◌≤◌, length, drop, IfOk};
 ghost use Rattle.chpw_follower.specs.Asks.{line_of, with_more};
-ghost use Rattle.chpw_follower.specs.Fields.{asked_with, answer_so_far, IsRoomFor};
+ghost use Rattle.chpw_follower.specs.Fields.{asked_with, answer_so_far, GoesOn};
 
 use itoa::write_digits;
 use std::alloc::{AllocError, Global};
@@ -29,28 +27,39 @@ pub(crate) enum Answer {
 pub fn ask_line(alloc: Global, mark: u64) -> Result<Vec<u8>, AllocError>
     ensures value { IfOk result (λ line. line.items ≡ line_of mark) }
 {
-    let mut room = [b'\n'; LONGEST];
+    let mut room = [0; LONGEST];
     Vec::from_slice(alloc, put_line(mark, &mut room))
 }
 
 // What the answer is, of which so many bytes had come, behind these bytes.
+#[tactic(auto, using(crate::proofs::LineLemmas::line_short))]
 pub(crate) fn answer_of(mark: u64, heard: usize, bytes: &[u8]) -> Answer
     requires within { heard ≤ length (line_of mark) }
     ensures value { result ≡ answer_so_far (with_more (asked_with mark heard) bytes.now) }
-    ensures room { IsRoomFor result (heard + length bytes.now) (length (line_of mark)) }
+    ensures begun { GoesOn result mark heard bytes.now }
+    ensures short { length (line_of mark) ≤ 21 }
 {
-    let mut room = [b'\n'; LONGEST];
-    let left = &put_line(mark, &mut room)[heard..];
-    if bytes == left {
+    let mut room = [0; LONGEST];
+    let rest = put_rest(mark, heard, &mut room);
+    if bytes == rest {
         Answer::Whole
-    } else if left.starts_with(bytes) {
+    } else if rest.starts_with(bytes) {
         Answer::Begun
     } else {
         Answer::Wrong
     }
 }
 
-// The line of a number, at the end of the room for it.
+// What is left of a line behind so many bytes of it, in the room for one.
+fn put_rest(mark: u64, heard: usize, room: &mut [u8; LONGEST]) -> &[u8]
+    requires within { heard ≤ length (line_of mark) }
+    ensures value { result.now ≡ drop heard (line_of mark) }
+{
+    let (_, rest) = put_line(mark, room).split_at(heard);
+    rest
+}
+
+// A line, in the room for one.
 fn put_line(mark: u64, room: &mut [u8; LONGEST]) -> &[u8]
     ensures value { result.now ≡ line_of mark }
 {
