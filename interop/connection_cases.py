@@ -11,7 +11,7 @@ import sys
 LONGEST = 65535
 REPLIES = 65536
 LARGEST_SMALL = 4096
-READING, QUEUED, ANSWERING, WRITING, LINGERING, ABANDONED, ENDED = range(7)
+READING, QUEUED, ANSWERING, CONFIRMING, WRITING, LINGERING, ABANDONED, ENDED = range(8)
 
 
 class Connection:
@@ -21,6 +21,8 @@ class Connection:
         # of a message that it reads, and since when there is as much
         self.room, self.begun = 0, now
         self.last, self.replies = False, 0
+        # how many bytes of the journal the KDC must have before its reply goes out
+        self.mark = 0
 
     def whole(self):
         """Four bytes of length, then as many as they say; no more where that is too many."""
@@ -35,7 +37,8 @@ class Connection:
 
     def size(self):
         """All bytes of its message, as far as its length has come, or of its reply."""
-        return {READING: self.whole(), QUEUED: len(self.message), WRITING: len(self.reply)}.get(self.stage, 0)
+        return {READING: self.whole(), QUEUED: len(self.message), CONFIRMING: len(self.reply),
+                WRITING: len(self.reply)}.get(self.stage, 0)
 
     def on_its_way(self):
         """Since when its message or its reply is."""
@@ -170,7 +173,7 @@ class Machine:
         c.stage = ANSWERING
         return c, message
 
-    def answer(self, c, reply, last, now):
+    def answer(self, c, reply, last, now, stage=WRITING):
         if c.stage == ABANDONED:
             c.stage = ENDED
             self.look(c)
@@ -179,10 +182,35 @@ class Machine:
         if not self.find_room(c, len(reply), self.size, 0, now):
             self.leave_unanswered(c, now)
             return
-        c.go(WRITING, now)
+        c.go(stage, now)
         c.reply, c.out = reply, 0
         c.replies += 1
         c.last = last or c.replies == REPLIES
+
+    def defer(self, c, reply, last, mark, now):
+        """As a reply, but nothing of it goes out before it is released."""
+        if c.stage == ANSWERING:
+            c.mark = mark
+        self.answer(c, reply, last, now, CONFIRMING)
+
+    def held_back(self):
+        return sorted((c for c in self.connections if c.stage == CONFIRMING), key=lambda c: c.slot)
+
+    def release(self, c, now):
+        c.go(WRITING, now)
+        self.look(c)
+
+    def confirm(self, mark, now):
+        for c in self.held_back():
+            if c.mark <= mark:
+                self.release(c, now)
+
+    def overdue(self, wait, now):
+        """One at a time, in the lowest slot."""
+        c = next((c for c in self.held_back() if now - c.since >= wait), None)
+        if c:
+            self.release(c, now)
+        return c
 
     def leave_unanswered(self, c, now):
         if c.stage == ABANDONED:
@@ -321,6 +349,12 @@ def of_all(machine, kind, words, now):
         return "passed"
     if kind == "room":
         return "made room" if machine.make_room() else "nobody waits"
+    if kind == "confirm":
+        machine.confirm(int(words), now)
+        return "confirmed"
+    if kind == "overdue":
+        c = machine.overdue(int(words), now)
+        return f"{c.peer} waited for {c.mark}" if c else "none"
     return {"show": whole, "look": looked}[kind](machine)
 
 
@@ -343,6 +377,9 @@ def of_one(machine, kind, slot, rest, now):
     elif c and kind == "answer":
         reply, _, last = rest.partition(" ")
         machine.answer(c, bytes_of(reply), last == "last", now)
+    elif c and kind == "defer":
+        reply, mark, *last = rest.split(" ")
+        machine.defer(c, bytes_of(reply), last == ["last"], int(mark), now)
     elif c and kind == "unanswered":
         machine.leave_unanswered(c, now)
     elif c and kind == "wrote":
@@ -390,7 +427,7 @@ class Cases:
         if kind in ("cut", "cut-off"):
             return cut(bytes_of(words), kind == "cut-off")
         before = self.machine.ended()
-        if kind in ("accept", "pass", "room", "show", "look"):
+        if kind in ("accept", "pass", "room", "show", "look", "confirm", "overdue"):
             slot, text = None, of_all(self.machine, kind, words, now)
         elif kind == "take":
             slot, text = None, taken(self.machine, int(words), now)

@@ -1,4 +1,5 @@
 pub mod ComesLemmas
+pub mod ConfirmLemmas
 pub mod ExpiryLemmas
 pub mod GivenLemmas
 pub mod HeldLemmas

@@ -1,10 +1,11 @@
 -- A confirmation that is waited for changes no answer.
-use Rattle.std.proofs.Common.{◌≡◌, ℕ, List, [], ◌∷◌, ◌++◌, take, drop, refl, sym, ◌∙◌, ap, Bool, true, false, cond, ◌==◌}
+use Rattle.std.proofs.Common.{◌≡◌, ℕ, List, [], ◌∷◌, ◌++◌, take, drop, refl, sym, ◌∙◌, ap, Bool, true, false, cond, ◌==◌, arith, All}
 use Rattle.std.proofs.lemmas.List.{append-nil}
+use Rattle.std.proofs.lemmas.List.Elements.{All-append, All-cons}
 use Rattle.chpw_connections.specs.Messages.{wanted_behind}
 use Rattle.chpw_connections.specs.Stages.{Stage, reading, queued, answering, confirming, writing, lingering, abandoned, ended, Event, came, taken, replied, deferred, unanswered, released, wrote, closed, failed, received, is_over}
 use Rattle.chpw_connections.specs.Lives.{Life, accepted, behind, life}
-use Rattle.chpw_connections.specs.Unchanged.{settled, settle, seen, seen_all, ChangesNoAnswer}
+use Rattle.chpw_connections.specs.Unchanged.{settled, settle, is_ordinary, ordinary, seen, seen_all, ChangesNoAnswer, SeesOrdinary}
 
 abbrev made : List ℕ → List (List ℕ) → List (List ℕ) → List ℕ → ℕ → Stage → Life
 made c h r w n s = record { came = c; handed = h; replies = r; written = w; count = n; stage = s }
@@ -115,5 +116,51 @@ unchanged_from l (e ∷ es) =
     ∙ ap (λ (k : Life). life k (seen_all (behind l e) es)) (step l.came l.handed l.replies l.written l.count l.stage e)
     ∙ sym (life-append (settle l) (seen l.stage e) (seen_all (behind l e) es))
 
+-- and what is seen is ordinary
+abbrev IsOrdinary : Event → Type 0
+IsOrdinary event = is_ordinary event ≡ true
+
+none_is : All IsOrdinary []
+none_is k d lt = absurd (omega arith)
+
+one_is : (e : Event) → IsOrdinary e → All IsOrdinary (e ∷ [])
+one_is e is = All-cons IsOrdinary e [] is none_is
+
+ordinary_is : (e : Event) → All IsOrdinary (ordinary e)
+ordinary_is (came more) = one_is (came more) refl
+ordinary_is taken = one_is taken refl
+ordinary_is (replied reply last) = one_is (replied reply last) refl
+ordinary_is (deferred reply last mark) = one_is (replied reply last) refl
+ordinary_is unanswered = one_is unanswered refl
+ordinary_is released = none_is
+ordinary_is (wrote k) = one_is (wrote k) refl
+ordinary_is closed = one_is closed refl
+ordinary_is failed = one_is failed refl
+
+seen_is : (s : Stage) (e : Event) → All IsOrdinary (seen s e)
+seen_is (reading b) e = ordinary_is e
+seen_is (queued m) e = ordinary_is e
+seen_is answering e = ordinary_is e
+seen_is (writing left last) e = ordinary_is e
+seen_is lingering e = ordinary_is e
+seen_is abandoned e = ordinary_is e
+seen_is ended e = ordinary_is e
+seen_is (confirming reply last mark) (came more) = none_is
+seen_is (confirming reply last mark) taken = none_is
+seen_is (confirming reply last mark) (replied reply' last') = none_is
+seen_is (confirming reply last mark) (deferred reply' last' mark') = none_is
+seen_is (confirming reply last mark) unanswered = none_is
+seen_is (confirming reply last mark) released = none_is
+seen_is (confirming reply last mark) (wrote k) = none_is
+seen_is (confirming reply last mark) closed = none_is
+seen_is (confirming reply last mark) failed = one_is failed refl
+
+all_seen : (l : Life) (events : List Event) → All IsOrdinary (seen_all l events)
+all_seen l [] = none_is
+all_seen l (e ∷ es) = All-append IsOrdinary (seen l.stage e) (seen_all (behind l e) es) (seen_is l.stage e) (all_seen (behind l e) es)
+
 pub changes_no_answer : ChangesNoAnswer
 changes_no_answer events = unchanged_from accepted events
+
+pub sees_ordinary : SeesOrdinary
+sees_ordinary events = all_seen accepted events

@@ -1,5 +1,5 @@
 -- That a confirmation which is waited for changes no answer.
-use Rattle.std.specs.Prelude.{◌≡◌, List, [], ◌∷◌, ◌++◌}
+use Rattle.std.specs.Prelude.{◌≡◌, List, [], ◌∷◌, ◌++◌, Bool, true, false, All}
 use Rattle.chpw_connections.specs.Stages.{Stage, confirming, writing, Event, replied, deferred, released, failed}
 use Rattle.chpw_connections.specs.Lives.{Life, accepted, behind, life}
 
@@ -11,14 +11,23 @@ settled s = s
 abbrev pub settle : Life → Life
 settle l = record { came = l.came; handed = l.handed; replies = l.replies; written = l.written; count = l.count; stage = settled l.stage }
 
--- What a service sees of an event that waits for no confirmation: an ordinary reply in place of one that is held back, and
--- no release. While a reply is held back nothing of its connection is read or written: only its end is seen.
+-- no reply that is held back, and no release
+abbrev pub is_ordinary : Event → Bool
+is_ordinary (deferred reply last mark) = false
+is_ordinary released = false
+is_ordinary event = true
+
+-- what a service that waits for no confirmation has in place of an event
+abbrev pub ordinary : Event → List Event
+ordinary (deferred reply last mark) = replied reply last ∷ []
+ordinary released = []
+ordinary event = event ∷ []
+
+-- and what it sees of it: while a reply is held back nothing of its connection is read or written, and only its end is seen
 abbrev pub seen : Stage → Event → List Event
 seen (confirming reply last mark) failed = failed ∷ []
 seen (confirming reply last mark) event = []
-seen s (deferred reply last mark) = replied reply last ∷ []
-seen s released = []
-seen s event = event ∷ []
+seen s event = ordinary event
 
 abbrev pub seen_all : Life → List Event → List Event
 seen_all l [] = []
@@ -27,3 +36,7 @@ seen_all l (e ∷ es) = seen l.stage e ++ seen_all (behind l e) es
 -- whatever happens: what came, what was handed on, replied and written, and where it is, is as it would be there
 abbrev pub ChangesNoAnswer : Type 0
 ChangesNoAnswer = (events : List Event) → settle (life accepted events) ≡ life accepted (seen_all accepted events)
+
+-- and there no reply is held back
+abbrev pub SeesOrdinary : Type 0
+SeesOrdinary = (events : List Event) → All (λ event. is_ordinary event ≡ true) (seen_all accepted events)

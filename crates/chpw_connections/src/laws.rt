@@ -2,7 +2,7 @@
 ghost use Rattle.chpw_connections.specs.Lives.{Orderly, Final};
 ghost use Rattle.chpw_connections.specs.Orders.{FirstInFirstOut};
 ghost use Rattle.chpw_connections.specs.Times.{AllEndInTime, AllGoOnByTheirWorker, AllGoOnReleased, NoneStays};
-ghost use Rattle.chpw_connections.specs.Unchanged.{ChangesNoAnswer};
+ghost use Rattle.chpw_connections.specs.Unchanged.{ChangesNoAnswer, SeesOrdinary};
 
 /// The messages that go to workers are those that came, in order, cut where their lengths say, each once; the bytes
 /// written are their replies, in order, each once; no message is handed out behind the 65,536th.
@@ -46,9 +46,10 @@ pub fn in_each_stage()
 /// A follower changes no answer: whatever happens to a connection whose replies are held back until a follower has confirmed
 /// them, what comes, is handed to workers, replied and written, and where it is, is as it would be had each of these replies
 /// been an ordinary one.
-#[tactic(auto, using(crate::proofs::UnchangedLemmas::changes_no_answer))]
+#[tactic(auto, using(crate::proofs::UnchangedLemmas::changes_no_answer, crate::proofs::UnchangedLemmas::sees_ordinary))]
 pub fn unchanged_by_a_follower()
-    ensures { ChangesNoAnswer }
+    ensures unchanged { ChangesNoAnswer }
+    ensures ordinary { SeesOrdinary }
 {}
 
 /// Whatever happens to a queue, what is taken from it are the slots that joined it, in the order in which they did, but

@@ -20,6 +20,7 @@ impl Script {
             "rounds" => return self.rounds(slot, number(rest)?, now),
             "remove" => return self.removed(slot),
             "answer" => self.answered(slot, rest, now)?,
+            "defer" => self.deferred(slot, rest, now)?,
             "unanswered" => self.connections.leave_unanswered(slot, now),
             "wrote" => self.connections.wrote(slot, number(rest)?, now),
             "end" => self.connections.input_ended(slot),
@@ -75,6 +76,16 @@ impl Script {
         let (reply, end) = rest.split_once(' ').unwrap_or((rest, ""));
         let reply = bytes(self.alloc, reply)?;
         self.connections.answer(slot, reply, end == "last", now);
+        Ok(())
+    }
+
+    // `HEX MARK`, or `HEX MARK last`
+    fn deferred(&mut self, slot: usize, rest: &str, now: u64) -> io::Result<()> {
+        let (reply, rest) = rest.split_once(' ').unwrap_or((rest, ""));
+        let (mark, end) = rest.split_once(' ').unwrap_or((rest, ""));
+        let reply = bytes(self.alloc, reply)?;
+        self.connections
+            .defer(slot, reply, end == "last", number(mark)?, now);
         Ok(())
     }
 

@@ -53,7 +53,9 @@ impl Script {
         let before = self.ended()?;
         let (slot, rest) = words.split_once(' ').unwrap_or((words, ""));
         let (own, text) = match kind {
-            "accept" | "pass" | "room" | "show" | "look" => (None, self.whole(kind, words, now)?),
+            "accept" | "pass" | "room" | "show" | "look" | "confirm" | "overdue" => {
+                (None, self.whole(kind, words, now)?)
+            }
             "take" => (None, self.taken(number(words)?, now)?),
             _ => {
                 let slot = number(slot)?;

@@ -35,6 +35,12 @@ pub fn slots_text(alloc: Global, slots: &[usize]) -> io::Result<String> {
     Ok(text)
 }
 
+/// An address as it is written.
+pub fn peer_text(alloc: Global, peer: [u8; 4]) -> io::Result<String> {
+    let [a, b, c, d] = peer;
+    Ok(format!(in alloc; "{a}.{b}.{c}.{d}")?)
+}
+
 impl Script {
     /// Where the connection in a slot is.
     pub fn state(&self, slot: usize) -> io::Result<String> {

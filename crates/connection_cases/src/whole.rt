@@ -1,8 +1,8 @@
 //! What is done to no slot's connection in particular.
 
 use crate::script::Script;
-use crate::showing::{shown, slots_text};
-use crate::words::{address, no_case};
+use crate::showing::{peer_text, shown, slots_text};
+use crate::words::{address, no_case, number};
 use chpw_connections::{Taken, Todo};
 use std::io;
 
@@ -10,7 +10,7 @@ use std::io;
 const LOOKS: usize = 10_000;
 
 impl Script {
-    /// `accept A.B.C.D`, `pass`, `room`, `look` or `show`.
+    /// `accept A.B.C.D`, `pass`, `room`, `look`, `show`, `confirm MARK` or `overdue WAIT`.
     pub fn whole(&mut self, kind: &str, words: &str, now: u64) -> io::Result<String> {
         match kind {
             "accept" => self.accepted(words, now),
@@ -20,6 +20,11 @@ impl Script {
                 self.connections.pass(now);
                 Ok(String::from_str(self.alloc, "passed")?)
             }
+            "confirm" => {
+                self.connections.confirm(number(words)?, now);
+                Ok(String::from_str(self.alloc, "confirmed")?)
+            }
+            "overdue" => self.overdue(number(words)?, now),
             "room" if self.connections.make_room() => {
                 Ok(String::from_str(self.alloc, "made room")?)
             }
@@ -48,10 +53,21 @@ impl Script {
 
     fn taken_told(&self, taken: &Taken) -> io::Result<String> {
         let slot = taken.slot;
-        let peer = taken.peer;
-        let [a, b, c, d] = peer;
+        let peer = peer_text(self.alloc, taken.peer)?;
         let message = shown(self.alloc, &taken.message)?;
-        Ok(format!(in self.alloc; "slot {slot} from {a}.{b}.{c}.{d}: {message}")?)
+        Ok(format!(in self.alloc; "slot {slot} from {peer}: {message}")?)
+    }
+
+    /// Whose reply has waited for its confirmation for so long, and for which.
+    fn overdue(&mut self, wait: u64, now: u64) -> io::Result<String> {
+        match self.connections.overdue(wait, now) {
+            None => Ok(String::from_str(self.alloc, "none")?),
+            Some(unconfirmed) => {
+                let peer = peer_text(self.alloc, unconfirmed.peer)?;
+                let mark = unconfirmed.mark;
+                Ok(format!(in self.alloc; "{peer} waited for {mark}")?)
+            }
+        }
     }
 
     /// The slots that are to be looked at, each once, where something is to be done that the socket doesn't tell.
