@@ -4,6 +4,7 @@ use crate::engine::milliseconds;
 use crate::follower::Follower;
 use crate::reactor::Reactor;
 use crate::sockets::FOLLOWER;
+use chpw_connections::Unconfirmed;
 use chpw_follower::ask_line;
 use mio::net::UnixStream;
 use mio::{Interest, Registry};
@@ -73,7 +74,15 @@ impl<
             self.hear();
         }
         self.ask(registry);
-        self.release_overdue();
+        if self.engine.hub.lock(self.rt).state.is_waited_for() {
+            self.release_overdue();
+        }
+    }
+
+    /// Replies that have waited for as long as they may go out.
+    pub fn release_overdue(&mut self) {
+        let wait = self.link.follower.wait();
+        self.release(wait);
     }
 
     // Hears what the follower has said, to its end.
@@ -105,7 +114,7 @@ impl<
             Ok(Some(_)) => self.link.follower.confirmed(),
             Err(_) => {
                 self.link.stream = None;
-                self.release_all();
+                self.release(0);
             }
         }
     }
@@ -129,36 +138,19 @@ impl<
         self.link.stream = None;
         let was_due = self.engine.hub.lock(self.rt).state.hang_up();
         if was_due {
-            self.release_all();
+            self.release(0);
         }
     }
 
-    // All replies that wait go out.
-    fn release_all(&mut self) {
+    // Replies that have waited for so long go out, and that nobody has confirmed them is told.
+    fn release(&mut self, wait: u64) {
         let now = milliseconds(self.rt);
-        for _ in 0..self.clients {
-            let released = self.engine.hub.lock(self.rt).state.give_up(now);
-            match released {
-                None => return,
-                Some(unconfirmed) => self.tell(unconfirmed.peer, unconfirmed.mark),
-            }
-        }
-    }
-
-    // Replies that have waited for as long as they may go out.
-    fn release_overdue(&mut self) {
-        let now = milliseconds(self.rt);
-        let wait = self.link.follower.wait();
         for _ in 0..self.clients {
             let released = self.engine.hub.lock(self.rt).state.overdue(wait, now);
             match released {
                 None => return,
-                Some(unconfirmed) => self.tell(unconfirmed.peer, unconfirmed.mark),
+                Some(Unconfirmed { peer, mark }) => self.link.follower.unconfirmed(peer, mark),
             }
         }
-    }
-
-    fn tell(&mut self, peer: [u8; 4], mark: u64) {
-        self.link.follower.unconfirmed(peer, mark);
     }
 }

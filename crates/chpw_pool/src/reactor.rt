@@ -171,6 +171,7 @@ impl<
         }
         self.looked = now;
         self.accepting = self.accepting.resumed(now);
+        self.release_overdue();
         let had = self.pass(now);
         self.look_round(had.is_any());
     }

@@ -182,33 +182,20 @@ impl State {
         Ok(confirmed)
     }
 
-    /// The first reply that has waited for as long as it may, while the follower is waited for: it is to be written.
+    /// The first reply that has waited for the follower for so long: it is to be written.
     pub fn overdue(&mut self, wait: u64, now: u64) -> Option<Unconfirmed>
-        ensures released { is_waited self.old.asking ≡ true → ReleasesOne wait now (slots_of self.old.connections) (slots_of self.new.connections) result }
-        ensures none { is_waited self.old.asking ≡ false → result ≡ None }
+        ensures released { ReleasesOne wait now (slots_of self.old.connections) (slots_of self.new.connections) result }
         ensures unchanged { result ≡ None → self.new ≡ self.old }
         ensures asking { self.new.asking ≡ self.old.asking }
     {
-        if !self.is_waited_for() {
-            return None;
-        }
         self.connections.overdue(wait, now)
     }
 
-    // Whether an answer of the follower's is due, or something is to be asked.
-    fn is_waited_for(&self) -> bool
+    /// Whether an answer of the follower's is due, or something is to be asked.
+    pub fn is_waited_for(&self) -> bool
         ensures value { result ≡ is_waited self.now.asking }
     {
         self.asking.is_asked() || self.asking.is_to_ask()
-    }
-
-    /// The first reply that waits, where no follower is there: it is to be written.
-    pub fn give_up(&mut self, now: u64) -> Option<Unconfirmed>
-        ensures released { ReleasesOne 0 now (slots_of self.old.connections) (slots_of self.new.connections) result }
-        ensures unchanged { result ≡ None → self.new ≡ self.old }
-        ensures asking { self.new.asking ≡ self.old.asking }
-    {
-        self.connections.overdue(0, now)
     }
 
     /// The connection to the follower has ended, or there was none. Whether an answer was due: then none comes, and
