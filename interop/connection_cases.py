@@ -193,7 +193,7 @@ class Machine:
             c.mark = mark
         self.answer(c, reply, last, now, CONFIRMING)
 
-    def held_back(self):
+    def deferred(self):
         return sorted((c for c in self.connections if c.stage == CONFIRMING), key=lambda c: c.slot)
 
     def release(self, c, now):
@@ -201,13 +201,13 @@ class Machine:
         self.look(c)
 
     def confirm(self, mark, now):
-        for c in self.held_back():
+        for c in self.deferred():
             if c.mark <= mark:
                 self.release(c, now)
 
     def overdue(self, wait, now):
         """One at a time, in the lowest slot."""
-        c = next((c for c in self.held_back() if now - c.since >= wait), None)
+        c = next((c for c in self.deferred() if now - c.since >= wait), None)
         if c:
             self.release(c, now)
         return c

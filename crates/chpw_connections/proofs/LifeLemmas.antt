@@ -211,7 +211,7 @@ written_as c h r w n reply last mark o =
       small = o.small;
     }
 
--- a worker's reply is held back
+-- a worker's reply is deferred
 defers_to : (c : List ℕ) (h r : List (List ℕ)) (w : List ℕ) (n : ℕ) (reply : List ℕ) (last : Bool) (mark : ℕ) → Holds (made c h r w n answering)
     → Holds (made (c ++ []) (h ++ []) (r ++ reply ∷ []) (w ++ [])
     (cond (is_last_reply n last) n (n + 1)) (confirming reply (is_last_reply n last) mark))

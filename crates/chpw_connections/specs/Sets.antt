@@ -67,7 +67,7 @@ abbrev pub queued_at : Option Connection → Option (List ℕ)
 queued_at None = None
 queued_at (Some c) = queued_by (stage c)
 
--- how long each stage may last; a message that a worker has isn't hurried
+-- how long each stage may last; a message that a worker has isn't hurried, nor is a reply that waits for a confirmation
 abbrev pub time_of : Bounds → Stage → Option ℕ
 time_of b (reading bytes) = Some b.idle
 time_of b (writing left last) = Some b.idle

@@ -35,7 +35,7 @@ AllEndInTime = (b : Bounds) (c : Connection) → is_timed (stage c) ≡ true →
 abbrev pub GoesOn : Stage → Type 0
 GoesOn s = (is_timed s ≡ true) ⊎ (is_confirming s ≡ true) ⊎ (s ≡ ended)
 
--- one that a worker has goes on by the worker's reply, be it held back or not, and by the word that there is none
+-- one that a worker has goes on by the worker's reply, be it deferred or not, and by the word that there is none
 abbrev pub AllGoOnByTheirWorker : Type 0
 AllGoOnByTheirWorker = (count : ℕ) (s : Stage) → is_with_worker s ≡ true
     → ((reply : List ℕ) (last : Bool) → GoesOn (after count s (replied reply last)))

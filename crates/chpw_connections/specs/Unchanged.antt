@@ -11,19 +11,19 @@ settled s = s
 abbrev pub settle : Life → Life
 settle l = record { came = l.came; handed = l.handed; replies = l.replies; written = l.written; count = l.count; stage = settled l.stage }
 
--- no reply that is held back, and no release
+-- no deferred reply, and no release
 abbrev pub is_ordinary : Event → Bool
 is_ordinary (deferred reply last mark) = false
 is_ordinary released = false
 is_ordinary event = true
 
--- what a service that waits for no confirmation has in place of an event
+-- what a service that waits for no confirmation has in place of an event: of a deferred reply the same one, to be written now
 abbrev pub ordinary : Event → List Event
 ordinary (deferred reply last mark) = replied reply last ∷ []
 ordinary released = []
 ordinary event = event ∷ []
 
--- and what it sees of it: while a reply is held back nothing of its connection is read or written, and only its end is seen
+-- and what it sees of it: while a reply waits nothing of its connection is read or written, and only its end is seen
 abbrev pub seen : Stage → Event → List Event
 seen (confirming reply last mark) failed = failed ∷ []
 seen (confirming reply last mark) event = []
@@ -37,6 +37,6 @@ seen_all l (e ∷ es) = seen l.stage e ++ seen_all (behind l e) es
 abbrev pub ChangesNoAnswer : Type 0
 ChangesNoAnswer = (events : List Event) → settle (life accepted events) ≡ life accepted (seen_all accepted events)
 
--- and there no reply is held back
+-- and there no reply is deferred
 abbrev pub SeesOrdinary : Type 0
 SeesOrdinary = (events : List Event) → All (λ event. is_ordinary event ≡ true) (seen_all accepted events)

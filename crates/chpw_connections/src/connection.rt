@@ -78,8 +78,8 @@ pub(crate) struct Outgoing {
     pub is_last: bool,
 }
 
-/// A connection. `since` is the moment of its accept, of its last whole message, or of its last reply, in
-/// milliseconds; `answered` counts the replies behind which it goes on.
+/// A connection. `since` is the moment of its accept, of its last whole message, of its last reply, or of that one's
+/// release, in milliseconds; `answered` counts the replies behind which it goes on.
 #[derive(Drop)]
 pub(crate) struct Connection {
     pub number: u32,

@@ -24,14 +24,13 @@ pub fn in_time()
     ensures { AllEndInTime }
 {}
 
-/// One that a worker has goes on, or ends, by the worker's reply, be it held back or not, and by the word that there is
-/// none.
+/// One that a worker has goes on, or ends, by the worker's reply, be it deferred or not, and by the word that there is none.
 #[tactic(auto, using(crate::proofs::TimeLemmas::all_go_on_by_their_worker))]
 pub fn by_its_worker()
     ensures { AllGoOnByTheirWorker }
 {}
 
-/// One whose reply is held back goes on once that is released: it has only so long from then on.
+/// One whose reply is deferred goes on once that is released: it has only so long from then on.
 #[tactic(auto, using(crate::proofs::TimeLemmas::all_go_on_released))]
 pub fn by_its_release()
     ensures { AllGoOnReleased }
@@ -43,8 +42,8 @@ pub fn in_each_stage()
     ensures { NoneStays }
 {}
 
-/// A follower changes no answer: whatever happens to a connection whose replies are held back until a follower has confirmed
-/// them, what comes, is handed to workers, replied and written, and where it is, is as it would be had each of these replies
+/// A follower changes no answer: whatever happens to a connection whose replies wait until a follower has confirmed their
+/// changes, what comes, is handed to workers, replied and written, and where it is, is as it would be had each deferred reply
 /// been an ordinary one.
 #[tactic(auto, using(crate::proofs::UnchangedLemmas::changes_no_answer, crate::proofs::UnchangedLemmas::sees_ordinary))]
 pub fn unchanged_by_a_follower()

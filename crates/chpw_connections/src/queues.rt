@@ -42,7 +42,8 @@ impl Connections {
     /// A slot to look at: its connection got the word that there is no reply; its reply waits for no confirmation any longer
     /// (`confirm`, `overdue`); it has ended, or is gone while a worker still answers; or `look_again` named it. Each is told
     /// once for each time that it came about, in that order, as far as there was memory to note it. What `accept`, `receive`,
-    /// `take`, `answer`, `defer` and `wrote` make of a connection that doesn't end isn't told. Meanwhile the slot may be free, or another connection's: `todo` says what is to be done.
+    /// `take`, `answer`, `defer` and `wrote` make of a connection that doesn't end isn't told. Meanwhile the slot may be
+    /// free, or another connection's: `todo` says what is to be done.
     pub fn changed(&mut self) -> Option<usize>
         ensures first { IfSome result (λ slot. changed_of self.old ≡ slot ∷ changed_of self.new) }
         ensures none { IfNone result (changed_of self.old ≡ []) }

@@ -1,8 +1,8 @@
-use Rattle.std.proofs.Common.{◌≡◌, ℕ, List, ◌++◌, take, true, sym, ◌∙◌, ap, subst}
+use Rattle.std.proofs.Common.{rules, ◌≡◌, ℕ, List, ◌++◌, take, true, refl, sym, ◌∙◌, ap, subst}
 use Rattle.chpw_connections.specs.Messages.{wanted_behind, whole_behind}
 use Rattle.chpw_connections.specs.Reading.{is_unfinished}
 use Rattle.chpw_connections.specs.declared.connection.Phase.{Phase}
-use Rattle.chpw_connections.proofs.ReadingLemmas.{covered_by}
+use Rattle.chpw_connections.proofs.ReadingLemmas.{covered_by, goes_on_reading}
 use Rattle.chpw_connections.proofs.connection.Connection.receive.Goals as goal
 
 pub invariant_of-self-in-Reading-clause-covered : goal.invariant_of-self-in-Reading-clause-covered
@@ -14,3 +14,15 @@ invariant_of-self-in-Reading-clause-covered c =
     ∙ ap (λ (l : List ℕ). old ++ l) (c.at_most-fitting.ensures.value
     ∙ ap (λ (n : ℕ). take n c.args.bytes.now) (c.wanted_behind.ensures.value ∙ ap wanted_behind c.deref-in-Reading.ensures.value)))
     (c.whole_behind-room.ensures.value ∙ ap whole_behind c.deref.ensures.value)
+
+pub returns-else-wanted_behind-eq0-clause-goes : goal.returns-else-wanted_behind-eq0-clause-goes
+returns-else-wanted_behind-eq0-clause-goes c =
+    let old = c.in-Reading.field-0.received.items in
+    goes_on_reading c.args.now c.args.self.now _ c.in-Reading.field-0 _ c.args.bytes.now
+    (sym c.replace.ensures.value ∙ c.in-Reading.is) refl
+    (c.in_ok-extend_from_slice-in-Reading.ensures.items
+    ∙ ap (λ (l : List ℕ). old ++ l) (c.at_most-fitting.ensures.value
+    ∙ ap (λ (n : ℕ). take n c.args.bytes.now) (c.wanted_behind.ensures.value ∙ ap wanted_behind c.deref-in-Reading.ensures.value)))
+    (search rules)
+    (c.whole_behind-room.ensures.value ∙ ap whole_behind c.deref.ensures.value)
+    (search rules) refl refl refl refl
