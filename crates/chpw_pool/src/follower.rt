@@ -1,5 +1,6 @@
 //! The follower, which carries changes into the KDC's database and says when they are there.
 
+use chpw_connections::Unconfirmed;
 use mio::net::UnixStream;
 
 /// A service's side of its follower: where it is, how long replies wait for it, and who is told what came of that.
@@ -13,9 +14,8 @@ pub trait Follower {
     /// It has said that a change is in the KDC's database.
     fn confirmed(&mut self);
 
-    /// The reply to a change of this peer goes out though it hasn't said that the KDC has the journal's first `mark`
-    /// bytes, the change among them.
-    fn unconfirmed(&mut self, peer: [u8; 4], mark: u64);
+    /// The reply to this change goes out though it hasn't said that the KDC has the journal up to it.
+    fn unconfirmed(&mut self, change: Unconfirmed);
 }
 
 /// How long the journal is.
@@ -39,7 +39,7 @@ impl Follower for NoFollower {
 
     fn confirmed(&mut self) {}
 
-    fn unconfirmed(&mut self, _peer: [u8; 4], _mark: u64) {}
+    fn unconfirmed(&mut self, _change: Unconfirmed) {}
 }
 
 impl JournalEnd for NoFollower {

@@ -4,7 +4,6 @@ use crate::engine::milliseconds;
 use crate::follower::Follower;
 use crate::reactor::Reactor;
 use crate::sockets::FOLLOWER;
-use chpw_connections::Unconfirmed;
 use chpw_follower::ask_line;
 use mio::net::UnixStream;
 use mio::{Interest, Registry};
@@ -149,7 +148,7 @@ impl<
             let released = self.engine.hub.lock(self.rt).state.overdue(wait, now);
             match released {
                 None => return,
-                Some(Unconfirmed { peer, mark }) => self.link.follower.unconfirmed(peer, mark),
+                Some(change) => self.link.follower.unconfirmed(change),
             }
         }
     }

@@ -15,7 +15,7 @@ mod state;
 mod terms;
 mod worker;
 
-pub use chpw_connections::Bounds;
+pub use chpw_connections::{Bounds, Unconfirmed};
 pub use clock::{MachineClock, machine_moment};
 pub use engine::Engine;
 pub use follower::{Follower, JournalEnd, NoFollower};

@@ -7,7 +7,7 @@ use crate::logging::Log;
 use crate::notices::{Notice, is_first};
 use chpw_invocation::ServeOptions;
 use chpw_journal::FileSink;
-use chpw_pool::{Follower, JournalEnd, MachineClock};
+use chpw_pool::{Follower, JournalEnd, MachineClock, Unconfirmed};
 use chpw_serve::Clock as _;
 use chpw_table::JournalSink;
 use mio::net::UnixStream;
@@ -105,8 +105,8 @@ impl<R: Net + Wait + Eprint, T: Clock> Follower for Followed<'_, R, T> {
         self.is_told = false;
     }
 
-    fn unconfirmed(&mut self, peer: [u8; 4], mark: u64) {
-        self.log.put_unconfirmed(self.clock.now(), peer, mark);
+    fn unconfirmed(&mut self, change: Unconfirmed) {
+        self.log.put_unconfirmed(self.clock.now(), &change);
         if let Some(socket) = self.terms.socket {
             if is_first(&mut self.is_told) {
                 self.log.tell(Notice::Unconfirmed(socket));

@@ -11,6 +11,7 @@ use crate::places::keep_apart;
 use crate::sheets::{Sheet, is_standard_error};
 use chpw_invocation::ServeOptions;
 use chpw_log::{Held, Limit, Line, micros_of, write_held, write_line, write_unconfirmed};
+use chpw_pool::Unconfirmed;
 use chpw_table::Moment;
 use std::alloc::{AllocError, Global};
 use std::fs::{File, Files};
@@ -138,14 +139,14 @@ impl<R: Wait + Eprint> Log<'_, R> {
         }
     }
 
-    /// Appends the line of a change that was answered to this peer before the follower had confirmed the journal's first
-    /// `mark` bytes.
-    pub(crate) fn put_unconfirmed(&self, now: Moment, peer: [u8; 4], mark: u64)
+    /// Appends the line of a change that was answered before the follower had confirmed it.
+    pub(crate) fn put_unconfirmed(&self, now: Moment, change: &Unconfirmed)
         requires moment { IsMoment now }
         requires micros { now.micros < 1000000 }
     {
         if let Some(book) = &self.book {
-            self.put_text(book, write_unconfirmed(self.alloc, now, peer, mark));
+            let peer = change.peer;
+            self.put_text(book, write_unconfirmed(self.alloc, now, peer, change.mark));
         }
     }
 
