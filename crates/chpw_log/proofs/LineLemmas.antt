@@ -63,6 +63,11 @@ pub unconfirmed_joined : (a b words : List ℕ)
     ∷ codes "text" ∷ words ∷ [])
 unconfirmed_joined a b words = simp append_assoc refl
 
+pub mark_joined : (old a : List ℕ)
+    → old ++ codes "not confirmed by the follower: the journal up to byte " ++ a
+    ≡ old ++ (codes "not confirmed by the follower: the journal up to byte " ++ a)
+mark_joined old a = simp append_assoc refl
+
 -- ---- the words of what was held back
 
 pub words_joined : (old a b c : List ℕ)

@@ -56,5 +56,6 @@ fn put_mark(text: &mut Vec<u8>, mark: u64) -> Result<(), AllocError>
     ensures printed { OnOk result (are_printed (unconfirmed_words mark) ≡ true) }
 {
     text.extend_from_slice(b"not confirmed by the follower: the journal up to byte ")?;
-    put_number(text, mark)
+    put_number(text, mark)?;
+    Ok(())
 }

@@ -1,8 +1,17 @@
-use Rattle.std.proofs.Common.{rules, ◌≡◌, ◌<◌, ◌^◌, arith, codes, refl}
+use Rattle.std.proofs.Common.{rules, ◌≡◌, ◌++◌, ◌∙◌, ◌<◌, ◌^◌, List, ℕ, ap, arith, codes, refl}
 use Rattle.std.specs.Fmt.{decimal}
 use Rattle.chpw_printing.proofs.PrintedLemmas.{decimal_graphic, graphic_printed}
-use Rattle.chpw_log.proofs.LineLemmas.{both_printed}
+use Rattle.chpw_log.proofs.LineLemmas.{both_printed, mark_joined}
 use Rattle.chpw_log.proofs.unconfirmed.put_mark.Goals as goal
+
+pub returns-clause-value : goal.returns-clause-value
+returns-clause-value c =
+    let old = c.args.text.now.items in
+    let mark = c.args.mark in
+    let words = codes "not confirmed by the follower: the journal up to byte " in
+    let front : c.extend_from_slice.new.self.items ≡ old ++ words = c.in_ok-extend_from_slice.ensures.items in
+    let back : c.put_number.new.text.items ≡ c.extend_from_slice.new.self.items ++ decimal mark = c.in_ok-put_number.ensures.value in
+    back ∙ ap (λ (xs : List ℕ). xs ++ decimal mark) front ∙ mark_joined old (decimal mark)
 
 pub returns-clause-printed : goal.returns-clause-printed
 returns-clause-printed c =
