@@ -1,7 +1,7 @@
 #!/usr/bin/env bash
 # Unpacks MIT Kerberos and Heimdal (of both KDC, kadmin, clients, libraries and headers) from
-# Debian's packages into FOLDER/mit and FOLDER/heimdal, and into FOLDER/kpropd what a replica of MIT's
-# runs. Nothing is installed: the two conflict as packages, and not as folders. The packages are those
+# Debian's packages into FOLDER/mit and FOLDER/heimdal, into FOLDER/kpropd what a replica of MIT's
+# runs, and into FOLDER/pam and FOLDER/pam-heimdal what logs users in. Nothing is installed: the two conflict as packages, and not as folders. The packages are those
 # of the lists that `apt-get update` fetched.
 set -euo pipefail
 
@@ -44,3 +44,5 @@ folder=$(cd "$1" && pwd)
 unpack mit "${mit[@]}"
 unpack heimdal "${heimdal[@]}"
 unpack kpropd krb5-kpropd
+unpack pam libpam-krb5 pamtester libpam-wrapper libnss-wrapper
+unpack pam-heimdal libpam-heimdal

@@ -8,14 +8,14 @@ import contextlib
 
 import configuration
 from cases import Cases
-from clients import HeimdalClient, MitClient
+from clients import CLIENTS
 from confirmed import Confirmed
 from realms import FIRST
 
 WAIT = 2000
 SHORT = "abc"
 REASON = "password too short"
-# Heimdal's kinit asks a second time with the very bytes of the first, and MIT's KDC then says again what
+# Heimdal's library asks a second time with the very bytes of the first, and MIT's KDC then says again what
 # it said before the change
 SAYS_IT_AGAIN = {("Heimdal", "MIT")}
 
@@ -35,24 +35,19 @@ class ClientCases(Cases):
     """The first user is the administrator; the others take their turns, one for a client's case."""
 
     def run(self, rounds):
-        cases = [
-            ("kinit with an expired password", self.expired),
-            ("kpasswd, and kinit at once", self.changed),
-            ("an administrator's change, and kinit at once", self.set_by),
-            ("kpasswd, too short", self.refused),
-            ("kinit with an expired password, too short", self.refused_at_kinit),
-        ]
-        clients = (MitClient, HeimdalClient)
-        self.admin, *users = [User(self.name()) for _ in range(1 + (len(cases) + 1) * len(clients))]
+        cases = sum(len(client.CASES) + 1 for client in CLIENTS)
+        self.admin, *users = [User(self.name()) for _ in range(1 + cases)]
         with self.serving([self.admin, *users]):
-            made = [client(self.files.folder, self.realm.kdc_port, self.files.server.port) for client in clients]
-            for client in made:
-                client.build()
-                for what, case in cases:
-                    self.again(client, users.pop(), what, case, rounds)
+            names = [user.name for user in users]
+            ports = self.realm.kdc_port, self.files.server.port
+            clients = [client(self.files.folder, *ports) for client in CLIENTS]
+            for client in clients:
+                client.build(names)
+                for what, case in client.CASES.items():
+                    self.again(client, users.pop(), what, getattr(self, case), rounds)
             self.tell("each change was confirmed: those that weren't", self.files.unconfirmed(), 0)
             self.follower.stop()
-            for client in made:
+            for client in clients:
                 self.without_follower(client, users.pop())
 
     @contextlib.contextmanager
@@ -83,10 +78,10 @@ class ClientCases(Cases):
                 self.show(client, what, seen)
             if not is_good:
                 misses.append(seen.told())
-        self.tell(f"{client.KIND}'s clients: {what}, {rounds} times: misses", misses, [])
+        self.tell(f"{client.NAME}: {what}, {rounds} times: misses", misses, [])
 
     def show(self, client, what, seen):
-        print(f"  seen of {client.KIND}'s client, {self.realm.KIND}'s KDC: {what}: {seen.told()}", flush=True)
+        print(f"  seen, {client.NAME}, {self.realm.KIND}'s KDC: {what}: {seen.told()}", flush=True)
 
     def gives_ticket(self, client, user):
         """At once, with the password that is the user's now."""
@@ -95,14 +90,14 @@ class ClientCases(Cases):
     # ---- the cases: whether it is as it should be, and what was seen
 
     def expired(self, client, user):
-        """The new one is asked for twice, and kinit ends with a ticket."""
+        """The new one is asked for twice, and there is a ticket at the end."""
         self.realm.ask_for_change(user.name)
         new = user.next()
         seen = client.ticket(user.name, user.password, new, new)
         user.password = new
         is_asked = all(seen.text.count(words) == 1 for words in client.TWICE)
         if (client.KIND, self.realm.KIND) in SAYS_IT_AGAIN:
-            return is_asked and not seen.is_done and self.gives_ticket(client, user), seen
+            return not seen.is_done and self.gives_ticket(client, user), seen
         return is_asked and seen.is_done and client.has_ticket(user.name), seen
 
     def changed(self, client, user):
@@ -123,7 +118,7 @@ class ClientCases(Cases):
         is_told = REASON in seen or not client.SHOWS_REASONS
         return not seen.is_done and is_told and self.gives_ticket(client, user), seen
 
-    def refused_at_kinit(self, client, user):
+    def refused_when_expired(self, client, user):
         """Asked again and again, and no ticket at the end."""
         self.realm.ask_for_change(user.name)
         kvno = self.realm.kvno(user.name)
@@ -140,8 +135,8 @@ class ClientCases(Cases):
         former, user.password = user.password, user.next()
         before = self.files.unconfirmed()
         seen = client.ticket(user.name, former, user.password, user.password)
-        self.show(client, "kinit with an expired password, and no follower", seen)
+        self.show(client, f"{next(iter(client.CASES))}, no follower", seen)
         found = seen.is_done, self.files.unconfirmed() - before
-        self.tell(f"{client.KIND}'s kinit, no follower: a ticket, lines of it in the log", found, (False, 1))
+        self.tell(f"{client.NAME}: expired, no follower: a ticket, lines in the log", found, (False, 1))
         with self.following(self.files):
-            self.tell("  one comes: kinit with the new one", self.gives_ticket(client, user))
+            self.tell("  one comes: a ticket by the new one", self.gives_ticket(client, user))

@@ -1,6 +1,11 @@
 """Stock clients of either project, unchanged, at any KDC and at the service.
 
-What a client's user sees of a run is `Seen`: whether it ended well, and all that it said.
+What a client's user sees of a run is `Seen`: whether it ended well, and all that it said. A client has
+`CASES`, which of ClientCases' are tried with it and how they are called there; and
+
+- `ticket(name, typed)`: kinit, or a login; `has_ticket(name)`: whether it left a ticket;
+- `kpasswd(name, old, new)`: a user's own change;
+- `set_by(actor, password, name, new)`: a change of another's, where it can.
 """
 
 import dataclasses
@@ -24,14 +29,31 @@ class Seen:
         return " | ".join(line.strip() for line in self.text.splitlines() if line.strip())
 
 
-class Client:
-    """The clients of one project; `more` are further lines of their [libdefaults]."""
+PROGRAMS = {
+    "kinit with an expired password": "expired",
+    "kpasswd, and kinit at once": "changed",
+    "an administrator's change, and kinit at once": "set_by",
+    "kpasswd, too short": "refused",
+    "kinit with an expired password, too short": "refused_when_expired",
+}
+LOGINS = {
+    "a login with an expired password": "expired",
+    "a change, and a login at once": "changed",
+    "a change, too short": "refused",
+    "a login with an expired password, too short": "refused_when_expired",
+}
 
-    def __init__(self, folder, kdc_port, port, more=""):
+
+class Client:
+    """The clients of one project."""
+
+    CASES = PROGRAMS
+
+    def __init__(self, folder, kdc_port, port):
         self.folder = folder
         self.project = Project(packages_folder() / self.PACKAGE)
-        self.file = folder / f"{self.PACKAGE}.conf"
-        self.cache = folder / f"cache-{self.PACKAGE}"
+        self.file = folder / f"{type(self).__name__}.conf"
+        self.cache = folder / f"{type(self).__name__}.cache"
         self.file.write_text(f"""\
 [libdefaults]
     default_realm = {REALM}
@@ -39,12 +61,15 @@ class Client:
     dns_lookup_realm = false
     dns_canonicalize_hostname = false
     rdns = false
-{more}[realms]
+[realms]
     {REALM} = {{
         kdc = 127.0.0.1:{kdc_port}
         kpasswd_server = {self.PREFIX}127.0.0.1:{port}
     }}
 """)
+
+    def build(self, names):
+        """What has to be there for users of these names."""
 
     def environment(self):
         return {
@@ -83,6 +108,7 @@ class Client:
 
 class MitClient(Client):
     KIND = "MIT"
+    NAME = "MIT's clients"
     PACKAGE = "mit"
     PREFIX = ""
     SHOWS_REASONS = True
@@ -100,13 +126,14 @@ class MitClient(Client):
         seen = self.run([self.set_password, actor, password, new, name])
         return Seen(seen.text == "0 password changed\n", seen.text)
 
-    def build(self):
-        """The program over krb5_set_password, which the project has none of."""
+    def build(self, names):
+        """The program over krb5_set_password, of which the project has none."""
         self.set_password = self.project.compiled(self.folder, "set_password", "krb5")
 
 
 class HeimdalClient(Client):
     KIND = "Heimdal"
+    NAME = "Heimdal's clients"
     PACKAGE = "heimdal"
     PREFIX = "tcp/"
     # after a refusal it asks over UDP, where nobody listens, and tells of that
@@ -125,6 +152,57 @@ class HeimdalClient(Client):
         seen = self.run(command, password, new, new)
         return Seen("Success : password changed" in seen, seen.text)
 
-    def build(self):
-        """Nothing: all of it is there."""
 
+class Pam:
+    """Beside a project's clients: its pam_krb5 as pamtester calls it, for users of a file of its own."""
+
+    CASES = LOGINS
+
+    def build(self, names):
+        """Files of PAM's configuration and of the users, which are all this process's user."""
+        self.services = self.folder / f"{type(self).__name__}.pam"
+        self.services.mkdir()
+        [module] = (packages_folder() / self.MODULE).glob("lib/*/security/pam_krb5.so")
+        line = f"required {module} ignore_k5login retain_after_close ccache=FILE:{self.cache}\n"
+        for service in ("login", "other"):
+            text = "".join(f"{kind} {line}" for kind in ("auth", "account", "password", "session"))
+            (self.services / service).write_text(text)
+        user = f"{os.getuid()}:{os.getgid()}"
+        users = "".join(f"{name}:x:{user}::{self.folder}:/bin/sh\n" for name in names)
+        (self.folder / "passwd").write_text(users)
+        (self.folder / "group").write_text(f"all:x:{os.getgid()}:\n")
+
+    def pamtester(self, name, words, typed):
+        folder = packages_folder() / "pam"
+        wrappers = [next(folder.glob(f"usr/lib/*/lib{kind}_wrapper.so")) for kind in ("pam", "nss")]
+        return self.run(
+            [f"{folder}/usr/bin/pamtester", "login", name, *words],
+            *typed,
+            LD_PRELOAD=":".join(map(str, wrappers)),
+            PAM_WRAPPER="1",
+            PAM_WRAPPER_SERVICE_DIR=str(self.services),
+            NSS_WRAPPER_PASSWD=str(self.folder / "passwd"),
+            NSS_WRAPPER_GROUP=str(self.folder / "group"),
+        )
+
+    def ticket(self, name, *typed):
+        """A login, to the end of the session."""
+        self.cache.unlink(missing_ok=True)
+        words = ["authenticate", "acct_mgmt", "open_session", "close_session"]
+        return self.pamtester(name, words, typed)
+
+    def kpasswd(self, name, old, new):
+        return self.pamtester(name, ["chauthtok"], [old, new, new])
+
+
+class MitPam(Pam, MitClient):
+    NAME = "pam_krb5 over MIT's library"
+    MODULE = "pam"
+
+
+class HeimdalPam(Pam, HeimdalClient):
+    NAME = "pam_krb5 over Heimdal's library"
+    MODULE = "pam-heimdal"
+
+
+CLIENTS = (MitClient, HeimdalClient, MitPam, HeimdalPam)
