@@ -61,6 +61,8 @@ class Crowd:
         self.read = 0
         self.looked = time.monotonic()
         self.replies = []
+        # replies that never came
+        self.lost = 0
 
     def make(self, count):
         """So many changes, until each is known to be made; the seconds of each reply, and other answers."""
@@ -140,6 +142,7 @@ class Crowd:
         user = change.user
         user.change = None
         if not change.is_whole():
+            self.lost += 1
             user.is_lost, user.not_before = True, time.monotonic() + AGAIN
             return
         told = said(change.request, change.reply[4:])
