@@ -8,8 +8,9 @@ import contextlib
 
 import configuration
 from cases import Cases
-from clients import CLIENTS
+from clients import HeimdalClient, MitClient
 from confirmed import Confirmed
+from logins import HeimdalPam, MitPam, Sssd
 from realms import FIRST
 
 WAIT = 2000
@@ -35,20 +36,29 @@ class ClientCases(Cases):
     """The first user is the administrator; the others take their turns, one for a client's case."""
 
     def run(self, rounds):
-        cases = sum(len(client.CASES) + 1 for client in CLIENTS)
+        kinds = [MitClient, HeimdalClient, MitPam, HeimdalPam]
+        if Sssd.is_possible():
+            kinds.append(Sssd)
+        else:
+            print("sssd wants root and a mount namespace: it isn't tried", flush=True)
+        cases = sum(len(kind.CASES) + 1 for kind in kinds)
         self.admin, *users = [User(self.name()) for _ in range(1 + cases)]
-        with self.serving([self.admin, *users]):
-            names = [user.name for user in users]
+        with self.serving([self.admin, *users]), contextlib.ExitStack() as stack:
             ports = self.realm.kdc_port, self.files.server.port
-            clients = [client(self.files.folder, *ports) for client in CLIENTS]
+            clients = [kind(self.files.folder, *ports) for kind in kinds]
             for client in clients:
-                client.build(names)
-                for what, case in client.CASES.items():
-                    self.again(client, users.pop(), what, getattr(self, case), rounds)
-            self.tell("each change was confirmed: those that weren't", self.files.unconfirmed(), 0)
+                client.build([user.name for user in users])
+                stack.callback(client.end)
+            self.with_follower(clients, users, rounds)
             self.follower.stop()
             for client in clients:
                 self.without_follower(client, users.pop())
+
+    def with_follower(self, clients, users, rounds):
+        for client in clients:
+            for what, case in client.CASES.items():
+                self.again(client, users.pop(), what, getattr(self, case), rounds)
+        self.tell("each change was confirmed: those that weren't", self.files.unconfirmed(), 0)
 
     @contextlib.contextmanager
     def serving(self, users):
@@ -93,7 +103,7 @@ class ClientCases(Cases):
         """The new one is asked for twice, and there is a ticket at the end."""
         self.realm.ask_for_change(user.name)
         new = user.next()
-        seen = client.ticket(user.name, user.password, new, new)
+        seen = client.expired(user.name, user.password, new, new)
         user.password = new
         is_asked = all(seen.text.count(words) == 1 for words in client.TWICE)
         if (client.KIND, self.realm.KIND) in SAYS_IT_AGAIN:
@@ -122,7 +132,7 @@ class ClientCases(Cases):
         """Asked again and again, and no ticket at the end."""
         self.realm.ask_for_change(user.name)
         kvno = self.realm.kvno(user.name)
-        seen = client.ticket(user.name, user.password, *[SHORT] * 6)
+        seen = client.expired(user.name, user.password, *[SHORT] * 6)
         is_told = REASON in seen or not client.SHOWS_REASONS
         is_left = not client.has_ticket(user.name) and self.realm.kvno(user.name) == kvno
         return not seen.is_done and is_told and is_left, seen
@@ -134,7 +144,7 @@ class ClientCases(Cases):
         self.realm.ask_for_change(user.name)
         former, user.password = user.password, user.next()
         before = self.files.unconfirmed()
-        seen = client.ticket(user.name, former, user.password, user.password)
+        seen = client.expired(user.name, former, user.password, user.password)
         self.show(client, f"{next(iter(client.CASES))}, no follower", seen)
         found = seen.is_done, self.files.unconfirmed() - before
         self.tell(f"{client.NAME}: expired, no follower: a ticket, lines in the log", found, (False, 1))

@@ -4,6 +4,7 @@ What a client's user sees of a run is `Seen`: whether it ended well, and all tha
 `CASES`, which of ClientCases' are tried with it and how they are called there; and
 
 - `ticket(name, typed)`: kinit, or a login; `has_ticket(name)`: whether it left a ticket;
+- `expired(name, password, typed)`: the same where the password has to be changed;
 - `kpasswd(name, old, new)`: a user's own change;
 - `set_by(actor, password, name, new)`: a change of another's, where it can.
 """
@@ -36,12 +37,6 @@ PROGRAMS = {
     "kpasswd, too short": "refused",
     "kinit with an expired password, too short": "refused_when_expired",
 }
-LOGINS = {
-    "a login with an expired password": "expired",
-    "a change, and a login at once": "changed",
-    "a change, too short": "refused",
-    "a login with an expired password, too short": "refused_when_expired",
-}
 
 
 class Client:
@@ -71,6 +66,9 @@ class Client:
     def build(self, names):
         """What has to be there for users of these names."""
 
+    def end(self):
+        """What runs for them ends."""
+
     def environment(self):
         return {
             **os.environ,
@@ -94,6 +92,10 @@ class Client:
             timeout=60,
         )
         return Seen(done.returncode == 0, done.stdout)
+
+    def expired(self, name, password, *typed):
+        """The same with a password that has to be changed: what is asked behind it is typed."""
+        return self.ticket(name, password, *typed)
 
     def has_ticket(self, name):
         """Whether the cache has a ticket of this user that gives others."""
@@ -151,58 +153,3 @@ class HeimdalClient(Client):
         command = ["kpasswd.heimdal", f"--admin-principal={actor}", escaped(name)]
         seen = self.run(command, password, new, new)
         return Seen("Success : password changed" in seen, seen.text)
-
-
-class Pam:
-    """Beside a project's clients: its pam_krb5 as pamtester calls it, for users of a file of its own."""
-
-    CASES = LOGINS
-
-    def build(self, names):
-        """Files of PAM's configuration and of the users, which are all this process's user."""
-        self.services = self.folder / f"{type(self).__name__}.pam"
-        self.services.mkdir()
-        [module] = (packages_folder() / self.MODULE).glob("lib/*/security/pam_krb5.so")
-        line = f"required {module} ignore_k5login retain_after_close ccache=FILE:{self.cache}\n"
-        for service in ("login", "other"):
-            text = "".join(f"{kind} {line}" for kind in ("auth", "account", "password", "session"))
-            (self.services / service).write_text(text)
-        user = f"{os.getuid()}:{os.getgid()}"
-        users = "".join(f"{name}:x:{user}::{self.folder}:/bin/sh\n" for name in names)
-        (self.folder / "passwd").write_text(users)
-        (self.folder / "group").write_text(f"all:x:{os.getgid()}:\n")
-
-    def pamtester(self, name, words, typed):
-        folder = packages_folder() / "pam"
-        wrappers = [next(folder.glob(f"usr/lib/*/lib{kind}_wrapper.so")) for kind in ("pam", "nss")]
-        return self.run(
-            [f"{folder}/usr/bin/pamtester", "login", name, *words],
-            *typed,
-            LD_PRELOAD=":".join(map(str, wrappers)),
-            PAM_WRAPPER="1",
-            PAM_WRAPPER_SERVICE_DIR=str(self.services),
-            NSS_WRAPPER_PASSWD=str(self.folder / "passwd"),
-            NSS_WRAPPER_GROUP=str(self.folder / "group"),
-        )
-
-    def ticket(self, name, *typed):
-        """A login, to the end of the session."""
-        self.cache.unlink(missing_ok=True)
-        words = ["authenticate", "acct_mgmt", "open_session", "close_session"]
-        return self.pamtester(name, words, typed)
-
-    def kpasswd(self, name, old, new):
-        return self.pamtester(name, ["chauthtok"], [old, new, new])
-
-
-class MitPam(Pam, MitClient):
-    NAME = "pam_krb5 over MIT's library"
-    MODULE = "pam"
-
-
-class HeimdalPam(Pam, HeimdalClient):
-    NAME = "pam_krb5 over Heimdal's library"
-    MODULE = "pam-heimdal"
-
-
-CLIENTS = (MitClient, HeimdalClient, MitPam, HeimdalPam)

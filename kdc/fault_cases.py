@@ -30,6 +30,8 @@ WAIT = 1000
 LATER = 0.1
 # a follower that is to die lives for so long at most
 LIFE = 0.7
+# so many times its changes are those of all cases
+CASES = 10
 # of the wait: a reply that comes before didn't wait
 MOST_AT_ONCE = 0.9
 # of the changes, with each of those that aren't followers: one in so many, and where each of them waits
@@ -43,7 +45,8 @@ def keys_once(name, password):
 
 class FaultCases(Cases):
     def run(self, changes):
-        self.changes = changes
+        """About so many changes altogether."""
+        self.changes = max(USERS, changes // CASES)
         self.names = [self.name() for _ in range(USERS)]
         self.library = dying_library(self.realm.folder)
         self.files = Confirmed(self.realm.folder / "faults", self.program, WAIT)
