@@ -112,9 +112,11 @@ class Request:
     message: bytes
 
 
-def request_now(client, password, cusec):
-    """A change of one's own password. No two requests of a client have the same microseconds."""
-    now = int(time.time())
+def request_now(client, password, cusec, ahead=0):
+    """A change of one's own password, by a clock that is so many seconds ahead.
+
+    No two requests of a client have the same microseconds."""
+    now = int(time.time()) + ahead
     message = wire.request(client.encode(), password.encode(), cusec, ctime=now, starts=now - 60)
     return Request(now, cusec, message)
 

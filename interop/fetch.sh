@@ -1,7 +1,8 @@
 #!/usr/bin/env bash
 # Unpacks MIT Kerberos and Heimdal (of both KDC, kadmin, clients, libraries and headers) from
-# Debian's packages into FOLDER/mit and FOLDER/heimdal, and into FOLDER/kpropd what a replica of MIT's
-# runs. Nothing is installed: the two conflict as packages, and not as folders. The packages are those
+# Debian's packages into FOLDER/mit and FOLDER/heimdal, into FOLDER/kpropd what a replica of MIT's
+# runs, and into FOLDER/pam, FOLDER/pam-heimdal and FOLDER/sssd what logs
+# users in. Nothing is installed: the two conflict as packages, and not as folders. The packages are those
 # of the lists that `apt-get update` fetched.
 set -euo pipefail
 
@@ -19,6 +20,11 @@ heimdal=(heimdal-clients heimdal-kdc libkdc2-heimdal libcap-ng0 libasn1-8-heimda
     libkadm5clnt7-heimdal libkadm5srv8-heimdal libkafs0-heimdal libkrb5-26-heimdal libotp0-heimdal
     libroken19-heimdal libsl0-heimdal libwind0-heimdal liblmdb0 libcom-err2 libdb5.3 libsqlite3-0
     libedit2 libbsd0 libmd0 heimdal-multidev comerr-dev)
+
+sssd=(sssd-common sssd-krb5-common sssd-krb5 sssd-proxy libpam-sss libnss-sss libsss-idmap0
+    libsss-nss-idmap0 libsss-certmap0 libbasicobjects0 libcollection4 libdhash1 libpath-utils1
+    libref-array1 libini-config5 liblmdb0 libtalloc2 libtdb1 libtevent0 libldb2 libnl-3-200
+    libnl-route-3-200 libpopt0 libc-ares2 libdbus-1-3 libjansson4 libkeyutils1)
 
 # unpack NAME PACKAGE..: into FOLDER/NAME, unless these are there already
 unpack() {
@@ -44,3 +50,6 @@ folder=$(cd "$1" && pwd)
 unpack mit "${mit[@]}"
 unpack heimdal "${heimdal[@]}"
 unpack kpropd krb5-kpropd
+unpack pam libpam-krb5 pamtester libpam-wrapper libnss-wrapper
+unpack pam-heimdal libpam-heimdal
+unpack sssd "${sssd[@]}"

@@ -128,11 +128,11 @@ class HeimdalRealm:
         if not is_open(self.kdc_port, process):
             raise Failed(f"kdc doesn't listen: {log.read_text()}")
 
-    def keytab(self):
-        """The bytes of a keytab with the keys of the service and of the principals, as they are."""
+    def keytab(self, names=None):
+        """The bytes of a keytab with the keys of the service and of the principals, or of these."""
         path = self.folder / "realm.keytab"
         path.unlink(missing_ok=True)
-        names = [SERVICE, *map(escaped, self.passwords)]
+        names = [SERVICE, *map(escaped, names or self.passwords)]
         self.kadmin("ext_keytab", f"--keytab={path}", *names)
         return path.read_bytes()
 

@@ -53,6 +53,21 @@ class Project:
     def plugins(self):
         return str(next(self.folder.glob("usr/lib/*-linux-gnu*/krb5/plugins")))
 
+    def compiled(self, folder, name, *libraries):
+        """The program of NAME.c in that folder, over these libraries of MIT's."""
+        program = folder / name
+        include = self.folder / "usr/include"
+        places = self.libraries.split(":")
+        subprocess.run(
+            ["gcc", "-std=c11", "-D_DEFAULT_SOURCE", "-Wall", "-Wextra", "-Werror", "-O1"]
+            + [f"-I{include}", f"-I{include}/mit-krb5", "-o", program, HERE / f"{name}.c"]
+            + [f"-L{place}/mit-krb5" for place in places]
+            + [f"-l{library}" for library in libraries]
+            + [f"-Wl,-rpath-link,{place}" for place in places],
+            check=True,
+        )
+        return str(program)
+
 
 class Realm:
     """`with Realm(passwords) as realm` makes it and starts its KDC; both are gone afterwards."""
@@ -214,11 +229,11 @@ class Realm:
         done = self.run(self.mit, ["kadmin.local", "getprinc", name])
         return max(map(int, re.findall(r"^Key: vno (\d+)", done.stdout, re.MULTILINE)), default=0)
 
-    def keytab(self):
-        """The bytes of a keytab with the keys of the service and of the principals."""
+    def keytab(self, names=None):
+        """The bytes of a keytab with the keys of the service and of the principals, or of these."""
         path = self.folder / "realm.keytab"
         path.unlink(missing_ok=True)
-        for name in (SERVICE, *self.passwords):
+        for name in (SERVICE, *(names or self.passwords)):
             self.kadmin("ktadd", "-k", str(path), "-norandkey", name)
         return path.read_bytes()
 
@@ -228,15 +243,4 @@ class Realm:
 
     def compiled(self, name, *libraries):
         """The program of NAME.c, over these libraries of MIT's."""
-        program = self.folder / name
-        include = self.mit.folder / "usr/include"
-        places = self.mit.libraries.split(":")
-        subprocess.run(
-            ["gcc", "-std=c11", "-D_DEFAULT_SOURCE", "-Wall", "-Wextra", "-Werror", "-O1"]
-            + [f"-I{include}", f"-I{include}/mit-krb5", "-o", program, HERE / f"{name}.c"]
-            + [f"-L{place}/mit-krb5" for place in places]
-            + [f"-l{library}" for library in libraries]
-            + [f"-Wl,-rpath-link,{place}" for place in places],
-            check=True,
-        )
-        return str(program)
+        return self.mit.compiled(self.folder, name, *libraries)

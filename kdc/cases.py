@@ -83,3 +83,14 @@ class Cases:
         found, wanted = self.realm.keys(names), files.keys(names)
         missing, other = len(wanted - found), len(found - wanted)
         self.tell(f"{what}: {len(wanted)} keys, of them missing, and others", (missing, other), (0, 0))
+
+    def keys_are_the_tables(self, files, names):
+        """Each key that the KDC has of who was changed is the service's, and none of the service's lacks."""
+        lines = (line.split() for line in files.table("keys").splitlines())
+        table = {
+            (name.partition("@")[0].replace("\\x20", " "), int(kvno), int(etype), key)
+            for name, kvno, etype, _, key, _ in lines
+        }
+        found, wanted = self.realm.keys(names), {it for it in table if it[0] in names}
+        missing, other = len(wanted - found), len(found - wanted)
+        self.tell(f"the table's {len(wanted)} keys: missing in the KDC, and others there", (missing, other), (0, 0))

@@ -11,15 +11,21 @@ from follower import Follower
 MOST_STEPS = 400
 
 
+def dying_library(folder):
+    """The library of dying.c, compiled."""
+    library = folder / "dying.so"
+    source = realms.HERE / "dying.c"
+    options = ["-std=c11", "-D_GNU_SOURCE", "-Wall", "-Wextra", "-Werror", "-shared", "-fPIC"]
+    subprocess.run(["gcc", *options, "-O1", "-o", library, source], check=True)
+    return str(library)
+
+
 class DeathCases(Cases):
     def run(self):
-        library = self.realm.folder / "dying.so"
-        source = realms.HERE / "dying.c"
-        options = ["-std=c11", "-D_GNU_SOURCE", "-Wall", "-Wextra", "-Werror", "-shared", "-fPIC"]
-        subprocess.run(["gcc", *options, "-O1", "-o", library, source], check=True)
+        library = dying_library(self.realm.folder)
         name = self.name()
         with self.own(name) as files:
-            deaths, faults = self.steps(files, name, str(library))
+            deaths, faults = self.steps(files, name, library)
             self.tell(f"killed at each of {deaths} steps: not carried by the next one", faults, [])
             self.tell("  some of the steps", deaths > 10)
             self.as_table("  table and database", files, [name])

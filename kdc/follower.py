@@ -134,3 +134,9 @@ class Files:
 
     def length(self):
         return os.stat(self.journal).st_size
+
+    def table(self, form):
+        """What the service's program tells of the keys of now."""
+        command = [self.program, "table", "--config", self.configuration, "--journal", self.journal]
+        done = subprocess.run([*command, "--as", form], capture_output=True, text=True, check=True)
+        return done.stdout

@@ -35,6 +35,14 @@ def stanza(name, versions):
     return f'[[principal]]\nname = "{name}"\n{rows}'
 
 
+def configured(versions, depth):
+    """A configuration with a service key that no KDC has: interop/changepw_client.py's."""
+    key = f'[[service.key]]\nkvno = 3\netype = 18\nkey = "{"5a" * 32}"\n'
+    policy = f"min_length = 6\nmin_classes = 2\ndepth = {depth}\niterations = {COUNT}\nset_needs_initial = false\n"
+    principals = "".join(stanza(name, its) for name, its in sorted(versions.items()))
+    return f'[service]\nrealm = "{REALM}"\n{key}[policy]\n{policy}{principals}'
+
+
 class OwnJournal(Files):
     """The principals are those of the names, each with the keys of FIRST as its first version."""
 
@@ -49,12 +57,7 @@ class OwnJournal(Files):
 
     def write_configuration(self):
         """Of the keys of now, so that an empty journal goes with it."""
-        self.configuration.write_text(
-            f'[service]\nrealm = "{REALM}"\n[[service.key]]\nkvno = 1\netype = 18\nkey = "{"5a" * 32}"\n'
-            f"[policy]\nmin_length = 6\nmin_classes = 2\ndepth = {self.depth}\niterations = {COUNT}\n"
-            "set_needs_initial = false\n"
-            + "".join(stanza(name, versions) for name, versions in sorted(self.versions.items()))
-        )
+        self.configuration.write_text(configured(self.versions, self.depth))
         self.configuration.chmod(0o600)
 
     def begin(self):

@@ -59,7 +59,7 @@ class ServiceCases(Cases):
                 self.past_the_service(number)
             self.held_back()
             self.at_once()
-            self.keys_are_the_tables()
+            self.keys_are_the_tables(self.files, PASSWORDS)
             self.tell("the follower ends by SIGTERM: status", self.follower.stop(), 0)
         print(f"changes {len(self.lags)}, in the KDC at most {max(self.lags):.3f} s after they were asked for over the socket")
 
@@ -97,14 +97,9 @@ class ServiceCases(Cases):
         done = subprocess.run(command, capture_output=True, text=True, env=env)
         return (done.stdout + done.stderr).strip()
 
-    def table(self, form):
-        command = [self.server.program, "table", "--config", self.server.configuration]
-        command += ["--journal", self.server.journal, "--as", form]
-        return subprocess.run(command, capture_output=True, text=True, check=True).stdout
-
     def table_kvno(self, name):
         text = "/".join(quoted(part.encode()) for part in name.split("/"))
-        [line] = [line for line in self.table("lines").splitlines() if line.startswith(f"{text} kvno ")]
+        [line] = [line for line in self.files.table("lines").splitlines() if line.startswith(f"{text} kvno ")]
         return int(line.split()[2])
 
     # ---- changes
@@ -234,14 +229,3 @@ class ServiceCases(Cases):
         for thread in threads:
             thread.join()
         self.tell("five users change theirs four times, at once: faults", faults, [])
-
-    def keys_are_the_tables(self):
-        """Of who was changed each key that the KDC has is the table's, and none of the table's lacks."""
-        lines = (line.split() for line in self.table("keys").splitlines())
-        wanted = {
-            (name.partition("@")[0].replace("\\x20", " "), int(kvno), int(etype), key)
-            for name, kvno, etype, _, key, _ in lines
-        }
-        found = self.realm.keys(PASSWORDS)
-        missing, other = len(wanted - found), len(found - wanted)
-        self.tell(f"the table's {len(wanted)} keys: missing in the KDC, and others there", (missing, other), (0, 0))

@@ -1,0 +1,152 @@
+"""Stock clients of both projects against the service with `--follower`, and the KDC at once behind it.
+
+Each case is tried so many times in a row, for a user of its own. What a client's user sees of the first
+time is printed, as OPERATING's table has it.
+"""
+
+import contextlib
+
+import configuration
+from cases import Cases
+from clients import HeimdalClient, MitClient
+from confirmed import Confirmed
+from logins import HeimdalPam, MitPam, Sssd
+from realms import FIRST
+
+WAIT = 2000
+SHORT = "abc"
+REASON = "password too short"
+# Heimdal's library asks a second time with the very bytes of the first, and MIT's KDC then says again what
+# it said before the change
+SAYS_IT_AGAIN = {("Heimdal", "MIT")}
+
+
+class User:
+    def __init__(self, name):
+        self.name = name
+        self.password = FIRST
+        self.count = 0
+
+    def next(self):
+        self.count += 1
+        return f"Stock-pass{self.count}"
+
+
+class ClientCases(Cases):
+    """The first user is the administrator; the others take their turns, one for a client's case."""
+
+    def run(self, rounds):
+        kinds = [MitClient, HeimdalClient, MitPam, HeimdalPam]
+        if Sssd.is_possible():
+            kinds.append(Sssd)
+        else:
+            print("sssd wants root and a mount namespace: it isn't tried", flush=True)
+        cases = sum(len(kind.CASES) + 1 for kind in kinds)
+        self.admin, *users = [User(self.name()) for _ in range(1 + cases)]
+        with self.serving([self.admin, *users]), contextlib.ExitStack() as stack:
+            ports = self.realm.kdc_port, self.files.server.port
+            clients = [kind(self.files.folder, *ports) for kind in kinds]
+            for client in clients:
+                client.build([user.name for user in users])
+                stack.callback(client.end)
+            self.with_follower(clients, users, rounds)
+            self.follower.stop()
+            for client in clients:
+                self.without_follower(client, users.pop())
+
+    def with_follower(self, clients, users, rounds):
+        for client in clients:
+            for what, case in client.CASES.items():
+                self.again(client, users.pop(), what, getattr(self, case), rounds)
+        self.tell("each change was confirmed: those that weren't", self.files.unconfirmed(), 0)
+
+    @contextlib.contextmanager
+    def serving(self, users):
+        """The service and a follower; at the end the KDC's keys are the table's."""
+        names = [user.name for user in users]
+        self.files = Confirmed(self.realm.folder / "clients", self.program, WAIT)
+        self.files.configure(configuration.configuration(self.realm.keytab(names), [(self.admin.name, "*")]))
+        self.files.start()
+        try:
+            self.follower = self.begin(self.files)
+            try:
+                yield
+            finally:
+                self.follower.stop()
+            with self.following(self.files):
+                changed = [user.name for user in users if user.count]
+                self.keys_are_the_tables(self.files, changed)
+        finally:
+            self.files.server.end()
+
+    def again(self, client, user, what, case, rounds):
+        """So many times in a row; a miss is told as its user sees it."""
+        misses = []
+        for number in range(rounds):
+            is_good, seen = case(client, user)
+            if number == 0:
+                self.show(client, what, seen)
+            if not is_good:
+                misses.append(seen.told())
+        self.tell(f"{client.NAME}: {what}, {rounds} times: misses", misses, [])
+
+    def show(self, client, what, seen):
+        print(f"  seen, {client.NAME}, {self.realm.KIND}'s KDC: {what}: {seen.told()}", flush=True)
+
+    def gives_ticket(self, client, user):
+        """At once, with the password that is the user's now."""
+        return client.ticket(user.name, user.password).is_done and client.has_ticket(user.name)
+
+    # ---- the cases: whether it is as it should be, and what was seen
+
+    def expired(self, client, user):
+        """The new one is asked for twice, and there is a ticket at the end."""
+        self.realm.ask_for_change(user.name)
+        new = user.next()
+        seen = client.expired(user.name, user.password, new, new)
+        user.password = new
+        is_asked = all(seen.text.count(words) == 1 for words in client.TWICE)
+        if (client.KIND, self.realm.KIND) in SAYS_IT_AGAIN:
+            return not seen.is_done and self.gives_ticket(client, user), seen
+        return is_asked and seen.is_done and client.has_ticket(user.name), seen
+
+    def changed(self, client, user):
+        former, new = user.password, user.next()
+        seen = client.kpasswd(user.name, former, new)
+        user.password = new
+        is_over = not client.ticket(user.name, former).is_done
+        return seen.is_done and self.gives_ticket(client, user) and is_over, seen
+
+    def set_by(self, client, user):
+        user.password = user.next()
+        seen = client.set_by(self.admin.name, self.admin.password, user.name, user.password)
+        return seen.is_done and self.gives_ticket(client, user), seen
+
+    def refused(self, client, user):
+        """The former one goes on, and the user is told why where the client shows it."""
+        seen = client.kpasswd(user.name, user.password, SHORT)
+        is_told = REASON in seen or not client.SHOWS_REASONS
+        return not seen.is_done and is_told and self.gives_ticket(client, user), seen
+
+    def refused_when_expired(self, client, user):
+        """Asked again and again, and no ticket at the end."""
+        self.realm.ask_for_change(user.name)
+        kvno = self.realm.kvno(user.name)
+        seen = client.expired(user.name, user.password, *[SHORT] * 6)
+        is_told = REASON in seen or not client.SHOWS_REASONS
+        is_left = not client.has_ticket(user.name) and self.realm.kvno(user.name) == kvno
+        return not seen.is_done and is_told and is_left, seen
+
+    # ---- once
+
+    def without_follower(self, client, user):
+        """The change is answered at once; the KDC has it when a follower comes."""
+        self.realm.ask_for_change(user.name)
+        former, user.password = user.password, user.next()
+        before = self.files.unconfirmed()
+        seen = client.expired(user.name, former, user.password, user.password)
+        self.show(client, f"{next(iter(client.CASES))}, no follower", seen)
+        found = seen.is_done, self.files.unconfirmed() - before
+        self.tell(f"{client.NAME}: expired, no follower: a ticket, lines in the log", found, (False, 1))
+        with self.following(self.files):
+            self.tell("  one comes: a ticket by the new one", self.gives_ticket(client, user))
