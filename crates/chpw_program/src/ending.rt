@@ -1,7 +1,7 @@
 //! How a run of the program ends.
-ghost use Rattle.std.specs.Prelude.{◌≡◌, OnOk};
+ghost use Rattle.std.specs.Prelude.{◌≡◌, ◌≤◌, OnOk};
 ghost use Rattle.std.specs.Io.KnownBytes.{Appends};
-ghost use Rattle.chpw_server.specs.Endings.{has_line, line_of, status_of, told_of};
+ghost use Rattle.chpw_program.specs.Endings.{has_line, line_of, status_of, told_of};
 
 use chpw_commands::DrillFault;
 use chpw_keys::KeysFault;
@@ -43,6 +43,7 @@ impl Ending<'_> {
     /// or `client` for no request.
     pub fn status(&self) -> u8
         ensures value { result ≡ status_of self.now }
+        ensures few { result ≤ 2 }
     {
         match self {
             Ending::Good => 0,

@@ -3,7 +3,7 @@ ghost use Rattle.std.specs.Prelude.{◌≡◌, ◌<◌, ◌≤ℤ◌, pos, true,
 ghost use Rattle.chpw_rules.specs.Fitting.{config_fits};
 ghost use Rattle.chpw_rules.specs.Names.{is_name, name_of as name_in};
 ghost use Rattle.chpw_client.specs.Questions.{latest_second};
-ghost use Rattle.chpw_server.specs.Asking.{Asks, HasAsked, IsUnasked, Names, Tells};
+ghost use Rattle.chpw_program.specs.Asking.{Asks, HasAsked, IsUnasked, Names, Tells};
 
 use crate::ending::Ending;
 use chpw_client::{LAST_START, LONGEST_PASSWORD, Sent, client_line, client_request};

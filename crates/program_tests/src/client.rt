@@ -1,9 +1,8 @@
 //! The command `client`, with each of its options, against a service.
-use crate::client::ask;
-use crate::ending::Ending;
 use chpw_invocation::{
     ClientOptions, ServeOptions, USUAL_BUFFERS, USUAL_CLIENTS, USUAL_FOLLOWER_WAIT, USUAL_IDLE,
 };
+use chpw_program::{Ending, ask};
 use chpw_service::{ServeFault, serve};
 use std::fs::{File, Files};
 use std::io::{Read, Write};

@@ -10,8 +10,8 @@ use Rattle.chpw_client.specs.Questions.{Question}
 use Rattle.chpw_client.specs.Requests.{IsRequest}
 use Rattle.chpw_client.specs.declared.request.Sent.{Sent}
 use Rattle.chpw_invocation.specs.declared.invocation.ClientOptions.{ClientOptions}
-use Rattle.chpw_server.specs.declared.ending.Ending.{Ending}
-use Rattle.chpw_server.specs.declared.ending.Ending.TheVariants.{Good, Refused, Unanswered, Early}
+use Rattle.chpw_program.specs.declared.ending.Ending.{Ending}
+use Rattle.chpw_program.specs.declared.ending.Ending.TheVariants.{Good, Refused, Unanswered, Early}
 
 -- the name of a text, where there is one
 abbrev pub Names : Option (List ℕ) → Option Name → Type 0

@@ -9,9 +9,9 @@ use Rattle.chpw_client.specs.Questions.{Question}
 use Rattle.chpw_client.specs.Requests.{IsRequest}
 use Rattle.chpw_client.specs.declared.request.Sent.{Sent}
 use Rattle.chpw_invocation.specs.declared.invocation.ClientOptions.{ClientOptions}
-use Rattle.chpw_server.specs.Asking.{Asks, HasAsked, IsUnasked, Names, Tells}
-use Rattle.chpw_server.specs.declared.ending.Ending.{Ending}
-use Rattle.chpw_server.specs.declared.ending.Ending.TheVariants.{Good, Faulty, Early, Unread, Unserved, Unbrought, BadArgument, Unconnected, Unanswered, Refused, Misused, NotText}
+use Rattle.chpw_program.specs.Asking.{Asks, HasAsked, IsUnasked, Names, Tells}
+use Rattle.chpw_program.specs.declared.ending.Ending.{Ending}
+use Rattle.chpw_program.specs.declared.ending.Ending.TheVariants.{Good, Faulty, Early, Unread, Unserved, Unbrought, BadArgument, Unconnected, Unanswered, Refused, Misused, NotText}
 
 pub asks : (options : ClientOptions) (config : Config) (q : Question) (target : Option Name) (drawn : _)
     (sent : Sent) → config_fits config ≡ true → q.realm ≡ config.realm → IsFirstKey config.service q.service

@@ -7,8 +7,8 @@ use Rattle.chpw_keys.specs.declared.fault.KeysFault.{KeysFault}
 use Rattle.chpw_keys.specs.declared.fault.KeysFault.TheVariants.{BadName}
 use Rattle.chpw_service.specs.Faults.{line_of as service_line}
 use Rattle.chpw_service.specs.declared.fault.ServeFault.{ServeFault}
-use Rattle.chpw_server.specs.declared.ending.Ending.{Ending}
-use Rattle.chpw_server.specs.declared.ending.Ending.TheVariants.{Good, Faulty, Early, Unread, Unserved, Unbrought, BadArgument, Unconnected, Unanswered, Refused, Misused, NotText}
+use Rattle.chpw_program.specs.declared.ending.Ending.{Ending}
+use Rattle.chpw_program.specs.declared.ending.Ending.TheVariants.{Good, Faulty, Early, Unread, Unserved, Unbrought, BadArgument, Unconnected, Unanswered, Refused, Misused, NotText}
 
 abbrev pub status_of : Ending → ℕ
 status_of Good = 0

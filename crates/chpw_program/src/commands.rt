@@ -1,0 +1,118 @@
+//! The commands, each with its ending.
+ghost use Rattle.std.specs.Prelude.{◌≡◌, ◌≢◌};
+ghost use Rattle.clap.specs.Values.{kind_of};
+ghost use Rattle.chpw_program.specs.Endings.{ending_brought, ending_drilled, ending_served};
+
+use crate::client::ask;
+use crate::ending::Ending;
+use chpw_commands::{DrillFault, explain_check, run_check, run_drill};
+use chpw_invocation::{Invocation, command_of};
+use chpw_keys::{KeysFault, tell_keytab, tell_password};
+use chpw_service::{ServeFault, serve, tell_table};
+use clap::Error;
+use clap::error::ErrorKind;
+use std::alloc::AllocError;
+use std::fs::{File, Files};
+use std::io::Write;
+use std::net::{Net, TcpListener, TcpStream};
+use std::sync::Wait;
+use std::thread::Threads;
+use std::time::Clock;
+use std::{fs, io};
+
+/// Runs the command of these words; clap's text, where they ask for none, is an error.
+pub fn run<'a, R, W: Write>(rt: &R, errors: &mut W, words: &'a [String]) -> Ending<'a>
+where
+    R: Files<File = File>
+        + Net<Listener = TcpListener, Stream = TcpStream>
+        + Threads
+        + Wait
+        + Clock
+        + Input
+        + Print
+        + Eprint
+        + AllocGlobal
+        + Sync,
+{
+    match command_of(rt.alloc(), words) {
+        Err(error) => misused(errors, error),
+        Ok(Invocation::Drill) => drill(rt),
+        Ok(Invocation::Check { config }) => check(rt, config),
+        Ok(Invocation::Table(options)) => served(tell_table(rt, options)),
+        Ok(Invocation::Import(options)) => brought(tell_keytab(rt, options)),
+        Ok(Invocation::Key(options)) => brought(tell_password(rt, options)),
+        Ok(Invocation::Serve(options)) => served(serve(rt, options)),
+        Ok(Invocation::Client(options)) => ask(rt, options),
+    }
+}
+
+/// The command line asks for no command: clap's text says why, on standard error.
+pub fn misused<'a, W: Write>(errors: &mut W, error: Error) -> Ending<'a>
+    ensures memory { kind_of error ≡ ErrorKind.OutOfMemory → result ≡ Ending.Early DrillFault.Memory }
+    ensures text { kind_of error ≢ ErrorKind.OutOfMemory → result ≡ Ending.Misused }
+{
+    if error.kind() == ErrorKind::OutOfMemory {
+        return Ending::Early(DrillFault::Memory);
+    }
+    let _ = write!(errors, "{error}");
+    Ending::Misused
+}
+
+// The service, or the table that is held.
+fn served(ended: Result<(), ServeFault<'_>>) -> Ending<'_>
+    ensures value { result ≡ ending_served ended.entry }
+{
+    match ended {
+        Ok(()) => Ending::Good,
+        Err(fault) => Ending::Unserved(fault),
+    }
+}
+
+// The keys of a keytab or a password.
+fn brought(told: Result<(), KeysFault<'_>>) -> Ending<'_>
+    ensures value { result ≡ ending_brought told.entry }
+{
+    match told {
+        Ok(()) => Ending::Good,
+        Err(KeysFault::BadName) => Ending::BadArgument,
+        Err(fault) => Ending::Unbrought(fault),
+    }
+}
+
+// The script on standard input.
+fn drill<'a>(rt: &(impl Input + Print + AllocGlobal)) -> Ending<'a> {
+    drilled(run_drill(rt.alloc(), &mut rt.reader(), &mut io::writer(rt)))
+}
+
+fn drilled<'a>(ended: Result<(), DrillFault>) -> Ending<'a>
+    ensures value { result ≡ ending_drilled ended }
+{
+    match ended {
+        Ok(()) => Ending::Good,
+        Err(fault) => Ending::Early(fault),
+    }
+}
+
+// The configuration in a file.
+fn check<'a>(rt: &(impl Files + Print + AllocGlobal), file: &'a str) -> Ending<'a> {
+    let read = match fs::read(rt, file) {
+        Ok(text) => checked(rt, file, text.as_slice()),
+        Err(error) if error.kind() == io::ErrorKind::OutOfMemory => Err(AllocError),
+        Err(_) => Ok(Ending::Unread(file)),
+    };
+    read.unwrap_or(Ending::Early(DrillFault::Memory))
+}
+
+fn checked<'a>(
+    rt: &(impl Print + AllocGlobal),
+    file: &'a str,
+    text: &[u8],
+) -> Result<Ending<'a>, AllocError> {
+    match run_check(rt.alloc(), text, &mut io::writer(rt)) {
+        Err(fault) => Ok(Ending::Early(fault)),
+        Ok(_) => match explain_check(rt.alloc(), text)? {
+            None => Ok(Ending::Good),
+            Some(words) => Ok(Ending::Faulty { file, words }),
+        },
+    }
+}

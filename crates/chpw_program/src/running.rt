@@ -1,0 +1,54 @@
+//! A run of the program, from its words to its status.
+ghost use Rattle.std.specs.Prelude.{◌≡◌, ◌≤◌};
+ghost use Rattle.chpw_program.specs.Endings.{status_of};
+
+use crate::command_line::words;
+use crate::commands::run;
+use crate::descriptors::{NOTHING, hold_standard};
+use crate::ending::{Ending, tell};
+use std::fs::{File, Files};
+use std::io::Write;
+use std::net::{Net, TcpListener, TcpStream};
+use std::rt::Env;
+use std::sync::Wait;
+use std::thread::Threads;
+use std::time::Clock;
+
+/// Runs the command that the command line asks for; `errors` is standard error. The exit status: 0; 1 after
+/// a fault, which is told in a line there; 2 where the command line asks for no command or for help, whose
+/// text stands there, or isn't UTF-8, or `client` for no request.
+pub fn run_program<R, W: Write>(rt: &R, errors: &mut W) -> u8
+where
+    R: Files<File = File>
+        + Net<Listener = TcpListener, Stream = TcpStream>
+        + Threads
+        + Wait
+        + Clock
+        + Env
+        + Input
+        + Print
+        + Eprint
+        + AllocGlobal
+        + Sync,
+    ensures few { result ≤ 2 }
+{
+    if hold_standard(rt).is_err() {
+        return end(errors, Ending::Unread(NOTHING));
+    }
+    match words(rt) {
+        Ok(words) => {
+            let ending = run(rt, errors, words.as_slice());
+            end(errors, ending)
+        }
+        Err(ending) => end(errors, ending),
+    }
+}
+
+// Tells how the run ended; its status.
+fn end<W: Write>(errors: &mut W, ending: Ending<'_>) -> u8
+    ensures status { result ≡ status_of ending.entry }
+    ensures few { result ≤ 2 }
+{
+    let _ = tell(errors, &ending);
+    ending.status()
+}

@@ -1,0 +1,13 @@
+//! Tests of what the program does for its command lines.
+#![tactic(auto)]
+
+#[cfg(test)]
+mod client;
+#[cfg(test)]
+mod command_line;
+#[cfg(test)]
+mod endings;
+#[cfg(test)]
+mod keys;
+#[cfg(test)]
+mod tables;
