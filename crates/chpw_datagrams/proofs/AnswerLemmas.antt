@@ -47,11 +47,11 @@ each_so P Q h (x ∷ xs) e = (h x e.0, each_so P Q h xs e.1)
 
 each_filter : {X : Type 0} (P : X → Type 0) (p : X → Bool) (xs : List X) → Each P xs → Each P (filter p xs)
 each_filter P p [] e = tt
-each_filter {X} P p (x ∷ xs) e = by_test (p x)
+each_filter {X} P p (x ∷ xs) e = by_test (p x) (each_filter P p xs e.1)
   where
-    by_test : (b : Bool) → Each P (cond b (x ∷ filter p xs) (filter p xs))
-    by_test true = (e.0, each_filter P p xs e.1)
-    by_test false = each_filter P p xs e.1
+    by_test : (b : Bool) → Each P (filter p xs) → Each P (cond b (x ∷ filter p xs) (filter p xs))
+    by_test true others = (e.0, others)
+    by_test false others = others
 
 each_take : {X : Type 0} (P : X → Type 0) (n : ℕ) (xs : List X) → Each P xs → Each P (take n xs)
 each_take P zero xs e = tt
@@ -60,11 +60,12 @@ each_take P (suc n) (x ∷ xs) e = (e.0, each_take P n xs e.1)
 
 found : {X : Type 0} (P : X → Type 0) (p : X → Bool) (xs : List X) → Each P xs → IfSome (find p xs) (λ (x : X). P x × (p x ≡ true))
 found P p [] e = tt
-found {X} P p (x ∷ xs) e = by_test (p x) refl
+found {X} P p (x ∷ xs) e = by_test (p x) refl (found P p xs e.1)
   where
-    by_test : (b : Bool) → p x ≡ b → IfSome (cond b (Some x) (find p xs)) (λ (y : X). P y × (p y ≡ true))
-    by_test true h = (e.0, h)
-    by_test false h = found P p xs e.1
+    by_test : (b : Bool) → p x ≡ b → IfSome (find p xs) (λ (y : X). P y × (p y ≡ true))
+        → IfSome (cond b (Some x) (find p xs)) (λ (y : X). P y × (p y ≡ true))
+    by_test true h others = (e.0, h)
+    by_test false h others = others
 
 -- ---- what is given again was given
 
@@ -91,9 +92,11 @@ all_given done kept (b ∷ rest) e =
 
 same_sender : (a b : Sender) → is_same_sender a b ≡ true → a ≡ b
 same_sender a b h =
+    let at : List ℕ → Sender = λ address. record { address = address; port = a.port } in
+    let on : ℕ → Sender = λ port. record { address = b.address; port = port } in
     let address : a.address ≡ b.address = (bytes_eq-Decides a.address b.address).0 (first_true (bytes_eq a.address b.address) (nat_eq a.port b.port) h) in
     let port : a.port ≡ b.port = (Decides-eqb a.port b.port).0 (second_true (bytes_eq a.address b.address) (nat_eq a.port b.port) h) in
-    cc
+    ap at address ∙ ap on port
 
 given_so : (answers : List Answer) (sender : Sender) (message : List ℕ) (now : ℕ) (a : Answer) → Given answers a
     → (is_for sender message a && is_recent now a) ≡ true → WasGiven answers sender message a.reply now
@@ -116,8 +119,10 @@ given_again answers sender message now =
   where
     test : Answer → Bool
     test a = is_for sender message a && is_recent now a
+
     kept : List Answer
     kept = kept_behind [] answers
+
     by_answer : (o : Option Answer) → IfSome o (λ (a : Answer). Given answers a × (test a ≡ true))
         → IfSome (option_map (λ (a : Answer). a.reply) o) (λ (reply : List ℕ). WasGiven answers sender message reply now)
     by_answer None h = tt
@@ -134,11 +139,11 @@ record Stands (a : Answer) (kept : List Answer) (more : ℕ) : Type 0 where
 
 fewer : {X : Type 0} (p : X → Bool) (xs : List X) → length (filter p xs) ≤ length xs
 fewer p [] = omega arith
-fewer {X} p (x ∷ xs) = by_test (p x)
+fewer {X} p (x ∷ xs) = by_test (p x) (fewer p xs)
   where
-    by_test : (b : Bool) → length (cond b (x ∷ filter p xs) (filter p xs)) ≤ length (x ∷ xs)
-    by_test true = let h = fewer p xs in omega (arith, h)
-    by_test false = let h = fewer p xs in omega (arith, h)
+    by_test : (b : Bool) → length (filter p xs) ≤ length xs → length (cond b (x ∷ filter p xs) (filter p xs)) ≤ length (x ∷ xs)
+    by_test true h = omega (arith, h)
+    by_test false h = omega (arith, h)
 
 -- as many as may be kept, with one that stands in front
 stands_in : (a : Answer) (front rest : List Answer) (more : ℕ) → length front + more < 1024 → Stands a (take 1024 (front ++ a ∷ rest)) more
@@ -183,11 +188,11 @@ behind_append kept (x ∷ xs) ys = behind_append (behind_keep kept x) xs ys
 
 finds : (p : Answer → Bool) (front rest : List Answer) (a : Answer) → p a ≡ true → IsSome (find p (front ++ a ∷ rest))
 finds p [] rest a h = ap (λ (b : Bool). is_some (cond b (Some a) (find p rest))) h
-finds p (x ∷ front) rest a h = by_test (p x)
+finds p (x ∷ front) rest a h = by_test (p x) (finds p front rest a h)
   where
-    by_test : (b : Bool) → IsSome (cond b (Some x) (find p (front ++ a ∷ rest)))
-    by_test true = refl
-    by_test false = finds p front rest a h
+    by_test : (b : Bool) → IsSome (find p (front ++ a ∷ rest)) → IsSome (cond b (Some x) (find p (front ++ a ∷ rest)))
+    by_test true others = refl
+    by_test false others = others
 
 some_reply : (o : Option Answer) → IsSome o → IsSome (option_map (λ (a : Answer). a.reply) o)
 some_reply None h = h

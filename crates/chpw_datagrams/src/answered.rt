@@ -71,12 +71,7 @@ impl Answered {
 }
 
 // The reply of the first of these that answers the message.
-fn first_reply<'a>(
-    kept: &'a [Kept],
-    sender: &Sender,
-    message: &[u8],
-    now: u64,
-) -> Option<&'a [u8]>
+fn first_reply<'a>(kept: &'a [Kept], sender: &Sender, message: &[u8], now: u64) -> Option<&'a [u8]>
     ensures some { IfSome result (λ reply. reply_for (answers_of kept.now) sender.now message.now now ≡ Some reply.now) }
     ensures none { IfNone result (reply_for (answers_of kept.now) sender.now message.now now ≡ None) }
 {
