@@ -1,5 +1,5 @@
 -- What has been answered, and what is answered with the same reply again. Moments are milliseconds.
-use Rattle.std.specs.Prelude.{ℕ, ◌-◌, List, [], ◌∷◌, take, filter, Option, Bool, ◌&&◌, nat_lt}
+use Rattle.std.specs.Prelude.{ℕ, ◌-◌, List, ◌∷◌, take, filter, Option, Bool, ◌&&◌, nat_lt}
 use Rattle.std.specs.List.{find}
 use Rattle.std.specs.Option.{option_map}
 use Rattle.std.specs.Str.{bytes_eq}

@@ -1,6 +1,5 @@
 use Rattle.std.proofs.Common.{List, sym, ap, ◌∙◌}
 use Rattle.chpw_datagrams.specs.Answers.{Answer, reply_for}
-use Rattle.chpw_datagrams.specs.Fields.{answers_of}
 use Rattle.chpw_datagrams.proofs.KeptLemmas.{reply_in_first, reply_in_second, so_some, so_none}
 use Rattle.chpw_datagrams.proofs.answered.Answered.find.Goals as goal
 
