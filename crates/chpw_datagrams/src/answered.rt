@@ -1,0 +1,86 @@
+//! What has been answered, and gets the same reply again.
+ghost use Rattle.std.specs.Prelude.{◌≡◌, ◌≤◌, [], length, IfOk, IfSome, IfNone, Some, None};
+ghost use Rattle.chpw_datagrams.specs.Answers.{behind_keep, reply_for};
+ghost use Rattle.chpw_datagrams.specs.Fields.{answers_of};
+
+use crate::kept::Kept;
+use crate::sender::Sender;
+use std::alloc::{AllocError, Global};
+use std::collections::VecDeque;
+use std::marker::Model;
+
+/// So many answers are kept, at the most.
+pub const MAX_ANSWERS: usize = 1_024;
+
+/// The answers that are kept, the newest first. Moments are milliseconds of a clock that doesn't go back.
+#[derive(Drop)]
+pub struct Answered {
+    kept: VecDeque<Kept>,
+}
+
+impl Model for Answered {
+    ghost use Rattle.std.specs.Prelude.{◌≤◌, List};
+    ghost use Rattle.std.specs.VecDeque.{deque_capacity};
+    ghost use Rattle.chpw_datagrams.specs.Answers.{Answer};
+    ghost use Rattle.chpw_datagrams.specs.Fields.{answers_of};
+
+    ghost Value = { List Answer };
+
+    ghost view = { λ a. answers_of a.kept.items };
+
+    ghost invariant = { λ a. 1024 ≤ deque_capacity a.kept };
+}
+
+impl Answered {
+    /// Nothing has been answered. It takes the memory of a place for each answer.
+    pub fn new(alloc: Global) -> Result<Answered, AllocError>
+        ensures value { IfOk result (λ a. a ≡ []) }
+    {
+        let kept = VecDeque::with_capacity(alloc, MAX_ANSWERS)?;
+        Ok(Answered { kept })
+    }
+
+    /// The reply that this message gets again: the newest one that the very bytes got from this sender within the last five
+    /// seconds, as far as it is kept.
+    pub fn find(&self, sender: Sender, message: &[u8], now: u64) -> Option<&[u8]>
+        ensures some { IfSome result (λ reply. reply_for self.now sender message.now now ≡ Some reply.now) }
+        ensures none { IfNone result (reply_for self.now sender message.now now ≡ None) }
+    {
+        let (newer, older) = self.kept.as_slices();
+        match first_reply(newer, &sender, message, now) {
+            Some(reply) => Some(reply),
+            None => first_reply(older, &sender, message, now),
+        }
+    }
+
+    /// A message was answered with this reply. Answers of five seconds ago, and older ones, are dropped, and the oldest one
+    /// where there are too many.
+    pub fn keep(&mut self, sender: Sender, message: Vec<u8>, reply: Vec<u8>, now: u64)
+        ensures value { self.new ≡ behind_keep self.old (record { sender = sender; message = message.items; reply = reply.items; moment = now }) }
+        ensures few { length self.new ≤ 1024 }
+    {
+        self.kept.retain(|kept| kept.is_recent(now));
+        self.kept.truncate(MAX_ANSWERS - 1);
+        self.kept.push_front_reserved(Kept {
+            sender,
+            message,
+            reply,
+            moment: now,
+        });
+    }
+}
+
+// The reply of the first of these that answers the message.
+fn first_reply<'a>(kept: &'a [Kept], sender: &Sender, message: &[u8], now: u64) -> Option<&'a [u8]>
+    ensures some { IfSome result (λ reply. reply_for (answers_of kept.now) sender.now message.now now ≡ Some reply.now) }
+    ensures none { IfNone result (reply_for (answers_of kept.now) sender.now message.now now ≡ None) }
+{
+    let mut others = kept;
+    while let [first, rest @ ..] = others {
+        if first.answers(sender, message, now) {
+            return Some(first.reply.as_slice());
+        }
+        others = rest;
+    }
+    None
+}

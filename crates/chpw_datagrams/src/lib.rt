@@ -1,0 +1,12 @@
+//! Messages that come in datagrams (RFC 3244 section 2): which of them are answered, and which get the reply again that
+//! was given before. No socket, clock or thread is in it.
+#![tactic(auto)]
+
+mod answered;
+mod kept;
+pub mod laws;
+mod sender;
+
+pub use answered::{Answered, MAX_ANSWERS};
+pub use kept::MAX_AGE;
+pub use sender::{KPASSWD_PORT, Sender, is_answerable};
