@@ -111,6 +111,7 @@ pub record AsksServe (options : List Row) (asked : ServeOptions) : Type 0 where
   pub log : option_map (λ file. file.now) asked.log ≡ first_of (codes "log") options
   pub follower : option_map (λ socket. socket.now) asked.follower ≡ first_of (codes "follower") options
   pub follower_wait : HasNumberOr 2000 1 60000 options (codes "follower-wait") asked.follower_wait
+  pub udp : IsGiven options (codes "udp") asked.udp
 
 pub record AsksClient (options : List Row) (asked : ClientOptions) : Type 0 where
   pub config : HasText options (codes "config") asked.config.now

@@ -57,6 +57,7 @@ key = command (codes "key")
 
 -- serve --config FILE --journal FILE --seed FILE --port N --workers N --connections N [--idle SECONDS]
 -- [--clients N] [--buffers MEBIBYTES] [--raise COUNT] [--log FILE] [--follower SOCKET] [--follower-wait MILLISECONDS]
+-- [--udp]
 abbrev pub serve : Shape
 serve = command (codes "serve")
     (required (codes "config")
@@ -72,6 +73,7 @@ serve = command (codes "serve")
     ∷ optional (codes "log")
     ∷ optional (codes "follower")
     ∷ follower_wait
+    ∷ flag (codes "udp")
     ∷ [])
 
 -- client --config FILE --seed FILE --port N --client NAME --password TEXT [--target NAME]

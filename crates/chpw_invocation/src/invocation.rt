@@ -105,6 +105,8 @@ pub struct ServeOptions<'a> {
     /// How many milliseconds the reply to a change waits for the follower, 1 to [`LONGEST_FOLLOWER_WAIT`];
     /// [`USUAL_FOLLOWER_WAIT`], where none is given.
     pub follower_wait: u32,
+    /// Whether it takes messages over UDP too.
+    pub udp: bool,
     ghost some_workers: { (1 ≤ workers) × (workers ≤ 16) },
     ghost some_idle: { (1 ≤ idle) × (idle ≤ 3600) },
     ghost some_clients: { (1 ≤ clients) × (clients ≤ 65536) },

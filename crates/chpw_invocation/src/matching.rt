@@ -208,6 +208,7 @@ fn serve_of<'a>(options: &ArgMatches<'a>) -> Option<Invocation<'a>>
         log: text_of(options, "log"),
         follower: text_of(options, "follower"),
         follower_wait: follower_wait_of(options)?,
+        udp: is_given(options, "udp"),
     }))
 }
 

@@ -72,7 +72,7 @@ Prints 'listening on 127.0.0.1:N' before the first connection is accepted, and a
 each full history, 'entries N changes N': how many requests were decided, and how many of them
 changed a password.
 
-Connection i is answered by worker i modulo their number. No worker waits for a client: a message goes
+Connection i is answered by worker i modulo their number; with --udp a datagram counts as a connection. No worker waits for a client: a message goes
 to its worker once it is whole. A client that is silent or slow holds its own place alone, for as long
 as --idle says. Where --clients or --buffers is reached, the connection that has waited for its client
 the longest is ended to make room.
@@ -114,6 +114,9 @@ const FOLLOWER_HELP: &str =
 
 const FOLLOWER_WAIT_HELP: &str =
     "How many milliseconds a reply waits for the follower at the most, 1 to 60000 [default: 2000]";
+
+const UDP_HELP: &str =
+    "Takes messages over UDP too, at the same port, each in a datagram of its own";
 
 const IMPORT: &str = "Prints a keytab's keys as a configuration has them.";
 
@@ -274,6 +277,7 @@ fn serve<'a>(alloc: Global) -> Result<Command<'a>, AllocError>
             LONGEST_FOLLOWER_WAIT,
             FOLLOWER_WAIT_HELP,
         ),
+        flag("udp", UDP_HELP),
     ];
     described(alloc, "serve", SERVE, SERVE_MORE, &options)
 }

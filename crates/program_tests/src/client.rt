@@ -222,6 +222,7 @@ fn serving<'a>(port: u16, connections: u32, log: &'a str) -> ServeOptions<'a> {
         log: Some(log),
         follower: None,
         follower_wait: USUAL_FOLLOWER_WAIT,
+        udp: false,
     }
 }
 
