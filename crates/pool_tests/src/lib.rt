@@ -9,6 +9,8 @@ mod answers;
 #[cfg(test)]
 mod crowds;
 #[cfg(test)]
+mod datagrams;
+#[cfg(test)]
 mod followers;
 #[cfg(test)]
 mod gates;
