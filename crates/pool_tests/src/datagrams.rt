@@ -119,30 +119,33 @@ fn ask_in_vain<R: Net<Stream = TcpStream> + Clock + Abort>(
     rt: &R,
     alloc: Global,
     port: u16,
-    sent: &Sent,
+    sent: [&Sent; 2],
 ) {
     let socket = client(rt, port);
+    let reply = ask_soon(rt, alloc, &socket, sent[0].message.as_slice());
+    expect_told(rt, alloc, sent[0], &reply, CHANGED);
     for datagram in UNANSWERED {
-        let _ = socket.send(datagram);
+        assert!(rt; socket.send(datagram).is_ok());
         assert!(rt; next_reply(rt, alloc, &socket).is_none());
     }
-    let reply = ask_soon(rt, alloc, &socket, sent.message.as_slice());
-    expect_told(rt, alloc, sent, &reply, CHANGED);
+    let reply = ask_soon(rt, alloc, &socket, sent[1].message.as_slice());
+    expect_told(rt, alloc, sent[1], &reply, CHANGED);
 }
 
-// None of them counts: the only one that the service takes is the one behind them.
+// None of them counts: the service takes two, one before them and one behind.
 #[test]
 fn datagrams_without_an_answer(rt: HostRuntime) -> Result<(), Fail> {
     let paths = files_at("unanswered.toml", "unanswered.seed", "unanswered.journal");
     let port = prepare(&rt, paths, "")?;
-    let sent = request(&rt, rt.alloc(), "alice", moment(START), "New-pass2");
+    let alice = request(&rt, rt.alloc(), "alice", moment(START), "New-pass2");
+    let bob = request(&rt, rt.alloc(), "bob", moment(START), "New-pass2");
     let clock = SetClock::new(START);
-    let mut options = options(paths, port, 1, 1);
+    let mut options = options(paths, port, 1, 2);
     options.udp = true;
     let (served, ()) = join(
         &rt,
         || serve_by(&rt, &clock, options).is_ok(),
-        || ask_in_vain(&rt, rt.alloc(), port, &sent),
+        || ask_in_vain(&rt, rt.alloc(), port, [&alice, &bob]),
     );
     assert!(rt; served);
     Ok(())
