@@ -32,10 +32,12 @@ LATER = 0.1
 # a follower that is to die lives for so long at most behind its first pass, and somebody has the database
 LIFE = 0.5
 LOCKED = 4
+# seconds between two kills of the service
+APART = 3, 6
 # users rest for so long at most between two changes, so that each meets another follower
 REST = 2
 # so many times its changes are those of all cases
-CASES = 10
+CASES = 13
 # of the wait: a reply that comes before didn't wait
 MOST_AT_ONCE = 0.9
 # of the changes, with each of those that aren't followers: one in so many, and where each of them waits
@@ -195,5 +197,5 @@ class FaultCases(Cases):
             self.kill_service()
             self.files.start()
             self.kills += 1
-            if over.wait(random.uniform(1.5, 3)):
+            if over.wait(random.uniform(*APART)):
                 return
