@@ -5,6 +5,7 @@ seen by a loop that looks again and again, so the time that it tells is what it 
 """
 
 import contextlib
+import random
 import selectors
 import socket
 import time
@@ -19,6 +20,8 @@ USED = "code 4 password used before"
 QUIET = "code 3 error 37 "
 # seconds after which a client asks again where nobody listens, or the service isn't to be asked yet
 AGAIN = 0.05
+# seconds after which nobody waits any more
+SILENCE = 60
 
 
 class User:
@@ -55,8 +58,8 @@ class Crowd:
         self.port = port
         self.users = {name: User(name) for name in names}
         self.selector = selectors.DefaultSelector()
-        # seconds by which the clients' clocks are ahead
-        self.ahead = 0
+        # seconds by which the clients' clocks are ahead, and for which each rests at most behind a reply
+        self.ahead = self.rest = 0
         self.cusec = 0
         self.read = 0
         self.looked = time.monotonic()
@@ -67,8 +70,11 @@ class Crowd:
     def make(self, count):
         """So many changes, until each is known to be made; the seconds of each reply, and other answers."""
         self.left, self.held, self.others = count, [], []
+        self.heard = time.monotonic()
         while self.left > 0 or any(user.change or user.is_lost for user in self.users.values()):
             self.look()
+            if self.looked - self.heard > SILENCE:
+                raise RuntimeError("no reply comes any more")
             if self.replies:
                 self.end(self.replies.pop(0))
             else:
@@ -131,7 +137,7 @@ class Crowd:
             data = change.connection.recv(65536)
         change.reply += data
         if change.is_whole() or not data:
-            change.answered = before
+            change.answered, self.heard = before, self.looked
             self.selector.unregister(change.connection)
             change.connection.close()
             self.replies.append(change)
@@ -140,7 +146,7 @@ class Crowd:
 
     def end(self, change):
         user = change.user
-        user.change = None
+        user.change, user.not_before = None, time.monotonic() + random.uniform(0, self.rest)
         if not change.is_whole():
             self.lost += 1
             user.is_lost, user.not_before = True, time.monotonic() + AGAIN

@@ -7,6 +7,7 @@ listens at the socket, which is tried first. crowd.py has how that is seen.
 
 import contextlib
 import functools
+import math
 import random
 import signal
 import threading
@@ -24,14 +25,19 @@ from own_journal import configured, keys_of
 from realms import FIRST
 
 USERS = 16
-# milliseconds
-WAIT = 1000
+# milliseconds, as where it isn't given
+WAIT = 2000
 # seconds
 LATER = 0.1
-# a follower that is to die lives for so long at most
-LIFE = 0.7
+# a follower that is to die lives for so long at most behind its first pass, and somebody has the database
+LIFE = 0.5
+LOCKED = 4
+# seconds between two kills of the service
+APART = 3, 6
+# users rest for so long at most between two changes, so that each meets another follower
+REST = 2
 # so many times its changes are those of all cases
-CASES = 10
+CASES = 13
 # of the wait: a reply that comes before didn't wait
 MOST_AT_ONCE = 0.9
 # of the changes, with each of those that aren't followers: one in so many, and where each of them waits
@@ -120,7 +126,9 @@ class FaultCases(Cases):
 
     def killed(self):
         """One follower after the other, each killed a step later than the one before (dying.c)."""
-        self.meanwhile("followers killed by kill -9", self.kills_followers, self.changes)
+        self.crowd.rest = REST
+        self.meanwhile("followers killed by kill -9", self.kills_followers, 2 * self.changes)
+        self.crowd.rest = 0
         print(f"  {self.deaths} followers", flush=True)
         self.is_carried()
 
@@ -129,8 +137,10 @@ class FaultCases(Cases):
         while not over.is_set():
             step = str(1 + self.deaths * 3)
             follower = Follower(self.realm, self.files, LD_PRELOAD=self.library, DYING_AT=step)
-            end = time.monotonic() + random.uniform(0, LIFE)
-            while follower.process.poll() is None and time.monotonic() < end and not over.is_set():
+            end = math.inf
+            while follower.process.poll() is None and not over.is_set() and time.monotonic() < end:
+                if end == math.inf and follower.told("principals "):
+                    end = time.monotonic() + random.uniform(0, LIFE)
                 time.sleep(0.005)
             follower.stop(signal.SIGKILL)
             self.deaths += 1
@@ -138,7 +148,7 @@ class FaultCases(Cases):
     def locked(self):
         """Somebody has the database for longer than a reply waits."""
         with self.following(self.files):
-            _, lines = self.meanwhile("the database is locked for 3 seconds", self.locks, self.changes)
+            _, lines = self.meanwhile(f"the database is locked for {LOCKED} seconds", self.locks, self.changes)
             self.tell("  some were not confirmed", lines > 0)
             _, lines = self.meanwhile("  and free again", self.nobody, USERS)
             self.tell("  not confirmed", lines, 0)
@@ -146,7 +156,7 @@ class FaultCases(Cases):
 
     def locks(self, over):
         with self.realm.locked():
-            time.sleep(3)
+            time.sleep(LOCKED)
 
     def false(self):
         """What listens at the socket is no follower."""
@@ -187,5 +197,5 @@ class FaultCases(Cases):
             self.kill_service()
             self.files.start()
             self.kills += 1
-            if over.wait(random.uniform(1.5, 3)):
+            if over.wait(random.uniform(*APART)):
                 return

@@ -92,8 +92,11 @@ class Sssd(Client):
     @staticmethod
     def is_possible():
         """Whether this process may have such a view."""
-        command = ["unshare", "--mount", "mount", "--make-rprivate", "/"]
-        return os.geteuid() == 0 and shutil.which("unshare") and subprocess.run(command).returncode == 0
+        over = f"mount -t overlay -o lowerdir={packages_folder()}/sssd/usr:/usr overlay /usr"
+        command = ["unshare", "--mount", "sh", "-c", f"mount --make-rprivate / && {over}"]
+        if os.geteuid() != 0 or not all(map(shutil.which, ("unshare", "nsenter", "setpriv"))):
+            return False
+        return subprocess.run(command, capture_output=True).returncode == 0
 
     def __init__(self, folder, kdc_port, port):
         self.folder = folder / "sssd"
