@@ -1,6 +1,7 @@
 pub mod Accepting
 pub mod Bounded
 pub mod Clocks
+pub mod Datagrams
 pub mod Engines
 pub mod Following
 pub mod Pools

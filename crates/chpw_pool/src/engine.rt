@@ -13,7 +13,7 @@ use chpw_connections::{Bounds, Connections, Taken};
 use chpw_serve::WorkerWords;
 use mio::Waker;
 use std::alloc::{AllocError, Global};
-use std::net::Net;
+use std::net::{Net, UdpSocket};
 use std::sync::{Condvar, Mutex, MutexGuard, Wait};
 use std::time::{Clock, Duration};
 
@@ -40,13 +40,15 @@ pub struct Engine<G> {
 
 impl<G: Drop> Engine<G> {
     /// One for the worker of each of these gates, of which there is one at least; the words of each worker are the
-    /// seed's stream of its number. `Accept` where the system has no file for it, `Memory` where a growth is refused.
+    /// seed's stream of its number. Messages come over UDP, too, where there is a socket for them. `Accept` where the system
+    /// has no file for it, or can't watch that socket, `Memory` where a growth is refused.
     pub fn of<R: Net>(
         rt: &R,
         alloc: Global,
         seed: [u8; 32],
         bounds: Bounds,
         gates: Vec<G>,
+        datagrams: Option<UdpSocket>,
     ) -> Result<Engine<G>, PoolFault>
         requires gates { 0 < vec_len gates }
         ensures workers { IfOk result (λ engine. workers_at engine ≡ vec_len gates) }
@@ -60,7 +62,7 @@ impl<G: Drop> Engine<G> {
             return Err(PoolFault::Memory);
         };
         let (selector, waker) = Selector::new(rt, alloc)?;
-        let sockets = Sockets::new(alloc, &selector, bounds.connections)?;
+        let sockets = Sockets::new(alloc, &selector, bounds.connections, datagrams)?;
         Ok(Engine {
             alloc,
             workers,

@@ -43,6 +43,11 @@ impl Hub {
         }
     }
 
+    /// Takes the next datagram, if one is there.
+    pub fn take_datagram(&mut self, now: u64) -> Progress {
+        self.sockets.take_datagram(&mut self.state, now)
+    }
+
     /// A connection whose socket has failed ends, and a message of it that waits is dropped.
     pub fn look_for_error(&mut self, slot: usize)
         ensures looked { Happens 0 (slots_of self.old.state.connections) (slots_of self.new.state.connections) slot failed

@@ -4,15 +4,18 @@
 
 mod accepting;
 mod clock;
+mod datagrams;
 mod engine;
 mod follower;
 mod following;
 mod hub;
+mod one_message;
 mod pool;
 mod reactor;
 mod sockets;
 mod state;
 mod terms;
+mod udp;
 mod worker;
 
 pub use chpw_connections::{Bounds, Unconfirmed};

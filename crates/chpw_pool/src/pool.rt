@@ -191,7 +191,7 @@ fn run_gated<
     ensures ends { Ends terms.connections result }
 {
     let connections = terms.connections;
-    match Engine::of(rt, shared.alloc, terms.seed, terms.bounds(), gates) {
+    match Engine::of(rt, shared.alloc, terms.seed, terms.bounds(), gates, None) {
         Err(fault) => unserved(fault, connections),
         Ok(engine) => {
             match run_workers(rt, shared, &engine, passes, Some((listener, connections))) {

@@ -6,7 +6,7 @@ use crate::engine::{Engine, milliseconds};
 use crate::follower::Follower;
 use crate::following::Link;
 use crate::hub::STEPS;
-use crate::sockets::{FOLLOWER, LISTENER, Selector, WAKER};
+use crate::sockets::{DATAGRAMS, FOLLOWER, LISTENER, Selector, WAKER};
 use crate::state::{Progress, Shortage, TICK};
 use crate::worker::peer_of;
 use mio::event::Event;
@@ -40,6 +40,8 @@ pub(crate) struct Reactor<'a, R, L, G, F> {
     looked: u64,
     /// The slot at which the next round over all begins.
     first: usize,
+    /// Whether datagrams may be there.
+    pub has_datagrams: bool,
 }
 
 impl<G> Engine<G> {
@@ -65,6 +67,7 @@ impl<G> Engine<G> {
             pending: None,
             looked: milliseconds(rt),
             first: 0,
+            has_datagrams: true,
         };
         reactor.listen(selector.poll.registry());
         reactor.run(&mut *selector);
@@ -107,6 +110,7 @@ impl<
             self.follow(poll.registry());
             self.look_at_changed();
             self.accept();
+            self.take_datagrams();
             self.look_for_late();
         }
     }
@@ -120,8 +124,9 @@ impl<
     // How long to wait for the next event.
     fn patience(&self) -> u64 {
         let hub = self.engine.hub.lock(self.rt);
-        let can_accept = self.can_accept(hub.state.connections.accepted());
-        hub.state.patience(can_accept, self.accepting)
+        let accepted = hub.state.connections.accepted();
+        let may_come = self.can_accept(accepted) || self.can_take_datagram(accepted);
+        hub.state.patience(may_come, self.accepting)
     }
 
     // Whether a connection more may be there, where so many were accepted.
@@ -129,6 +134,11 @@ impl<
         accepted < self.connections
             && self.pending.is_none()
             && matches!(self.accepting, Accepting::Ready)
+    }
+
+    // Whether a datagram may be there, and be taken as one connection more, where so many were accepted.
+    pub fn can_take_datagram(&self, accepted: u32) -> bool {
+        self.has_datagrams && accepted < self.connections
     }
 
     // Each socket that was reported.
@@ -144,6 +154,8 @@ impl<
             self.accepting = self.accepting.reported();
         } else if event.token() == FOLLOWER {
             self.link.is_reported = true;
+        } else if event.token() == DATAGRAMS {
+            self.has_datagrams = true;
         } else if event.token() != WAKER {
             if event.is_error() {
                 self.engine.hub.lock(self.rt).look_for_error(slot);

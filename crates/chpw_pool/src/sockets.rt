@@ -4,14 +4,17 @@ ghost use Rattle.slab.specs.Slab.{get};
 ghost use Rattle.chpw_connections.specs.Held.{slots_of, bounds_of};
 ghost use Rattle.chpw_connections.specs.Todos.{todo_in};
 ghost use Rattle.chpw_pool.specs.Pools.{IsUnmade};
-ghost use Rattle.chpw_pool.specs.Steps.{Steps};
+ghost use Rattle.chpw_pool.specs.Steps.{Steps, Drains};
 
 use crate::pool::PoolFault;
 use crate::state::{Progress, State};
+use crate::udp::{Datagram, Datagrams, LONGEST};
 use chpw_connections::Todo;
+use chpw_datagrams::Sender;
 use mio::net::TcpStream;
 use mio::{Events, Interest, Poll, Registry, Token, Waker};
 use std::alloc::{AllocError, Global};
+use std::io::ErrorKind;
 use std::net::{self, Net, Shutdown};
 
 /// The listener's events.
@@ -23,11 +26,21 @@ pub(crate) const WAKER: Token = Token(usize::MAX - 1);
 /// The follower's.
 pub(crate) const FOLLOWER: Token = Token(usize::MAX - 2);
 
+/// Those of the socket for datagrams.
+pub(crate) const DATAGRAMS: Token = Token(usize::MAX - 3);
+
 /// How many events are taken at once.
 const EVENTS: usize = 256;
 
 /// How many bytes are read at once.
 const BUFFER: usize = 16_384;
+
+/// What a connection has come by: a socket of its own, or a datagram.
+#[derive(Drop)]
+pub(crate) enum Place {
+    Stream(Socket),
+    Datagram(Datagram),
+}
 
 /// A connection's socket.
 #[derive(Drop)]
@@ -38,12 +51,21 @@ pub(crate) struct Socket {
 }
 
 impl Socket {
-    /// Shuts the writing side, the first time.
-    pub fn shut(&mut self) {
+    // Shuts the writing side, the first time.
+    fn shut(&mut self) {
         if !self.is_shut {
             self.is_shut = true;
             let _ = self.stream.shutdown(Shutdown::Write);
         }
+    }
+
+    // Shuts the writing side, and lets go what still comes.
+    fn linger(&mut self, state: &mut State, slot: usize, buffer: &mut [u8]) -> Progress
+        ensures drained { Drains (slots_of state.old.connections) (slots_of state.new.connections) slot }
+        ensures bounds { bounds_of state.new.connections ≡ bounds_of state.old.connections }
+    {
+        self.shut();
+        state.drain(slot, &mut self.stream, buffer)
     }
 }
 
@@ -76,13 +98,21 @@ impl Selector {
 #[derive(Drop)]
 pub(crate) struct Sockets {
     pub registry: Registry,
-    pub by_slot: Vec<Option<Socket>>,
+    pub by_slot: Vec<Option<Place>>,
     pub buffer: Vec<u8>,
+    pub datagrams: Option<Datagrams>,
+    /// The bytes of a datagram.
+    datagram: Vec<u8>,
 }
 
 impl Sockets {
-    /// None yet, for so many connections.
-    pub fn new(alloc: Global, selector: &Selector, connections: usize) -> Result<Sockets, PoolFault>
+    /// None yet, for so many connections, and maybe one for datagrams.
+    pub fn new(
+        alloc: Global,
+        selector: &Selector,
+        connections: usize,
+        datagrams: Option<net::UdpSocket>,
+    ) -> Result<Sockets, PoolFault>
         ensures fault { IfErr result IsUnmade }
     {
         let Ok(by_slot) = no_sockets(alloc, connections) else {
@@ -94,10 +124,20 @@ impl Sockets {
         let Ok(registry) = selector.poll.registry().try_clone() else {
             return Err(PoolFault::Accept);
         };
+        let datagrams = match datagrams {
+            None => None,
+            Some(socket) => Some(Datagrams::new(alloc, socket, &registry)?),
+        };
+        let longest = if datagrams.is_some() { LONGEST } else { 0 };
+        let Ok(datagram) = Vec::from_elem(alloc, 0, longest) else {
+            return Err(PoolFault::Memory);
+        };
         Ok(Sockets {
             registry,
             by_slot,
             buffer,
+            datagrams,
+            datagram,
         })
     }
 
@@ -114,10 +154,10 @@ impl Sockets {
         match self.by_slot.get_mut(slot) {
             None => false,
             Some(place) => {
-                *place = Some(Socket {
+                *place = Some(Place::Stream(Socket {
                     stream,
                     is_shut: false,
-                });
+                }));
                 is_set && is_watched
             }
         }
@@ -126,7 +166,7 @@ impl Sockets {
     /// Whether the socket of a connection has failed.
     pub fn has_failed(&self, slot: usize) -> bool {
         match self.by_slot.get(slot) {
-            Some(Some(socket)) => !matches!(socket.stream.take_error(), Ok(None)),
+            Some(Some(Place::Stream(socket))) => !matches!(socket.stream.take_error(), Ok(None)),
             _ => false,
         }
     }
@@ -139,22 +179,29 @@ impl Sockets {
         let Sockets {
             by_slot,
             buffer,
+            datagrams,
             ..
         } = self;
         match state.todo(slot) {
             Todo::Read(_) => match by_slot.get_mut(slot) {
-                Some(Some(socket)) => state.read(slot, &mut socket.stream, buffer, now),
+                Some(Some(Place::Stream(socket))) => {
+                    state.read(slot, &mut socket.stream, buffer, now)
+                }
+                Some(Some(Place::Datagram(_))) => state.end_input(slot),
                 _ => Progress::None,
             },
-            Todo::Write => match by_slot.get_mut(slot) {
-                Some(Some(socket)) => state.write(slot, &mut socket.stream, now),
+            Todo::Write => match (by_slot.get_mut(slot), datagrams) {
+                (Some(Some(Place::Stream(socket))), _) => {
+                    state.write(slot, &mut socket.stream, now)
+                }
+                (Some(Some(Place::Datagram(datagram))), Some(datagrams)) => {
+                    datagrams.reply(state, slot, datagram, now)
+                }
                 _ => Progress::None,
             },
             Todo::Linger => match by_slot.get_mut(slot) {
-                Some(Some(socket)) => {
-                    socket.shut();
-                    state.drain(slot, &mut socket.stream, buffer)
-                }
+                Some(Some(Place::Stream(socket))) => socket.linger(state, slot, buffer),
+                Some(Some(Place::Datagram(_))) => state.end_input(slot),
                 _ => Progress::None,
             },
             Todo::Close => {
@@ -167,9 +214,72 @@ impl Sockets {
             Todo::Wait => Progress::None,
         }
     }
+
+    /// Takes the next datagram, if one is there. One that has no whole frame with an AP-REQ in it, or comes from a service,
+    /// is dropped, and one that is under way already. One that was answered within the last five seconds gets that reply
+    /// again. Any other one waits for its worker, where there is room for it.
+    pub fn take_datagram(&mut self, state: &mut State, now: u64) -> Progress {
+        let Sockets {
+            by_slot,
+            datagrams,
+            datagram,
+            ..
+        } = self;
+        let Some(datagrams) = datagrams else {
+            return Progress::None;
+        };
+        match datagrams.receive(datagram) {
+            Err(error) => match error.kind() {
+                ErrorKind::WouldBlock => Progress::None,
+                _ => Progress::Some,
+            },
+            Ok((sender, message)) => {
+                if datagrams.is_to_be_decided(sender, message, now)
+                    && !is_under_way(by_slot, sender, message)
+                {
+                    let Ok(message) = Vec::from_slice(datagrams.alloc, message) else {
+                        return Progress::Some;
+                    };
+                    queue(by_slot, state, Datagram { sender, message }, now)
+                } else {
+                    Progress::Some
+                }
+            }
+        }
+    }
 }
 
-fn no_sockets(alloc: Global, count: usize) -> Result<Vec<Option<Socket>>, AllocError> {
+// Whether the same datagram of the same sender is being answered.
+fn is_under_way(by_slot: &[Option<Place>], sender: Sender, message: &[u8]) -> bool {
+    by_slot.iter().any(|place| match place {
+        Some(Place::Datagram(other)) => other.is(sender, message),
+        _ => false,
+    })
+}
+
+// A datagram waits for its worker, where it can.
+fn queue(
+    by_slot: &mut [Option<Place>],
+    state: &mut State,
+    datagram: Datagram,
+    now: u64,
+) -> Progress {
+    match state.take_datagram(datagram.sender.address, &datagram.message, now) {
+        None => Progress::Some,
+        Some((slot, worker)) => match by_slot.get_mut(slot) {
+            None => {
+                state.connections.fail(slot);
+                Progress::Some
+            }
+            Some(place) => {
+                *place = Some(Place::Datagram(datagram));
+                Progress::Queued(worker)
+            }
+        },
+    }
+}
+
+fn no_sockets(alloc: Global, count: usize) -> Result<Vec<Option<Place>>, AllocError> {
     let mut sockets = Vec::with_capacity(alloc, count)?;
     for _ in 0..count {
         sockets.push(None)?;

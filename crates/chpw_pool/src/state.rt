@@ -314,9 +314,9 @@ impl State {
         }
     }
 
-    // A read or a write failed: one that would have waited is tried again once the socket is reported, one that a
-    // signal interrupted at once; at any other fault the connection ends.
-    fn stumble(&mut self, slot: usize, kind: ErrorKind) -> Progress
+    /// A read or a write failed: one that would have waited is tried again once the socket is reported, one that a
+    /// signal interrupted at once; at any other fault the connection ends.
+    pub fn stumble(&mut self, slot: usize, kind: ErrorKind) -> Progress
         ensures happens { Happens 0 (slots_of self.old.connections) (slots_of self.new.connections) slot failed
             ⊎ (slots_of self.new.connections ≡ slots_of self.old.connections) }
         ensures blocked { result ≡ progress.None → slots_of self.new.connections ≡ slots_of self.old.connections }

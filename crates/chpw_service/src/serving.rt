@@ -291,7 +291,7 @@ fn engine_of<'a, 'l, R: Net + Wait + Eprint>(
 {
     match log_gates(alloc, log, workers) {
         Err(_) => Err(ServeFault::Memory),
-        Ok(gates) => match Engine::of(rt, alloc, terms.seed, terms.bounds(), gates) {
+        Ok(gates) => match Engine::of(rt, alloc, terms.seed, terms.bounds(), gates, None) {
             Err(fault) => Err(told(fault)),
             Ok(engine) => Ok(engine),
         },

@@ -1,0 +1,43 @@
+//! What the reactor does for messages that come in datagrams.
+
+use crate::engine::milliseconds;
+use crate::follower::Follower;
+use crate::reactor::Reactor;
+use crate::state::Progress;
+use std::net::{OpenListener, TcpStream};
+use std::os::fd::AsRawFd;
+use std::sync::Wait;
+use std::time::Clock;
+
+/// How many datagrams are taken before the others are looked at again.
+const DATAGRAMS_AT_ONCE: u32 = 64;
+
+impl<
+    'a,
+    R: Wait + Clock,
+    L: OpenListener<Stream = TcpStream> + AsRawFd,
+    G,
+    F: Follower + Drop,
+> Reactor<'a, R, L, G, F> {
+    /// Takes the datagrams that are there. Each that waits for a worker is a connection, of which no more are taken than are
+    /// to be accepted.
+    pub fn take_datagrams(&mut self) {
+        for _ in 0..DATAGRAMS_AT_ONCE {
+            let accepted = self.engine.hub.lock(self.rt).state.connections.accepted();
+            if !self.can_take_datagram(accepted) {
+                return;
+            }
+            match self.take_datagram() {
+                Progress::None => self.has_datagrams = false,
+                Progress::Queued(worker) => self.engine.call(worker),
+                Progress::Some => {}
+            }
+        }
+    }
+
+    // Takes the next one.
+    fn take_datagram(&self) -> Progress {
+        let now = milliseconds(self.rt);
+        self.engine.hub.lock(self.rt).take_datagram(now)
+    }
+}

@@ -1,0 +1,142 @@
+//! The socket for datagrams, and those that are being answered.
+ghost use Rattle.std.specs.Prelude.{◌≡◌, ◌&&◌, is_none, IfErr};
+ghost use Rattle.chpw_connections.specs.Held.{slots_of, bounds_of};
+ghost use Rattle.chpw_datagrams.specs.Answers.{reply_for};
+ghost use Rattle.chpw_datagrams.specs.Senders.{is_answered};
+ghost use Rattle.chpw_pool.specs.Pools.{IsUnmade};
+ghost use Rattle.chpw_pool.specs.Steps.{Writes};
+
+use crate::one_message::reply_of_datagram;
+use crate::pool::PoolFault;
+use crate::sockets::DATAGRAMS;
+use crate::state::{Progress, State};
+use crate::worker::peer_of;
+use chpw_datagrams::{Answered, Sender, is_answerable};
+use mio::net::UdpSocket;
+use mio::{Interest, Registry};
+use std::alloc::Global;
+use std::net::{self, Ipv4Addr, SocketAddr};
+use std::{io, mem};
+
+/// How many bytes the longest datagram over IPv4 has.
+pub(crate) const LONGEST: usize = 65_507;
+
+/// A datagram that is being answered.
+#[derive(Drop)]
+pub(crate) struct Datagram {
+    pub sender: Sender,
+    pub message: Vec<u8>,
+}
+
+impl Datagram {
+    /// Whether it is this message of this sender.
+    pub fn is(&self, sender: Sender, message: &[u8]) -> bool {
+        self.sender.address == sender.address
+            && self.sender.port == sender.port
+            && self.message.as_slice() == message
+    }
+}
+
+/// The socket for datagrams, and what it has answered.
+#[derive(Drop)]
+pub(crate) struct Datagrams {
+    pub alloc: Global,
+    socket: UdpSocket,
+    // Its own port.
+    port: u16,
+    answered: Answered,
+}
+
+impl Datagrams {
+    /// Nothing has been answered at this socket yet, which doesn't wait from now on and is watched.
+    pub fn new(
+        alloc: Global,
+        socket: net::UdpSocket,
+        registry: &Registry,
+    ) -> Result<Datagrams, PoolFault>
+        ensures fault { IfErr result IsUnmade }
+    {
+        let Ok(answered) = Answered::new(alloc) else {
+            return Err(PoolFault::Memory);
+        };
+        match watched(socket, registry) {
+            Err(_) => Err(PoolFault::Accept),
+            Ok((socket, port)) => Ok(Datagrams {
+                alloc,
+                socket,
+                port,
+                answered,
+            }),
+        }
+    }
+
+    /// The next datagram, whose bytes the buffer has then, and whose it is.
+    pub fn receive<'a>(&self, buffer: &'a mut [u8]) -> io::Result<(Sender, &'a [u8])> {
+        let (count, from) = self.socket.recv_from(buffer)?;
+        let sender = Sender {
+            address: peer_of(from),
+            port: from.port(),
+        };
+        Ok((sender, &buffer[..count]))
+    }
+
+    /// Whether a datagram is to be answered and wasn't within the last five seconds; one that was gets that reply again.
+    pub fn is_to_be_decided(&self, sender: Sender, message: &[u8], now: u64) -> bool
+        ensures value { result ≡ (is_answered self.now.port sender message.now && is_none (reply_for self.now.answered sender message.now now)) }
+    {
+        if !is_answerable(sender, self.port, message) {
+            return false;
+        }
+        match self.answered.find(sender, message, now) {
+            None => true,
+            Some(reply) => {
+                let _ = self.send(sender, reply);
+                false
+            }
+        }
+    }
+
+    // Sends a reply, without its length, to whom it is for.
+    fn send(&self, sender: Sender, reply: &[u8]) -> io::Result<usize> {
+        let to = SocketAddr::from((Ipv4Addr::from(sender.address), sender.port));
+        self.socket.send_to(reply_of_datagram(reply), to)
+    }
+
+    /// Sends a connection's reply, whole, and keeps it. Where the socket takes nothing for now, nothing happens.
+    pub fn reply(
+        &mut self,
+        state: &mut State,
+        slot: usize,
+        datagram: &mut Datagram,
+        now: u64,
+    ) -> Progress
+        ensures written { Writes now (slots_of state.old.connections) (slots_of state.new.connections) slot }
+        ensures bounds { bounds_of state.new.connections ≡ bounds_of state.old.connections }
+    {
+        let reply = state.connections.unwritten(slot);
+        match self.send(datagram.sender, reply) {
+            Ok(_) => {
+                self.keep(datagram, reply, now);
+                state.wrote_all(slot, now)
+            }
+            Err(error) => state.stumble(slot, error.kind()),
+        }
+    }
+
+    // Keeps a reply that went out; without memory for it, it isn't kept.
+    fn keep(&mut self, datagram: &mut Datagram, reply: &[u8], now: u64) {
+        if let Ok(reply) = Vec::from_slice(self.alloc, reply) {
+            let message = mem::replace(&mut datagram.message, Vec::new(self.alloc));
+            self.answered.keep(datagram.sender, message, reply, now);
+        }
+    }
+}
+
+// The socket, watched, and its port.
+fn watched(socket: net::UdpSocket, registry: &Registry) -> io::Result<(UdpSocket, u16)> {
+    socket.set_nonblocking(true)?;
+    let port = socket.local_addr()?.port();
+    let mut socket = UdpSocket::from_std(socket);
+    registry.register(&mut socket, DATAGRAMS, Interest::READABLE)?;
+    Ok((socket, port))
+}
