@@ -1,5 +1,5 @@
 //! The service on a port.
-ghost use Rattle.std.specs.Prelude.{◌≡◌, ◌≤◌, IfOk, IfErr, IfSome, None, OnOk, length};
+ghost use Rattle.std.specs.Prelude.{◌≡◌, ◌≤◌, IfOk, IfErr, IfSome, IsSome, None, Ok, OnOk, false, true, length};
 ghost use Rattle.chpw_book.specs.Starting.{IsNamed, workers_of};
 ghost use Rattle.chpw_pool.specs.Engines.{workers_at};
 ghost use Rattle.chpw_service.specs.Faults.{IsLate, IsOfService, told_as};
@@ -26,7 +26,7 @@ use chpw_serve::Clock as _;
 use std::alloc::Global;
 use std::fs::{File, Files};
 use std::marker::Brand;
-use std::net::{Ipv4Addr, Net, TcpListener, TcpStream};
+use std::net::{Ipv4Addr, Net, TcpListener, TcpStream, UdpSocket};
 use std::sync::Wait;
 use std::thread::{self, Threads};
 use std::time::Clock;
@@ -236,7 +236,8 @@ fn listening<
         follower,
     } = start;
     let listener = listen(rt, options.port)?;
-    let engine = engine_of(rt, rt.alloc(), options.workers, &terms, log)?;
+    let datagrams = datagrams_of(rt, options)?;
+    let engine = engine_of(rt, rt.alloc(), options.workers, &terms, log, datagrams)?;
     let hall = Hall {
         service,
         engine,
@@ -264,6 +265,24 @@ fn listen<'a, R: Net<Listener = TcpListener, Stream = TcpStream>>(
     }
 }
 
+// The port over UDP, where that is asked for; else nothing listens there.
+fn datagrams_of<'a, R: Net>(
+    rt: &R,
+    options: &ServeOptions<'_>,
+) -> Result<Option<UdpSocket>, ServeFault<'a>>
+    ensures none { options.now.udp ≡ false → result ≡ Ok None }
+    ensures asked { options.now.udp ≡ true → IfOk result (λ socket. IsSome socket) }
+    ensures fault { IfErr result (λ fault. fault ≡ CannotListen) }
+{
+    if !options.udp {
+        return Ok(None);
+    }
+    match UdpSocket::bind(rt, (Ipv4Addr::LOCALHOST, options.port)) {
+        Ok(socket) => Ok(Some(socket)),
+        Err(_) => Err(ServeFault::CannotListen),
+    }
+}
+
 // What the pool is to do.
 fn terms_of(options: &ServeOptions<'_>, seed: [u8; 32]) -> Terms
     ensures value { IsAskedFor options.now seed result }
@@ -284,6 +303,7 @@ fn engine_of<'a, 'l, R: Net + Wait + Eprint>(
     workers: u8,
     terms: &Terms,
     log: &'l Log<'l, R>,
+    datagrams: Option<UdpSocket>,
 ) -> Result<Engine<Logging<LogLines<'l, R>>>, ServeFault<'a>>
     requires some_workers { 1 ≤ workers }
     ensures workers { IfOk result (λ engine. workers_at engine ≡ workers) }
@@ -291,7 +311,7 @@ fn engine_of<'a, 'l, R: Net + Wait + Eprint>(
 {
     match log_gates(alloc, log, workers) {
         Err(_) => Err(ServeFault::Memory),
-        Ok(gates) => match Engine::of(rt, alloc, terms.seed, terms.bounds(), gates, None) {
+        Ok(gates) => match Engine::of(rt, alloc, terms.seed, terms.bounds(), gates, datagrams) {
             Err(fault) => Err(told(fault)),
             Ok(engine) => Ok(engine),
         },
