@@ -14,7 +14,7 @@ use mio::net::UnixStream;
 use std::alloc::Global;
 use std::fs::File;
 use std::io::ErrorKind;
-use std::net::Net;
+use std::net::{Net, TcpListener, TcpStream};
 use std::sync::atomic::{AtomicU64, Ordering};
 use std::sync::{Arc, Wait};
 use std::time::Clock;
@@ -92,7 +92,8 @@ impl<'l, R, T: Clock> Followed<'l, R, T> {
     }
 }
 
-impl<R: Net + Wait + Eprint, T: Clock> Follower for Followed<'_, R, T> {
+impl<R: Net<Listener = TcpListener, Stream = TcpStream> + Wait + Eprint, T: Clock> Follower
+    for Followed<'_, R, T> {
     fn wait(&self) -> u64 {
         u64::from(self.terms.wait)
     }

@@ -21,7 +21,7 @@ use chpw_book::{Desk, DeskName, Pass};
 use chpw_invocation::ServeOptions;
 use chpw_journal::{FileSink, Journal};
 use chpw_messages::Service;
-use chpw_pool::{Engine, MachineClock, Pool, PoolFault, Terms};
+use chpw_pool::{Engine, Follower, MachineClock, Pool, PoolFault, Terms};
 use chpw_serve::Clock as _;
 use std::alloc::Global;
 use std::fs::{File, Files};
@@ -191,7 +191,14 @@ fn serve_from<
     'a,
     'l,
     D: DeskName + Send + Sync,
-    R: Net<Stream = TcpStream> + Threads + Wait + Clock + Print + Eprint + AllocGlobal + Sync,
+    R: Net<Listener = TcpListener, Stream = TcpStream>
+        + Threads
+        + Wait
+        + Clock
+        + Print
+        + Eprint
+        + AllocGlobal
+        + Sync,
     T: Clock + Sync,
 >(
     rt: &R,
@@ -205,7 +212,8 @@ fn serve_from<
     ensures fault { IfErr result IsLate }
 {
     let mut first = Some(first);
-    let ended = serve_all(rt, time, listener, hall, &mut first, connections);
+    let followed = Followed::of(rt, time, hall.log, hall.follower);
+    let ended = serve_all(rt, time, listener, hall, followed, &mut first, connections);
     match first {
         None => {}
         Some(Opened { desk, passes }) => {
@@ -323,13 +331,22 @@ fn serve_all<
     'a,
     'l,
     D: DeskName + Send + Sync,
-    R: Net<Stream = TcpStream> + Threads + Wait + Clock + Print + Eprint + AllocGlobal + Sync,
+    R: Net<Listener = TcpListener, Stream = TcpStream>
+        + Threads
+        + Wait
+        + Clock
+        + Print
+        + Eprint
+        + AllocGlobal
+        + Sync,
     T: Clock + Sync,
+    F: Follower + Send + Drop,
 >(
     rt: &R,
     time: &T,
     listener: &TcpListener,
     hall: &Hall<'l, R>,
+    followed: F,
     first: &mut Option<Opened<D>>,
     connections: u32,
 ) -> Result<(), ServeFault<'a>>
@@ -343,7 +360,6 @@ fn serve_all<
             requires { IfSome first.now (λ opened. length opened.passes.items ≡ hall.now.workers) }
         {
             let engine = &hall.engine;
-            let followed = Followed::of(rt, time, hall.log, hall.follower);
             if scope
                 .spawn(move || engine.react(rt, listener, connections, followed))
                 .is_err()
