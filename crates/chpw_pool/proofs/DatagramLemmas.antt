@@ -1,11 +1,9 @@
 -- A datagram as a connection of one message.
-use Rattle.std.proofs.Common.{◌≡◌, ◌≢◌, ℕ, ◌<◌, ◌≤◌, ◌^◌, ◌%◌, ◌==◌, refl, sym, ◌∙◌, ap, subst, arith, Bool, true, false, ◌&&◌, not, nat_lt, cond, List, [], ◌++◌, length, take, Option, Some, None, is_some, option_map, inl, inr, ◌⊎◌, IsSomeAnd}
+use Rattle.std.proofs.Common.{◌≡◌, ◌≢◌, ℕ, ◌<◌, ◌≤◌, ◌^◌, ◌%◌, ◌==◌, refl, sym, ◌∙◌, ap, subst, arith, Bool, true, false, ◌&&◌, not, nat_lt, cond, List, [], ◌++◌, length, take, Option, Some, None, is_some, option_map, inl, inr, IsSomeAnd}
 use Rattle.std.proofs.Math.Logic.{⊎_elim}
 use Rattle.std.proofs.lemmas.Bool.{cases_lt, cases_eq}
-use Rattle.std.proofs.lemmas.Bool.Decides.{nat_tests}
 use Rattle.std.proofs.lemmas.List.{take_all}
 use Rattle.std.proofs.lemmas.Nat.{from_be_bytes-to_be_bytes_4}
-use Rattle.std.specs.Int.{from_be_bytes, to_be_bytes, w32}
 use Rattle.slab.specs.Slab.{Slab, get, Updates}
 use Rattle.chpw_frame.specs.Stream.{sent, longest, stated_length}
 use Rattle.chpw_connections.proofs.PieceLemmas.{wanted_long, wanted_whole}
@@ -14,7 +12,7 @@ use Rattle.chpw_connections.specs.Holding.{held_by}
 use Rattle.chpw_connections.specs.Messages.{wanted_behind}
 use Rattle.chpw_connections.specs.Room.{PutsOut, HappensWithRoom, for_message, gives_way_at, is_held_back, is_among}
 use Rattle.chpw_connections.specs.Sets.{Comes, Happens, IsNew, wanted_at, is_ended, is_ended_in, queued_at, queued_by, stage_at, waits}
-use Rattle.chpw_connections.specs.Stages.{Stage, reading, queued, answering, confirming, writing, lingering, abandoned, ended, Event, came, failed, after, stage, read_to, received, wanted_by}
+use Rattle.chpw_connections.specs.Stages.{Stage, reading, queued, answering, confirming, writing, lingering, abandoned, ended, came, failed, after, stage, read_to, received, wanted_by}
 use Rattle.chpw_connections.specs.Waiting.{waits_for}
 use Rattle.chpw_connections.specs.declared.connection.Connection.{Connection}
 use Rattle.chpw_connections.specs.declared.bounds.Bounds.{Bounds}

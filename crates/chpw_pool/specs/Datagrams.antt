@@ -1,5 +1,5 @@
 -- A message in a datagram (RFC 3244 section 2: without the length that it has over TCP) as a connection of this message alone.
-use Rattle.std.specs.Prelude.{◌≡◌, ◌≢◌, ℕ, ◌⊎◌, List, length, drop, Option, Some, None, IfSome}
+use Rattle.std.specs.Prelude.{◌≡◌, ℕ, ◌⊎◌, List, length, drop, Option, Some}
 use Rattle.std.specs.Int.{to_be_bytes, w32}
 use Rattle.slab.specs.Slab.{Slab, get}
 use Rattle.chpw_frame.specs.Stream.{sent}

@@ -8,6 +8,7 @@ ghost use Rattle.chpw_connections.specs.Sets.{Happens, left_at, wanted_at};
 ghost use Rattle.chpw_connections.specs.Stages.{closed, came, wrote};
 ghost use Rattle.chpw_connections.specs.Waiting.{waits_for};
 ghost use Rattle.chpw_pool.specs.Datagrams.{TakesDatagram, DropsDatagram, CameOrFailed, CameIfRead, in_datagram, length_before};
+ghost use Rattle.chpw_pool.specs.declared.state.Progress.TheVariants as progress;
 
 use crate::state::{Progress, State};
 
@@ -85,6 +86,7 @@ impl State {
 
     /// No more comes for a connection: a datagram has one message.
     pub fn end_input(&mut self, slot: usize) -> Progress
+        ensures value { result ≡ progress.Some }
         ensures happens { Happens 0 (slots_of self.old.connections) (slots_of self.new.connections) slot closed }
         ensures bounds { bounds_of self.new.connections ≡ bounds_of self.old.connections }
     {
@@ -94,6 +96,7 @@ impl State {
 
     /// All that was left of a connection's reply went out.
     pub fn wrote_all(&mut self, slot: usize, now: u64) -> Progress
+        ensures value { result ≡ progress.Some }
         ensures happens { Happens now (slots_of self.old.connections) (slots_of self.new.connections) slot
             (wrote (length (left_at (get (slots_of self.old.connections) slot)))) }
         ensures bounds { bounds_of self.new.connections ≡ bounds_of self.old.connections }

@@ -1,11 +1,12 @@
 //! The socket for datagrams, and those that are being answered.
-ghost use Rattle.std.specs.Prelude.{◌≡◌, ◌⊎◌, IfErr};
+ghost use Rattle.std.specs.Prelude.{◌≡◌, IfErr};
 ghost use Rattle.slab.specs.Slab.{get};
 ghost use Rattle.chpw_connections.specs.Held.{slots_of, bounds_of};
 ghost use Rattle.chpw_connections.specs.Sets.{left_at};
 ghost use Rattle.chpw_pool.specs.Deciding.{is_same_datagram, is_unanswered, KeepsReply};
 ghost use Rattle.chpw_pool.specs.Pools.{IsUnmade};
 ghost use Rattle.chpw_pool.specs.Steps.{Writes};
+ghost use Rattle.chpw_pool.specs.declared.state.Progress.TheVariants as progress;
 
 use crate::one_message::reply_of_datagram;
 use crate::pool::PoolFault;
@@ -114,8 +115,9 @@ impl Datagrams {
         now: u64,
     ) -> Progress
         ensures written { Writes now (slots_of state.old.connections) (slots_of state.new.connections) slot }
-        ensures kept { (self.new ≡ self.old) ⊎ KeepsReply self.old.answered self.new.answered datagram.old.sender datagram.old.message.items
+        ensures kept { KeepsReply self.old.answered self.new.answered datagram.old.sender datagram.old.message.items
             (left_at (get (slots_of state.old.connections) slot)) now }
+        ensures blocked { result ≡ progress.None → (self.new ≡ self.old) × (slots_of state.new.connections ≡ slots_of state.old.connections) }
         ensures bounds { bounds_of state.new.connections ≡ bounds_of state.old.connections }
     {
         let reply = state.connections.unwritten(slot);
