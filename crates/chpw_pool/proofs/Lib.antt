@@ -1,2 +1,3 @@
+pub mod DatagramLemmas
 pub mod RunLemmas
 pub mod SendLemmas

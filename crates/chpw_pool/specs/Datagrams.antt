@@ -1,9 +1,9 @@
 -- A message in a datagram (RFC 3244 section 2: without the length that it has over TCP) as a connection of this message alone.
-use Rattle.std.specs.Prelude.{◌≡◌, ◌≢◌, ℕ, ◌⊎◌, List, length, drop, Option, Some, None, IfSome}
+use Rattle.std.specs.Prelude.{◌≡◌, ℕ, ◌⊎◌, List, length, drop, Option, Some}
 use Rattle.std.specs.Int.{to_be_bytes, w32}
 use Rattle.slab.specs.Slab.{Slab, get}
 use Rattle.chpw_frame.specs.Stream.{sent}
-use Rattle.chpw_connections.specs.Stages.{came, ended}
+use Rattle.chpw_connections.specs.Stages.{came, ended, failed}
 use Rattle.chpw_connections.specs.Sets.{IsNew, queued_at, stage_at}
 use Rattle.chpw_connections.specs.Room.{HappensWithRoom, for_message}
 use Rattle.chpw_connections.specs.Waiting.{waits_for}
@@ -36,3 +36,13 @@ StaysOrEnds old new = (new ≡ old) ⊎ (stage_at new ≡ Some ended)
 -- a datagram that can't wait for a worker leaves no connection
 abbrev pub DropsDatagram : Slab Connection → Slab Connection → Type 0
 DropsDatagram old new = (slot : ℕ) → StaysOrEnds (get old slot) (get new slot)
+
+-- what is said of the two pieces that it comes in: bytes came, or without room or memory for them it ended
+abbrev pub CameOrFailed : Bounds → ℕ → Slab Connection → Slab Connection → ℕ → List ℕ → Type 0
+CameOrFailed b now old new slot bytes =
+    HappensWithRoom (for_message b now (get old slot)) now old new slot (came bytes)
+    ⊎ HappensWithRoom (for_message b now (get old slot)) 0 old new slot failed
+
+-- or nothing was read
+abbrev pub CameIfRead : Bounds → ℕ → Slab Connection → Slab Connection → ℕ → List ℕ → Type 0
+CameIfRead b now old new slot bytes = (new ≡ old) ⊎ CameOrFailed b now old new slot bytes

@@ -2,6 +2,7 @@ pub mod Accepting
 pub mod Bounded
 pub mod Clocks
 pub mod Datagrams
+pub mod Deciding
 pub mod Engines
 pub mod Following
 pub mod Pools

@@ -1,12 +1,16 @@
 //! The connections with their sockets, as reactor and workers have them under one lock.
 ghost use Rattle.slab.specs.Slab.{get};
-ghost use Rattle.std.specs.Prelude.{◌≡◌, ◌⊎◌};
-ghost use Rattle.chpw_connections.specs.Held.{slots_of, bounds_of};
+ghost use Rattle.std.specs.Prelude.{◌≡◌, ◌⊎◌, ℕ, IfSome};
+ghost use Rattle.chpw_connections.specs.Held.{slots_of, bounds_of, accepted_by};
+ghost use Rattle.chpw_connections.specs.Queues.{workers_of};
 ghost use Rattle.chpw_connections.specs.Todos.{todo_in};
 ghost use Rattle.chpw_connections.specs.Sets.{Happens};
 ghost use Rattle.chpw_connections.specs.Stages.{failed};
 ghost use Rattle.chpw_pool.specs.Steps.{Steps, RunsTo, Answers};
+ghost use Rattle.chpw_pool.specs.Datagrams.{DropsDatagram};
+ghost use Rattle.chpw_pool.specs.Deciding.{Queues};
 ghost use Rattle.chpw_pool.specs.Following.{awaited};
+ghost use Rattle.chpw_pool.specs.declared.state.Progress.TheVariants as progress;
 
 use crate::sockets::Sockets;
 use crate::state::{Progress, State};
@@ -44,7 +48,13 @@ impl Hub {
     }
 
     /// Takes the next datagram, if one is there.
-    pub fn take_datagram(&mut self, now: u64) -> Progress {
+    pub fn take_datagram(&mut self, now: u64) -> Progress
+        ensures queued { IfSome self.old.sockets.datagrams (λ d. (worker : ℕ) → result ≡ progress.Queued worker
+            → Queues d self.old.sockets.by_slot.items (bounds_of self.new.state.connections) now (accepted_by self.old.state.connections)
+            (slots_of self.old.state.connections) (slots_of self.new.state.connections) worker (workers_of self.old.state.connections)) }
+        ensures idle { result ≡ progress.None → self.new.state ≡ self.old.state }
+        ensures dropped { result ≡ progress.Some → DropsDatagram (slots_of self.old.state.connections) (slots_of self.new.state.connections) }
+    {
         self.sockets.take_datagram(&mut self.state, now)
     }
 

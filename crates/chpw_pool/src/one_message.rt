@@ -1,11 +1,14 @@
 //! A datagram as a connection of one message.
-ghost use Rattle.std.specs.Prelude.{◌≡◌, IfSome, IfNone, length};
+ghost use Rattle.std.specs.Prelude.{◌≡◌, ◌≢◌, ◌<◌, ◌^◌, IfSome, IfNone, Some, length};
 ghost use Rattle.slab.specs.Slab.{get};
 ghost use Rattle.chpw_connections.specs.Held.{slots_of, bounds_of, accepted_by};
 ghost use Rattle.chpw_connections.specs.Queues.{workers_of};
-ghost use Rattle.chpw_connections.specs.Sets.{Happens, left_at};
-ghost use Rattle.chpw_connections.specs.Stages.{closed, wrote};
-ghost use Rattle.chpw_pool.specs.Datagrams.{TakesDatagram, DropsDatagram, in_datagram};
+ghost use Rattle.chpw_connections.specs.Room.{HappensWithRoom, for_message};
+ghost use Rattle.chpw_connections.specs.Sets.{Happens, left_at, wanted_at};
+ghost use Rattle.chpw_connections.specs.Stages.{closed, came, wrote};
+ghost use Rattle.chpw_connections.specs.Waiting.{waits_for};
+ghost use Rattle.chpw_pool.specs.Datagrams.{TakesDatagram, DropsDatagram, CameOrFailed, CameIfRead, in_datagram, length_before};
+ghost use Rattle.chpw_pool.specs.declared.state.Progress.TheVariants as progress;
 
 use crate::state::{Progress, State};
 
@@ -19,6 +22,17 @@ pub(crate) fn reply_of_datagram(reply: &[u8]) -> &[u8]
     &reply[LENGTH.min(reply.len())..]
 }
 
+// The length of a message, as it would stand before it over TCP; none of 4 GiB or more.
+fn length_of(message: &[u8]) -> Option<[u8; 4]>
+    ensures value { IfSome result (λ l. l ≡ length_before message.now) }
+    ensures fits { IfSome result (λ _. length message.now < 2 ^ 32) }
+{
+    match u32::try_from(message.len()) {
+        Err(_) => None,
+        Ok(length) => Some(length.to_be_bytes()),
+    }
+}
+
 impl State {
     /// A message came in a datagram. In a new connection it waits for its worker, as it would if it had come with its length
     /// over TCP. None where there are as many connections as may be, or no room or memory for it: then no connection is left
@@ -29,16 +43,14 @@ impl State {
         message: &[u8],
         now: u64,
     ) -> Option<(usize, usize)>
-        ensures taken { IfSome result (λ r. TakesDatagram (bounds_of self.old.connections) now peer (accepted_by self.old.connections) message.now
+        ensures taken { IfSome result (λ r. TakesDatagram (bounds_of self.new.connections) now peer (accepted_by self.old.connections) message.now
             (slots_of self.old.connections) (slots_of self.new.connections) r.0 r.1 (workers_of self.old.connections)) }
         ensures dropped { IfNone result (DropsDatagram (slots_of self.old.connections) (slots_of self.new.connections)) }
-        ensures bounds { bounds_of self.new.connections ≡ bounds_of self.old.connections }
     {
-        let length = u32::try_from(message.len()).ok()?;
+        let length = length_of(message)?;
         let slot = self.connections.accept(peer, now)?;
-        self.connections.receive(slot, &length.to_be_bytes(), now);
-        let worker = self.whole_came(slot, message, now);
-        match worker {
+        self.length_came(slot, &length, now);
+        match self.message_came(slot, message, now) {
             Some(worker) => Some((slot, worker)),
             None => {
                 self.connections.fail(slot);
@@ -48,9 +60,25 @@ impl State {
         }
     }
 
-    // All of a datagram came, behind its length: its worker, where it waits for one.
-    fn whole_came(&mut self, slot: usize, message: &[u8], now: u64) -> Option<usize> {
-        if !self.connections.has_room_to_read(slot, now) {
+    // The length of a message came.
+    fn length_came(&mut self, slot: usize, length: &[u8], now: u64)
+        ensures happens { CameOrFailed (bounds_of self.old.connections) now (slots_of self.old.connections) (slots_of self.new.connections) slot length.now }
+        ensures bounds { bounds_of self.new.connections ≡ bounds_of self.old.connections }
+        ensures workers { workers_of self.new.connections ≡ workers_of self.old.connections }
+    {
+        self.connections.receive(slot, length, now);
+    }
+
+    // All of a message came, behind its length: the worker for whom it waits now; none where it can't wait.
+    fn message_came(&mut self, slot: usize, message: &[u8], now: u64) -> Option<usize>
+        ensures queued { IfSome result (λ _. HappensWithRoom (for_message (bounds_of self.old.connections) now (get (slots_of self.old.connections) slot)) now
+            (slots_of self.old.connections) (slots_of self.new.connections) slot (came message.now)) }
+        ensures waits { IfSome result (λ worker. waits_for (workers_of self.old.connections) (get (slots_of self.new.connections) slot) ≡ Some worker) }
+        ensures wanted { IfSome result (λ _. wanted_at (get (slots_of self.old.connections) slot) ≢ 0) }
+        ensures none { IfNone result (CameIfRead (bounds_of self.old.connections) now (slots_of self.old.connections) (slots_of self.new.connections) slot message.now) }
+        ensures bounds { bounds_of self.new.connections ≡ bounds_of self.old.connections }
+    {
+        if self.connections.wanted(slot) == 0 || !self.connections.has_room_to_read(slot, now) {
             return None;
         }
         self.connections.receive(slot, message, now)
@@ -58,6 +86,7 @@ impl State {
 
     /// No more comes for a connection: a datagram has one message.
     pub fn end_input(&mut self, slot: usize) -> Progress
+        ensures value { result ≡ progress.Some }
         ensures happens { Happens 0 (slots_of self.old.connections) (slots_of self.new.connections) slot closed }
         ensures bounds { bounds_of self.new.connections ≡ bounds_of self.old.connections }
     {
@@ -67,6 +96,7 @@ impl State {
 
     /// All that was left of a connection's reply went out.
     pub fn wrote_all(&mut self, slot: usize, now: u64) -> Progress
+        ensures value { result ≡ progress.Some }
         ensures happens { Happens now (slots_of self.old.connections) (slots_of self.new.connections) slot
             (wrote (length (left_at (get (slots_of self.old.connections) slot)))) }
         ensures bounds { bounds_of self.new.connections ≡ bounds_of self.old.connections }

@@ -1,10 +1,14 @@
 //! The sockets of the connections.
-ghost use Rattle.std.specs.Prelude.{◌≡◌, IfErr};
+ghost use Rattle.std.specs.Prelude.{◌≡◌, ℕ, IfErr, IfSome, IfNone, false};
 ghost use Rattle.slab.specs.Slab.{get};
-ghost use Rattle.chpw_connections.specs.Held.{slots_of, bounds_of};
+ghost use Rattle.chpw_connections.specs.Held.{slots_of, bounds_of, accepted_by};
+ghost use Rattle.chpw_connections.specs.Queues.{workers_of};
 ghost use Rattle.chpw_connections.specs.Todos.{todo_in};
+ghost use Rattle.chpw_pool.specs.Datagrams.{TakesDatagram, DropsDatagram};
+ghost use Rattle.chpw_pool.specs.Deciding.{Queues, is_decided, is_at, is_under_way};
 ghost use Rattle.chpw_pool.specs.Pools.{IsUnmade};
 ghost use Rattle.chpw_pool.specs.Steps.{Steps, Drains};
+ghost use Rattle.chpw_pool.specs.declared.state.Progress.TheVariants as progress;
 
 use crate::pool::PoolFault;
 use crate::state::{Progress, State};
@@ -218,7 +222,14 @@ impl Sockets {
     /// Takes the next datagram, if one is there. One that has no whole frame with an AP-REQ in it, or comes from a service,
     /// is dropped, and one that is under way already. One that was answered within the last five seconds gets that reply
     /// again. Any other one waits for its worker, where there is room for it.
-    pub fn take_datagram(&mut self, state: &mut State, now: u64) -> Progress {
+    pub fn take_datagram(&mut self, state: &mut State, now: u64) -> Progress
+        ensures queued { IfSome self.old.datagrams (λ d. (worker : ℕ) → result ≡ progress.Queued worker
+            → Queues d self.old.by_slot.items (bounds_of state.new.connections) now (accepted_by state.old.connections)
+            (slots_of state.old.connections) (slots_of state.new.connections) worker (workers_of state.old.connections)) }
+        ensures none { IfNone self.old.datagrams ((result ≡ progress.None) × (state.new ≡ state.old)) }
+        ensures idle { result ≡ progress.None → state.new ≡ state.old }
+        ensures dropped { result ≡ progress.Some → DropsDatagram (slots_of state.old.connections) (slots_of state.new.connections) }
+    {
         let Sockets {
             by_slot,
             datagrams,
@@ -233,49 +244,81 @@ impl Sockets {
                 ErrorKind::WouldBlock => Progress::None,
                 _ => Progress::Some,
             },
-            Ok((sender, message)) => {
-                if datagrams.is_to_be_decided(sender, message, now)
-                    && !is_under_way(by_slot, sender, message)
-                {
-                    let Ok(message) = Vec::from_slice(datagrams.alloc, message) else {
-                        return Progress::Some;
-                    };
-                    queue(by_slot, state, Datagram { sender, message }, now)
-                } else {
-                    Progress::Some
-                }
-            }
+            Ok((sender, message)) => decide(by_slot, datagrams, state, sender, message, now),
         }
     }
 }
 
+// What is done with a datagram that came.
+fn decide(
+    by_slot: &mut [Option<Place>],
+    datagrams: &Datagrams,
+    state: &mut State,
+    sender: Sender,
+    message: &[u8],
+    now: u64,
+) -> Progress
+    ensures queued { (worker : ℕ) → result ≡ progress.Queued worker
+        → Queues datagrams.now by_slot.old (bounds_of state.new.connections) now (accepted_by state.old.connections)
+        (slots_of state.old.connections) (slots_of state.new.connections) worker (workers_of state.old.connections) }
+    ensures ignored { is_decided datagrams.now by_slot.old sender message.now now ≡ false → (state.new ≡ state.old) × (by_slot.new ≡ by_slot.old) }
+    ensures some { (result ≡ progress.None) → ⊥ }
+    ensures dropped { result ≡ progress.Some → DropsDatagram (slots_of state.old.connections) (slots_of state.new.connections) }
+{
+    let is_decided = datagrams.is_to_be_decided(sender, message, now)
+        && !is_under_way(by_slot, sender, message);
+    if is_decided {
+        queue(datagrams.alloc, by_slot, state, sender, message, now)
+    } else {
+        Progress::Some
+    }
+}
+
 // Whether the same datagram of the same sender is being answered.
-fn is_under_way(by_slot: &[Option<Place>], sender: Sender, message: &[u8]) -> bool {
-    by_slot.iter().any(|place| match place {
+fn is_under_way(by_slot: &[Option<Place>], sender: Sender, message: &[u8]) -> bool
+    ensures value { result ≡ is_under_way by_slot.now sender message.now }
+{
+    by_slot.iter().any(|place| is_at(place, sender, message))
+}
+
+fn is_at(place: &Option<Place>, sender: Sender, message: &[u8]) -> bool
+    ensures value { result ≡ is_at sender message.now place.now }
+{
+    match place {
         Some(Place::Datagram(other)) => other.is(sender, message),
-        _ => false,
-    })
+        Some(Place::Stream(_)) | None => false,
+    }
 }
 
 // A datagram waits for its worker, where it can.
 fn queue(
+    alloc: Global,
     by_slot: &mut [Option<Place>],
     state: &mut State,
-    datagram: Datagram,
+    sender: Sender,
+    message: &[u8],
     now: u64,
-) -> Progress {
-    match state.take_datagram(datagram.sender.address, &datagram.message, now) {
+) -> Progress
+    ensures queued { (worker : ℕ) → result ≡ progress.Queued worker
+        → (slot : ℕ) × TakesDatagram (bounds_of state.new.connections) now sender.address (accepted_by state.old.connections) message.now
+        (slots_of state.old.connections) (slots_of state.new.connections) slot worker (workers_of state.old.connections) }
+    ensures some { (result ≡ progress.None) → ⊥ }
+    ensures dropped { result ≡ progress.Some → DropsDatagram (slots_of state.old.connections) (slots_of state.new.connections) }
+{
+    let Ok(copy) = Vec::from_slice(alloc, message) else {
+        return Progress::Some;
+    };
+    match state.take_datagram(sender.address, message, now) {
         None => Progress::Some,
-        Some((slot, worker)) => match by_slot.get_mut(slot) {
-            None => {
-                state.connections.fail(slot);
-                Progress::Some
+        Some((slot, worker)) => {
+            if let Some(place) = by_slot.get_mut(slot) {
+                *place = Some(Place::Datagram(Datagram {
+                    sender,
+                    message: copy,
+                }));
             }
-            Some(place) => {
-                *place = Some(Place::Datagram(datagram));
-                Progress::Queued(worker)
-            }
-        },
+            Progress::Queued(worker)
+        }
     }
 }
 

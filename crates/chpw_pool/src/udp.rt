@@ -1,10 +1,12 @@
 //! The socket for datagrams, and those that are being answered.
-ghost use Rattle.std.specs.Prelude.{◌≡◌, ◌&&◌, is_none, IfErr};
+ghost use Rattle.std.specs.Prelude.{◌≡◌, IfErr};
+ghost use Rattle.slab.specs.Slab.{get};
 ghost use Rattle.chpw_connections.specs.Held.{slots_of, bounds_of};
-ghost use Rattle.chpw_datagrams.specs.Answers.{reply_for};
-ghost use Rattle.chpw_datagrams.specs.Senders.{is_answered};
+ghost use Rattle.chpw_connections.specs.Sets.{left_at};
+ghost use Rattle.chpw_pool.specs.Deciding.{is_same_datagram, is_unanswered, KeepsReply};
 ghost use Rattle.chpw_pool.specs.Pools.{IsUnmade};
 ghost use Rattle.chpw_pool.specs.Steps.{Writes};
+ghost use Rattle.chpw_pool.specs.declared.state.Progress.TheVariants as progress;
 
 use crate::one_message::reply_of_datagram;
 use crate::pool::PoolFault;
@@ -30,7 +32,9 @@ pub(crate) struct Datagram {
 
 impl Datagram {
     /// Whether it is this message of this sender.
-    pub fn is(&self, sender: Sender, message: &[u8]) -> bool {
+    pub fn is(&self, sender: Sender, message: &[u8]) -> bool
+        ensures value { result ≡ is_same_datagram sender message.now self.now }
+    {
         self.sender.address == sender.address
             && self.sender.port == sender.port
             && self.message.as_slice() == message
@@ -82,7 +86,7 @@ impl Datagrams {
 
     /// Whether a datagram is to be answered and wasn't within the last five seconds; one that was gets that reply again.
     pub fn is_to_be_decided(&self, sender: Sender, message: &[u8], now: u64) -> bool
-        ensures value { result ≡ (is_answered self.now.port sender message.now && is_none (reply_for self.now.answered sender message.now now)) }
+        ensures value { result ≡ is_unanswered self.now sender message.now now }
     {
         if !is_answerable(sender, self.port, message) {
             return false;
@@ -111,6 +115,9 @@ impl Datagrams {
         now: u64,
     ) -> Progress
         ensures written { Writes now (slots_of state.old.connections) (slots_of state.new.connections) slot }
+        ensures kept { KeepsReply self.old.answered self.new.answered datagram.old.sender datagram.old.message.items
+            (left_at (get (slots_of state.old.connections) slot)) now }
+        ensures blocked { result ≡ progress.None → (self.new ≡ self.old) × (slots_of state.new.connections ≡ slots_of state.old.connections) }
         ensures bounds { bounds_of state.new.connections ≡ bounds_of state.old.connections }
     {
         let reply = state.connections.unwritten(slot);
@@ -124,7 +131,9 @@ impl Datagrams {
     }
 
     // Keeps a reply that went out; without memory for it, it isn't kept.
-    fn keep(&mut self, datagram: &mut Datagram, reply: &[u8], now: u64) {
+    fn keep(&mut self, datagram: &mut Datagram, reply: &[u8], now: u64)
+        ensures kept { KeepsReply self.old.answered self.new.answered datagram.old.sender datagram.old.message.items reply.now now }
+    {
         if let Ok(reply) = Vec::from_slice(self.alloc, reply) {
             let message = mem::replace(&mut datagram.message, Vec::new(self.alloc));
             self.answered.keep(datagram.sender, message, reply, now);
