@@ -45,7 +45,8 @@ pub record GivesNone (old new : Slab Connection) (slot : ℕ) (before after : Op
   pub kept : Keeps before after
   pub happens : Happens 0 old new slot failed ⊎ (new ≡ old)
 
--- What one call of its socket does for a connection: what is to be done for it, or nothing.
+-- What one call of its socket does for a connection: what is to be done for it, or nothing. To a message that came in a
+-- datagram no more bytes come: its other side has ended as soon as its reply is out.
 abbrev pub Reads : Bounds → ℕ → Slab Connection → Slab Connection → ℕ → Type 0
 Reads b now old new slot = (before : Option (List ℕ)) × ((after : Option (List ℕ)) × (Takes b now old new slot before after ⊎ TakesNone old new slot before after))
 

@@ -221,7 +221,8 @@ impl Sockets {
 
     /// Takes the next datagram, if one is there. One that has no whole frame with an AP-REQ in it, or comes from a service,
     /// is dropped, and one that is under way already. One that was answered within the last five seconds gets that reply
-    /// again. Any other one waits for its worker, where there is room for it.
+    /// again. Any other one waits for its worker, where there is room for it. After a fault none is taken before the socket
+    /// is reported again.
     pub fn take_datagram(&mut self, state: &mut State, now: u64) -> Progress
         ensures queued { IfSome self.old.datagrams (λ d. (worker : ℕ) → result ≡ progress.Queued worker
             → Queues d self.old.by_slot.items (bounds_of state.new.connections) now (accepted_by state.old.connections)
@@ -241,8 +242,8 @@ impl Sockets {
         };
         match datagrams.receive(datagram) {
             Err(error) => match error.kind() {
-                ErrorKind::WouldBlock => Progress::None,
-                _ => Progress::Some,
+                ErrorKind::Interrupted => Progress::Some,
+                _ => Progress::None,
             },
             Ok((sender, message)) => decide(by_slot, datagrams, state, sender, message, now),
         }
