@@ -115,18 +115,9 @@ fn verdict_of<D: Decides>(
     password: Option<&[u8]>,
 ) -> Result<(Fell, Verdict), Stop> {
     let was = looked_at(alloc, decider, &opened)?;
-    verdict_from(decider, opened, password, &was)
-}
-
-fn verdict_from<D: Decides>(
-    decider: &mut D,
-    opened: Opened,
-    password: Option<&[u8]>,
-    was: &Before,
-) -> Result<(Fell, Verdict), Stop> {
     match decider.ask(opened, password) {
         Ok(verdict) => Ok((Fell::Nowhere, verdict)),
-        Err(refused) => asked_again(decider, refused, password, was),
+        Err(refused) => asked_again(decider, refused, password, &was),
     }
 }
 
@@ -137,10 +128,20 @@ fn asked_again<D: Decides>(
     password: Option<&[u8]>,
     was: &Before,
 ) -> Result<(Fell, Verdict), Stop> {
-    handed_back(&refused, password, was)?;
-    unchanged(decider, &was.seen)?;
+    left_alone(decider, &refused, password, was)?;
     let verdict = decided_beside(decider, refused.opened, password)?;
     Ok((Fell::Call, verdict))
+}
+
+/// That a refusal has left all as it was, its request too.
+fn left_alone<D: Decides>(
+    decider: &mut D,
+    refused: &Refused,
+    password: Option<&[u8]>,
+    was: &Before,
+) -> Result<(), Stop> {
+    handed_back(refused, password, was)?;
+    unchanged(decider, &was.seen)
 }
 
 /// That want of memory refused a request, and handed it back as it was; where its keys are derived it may

@@ -8,6 +8,7 @@ use crate::world::{PEER, configured, sent};
 use chpw_client::Sent;
 use chpw_frame::{Parts, split_request};
 use chpw_messages::Service;
+use chpw_rules::Config;
 use krb_der::{
     read_authenticator, read_enc_ap_rep_part, read_enc_krb_priv_part, read_enc_ticket_part,
     read_krb_error,
@@ -90,7 +91,12 @@ fn open(alloc: Global, ap: &[u8]) -> Result<ApOpened, Stop> {
 
 fn ap_opened(page: &mut Page) -> Result<(), Stop> {
     let sent = beside(sent(page.alloc(), 0))?;
-    let found = open(page.alloc(), parts_of(&sent)?.ap)?;
+    put_ap(page, &sent)
+}
+
+fn put_ap(page: &mut Page, sent: &Sent) -> Result<(), Stop> {
+    let parts = parts_of(sent)?;
+    let found = open(page.alloc(), parts.ap)?;
     put_opened(page, &found);
     Ok(())
 }
@@ -111,11 +117,18 @@ fn put_opened(page: &mut Page, found: &ApOpened) {
 
 /// The user-data of the KRB-PRIV.
 fn priv_opened(page: &mut Page) -> Result<(), Stop> {
-    let alloc = page.alloc();
-    let sent = beside(sent(alloc, 0))?;
-    let parts = parts_of(&sent)?;
-    let found = beside(open(alloc, parts.ap))?;
-    let private = opened(open_priv(alloc, &found, parts.tail))?;
+    let sent = beside(sent(page.alloc(), 0))?;
+    put_priv_of(page, &sent)
+}
+
+fn put_priv_of(page: &mut Page, sent: &Sent) -> Result<(), Stop> {
+    let parts = parts_of(sent)?;
+    let found = beside(open(page.alloc(), parts.ap))?;
+    put_priv(page, &found, parts.tail)
+}
+
+fn put_priv(page: &mut Page, found: &ApOpened, text: &[u8]) -> Result<(), Stop> {
+    let private = opened(open_priv(page.alloc(), found, text))?;
     page.hexadecimal(private.user_bytes.as_slice());
     Ok(())
 }
@@ -123,7 +136,11 @@ fn priv_opened(page: &mut Page) -> Result<(), Stop> {
 /// The realm of a service that is made.
 fn service(page: &mut Page) -> Result<(), Stop> {
     let config = configured(page.alloc())?;
-    let service = called(Service::of(page.alloc(), &config))?;
+    put_service(page, &config)
+}
+
+fn put_service(page: &mut Page, config: &Config) -> Result<(), Stop> {
+    let service = called(Service::of(page.alloc(), config))?;
     page.hexadecimal(chpw_answer::Messages::realm(&service));
     Ok(())
 }
