@@ -44,13 +44,15 @@ fn decided_beside<D: Decides>(
 ) -> Result<Verdict, Stop> {
     match decider.ask(opened, password) {
         Ok(verdict) => Ok(verdict),
-        Err(
-            Refused {
-                fault: DecideFault::Memory,
-                opened: _,
-            },
-        ) => Err(Stop::Beside),
-        Err(_) => Err(ANOTHER),
+        Err(refused) => Err(stop_beside(&refused)),
+    }
+}
+
+/// Why a line gives nothing whose set-up was refused.
+fn stop_beside(refused: &Refused) -> Stop {
+    match refused.fault {
+        DecideFault::Memory => Stop::Beside,
+        _ => ANOTHER,
     }
 }
 
@@ -115,9 +117,18 @@ fn verdict_of<D: Decides>(
     password: Option<&[u8]>,
 ) -> Result<(Fell, Verdict), Stop> {
     let was = looked_at(alloc, decider, &opened)?;
+    verdict_from(decider, opened, password, &was)
+}
+
+fn verdict_from<D: Decides>(
+    decider: &mut D,
+    opened: Opened,
+    password: Option<&[u8]>,
+    was: &Before,
+) -> Result<(Fell, Verdict), Stop> {
     match decider.ask(opened, password) {
         Ok(verdict) => Ok((Fell::Nowhere, verdict)),
-        Err(refused) => asked_again(decider, refused, password, &was),
+        Err(refused) => asked_again(decider, refused, password, was),
     }
 }
 
@@ -129,8 +140,10 @@ fn asked_again<D: Decides>(
     was: &Before,
 ) -> Result<(Fell, Verdict), Stop> {
     left_alone(decider, &refused, password, was)?;
-    let verdict = decided_beside(decider, refused.opened, password)?;
-    Ok((Fell::Call, verdict))
+    match decided_beside(decider, refused.opened, password) {
+        Ok(verdict) => Ok((Fell::Call, verdict)),
+        Err(stop) => Err(stop),
+    }
 }
 
 /// That a refusal has left all as it was, its request too.

@@ -44,9 +44,8 @@ pub fn told<R: Wait>(rt: &R, page: &mut Page, line: &str) -> Result<Fell, Stop> 
     let (call, number) = line.split_once(' ').unwrap_or((line, "0"));
     let before = number.parse().unwrap_or(0);
     let asked = Asked { call, before };
-    let sink = MemorySink::new(page.alloc(), JOURNAL)?;
     let unnamed = UnnamedDesk::of(table(page.alloc())?, 2);
-    at::<Brand, R>(rt, page, unnamed, sink, asked)
+    at::<Brand, R>(rt, page, unnamed, asked)
 }
 
 /// The call, and what the desk leaves at its close.
@@ -54,11 +53,11 @@ fn at<D: DeskName, R: Wait>(
     rt: &R,
     page: &mut Page,
     unnamed: UnnamedDesk,
-    sink: MemorySink,
     asked: Asked<'_>,
 ) -> Result<Fell, Stop>
     requires name { IsNamed unnamed D.name D.parts D.book D.root D.workers }
 {
+    let sink = MemorySink::new(page.alloc(), JOURNAL)?;
     match Desk::<D, MemorySink>::start(rt, page.alloc(), unnamed, sink) {
         Ok((desk, passes)) => with_desk(rt, page, desk, passes, asked),
         Err(_) => Err(wanting(asked.call == "start")),

@@ -8,10 +8,9 @@ use crate::world::{PEER, configured, sent};
 use chpw_client::Sent;
 use chpw_frame::{Parts, split_request};
 use chpw_messages::Service;
-use chpw_rules::Config;
 use krb_der::{
-    read_authenticator, read_enc_ap_rep_part, read_enc_krb_priv_part, read_enc_ticket_part,
-    read_krb_error,
+    EncTicketPart, read_authenticator, read_enc_ap_rep_part, read_enc_krb_priv_part,
+    read_enc_ticket_part, read_krb_error,
 };
 use krb_keys::Key;
 use krb_msgs::{ApOpened, ServiceKey, open_ap, open_priv};
@@ -56,9 +55,13 @@ fn ticket_of(alloc: Global, text: &[u8]) -> Result<Vec<u8>, Stop> {
 }
 
 fn ap_req_of(alloc: Global, ticket: &[u8], authenticator: &[u8]) -> Result<Vec<u8>, Stop> {
-    let authenticator = read_authenticator(alloc, authenticator)?;
     let part = read_enc_ticket_part(alloc, ticket)?;
-    ap_req(alloc, &part, SERVICE, &authenticator, &KEY)
+    ap_req_with(alloc, &part, authenticator)
+}
+
+fn ap_req_with(alloc: Global, part: &EncTicketPart, authenticator: &[u8]) -> Result<Vec<u8>, Stop> {
+    let authenticator = read_authenticator(alloc, authenticator)?;
+    ap_req(alloc, part, SERVICE, &authenticator, &KEY)
 }
 
 fn ap_rep_of(alloc: Global, text: &[u8]) -> Result<Vec<u8>, Stop> {
@@ -136,11 +139,7 @@ fn put_priv(page: &mut Page, found: &ApOpened, text: &[u8]) -> Result<(), Stop> 
 /// The realm of a service that is made.
 fn service(page: &mut Page) -> Result<(), Stop> {
     let config = configured(page.alloc())?;
-    put_service(page, &config)
-}
-
-fn put_service(page: &mut Page, config: &Config) -> Result<(), Stop> {
-    let service = called(Service::of(page.alloc(), config))?;
+    let service = called(Service::of(page.alloc(), &config))?;
     page.hexadecimal(chpw_answer::Messages::realm(&service));
     Ok(())
 }

@@ -77,20 +77,19 @@ fn told_of<R: Machine>(rt: &R, page: &mut Page, request: &Request) -> Result<Fel
 }
 
 fn told_at<R: Machine>(rt: &R, page: &mut Page, site: Site<'_>) -> Result<Fell, Stop> {
-    let sink = MemorySink::new(page.alloc(), JOURNAL)?;
     let unnamed = UnnamedDesk::of(table(page.alloc())?, 2);
-    at::<Brand, R>(rt, page, unnamed, sink, site)
+    at::<Brand, R>(rt, page, unnamed, site)
 }
 
 fn at<D: DeskName + Send + Sync, R: Machine>(
     rt: &R,
     page: &mut Page,
     unnamed: UnnamedDesk,
-    sink: MemorySink,
     site: Site<'_>,
 ) -> Result<Fell, Stop>
     requires name { IsNamed unnamed D.name D.parts D.book D.root D.workers }
 {
+    let sink = MemorySink::new(page.alloc(), JOURNAL)?;
     match Desk::<D, MemorySink>::start(rt, page.alloc(), unnamed, sink) {
         Ok((desk, passes)) => with_desk(rt, page, desk, passes, site),
         Err(_) => Err(Stop::Beside),

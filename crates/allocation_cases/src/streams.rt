@@ -167,8 +167,12 @@ fn change<D: Serves>(alloc: Global, decider: &mut D, request: &Request) -> Resul
 /// Serves a request whose reply has to say that it is accepted.
 fn accepted<D: Serves>(alloc: Global, decider: &mut D, request: &Request) -> Result<(), Stop> {
     let written = answer(alloc, decider, request)?;
+    is_accepted(alloc, &request.sent, &written)
+}
+
+fn is_accepted(alloc: Global, sent: &Sent, written: &[u8]) -> Result<(), Stop> {
     let mut line = Page::new(alloc);
-    beside(put_line(&mut line, &request.sent, reply_of(&written)))?;
+    beside(put_line(&mut line, sent, reply_of(written)))?;
     line.whole()?;
     if line.text() == CHANGED {
         Ok(())
