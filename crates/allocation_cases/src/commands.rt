@@ -136,10 +136,19 @@ fn drill(alloc: Global, script: &[u8], written: &mut Vec<u8>) -> Result<(), Stop
 fn commanded(page: &mut Page, text: &str) -> Result<(), Stop> {
     let words = words_of(page.alloc(), text)?;
     match command_of(page.alloc(), &words) {
-        Ok(invocation) => page.put(named(&invocation)),
-        Err(error) if error.kind() == ErrorKind::OutOfMemory => return Err(Stop::Call),
-        Err(error) => page.add(format!(in page.alloc(); "{:?}", error.kind())),
+        Ok(invocation) => {
+            page.put(named(&invocation));
+            Ok(())
+        }
+        Err(error) => put_kind(page, error.kind()),
     }
+}
+
+fn put_kind(page: &mut Page, kind: ErrorKind) -> Result<(), Stop> {
+    if kind == ErrorKind::OutOfMemory {
+        return Err(Stop::Call);
+    }
+    page.add(format!(in page.alloc(); "{kind:?}"));
     Ok(())
 }
 

@@ -44,13 +44,15 @@ fn decided_beside<D: Decides>(
 ) -> Result<Verdict, Stop> {
     match decider.ask(opened, password) {
         Ok(verdict) => Ok(verdict),
-        Err(
-            Refused {
-                fault: DecideFault::Memory,
-                opened: _,
-            },
-        ) => Err(Stop::Beside),
-        Err(_) => Err(ANOTHER),
+        Err(refused) => Err(stop_beside(&refused)),
+    }
+}
+
+/// Why a line gives nothing whose set-up was refused.
+fn stop_beside(refused: &Refused) -> Stop {
+    match refused.fault {
+        DecideFault::Memory => Stop::Beside,
+        _ => ANOTHER,
     }
 }
 
@@ -137,10 +139,22 @@ fn asked_again<D: Decides>(
     password: Option<&[u8]>,
     was: &Before,
 ) -> Result<(Fell, Verdict), Stop> {
-    handed_back(&refused, password, was)?;
-    unchanged(decider, &was.seen)?;
-    let verdict = decided_beside(decider, refused.opened, password)?;
-    Ok((Fell::Call, verdict))
+    left_alone(decider, &refused, password, was)?;
+    match decided_beside(decider, refused.opened, password) {
+        Ok(verdict) => Ok((Fell::Call, verdict)),
+        Err(stop) => Err(stop),
+    }
+}
+
+/// That a refusal has left all as it was, its request too.
+fn left_alone<D: Decides>(
+    decider: &mut D,
+    refused: &Refused,
+    password: Option<&[u8]>,
+    was: &Before,
+) -> Result<(), Stop> {
+    handed_back(refused, password, was)?;
+    unchanged(decider, &was.seen)
 }
 
 /// That want of memory refused a request, and handed it back as it was; where its keys are derived it may

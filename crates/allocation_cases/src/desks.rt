@@ -2,12 +2,11 @@
 ghost use Rattle.std.specs.Prelude.{◌≡◌};
 ghost use Rattle.chpw_book.specs.Starting.{IsNamed, workers_of};
 
-use crate::clock::NOW;
-use crate::deciding::{Decides, change_often, decided, decided_once, seen, unchanged};
+use crate::deciding::{change_often, decided_once, seen, unchanged};
 use crate::page::Page;
-use crate::seen::{put_history, put_kept, put_lookup, put_receipts};
+use crate::seen::{put_history, put_kept};
 use crate::stop::{Fell, Stop, wanting};
-use crate::streams::served;
+use crate::streams::{Serves, decided_or_served};
 use crate::world::{JOURNAL, known, table};
 use chpw_book::{AtDesk, CloseRefused, Closed, Desk, DeskName, Pass, RaiseFault, UnnamedDesk};
 use chpw_journal::MemorySink;
@@ -19,6 +18,18 @@ use std::sync::Wait;
 
 /// The length of a record of alice's.
 const RECORD: usize = 66;
+
+/// A worker at a desk, beside what it decides and serves.
+pub trait Works: Serves {
+    /// Writes its receipts.
+    fn show_receipts(&self, page: &mut Page);
+
+    /// Writes what it is shown of a principal.
+    fn look_up(&mut self, page: &mut Page, name: &Name) -> Result<(), Stop>;
+
+    /// Raises the count from 4 to 8.
+    fn raise(&mut self) -> Result<RaiseVerdict, RaiseFault>;
+}
 
 /// What is asked of a desk: a call, after so many changes.
 #[derive(Clone, Copy, Drop)]
@@ -33,8 +44,8 @@ pub fn told<R: Wait>(rt: &R, page: &mut Page, line: &str) -> Result<Fell, Stop> 
     let (call, number) = line.split_once(' ').unwrap_or((line, "0"));
     let before = number.parse().unwrap_or(0);
     let asked = Asked { call, before };
-    let table = table(page.alloc())?;
-    at::<Brand, R>(rt, page, UnnamedDesk::of(table, 2), asked)
+    let unnamed = UnnamedDesk::of(table(page.alloc())?, 2);
+    at::<Brand, R>(rt, page, unnamed, asked)
 }
 
 /// The call, and what the desk leaves at its close.
@@ -100,78 +111,61 @@ fn with_left(
     Ok(fell)
 }
 
-fn with_worker<D: DeskName, R: Wait>(
-    page: &mut Page,
-    worker: &mut AtDesk<'_, D, MemorySink, R>,
-    asked: Asked<'_>,
-) -> Result<Fell, Stop> {
+fn with_worker<W: Works>(page: &mut Page, worker: &mut W, asked: Asked<'_>) -> Result<Fell, Stop> {
     let before = asked.before;
     match asked.call {
         "start" => {
             worker.show(page);
             Ok(Fell::Nowhere)
         }
-        "decide" => decided(page, worker, before, false),
-        "derive" => decided(page, worker, before, true),
         "leave" => decided_once(page, worker, before),
-        "serve" => served(page, worker, before),
         "lookup" => looked_up(page, worker, before),
         "raise" => raised(page, worker, before),
-        _ => Err(Stop::Wrong("no such call")),
+        call => decided_or_served(page, worker, call, before),
     }
 }
 
 /// What is shown of alice.
-fn looked_up<D: DeskName, R: Wait>(
-    page: &mut Page,
-    worker: &mut AtDesk<'_, D, MemorySink, R>,
-    before: u32,
-) -> Result<Fell, Stop> {
+fn looked_up<W: Works>(page: &mut Page, worker: &mut W, before: u32) -> Result<Fell, Stop> {
     let alloc = page.alloc();
     change_often(alloc, worker, before)?;
+    let was = receipts_of(alloc, worker)?;
     let alice = known(alloc, "alice")?;
-    let was = receipts_of(alloc, worker.pass)?;
-    if let Ok(found) = worker.desk.lookup(worker.pass, &alice) {
-        put_lookup(page, &found);
-        return Ok(Fell::Nowhere);
+    match worker.look_up(page, &alice) {
+        Ok(()) => Ok(Fell::Nowhere),
+        Err(_) => looked_up_again(page, worker, &alice, &was),
     }
-    looked_up_again(page, worker, &alice, &was)
 }
 
 /// The same after a refusal, which has left the receipts as they were.
-fn looked_up_again<D: DeskName, R: Wait>(
+fn looked_up_again<W: Works>(
     page: &mut Page,
-    worker: &mut AtDesk<'_, D, MemorySink, R>,
+    worker: &mut W,
     name: &Name,
     was: &Page,
 ) -> Result<Fell, Stop> {
-    let now = receipts_of(page.alloc(), worker.pass)?;
+    let now = receipts_of(page.alloc(), worker)?;
     if now.text() != was.text() {
         return Err(Stop::Wrong("the pass isn't as it was"));
     }
-    match worker.desk.lookup(worker.pass, name) {
-        Ok(found) => put_lookup(page, &found),
-        Err(_) => return Err(Stop::Wrong("not entered again")),
+    match worker.look_up(page, name) {
+        Ok(()) => Ok(Fell::Call),
+        Err(_) => Err(Stop::Wrong("not entered again")),
     }
-    Ok(Fell::Call)
 }
 
-fn receipts_of<D: DeskName>(alloc: Global, pass: &Pass<D>) -> Result<Page, Stop> {
+fn receipts_of<W: Works>(alloc: Global, worker: &W) -> Result<Page, Stop> {
     let mut page = Page::new(alloc);
-    put_receipts(&mut page, pass.receipts());
+    worker.show_receipts(&mut page);
     page.whole()?;
     Ok(page)
 }
 
-/// What comes of a raise from 4 to 8.
-fn raised<D: DeskName, R: Wait>(
-    page: &mut Page,
-    worker: &mut AtDesk<'_, D, MemorySink, R>,
-    before: u32,
-) -> Result<Fell, Stop> {
+/// What comes of a raise.
+fn raised<W: Works>(page: &mut Page, worker: &mut W, before: u32) -> Result<Fell, Stop> {
     change_often(page.alloc(), worker, before)?;
     let was = seen(page.alloc(), worker)?;
-    match worker.desk.raise(worker.rt, worker.pass, NOW, 8) {
+    match worker.raise() {
         Ok(verdict) => put_raise(page, worker, verdict),
         Err(RaiseFault::Memory) => return raised_again(page, worker, &was),
         Err(_) => return Err(Stop::Wrong("another refusal")),
@@ -180,24 +174,16 @@ fn raised<D: DeskName, R: Wait>(
 }
 
 /// The same after a refusal, which has left the pass as it was.
-fn raised_again<D: DeskName, R: Wait>(
-    page: &mut Page,
-    worker: &mut AtDesk<'_, D, MemorySink, R>,
-    was: &Page,
-) -> Result<Fell, Stop> {
+fn raised_again<W: Works>(page: &mut Page, worker: &mut W, was: &Page) -> Result<Fell, Stop> {
     unchanged(worker, was)?;
-    match worker.desk.raise(worker.rt, worker.pass, NOW, 8) {
+    match worker.raise() {
         Ok(verdict) => put_raise(page, worker, verdict),
         Err(_) => return Err(Stop::Wrong("refused again")),
     }
     Ok(Fell::Call)
 }
 
-fn put_raise<D: DeskName, R: Wait>(
-    page: &mut Page,
-    worker: &mut AtDesk<'_, D, MemorySink, R>,
-    verdict: RaiseVerdict,
-) {
+fn put_raise<W: Works>(page: &mut Page, worker: &mut W, verdict: RaiseVerdict) {
     page.put(verdict.text());
     page.put("; ");
     worker.show(page);

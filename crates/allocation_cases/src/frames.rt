@@ -13,17 +13,21 @@ const SHORT: usize = 10_000;
 
 /// `join_.. HEX HEX`, a message of these parts; `read_.. HEX`.
 pub fn told(page: &mut Page, line: &str) -> Result<(), Stop> {
-    let alloc = page.alloc();
     let (call, text) = line.split_once(' ').unwrap_or((line, ""));
     let (first, second) = text.split_once(' ').unwrap_or((text, ""));
-    let (first, second) = (bytes_of(alloc, first)?, bytes_of(alloc, second)?);
-    let made = match call {
-        "read_change_data" => changed(alloc, &first),
-        "read_tcp" => received(alloc, &first),
-        _ => joined(alloc, call, &first, &second),
-    };
-    page.hexadecimal(&made?);
+    let first = bytes_of(page.alloc(), first)?;
+    let second = bytes_of(page.alloc(), second)?;
+    let made = made(page.alloc(), call, &first, &second)?;
+    page.hexadecimal(&made);
     Ok(())
+}
+
+fn made(alloc: Global, call: &str, first: &[u8], second: &[u8]) -> Result<Vec<u8>, Stop> {
+    match call {
+        "read_change_data" => changed(alloc, first),
+        "read_tcp" => received(alloc, first),
+        _ => joined(alloc, call, first, second),
+    }
 }
 
 fn joined(alloc: Global, call: &str, ap: &[u8], tail: &[u8]) -> Result<Vec<u8>, Stop> {

@@ -77,18 +77,28 @@ where
 }
 
 fn print_line<R: Machine + Print>(rt: &R, line: &str) -> io::Result<()> {
-    let mut out = io::writer(rt);
     if line.is_empty() || line.starts_with('#') {
-        return writeln!(out, "{line}");
+        return println!(rt; "{line}");
     }
     let call = line.strip_prefix("where ");
     let mut page = Page::new(rt.alloc());
     let said = twice(rt, &mut page, call.unwrap_or(line));
-    if let (Some(_), Ok(fell)) = (call, said) {
+    print_said(rt, page.text(), said, call.is_some())
+}
+
+/// Prints what a line gives, and where the refused allocation fell if that is asked for.
+fn print_said(
+    rt: &impl Print,
+    text: &str,
+    said: Result<Fell, Stop>,
+    asks_where: bool,
+) -> io::Result<()> {
+    let mut out = io::writer(rt);
+    if let (true, Ok(fell)) = (asks_where, said) {
         write!(out, "[{}] ", fell.text())?;
     }
     match said {
-        Ok(_) => writeln!(out, "{}", page.text()),
+        Ok(_) => writeln!(out, "{text}"),
         Err(Stop::Wrong(what)) => writeln!(out, "wrong: {what}"),
         Err(_) => writeln!(out, "wrong: memory wanting twice"),
     }

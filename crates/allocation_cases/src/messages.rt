@@ -9,8 +9,8 @@ use chpw_client::Sent;
 use chpw_frame::{Parts, split_request};
 use chpw_messages::Service;
 use krb_der::{
-    read_authenticator, read_enc_ap_rep_part, read_enc_krb_priv_part, read_enc_ticket_part,
-    read_krb_error,
+    EncTicketPart, read_authenticator, read_enc_ap_rep_part, read_enc_krb_priv_part,
+    read_enc_ticket_part, read_krb_error,
 };
 use krb_keys::Key;
 use krb_msgs::{ApOpened, ServiceKey, open_ap, open_priv};
@@ -55,9 +55,13 @@ fn ticket_of(alloc: Global, text: &[u8]) -> Result<Vec<u8>, Stop> {
 }
 
 fn ap_req_of(alloc: Global, ticket: &[u8], authenticator: &[u8]) -> Result<Vec<u8>, Stop> {
-    let authenticator = read_authenticator(alloc, authenticator)?;
     let part = read_enc_ticket_part(alloc, ticket)?;
-    ap_req(alloc, &part, SERVICE, &authenticator, &KEY)
+    ap_req_with(alloc, &part, authenticator)
+}
+
+fn ap_req_with(alloc: Global, part: &EncTicketPart, authenticator: &[u8]) -> Result<Vec<u8>, Stop> {
+    let authenticator = read_authenticator(alloc, authenticator)?;
+    ap_req(alloc, part, SERVICE, &authenticator, &KEY)
 }
 
 fn ap_rep_of(alloc: Global, text: &[u8]) -> Result<Vec<u8>, Stop> {
@@ -90,7 +94,12 @@ fn open(alloc: Global, ap: &[u8]) -> Result<ApOpened, Stop> {
 
 fn ap_opened(page: &mut Page) -> Result<(), Stop> {
     let sent = beside(sent(page.alloc(), 0))?;
-    let found = open(page.alloc(), parts_of(&sent)?.ap)?;
+    put_ap(page, &sent)
+}
+
+fn put_ap(page: &mut Page, sent: &Sent) -> Result<(), Stop> {
+    let parts = parts_of(sent)?;
+    let found = open(page.alloc(), parts.ap)?;
     put_opened(page, &found);
     Ok(())
 }
@@ -111,11 +120,18 @@ fn put_opened(page: &mut Page, found: &ApOpened) {
 
 /// The user-data of the KRB-PRIV.
 fn priv_opened(page: &mut Page) -> Result<(), Stop> {
-    let alloc = page.alloc();
-    let sent = beside(sent(alloc, 0))?;
-    let parts = parts_of(&sent)?;
-    let found = beside(open(alloc, parts.ap))?;
-    let private = opened(open_priv(alloc, &found, parts.tail))?;
+    let sent = beside(sent(page.alloc(), 0))?;
+    put_priv_of(page, &sent)
+}
+
+fn put_priv_of(page: &mut Page, sent: &Sent) -> Result<(), Stop> {
+    let parts = parts_of(sent)?;
+    let found = beside(open(page.alloc(), parts.ap))?;
+    put_priv(page, &found, parts.tail)
+}
+
+fn put_priv(page: &mut Page, found: &ApOpened, text: &[u8]) -> Result<(), Stop> {
+    let private = opened(open_priv(page.alloc(), found, text))?;
     page.hexadecimal(private.user_bytes.as_slice());
     Ok(())
 }

@@ -66,7 +66,6 @@ pub fn told<R: Machine>(rt: &R, page: &mut Page) -> Result<Fell, Stop> {
 }
 
 fn told_of<R: Machine>(rt: &R, page: &mut Page, request: &Request) -> Result<Fell, Stop> {
-    let unnamed = UnnamedDesk::of(table(page.alloc())?, 2);
     let listener = TcpListener::bind(rt, ("127.0.0.1", 0u16))?;
     let site = Site {
         listener: &listener,
@@ -74,6 +73,11 @@ fn told_of<R: Machine>(rt: &R, page: &mut Page, request: &Request) -> Result<Fel
         service: &request.service,
         stream: &request.stream,
     };
+    told_at(rt, page, site)
+}
+
+fn told_at<R: Machine>(rt: &R, page: &mut Page, site: Site<'_>) -> Result<Fell, Stop> {
+    let unnamed = UnnamedDesk::of(table(page.alloc())?, 2);
     at::<Brand, R>(rt, page, unnamed, site)
 }
 
@@ -173,11 +177,17 @@ fn asked<R: Machine>(rt: &R, site: Site<'_>) -> u32 {
 /// Sends the request, and reads what comes: how many bytes.
 fn exchange<R: Machine>(rt: &R, site: Site<'_>) -> io::Result<usize> {
     let stream = connect(rt, site.port)?;
+    exchange_over(&stream, site.stream)
+}
+
+fn exchange_over(stream: &TcpStream, bytes: &[u8]) -> io::Result<usize> {
     stream.set_read_timeout(Some(Duration::from_secs(PATIENCE)))?;
-    (&stream).write_all(site.stream)?;
+    let mut writer = stream;
+    writer.write_all(bytes)?;
     stream.shutdown(Shutdown::Write)?;
     let mut reply = [0; 1024];
-    (&stream).read(&mut reply)
+    let mut reader = stream;
+    reader.read(&mut reply)
 }
 
 /// A connection, tried again where the first try fails.

@@ -134,11 +134,15 @@ pub fn bytes_of(alloc: Global, text: &str) -> Result<Vec<u8>, Stop> {
 
 /// `RECORD HEX`: the text of the record that was read.
 pub fn told(page: &mut Page, reads: bool, line: &str) -> Result<(), Stop> {
-    let alloc = page.alloc();
     let (record, text) = line.split_once(' ').unwrap_or((line, ""));
-    let bytes = bytes_of(alloc, text)?;
-    let text = bytes.as_slice();
-    let made = match record {
+    let bytes = bytes_of(page.alloc(), text)?;
+    let made = made(page.alloc(), reads, record, &bytes)?;
+    page.hexadecimal(&made);
+    Ok(())
+}
+
+fn made(alloc: Global, reads: bool, record: &str, text: &[u8]) -> Result<Vec<u8>, Stop> {
+    match record {
         "principal_name" => principal_name(alloc, reads, text),
         "encrypted_data" => encrypted_data(alloc, reads, text),
         "encryption_key" => encryption_key(alloc, reads, text),
@@ -148,9 +152,7 @@ pub fn told(page: &mut Page, reads: bool, line: &str) -> Result<(), Stop> {
         "authorization_data" => authorization_data(alloc, reads, text),
         "change_passwd_data" => change_passwd_data(alloc, reads, text),
         _ => of_message(alloc, reads, record, text),
-    };
-    page.hexadecimal(&made?);
-    Ok(())
+    }
 }
 
 /// The same, of messages and their sealed parts.

@@ -1,7 +1,7 @@
 //! Streams, and the same again where memory was wanting.
 
 use crate::client::put_line;
-use crate::deciding::{Decides, change_often, seen, unchanged};
+use crate::deciding::{Decides, change_often, decided, seen, unchanged};
 use crate::page::Page;
 use crate::stop::{Fell, Stop, beside};
 use crate::tables::started;
@@ -39,9 +39,7 @@ pub struct Request {
 
 impl Request {
     pub fn of(alloc: Global, sent: Sent) -> Result<Request, Stop> {
-        let stream = stream_of(alloc, sent.message.as_slice())?;
-        let config = configured(alloc)?;
-        let service = Service::of(alloc, &config)?;
+        let (stream, service) = served_with(alloc, sent.message.as_slice())?;
         Ok(Request {
             sent,
             stream,
@@ -53,6 +51,19 @@ impl Request {
     pub fn new(alloc: Global, micros: u32) -> Result<Request, Stop> {
         Request::of(alloc, beside(sent(alloc, micros))?)
     }
+}
+
+/// The stream of a message, and the service that it is for.
+fn served_with(alloc: Global, message: &[u8]) -> Result<(Vec<u8>, Service), Stop> {
+    let stream = stream_of(alloc, message)?;
+    let service = service(alloc)?;
+    Ok((stream, service))
+}
+
+/// The realm's service.
+fn service(alloc: Global) -> Result<Service, Stop> {
+    let config = configured(alloc)?;
+    Ok(Service::of(alloc, &config)?)
 }
 
 /// A message behind its length.
@@ -101,8 +112,23 @@ fn first_answer(alloc: Global, request: &Request) -> Result<Vec<u8>, Stop> {
     answer(alloc, &mut alone, request)
 }
 
+/// `decide`, `derive` and `serve`, after so many changes.
+pub fn decided_or_served<D: Serves>(
+    page: &mut Page,
+    decider: &mut D,
+    call: &str,
+    before: u32,
+) -> Result<Fell, Stop> {
+    match call {
+        "decide" => decided(page, decider, before, false),
+        "derive" => decided(page, decider, before, true),
+        "serve" => served(page, decider, before),
+        _ => Err(Stop::Wrong("no such call")),
+    }
+}
+
 /// A request served after so many others, and then its bytes once more.
-pub fn served<D: Serves>(page: &mut Page, decider: &mut D, before: u32) -> Result<Fell, Stop> {
+fn served<D: Serves>(page: &mut Page, decider: &mut D, before: u32) -> Result<Fell, Stop> {
     change_often(page.alloc(), decider, before)?;
     let request = Request::new(page.alloc(), before)?;
     served_twice(page, decider, &request)
@@ -141,8 +167,12 @@ fn change<D: Serves>(alloc: Global, decider: &mut D, request: &Request) -> Resul
 /// Serves a request whose reply has to say that it is accepted.
 fn accepted<D: Serves>(alloc: Global, decider: &mut D, request: &Request) -> Result<(), Stop> {
     let written = answer(alloc, decider, request)?;
+    is_accepted(alloc, &request.sent, &written)
+}
+
+fn is_accepted(alloc: Global, sent: &Sent, written: &[u8]) -> Result<(), Stop> {
     let mut line = Page::new(alloc);
-    beside(put_line(&mut line, &request.sent, reply_of(&written)))?;
+    beside(put_line(&mut line, sent, reply_of(written)))?;
     line.whole()?;
     if line.text() == CHANGED {
         Ok(())

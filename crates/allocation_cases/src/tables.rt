@@ -6,7 +6,7 @@ use crate::deciding::decided;
 use crate::page::Page;
 use crate::seen::{put_history, put_table};
 use crate::stop::{Fell, Stop, beside, called};
-use crate::streams::served;
+use crate::streams::decided_or_served;
 use crate::workers::Bare;
 use crate::world::{JOURNAL, complete, configured, known, table};
 use chpw_decider::Alone;
@@ -21,15 +21,16 @@ use std::slice;
 pub fn told(page: &mut Page, line: &str) -> Result<Fell, Stop> {
     let (call, number) = line.split_once(' ').unwrap_or((line, "0"));
     let before = number.parse().unwrap_or(0);
-    let alloc = page.alloc();
     match call {
         "table" => decided_by_table(page, before),
         "add" => added(page),
-        "serve" => served(page, &mut started(alloc)?, before),
-        "derive" => decided(page, &mut started(alloc)?, before, true),
-        "decide" => decided(page, &mut started(alloc)?, before, false),
-        _ => Err(Stop::Wrong("no such call")),
+        _ => by_alone(page, call, before),
     }
+}
+
+fn by_alone(page: &mut Page, call: &str, before: u32) -> Result<Fell, Stop> {
+    let mut alone = started(page.alloc())?;
+    decided_or_served(page, &mut alone, call, before)
 }
 
 /// A table that one thread has alone, with no event yet.
@@ -40,17 +41,26 @@ pub fn started(alloc: Global) -> Result<Alone<MemorySink>, Stop> {
 
 /// The verdict of a request over a table, which hands the request back.
 fn decided_by_table(page: &mut Page, before: u32) -> Result<Fell, Stop> {
-    let alloc = page.alloc();
-    let mut bare = Bare {
+    let mut bare = bare(page.alloc())?;
+    handed_back(page, &mut bare, before)
+}
+
+fn bare(alloc: Global) -> Result<Bare, Stop> {
+    let sink = MemorySink::new(alloc, JOURNAL)?;
+    Ok(Bare {
         table: table(alloc)?,
-        sink: MemorySink::new(alloc, JOURNAL)?,
+        sink,
         last: None,
-    };
-    let fell = decided(page, &mut bare, before, false)?;
-    let asked = complete(alloc, before)?;
-    match &bare.last {
-        Some(opened) if opened.is_same(&asked) => Ok(fell),
-        _ => Err(Stop::Wrong("the request isn't handed back")),
+    })
+}
+
+fn handed_back(page: &mut Page, bare: &mut Bare, before: u32) -> Result<Fell, Stop> {
+    let fell = decided(page, bare, before, false)?;
+    let asked = complete(page.alloc(), before)?;
+    if bare.handed_back(&asked) {
+        Ok(fell)
+    } else {
+        Err(Stop::Wrong("the request isn't handed back"))
     }
 }
 
@@ -179,9 +189,14 @@ fn recorded(page: &mut Page) -> Result<(), Stop> {
 
 /// A table with so many records of alice's.
 fn restored(page: &mut Page, records: u32) -> Result<(), Stop> {
+    let journal = journal(page.alloc(), records)?;
+    put_restored(page, &journal)
+}
+
+fn put_restored(page: &mut Page, journal: &[u8]) -> Result<(), Stop> {
     let alloc = page.alloc();
-    let journal = journal(alloc, records)?;
-    match restore(alloc, table(alloc)?, &mut journal.as_slice()) {
+    let mut reader = journal;
+    match restore(alloc, table(alloc)?, &mut reader) {
         Ok(restored) => {
             page.put("records ");
             page.add(restored.records.to_string(alloc));
@@ -212,12 +227,17 @@ fn sink(page: &mut Page) -> Result<(), Stop> {
 /// An entry, of which a copy is to be the same.
 fn cloned(page: &mut Page) -> Result<(), Stop> {
     let entry = entry(page.alloc())?;
+    put_copy(page, &entry)
+}
+
+fn put_copy(page: &mut Page, entry: &Entry) -> Result<(), Stop> {
     let copy = called(entry.clone())?;
-    if !copy.is_same(&entry) {
-        return Err(Stop::Wrong("a copy that differs"));
+    if copy.is_same(entry) {
+        put_history(page, slice::from_ref(&copy));
+        Ok(())
+    } else {
+        Err(Stop::Wrong("a copy that differs"))
     }
-    put_history(page, slice::from_ref(&copy));
-    Ok(())
 }
 
 fn entry(alloc: Global) -> Result<Entry, Stop> {

@@ -2,17 +2,20 @@
 
 use crate::clock::{Counting, NOW, Standing};
 use crate::deciding::Decides;
+use crate::desks::Works;
 use crate::page::Page;
-use crate::seen::{put_alone, put_kept, put_pass};
+use crate::seen::{put_alone, put_kept, put_lookup, put_pass, put_receipts};
+use crate::stop::Stop;
 use crate::streams::Serves;
 use crate::world::PEER;
 use chpw_answer::NoGate;
-use chpw_book::{AtDesk, DeskName};
+use chpw_book::{AtDesk, DeskName, RaiseFault};
 use chpw_decider::{Alone, Decider};
 use chpw_journal::MemorySink;
 use chpw_messages::Service;
+use chpw_rules::Name;
 use chpw_serve::{Ended, serve_alone, serve_stream};
-use chpw_table::{DecideFault, JournalSink, Opened, Refused, Table, Verdict};
+use chpw_table::{DecideFault, JournalSink, Opened, RaiseVerdict, Refused, Table, Verdict};
 use std::alloc::Global;
 use std::sync::Wait;
 
@@ -22,6 +25,16 @@ pub struct Bare {
     pub table: Table,
     pub sink: MemorySink,
     pub last: Option<Opened>,
+}
+
+impl Bare {
+    /// Whether its last decision handed this request back.
+    pub fn handed_back(&self, asked: &Opened) -> bool {
+        match &self.last {
+            Some(opened) => opened.is_same(asked),
+            None => false,
+        }
+    }
 }
 
 /// Its requests have their keys.
@@ -120,5 +133,25 @@ impl<D: DeskName, R: Wait> Serves for AtDesk<'_, D, MemorySink, R> {
             clock,
             words,
         )
+    }
+}
+
+impl<D: DeskName, R: Wait> Works for AtDesk<'_, D, MemorySink, R> {
+    fn show_receipts(&self, page: &mut Page) {
+        put_receipts(page, self.pass.receipts());
+    }
+
+    fn look_up(&mut self, page: &mut Page, name: &Name) -> Result<(), Stop> {
+        match self.desk.lookup(self.pass, name) {
+            Ok(found) => {
+                put_lookup(page, &found);
+                Ok(())
+            }
+            Err(_) => Err(Stop::Call),
+        }
+    }
+
+    fn raise(&mut self) -> Result<RaiseVerdict, RaiseFault> {
+        self.desk.raise(self.rt, self.pass, NOW, 8)
     }
 }

@@ -126,13 +126,18 @@ fn opened_of(crealm: Items<u8>, client: Name, digest: Digest, cusec: u32) -> Ope
 
 /// The same, with the keys of its password under the one count that there is.
 pub fn complete(alloc: Global, cusec: u32) -> Result<Opened, Stop> {
+    let mut opened = asked(alloc, cusec)?;
+    derive(alloc, &mut opened, cusec)?;
+    Ok(opened)
+}
+
+fn derive(alloc: Global, opened: &mut Opened, cusec: u32) -> Result<(), Stop> {
     let mut counts = Counts::new();
     counts.push(4);
     let password = password(alloc, cusec)?;
-    let mut opened = asked(alloc, cusec)?;
     let salt = opened.salt()?;
     opened.complete(password.as_str().as_bytes(), &salt, &counts)?;
-    Ok(opened)
+    Ok(())
 }
 
 /// The password of the request with these microseconds.

@@ -23,42 +23,67 @@ fn sealed(alloc: Global, kvno: Option<u32>, cipher: &[u8]) -> Result<EncryptedDa
     })
 }
 
-fn request(alloc: Global) -> Result<ApReq, AllocError> {
+fn service_name(alloc: Global) -> Result<PrincipalName, AllocError> {
     let mut components = Vec::new(alloc);
     components.push(bytes(alloc, b"kadmin")?)?;
     components.push(bytes(alloc, b"changepw")?)?;
+    Ok(PrincipalName {
+        name_type: NT_SRV_INST,
+        name_string: SequenceOf::of(components),
+    })
+}
+
+fn ticket(alloc: Global) -> Result<Ticket, AllocError> {
+    let realm = bytes(alloc, b"EXAMPLE.COM")?;
+    let sname = service_name(alloc)?;
+    Ok(Ticket {
+        tkt_vno: PVNO,
+        realm,
+        sname,
+        enc_part: sealed(alloc, Some(3), &[0x5a; 330])?,
+    })
+}
+
+fn request(alloc: Global) -> Result<ApReq, AllocError> {
+    let authenticator = sealed(alloc, None, &[0xa5; 240])?;
     Ok(ApReq {
         pvno: PVNO,
         msg_type: KRB_AP_REQ,
         ap_options: KerberosFlags(0x2000_0000),
-        ticket: Ticket {
-            tkt_vno: PVNO,
-            realm: bytes(alloc, b"EXAMPLE.COM")?,
-            sname: PrincipalName {
-                name_type: NT_SRV_INST,
-                name_string: SequenceOf::of(components),
-            },
-            enc_part: sealed(alloc, Some(3), &[0x5a; 330])?,
-        },
-        authenticator: sealed(alloc, None, &[0xa5; 240])?,
+        ticket: ticket(alloc)?,
+        authenticator,
     })
 }
 
 // The bytes of the text that was read or written `count` times.
 fn text_len(alloc: Global, writes: bool, count: u32) -> Result<usize, ReadError> {
     let request = request(alloc)?;
-    if !fits(&request) {
+    text_len_of(alloc, &request, writes, count)
+}
+
+fn text_len_of(
+    alloc: Global,
+    request: &ApReq,
+    writes: bool,
+    count: u32,
+) -> Result<usize, ReadError> {
+    if !fits(request) {
         return Ok(0);
     }
-    let mut text = write_ap_req(alloc, &request)?;
+    let mut text = write_ap_req(alloc, request)?;
     for _ in 0..count {
         if writes {
-            text = write_ap_req(alloc, &request)?;
+            text = write_ap_req(alloc, request)?;
         } else {
-            read_ap_req(alloc, &text)?;
+            read(alloc, &text)?;
         }
     }
     Ok(text.len())
+}
+
+fn read(alloc: Global, text: &[u8]) -> Result<(), ReadError> {
+    read_ap_req(alloc, text)?;
+    Ok(())
 }
 
 /// Does it `count` times.

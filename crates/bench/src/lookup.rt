@@ -106,10 +106,10 @@ where
         hold,
         sleep: wanted.sleep(),
     };
-    let Ok((desk, passes)) = Desk::<D, _>::start(rt, rt.alloc(), unnamed, sink) else {
+    let Ok((desk, mut passes)) = Desk::<D, _>::start(rt, rt.alloc(), unnamed, sink) else {
         return Err(io::Error::from(io::ErrorKind::OutOfMemory));
     };
-    let figures = figures(rt, rt.alloc(), &desk, passes, hold, wanted);
+    let figures = figures(rt, rt.alloc(), &desk, &mut passes, hold, wanted);
     desk.abandon(rt);
     let [alone, four, beside] = figures?;
     let unit = if wanted.counts { "found" } else { "ns" };
@@ -121,7 +121,7 @@ fn figures<D, S, R>(
     rt: &R,
     alloc: Global,
     desk: &Desk<D, S>,
-    mut passes: Vec<Pass<D>>,
+    passes: &mut [Pass<D>],
     hold: &Hold,
     wanted: Wanted,
 ) -> io::Result<[u128; 3]>
@@ -134,16 +134,34 @@ where
         name: client(alloc, wanted.principals / 2)?,
         times: wanted.times(),
     };
-    let opened = first_change(alloc)?;
-    let four = look_together(rt, desk, &mut passes, &sought)?;
-    let (Some(mut pass), Some(mut other)) = (passes.pop(), passes.pop()) else {
-        return Err(io::Error::from(io::ErrorKind::Other));
-    };
-    let alone = look_alone(rt, desk, &mut pass, &sought)?;
-    let beside = look_beside(rt, desk, &mut pass, &sought, &mut other, opened, hold)?;
+    let [alone, four, beside] = looked(rt, alloc, desk, passes, hold, &sought)?;
     Ok([
         wanted.figure(alone),
         wanted.figure(four),
         wanted.figure(beside),
     ])
+}
+
+// The lookups of the three.
+fn looked<D, S, R>(
+    rt: &R,
+    alloc: Global,
+    desk: &Desk<D, S>,
+    passes: &mut [Pass<D>],
+    hold: &Hold,
+    sought: &Sought,
+) -> io::Result<[Looked; 3]>
+where
+    D: DeskName + Send + Sync,
+    S: JournalSink + Send,
+    R: Threads + Wait + Clock + Sync,
+{
+    let four = look_together(rt, desk, passes, sought)?;
+    let [pass, other, ..] = passes else {
+        return Err(io::Error::from(io::ErrorKind::Other));
+    };
+    let alone = look_alone(rt, desk, pass, sought)?;
+    let opened = first_change(alloc)?;
+    let beside = look_beside(rt, desk, pass, sought, other, opened, hold)?;
+    Ok([alone, four, beside])
 }

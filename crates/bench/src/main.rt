@@ -18,6 +18,7 @@ mod stream;
 use reading::{Given, read_given};
 use std::env;
 use std::io::{self, BufReader};
+use std::net::{Net, TcpListener, TcpStream};
 use std::rt::Env;
 use std::sync::Wait;
 use std::thread::Threads;
@@ -58,6 +59,13 @@ where
     R: Input + Threads + Wait + Clock + Print + AllocGlobal + Sync,
 {
     let given = read_stdin(rt, 5)?;
+    once_of(rt, &given)
+}
+
+fn once_of<R>(rt: &R, given: &Given) -> io::Result<()>
+where
+    R: Threads + Wait + Clock + Print + AllocGlobal + Sync,
+{
     keys::measure(rt, "both", 1)?;
     der::measure(rt, "read", 1)?;
     open::measure(rt, &given.messages, 1)?;
@@ -72,24 +80,45 @@ fn read_stdin<R: Input + AllocGlobal>(rt: &R, count: u32) -> io::Result<Given> {
 }
 
 fn main(rt: HostRuntime) -> io::Result<()> {
-    let Some(task) = task_of(&rt)? else {
-        return once(&rt);
-    };
+    match task_of(&rt)? {
+        Some(task) => measure(&rt, &task),
+        None => once(&rt),
+    }
+}
+
+fn measure<R>(rt: &R, task: &Task) -> io::Result<()>
+where
+    R: Input
+        + Threads
+        + Wait
+        + Clock
+        + Print
+        + AllocGlobal
+        + Sync
+        + Net<Listener = TcpListener, Stream = TcpStream>,
+{
     let (what, count) = (task.what.as_str(), task.count);
     match task.part.as_str() {
-        "keys" => keys::measure(&rt, what, count.max(1)),
-        "der" => der::measure(&rt, what, count),
-        "open" => open::measure(&rt, &read_stdin(&rt, 2)?.messages, count),
-        "stream" => {
-            let given = read_stdin(&rt, count)?;
-            stream::measure(&rt, what, given.config.as_str(), &given.messages)
-        }
-        "lookup" => lookup::measure(&rt, what, u16::try_from(count).map_err(|_| no_such())?),
+        "keys" => keys::measure(rt, what, count.max(1)),
+        "der" => der::measure(rt, what, count),
+        "open" => opened(rt, count),
+        "stream" => streamed(rt, what, count),
+        "lookup" => lookup::measure(rt, what, u16::try_from(count).map_err(|_| no_such())?),
         "serve" => {
             let port = what.parse().map_err(|_| no_such())?;
             let clients = u8::try_from(count).map_err(|_| no_such())?;
-            serve::measure(&rt, port, clients, task.further)
+            serve::measure(rt, port, clients, task.further)
         }
         _ => Err(no_such()),
     }
+}
+
+fn opened<R: Input + Print + AllocGlobal>(rt: &R, count: u32) -> io::Result<()> {
+    let given = read_stdin(rt, 2)?;
+    open::measure(rt, &given.messages, count)
+}
+
+fn streamed<R: Input + Print + AllocGlobal>(rt: &R, what: &str, count: u32) -> io::Result<()> {
+    let given = read_stdin(rt, count)?;
+    stream::measure(rt, what, given.config.as_str(), &given.messages)
 }

@@ -21,17 +21,22 @@ pub fn read_given<R: BufRead + Drop>(alloc: Global, reader: R, count: usize) -> 
     };
     for line in reader.lines(alloc) {
         let line = line?;
-        match line.as_str().strip_prefix("| ") {
-            Some(text) => {
-                given.config.push_str(text)?;
-                given.config.push_str("\n")?;
-            }
-            None if given.messages.len() < count => {
-                let message = decode(alloc, line.as_str()).map_err(|_| no_such())?;
-                given.messages.push(message)?;
-            }
-            None => {}
-        }
+        take(alloc, &mut given, line.as_str(), count)?;
     }
     Ok(given)
+}
+
+fn take(alloc: Global, given: &mut Given, line: &str, count: usize) -> io::Result<()> {
+    match line.strip_prefix("| ") {
+        Some(text) => {
+            given.config.push_str(text)?;
+            given.config.push_str("\n")?;
+        }
+        None if given.messages.len() < count => {
+            let message = decode(alloc, line).map_err(|_| no_such())?;
+            given.messages.push(message)?;
+        }
+        None => {}
+    }
+    Ok(())
 }

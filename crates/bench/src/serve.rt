@@ -18,19 +18,42 @@ pub fn measure<R>(rt: &R, port: u16, count: u8, changes: u32) -> io::Result<()>
 where
     R: Net<Stream = TcpStream> + Threads + Clock + Print + AllocGlobal + Sync,
 {
-    let alloc = rt.alloc();
     let Some(now) = machine_moment(rt) else {
         return Err(io::Error::from(io::ErrorKind::Other));
     };
-    let mut clients = Vec::new(alloc);
+    let mut clients = Vec::new(rt.alloc());
     for number in 0..count {
-        let stream = TcpStream::connect(rt, ("127.0.0.1", port))?;
-        stream.set_nodelay(true)?;
-        let requests = requests(alloc, number, now.seconds, changes)?;
-        clients.push(Client::new(alloc, stream, requests)?)?;
+        clients.push(connected(rt, port, number, now.seconds, changes)?)?;
     }
+    measure_of(rt, &mut clients)
+}
+
+// A client with its connection and its requests.
+fn connected<R: Net<Stream = TcpStream> + AllocGlobal>(
+    rt: &R,
+    port: u16,
+    number: u8,
+    seconds: i64,
+    changes: u32,
+) -> io::Result<Client> {
+    let stream = connect(rt, port)?;
+    let requests = requests(rt.alloc(), number, seconds, changes)?;
+    Client::new(rt.alloc(), stream, requests)
+}
+
+fn connect<R: Net<Stream = TcpStream>>(rt: &R, port: u16) -> io::Result<TcpStream> {
+    let stream = TcpStream::connect(rt, ("127.0.0.1", port))?;
+    stream.set_nodelay(true)?;
+    Ok(stream)
+}
+
+fn measure_of<R>(rt: &R, clients: &mut [Client]) -> io::Result<()>
+where
+    R: Threads + Clock + Print + AllocGlobal + Sync,
+{
+    let alloc = rt.alloc();
     let start = Instant::now(rt)?;
-    thread::for_each_mut(rt, &mut clients, 16, &|_, client| client.ask_all(alloc));
+    thread::for_each_mut(rt, clients, 16, &|_, client| client.ask_all(alloc));
     let took = start.elapsed(rt)?;
     for (number, client) in clients.iter().enumerate() {
         println!(rt; "c{number} changed {}", client.changed(alloc))?;

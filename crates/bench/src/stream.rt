@@ -34,9 +34,9 @@ fn start(alloc: Global, text: &str) -> io::Result<World> {
     let Ok(config) = read_config(alloc, text) else {
         return Err(no_such());
     };
+    let sink = MemorySink::new(alloc, JOURNAL)?;
     let service = Service::of(alloc, &config)?;
     let table = Table::start(alloc, config, -1)?;
-    let sink = MemorySink::new(alloc, JOURNAL)?;
     Ok(World {
         service,
         alone: Alone::new(alloc, table, sink),
@@ -86,10 +86,19 @@ pub fn measure(
 ) -> io::Result<()> {
     let stream = stream_of(rt.alloc(), messages)?;
     let mut world = start(rt.alloc(), config)?;
+    measure_of(rt, what, &mut world, &stream)
+}
+
+fn measure_of(
+    rt: &(impl Print + AllocGlobal),
+    what: &str,
+    world: &mut World,
+    stream: &[u8],
+) -> io::Result<()> {
     let written = match what {
-        "serve" => serve(rt.alloc(), &mut world, &stream),
+        "serve" => serve(rt.alloc(), world, stream),
         _ => 0,
     };
-    let (read, changes) = (stream.len(), changes(&world));
+    let (read, changes) = (stream.len(), changes(world));
     println!(rt; "{read} bytes read, {written} written, {changes} changes")
 }

@@ -73,10 +73,21 @@ pub fn requests(alloc: Global, number: u8, seconds: i64, count: u32) -> io::Resu
     let client = format!(in alloc; "c{number}")?;
     let config = config(alloc, Vec::new(alloc), 1, 1)?;
     let mut words = WorkerWords::new([number; 32], 0);
+    requests_of(alloc, &config, client.as_str(), seconds, count, &mut words)
+}
+
+fn requests_of(
+    alloc: Global,
+    config: &Config,
+    client: &str,
+    seconds: i64,
+    count: u32,
+    words: &mut WorkerWords,
+) -> io::Result<Vec<Sent>> {
     let mut requests = Vec::new(alloc);
     for micros in 0..count {
         let now = Moment { seconds, micros };
-        requests.push(request(alloc, &config, client.as_str(), now, &mut words)?)?;
+        requests.push(request(alloc, config, client, now, words)?)?;
     }
     Ok(requests)
 }
