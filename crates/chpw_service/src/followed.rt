@@ -5,7 +5,6 @@ ghost use Rattle.chpw_service.specs.Faults.{IsOfJournal};
 use crate::fault::ServeFault;
 use crate::logging::Log;
 use crate::notices::{Notice, is_first};
-use chpw_invocation::ServeOptions;
 use chpw_journal::FileSink;
 use chpw_pool::{Follower, JournalEnd, MachineClock, Unconfirmed};
 use chpw_serve::Clock as _;
@@ -25,22 +24,23 @@ pub struct JournalLength {
     end: Option<Arc<AtomicU64>>,
 }
 
-/// The one of a service with these options, whose journal this is.
+/// The one of the journal at a path, which this sink appends to, for a service that has a follower or hasn't.
 pub(crate) fn journal_length<'a>(
     alloc: Global,
-    options: &ServeOptions<'a>,
+    has_follower: bool,
+    path: &'a str,
     sink: &mut FileSink<File>,
 ) -> Result<JournalLength, ServeFault<'a>>
     ensures failed { ⟦<FileSink<File> as JournalSink>⟧.failed sink.new ≡ ⟦<FileSink<File> as JournalSink>⟧.failed sink.old }
-    ensures fault { IfErr result (IsOfJournal options.now.journal.now) }
+    ensures fault { IfErr result (IsOfJournal path.now) }
 {
-    if options.follower.is_none() {
+    if !has_follower {
         return Ok(JournalLength { end: None });
     }
     match sink.show_end(alloc) {
         Ok(end) => Ok(JournalLength { end: Some(end) }),
         Err(error) if error.kind() == ErrorKind::OutOfMemory => Err(ServeFault::Memory),
-        Err(_) => Err(ServeFault::CannotRead(options.journal)),
+        Err(_) => Err(ServeFault::CannotRead(path)),
     }
 }
 

@@ -88,7 +88,8 @@ pub fn serve_by<
     if let Some(kept) = cut_at {
         log.tell(Notice::TailCut(options.journal, kept));
     }
-    let journal = journal_length(rt.alloc(), &options, &mut sink)?;
+    let has_follower = options.follower.is_some();
+    let journal = journal_length(rt.alloc(), has_follower, options.journal, &mut sink)?;
     let opening = first_opening(table, sink, options.workers);
     let start = Start {
         options: &options,
