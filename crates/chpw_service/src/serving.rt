@@ -85,11 +85,11 @@ pub fn serve_by<
         found: _,
         cut_at,
     } = open_table(rt, rt.alloc(), config, options.journal, &mut clock)?;
+    let has_follower = options.follower.is_some();
+    let journal = journal_length(rt.alloc(), has_follower, options.journal, &mut sink)?;
     if let Some(kept) = cut_at {
         log.tell(Notice::TailCut(options.journal, kept));
     }
-    let has_follower = options.follower.is_some();
-    let journal = journal_length(rt.alloc(), has_follower, options.journal, &mut sink)?;
     let opening = first_opening(table, sink, options.workers);
     let start = Start {
         options: &options,
