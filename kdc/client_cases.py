@@ -8,9 +8,9 @@ import contextlib
 
 import configuration
 from cases import Cases
-from clients import HeimdalClient, MitClient
+from clients import HeimdalClient, HeimdalOverUdp, MitClient
 from confirmed import Confirmed
-from logins import HeimdalPam, MitPam, Sssd
+from logins import HeimdalPam, HeimdalPamOverUdp, MitPam, Sssd
 from realms import FIRST
 
 WAIT = 2000
@@ -36,7 +36,7 @@ class ClientCases(Cases):
     """The first user is the administrator; the others take their turns, one for a client's case."""
 
     def run(self, rounds):
-        kinds = [MitClient, HeimdalClient, MitPam, HeimdalPam]
+        kinds = [MitClient, HeimdalClient, HeimdalOverUdp, MitPam, HeimdalPam, HeimdalPamOverUdp]
         if Sssd.is_possible():
             kinds.append(Sssd)
         else:
@@ -64,7 +64,7 @@ class ClientCases(Cases):
     def serving(self, users):
         """The service and a follower; at the end the KDC's keys are the table's."""
         names = [user.name for user in users]
-        self.files = Confirmed(self.realm.folder / "clients", self.program, WAIT)
+        self.files = Confirmed(self.realm.folder / "clients", self.program, WAIT, options=["--udp"])
         self.files.configure(configuration.configuration(self.realm.keytab(names), [(self.admin.name, "*")]))
         self.files.start()
         try:

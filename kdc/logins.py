@@ -5,7 +5,7 @@ import pathlib
 import shutil
 import subprocess
 
-from clients import Client, HeimdalClient, MitClient, Seen
+from clients import Client, HeimdalClient, HeimdalOverUdp, MitClient, Seen
 from realm import REALM, packages_folder
 from realms import HERE
 
@@ -75,6 +75,11 @@ class MitPam(Pam, MitClient):
 
 class HeimdalPam(Pam, HeimdalClient):
     NAME = "pam_krb5 over Heimdal's library"
+    MODULE = "pam-heimdal"
+
+
+class HeimdalPamOverUdp(Pam, HeimdalOverUdp):
+    NAME = "pam_krb5 over Heimdal's library over UDP"
     MODULE = "pam-heimdal"
 
 
