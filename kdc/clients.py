@@ -43,6 +43,8 @@ class Client:
     """The clients of one project."""
 
     CASES = PROGRAMS
+    # whether a change is one to it only if the new password gives a ticket at once
+    ASKS_FOR_TICKET = False
 
     def __init__(self, folder, kdc_port, port):
         self.folder = folder

@@ -92,6 +92,7 @@ class Sssd(Client):
     PACKAGE = "mit"
     PREFIX = ""
     SHOWS_REASONS = True
+    ASKS_FOR_TICKET = True
     TWICE = ("New Password", "Reenter new Password")
 
     @staticmethod
