@@ -5,15 +5,17 @@ time is printed, as OPERATING's table has it.
 """
 
 import contextlib
+import signal
 
 import configuration
 from cases import Cases
-from clients import HeimdalClient, MitClient
+from clients import HeimdalClient, HeimdalOverUdp, MitClient
 from confirmed import Confirmed
-from logins import HeimdalPam, MitPam, Sssd
+from logins import HeimdalPam, HeimdalPamOverUdp, MitPam, Sssd
 from realms import FIRST
 
-WAIT = 2000
+# less than the two seconds after which Heimdal's clients ask anew
+WAIT = 1500
 SHORT = "abc"
 REASON = "password too short"
 # Heimdal's library asks a second time with the very bytes of the first, and MIT's KDC then says again what
@@ -36,12 +38,12 @@ class ClientCases(Cases):
     """The first user is the administrator; the others take their turns, one for a client's case."""
 
     def run(self, rounds):
-        kinds = [MitClient, HeimdalClient, MitPam, HeimdalPam]
+        kinds = [MitClient, HeimdalClient, HeimdalOverUdp, MitPam, HeimdalPam, HeimdalPamOverUdp]
         if Sssd.is_possible():
             kinds.append(Sssd)
         else:
             print("sssd wants root and a mount namespace: it isn't tried", flush=True)
-        cases = sum(len(kind.CASES) + 1 for kind in kinds)
+        cases = sum(len(kind.CASES) + 2 for kind in kinds)
         self.admin, *users = [User(self.name()) for _ in range(1 + cases)]
         with self.serving([self.admin, *users]), contextlib.ExitStack() as stack:
             ports = self.realm.kdc_port, self.files.server.port
@@ -50,6 +52,8 @@ class ClientCases(Cases):
                 client.build([user.name for user in users])
                 stack.callback(client.end)
             self.with_follower(clients, users, rounds)
+            for client in clients:
+                self.follower_hangs(client, users.pop())
             self.follower.stop()
             for client in clients:
                 self.without_follower(client, users.pop())
@@ -64,7 +68,7 @@ class ClientCases(Cases):
     def serving(self, users):
         """The service and a follower; at the end the KDC's keys are the table's."""
         names = [user.name for user in users]
-        self.files = Confirmed(self.realm.folder / "clients", self.program, WAIT)
+        self.files = Confirmed(self.realm.folder / "clients", self.program, WAIT, options=["--udp"])
         self.files.configure(configuration.configuration(self.realm.keytab(names), [(self.admin.name, "*")]))
         self.files.start()
         try:
@@ -138,6 +142,21 @@ class ClientCases(Cases):
         return not seen.is_done and is_told and is_left, seen
 
     # ---- once
+
+    def follower_hangs(self, client, user):
+        """The change is answered after WAIT, and the client goes by that, though it may want a ticket too."""
+        former, user.password = user.password, user.next()
+        before = self.files.unconfirmed()
+        self.follower.process.send_signal(signal.SIGSTOP)
+        try:
+            seen = client.kpasswd(user.name, former, user.password)
+        finally:
+            self.follower.process.send_signal(signal.SIGCONT)
+        self.show(client, "a change, the follower hangs", seen)
+        found = seen.is_done, self.files.unconfirmed() - before
+        wanted = not client.ASKS_FOR_TICKET, 1
+        self.tell(f"{client.NAME}: a change, the follower hangs: done, lines in the log", found, wanted)
+        self.tell("  it goes on: a ticket by the new one", self.follower.ask() and self.gives_ticket(client, user))
 
     def without_follower(self, client, user):
         """The change is answered at once; the KDC has it when a follower comes."""

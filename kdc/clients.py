@@ -43,6 +43,8 @@ class Client:
     """The clients of one project."""
 
     CASES = PROGRAMS
+    # whether a change is one to it only if the new password gives a ticket at once
+    ASKS_FOR_TICKET = False
 
     def __init__(self, folder, kdc_port, port):
         self.folder = folder
@@ -138,7 +140,7 @@ class HeimdalClient(Client):
     NAME = "Heimdal's clients"
     PACKAGE = "heimdal"
     PREFIX = "tcp/"
-    # after a refusal it asks over UDP, where nobody listens, and tells of that
+    # after a refusal it asks in the earlier protocol, which it has over UDP alone, and tells that nobody is there
     SHOWS_REASONS = False
     GET = ["kinit.heimdal"]
     LIST = ["heimtools", "klist"]
@@ -153,3 +155,11 @@ class HeimdalClient(Client):
         command = ["kpasswd.heimdal", f"--admin-principal={actor}", escaped(name)]
         seen = self.run(command, password, new, new)
         return Seen("Success : password changed" in seen, seen.text)
+
+
+class HeimdalOverUdp(HeimdalClient):
+    """It asks over UDP alone where the server's address has no `tcp/` before it."""
+
+    NAME = "Heimdal's clients over UDP"
+    PREFIX = ""
+    SHOWS_REASONS = True

@@ -12,12 +12,12 @@ MOST = 1_000_000
 class Confirmed(Files):
     """The files of both, and the service; a reply is held back for so many milliseconds at most."""
 
-    def __init__(self, folder, program, wait, workers=2):
+    def __init__(self, folder, program, wait, workers=2, options=()):
         super().__init__(folder, program)
         folder.mkdir()
         self.log = folder / "log"
-        options = ["--follower", self.socket, "--follower-wait", wait, "--log", self.log]
-        self.server = Server(program, folder, workers, options=options)
+        words = ["--follower", self.socket, "--follower-wait", wait, "--log", self.log]
+        self.server = Server(program, folder, workers, options=[*words, *options])
 
     def configure(self, text):
         self.configuration.touch(mode=0o600)

@@ -5,7 +5,7 @@ import pathlib
 import shutil
 import subprocess
 
-from clients import Client, HeimdalClient, MitClient, Seen
+from clients import Client, HeimdalClient, HeimdalOverUdp, MitClient, Seen
 from realm import REALM, packages_folder
 from realms import HERE
 
@@ -78,6 +78,11 @@ class HeimdalPam(Pam, HeimdalClient):
     MODULE = "pam-heimdal"
 
 
+class HeimdalPamOverUdp(Pam, HeimdalOverUdp):
+    NAME = "pam_krb5 over Heimdal's library over UDP"
+    MODULE = "pam-heimdal"
+
+
 class Sssd(Client):
     """sssd over MIT's library. It runs beside, with a view of the machine's files of its own."""
 
@@ -87,6 +92,7 @@ class Sssd(Client):
     PACKAGE = "mit"
     PREFIX = ""
     SHOWS_REASONS = True
+    ASKS_FOR_TICKET = True
     TWICE = ("New Password", "Reenter new Password")
 
     @staticmethod
