@@ -84,12 +84,14 @@ class Crowd:
     # ---- asking
 
     def begin_one(self):
-        """The next request of one who has none under way."""
+        """The next request of one who has none under way, and has asked the least often: so all have their changes."""
         now = time.monotonic()
-        for user in self.users.values():
-            if user.change is None and user.not_before <= now and (user.is_lost or self.left > 0):
-                self.begin(user)
-                return
+        free = [
+            user for user in self.users.values()
+            if user.change is None and user.not_before <= now and (user.is_lost or self.left > 0)
+        ]
+        if free:
+            self.begin(min(free, key=lambda user: len(user.asked)))
 
     def begin(self, user):
         password = user.asked[-1] if user.is_lost else f"{user.name}-Pass{len(user.asked)}"
