@@ -1,10 +1,12 @@
-"""How long a follower takes from being asked to its answer, in a realm of many principals.
+"""How long a follower takes from being asked to its answer, in a realm of many principals, and changes a second.
 
     follower.py PROGRAM mit|heimdal [PRINCIPALS [CHANGES]]
 
 makes the principals in a KDC's database, then writes one record after the other into the journal, syncs it,
 asks over the socket, and measures until the answer is there, from the ask and from the write. Every tenth of
-them is compared with what the KDC's own tools say.
+them is compared with what the KDC's own tools say. Then changes.py has clients change passwords: at the
+service with the follower and without it, and at MIT's kadmind. The status is 1 where the service with its
+follower makes fewer changes a second than kadmind.
 """
 
 import os
@@ -17,6 +19,7 @@ import time
 TOP = pathlib.Path(__file__).resolve().parent.parent
 sys.path.insert(0, str(TOP / "kdc"))
 
+import changes
 import realms
 from cases import Cases, Passed
 from follower import Asker
@@ -74,13 +77,24 @@ def measure(cases, files, names, changes):
     return sorted(times), sorted(whole)
 
 
+def rates(cases, versions):
+    """A line for each number of clients; whether kadmind is no faster."""
+    targets = changes.measure(cases, versions)
+    best = {target.name: target.best for target in targets}
+    for clients in changes.CLIENTS:
+        told = ", ".join(f"{name} {found[clients]:.0f}" for name, found in best.items())
+        print(f"{cases.realm.KIND}: changes a second with {clients} clients: {told}", flush=True)
+    followed, other = best["serve with a follower"], best.get("kadmind")
+    return other is None or all(followed[clients] >= other[clients] for clients in changes.CLIENTS)
+
+
 def spread(times):
     return f"{statistics.median(times):.1f} ms, {times[len(times) * 99 // 100 - 1]:.1f} ms, {times[-1]:.1f} ms"
 
 
 def main():
     program, kind = sys.argv[1:3]
-    principals, changes = (int(word) for word in (*sys.argv[3:], "10000", "100")[:2])
+    principals, count = (int(word) for word in (*sys.argv[3:], "10000", "100")[:2])
     names = [f"client{number:05}" for number in range(principals)]
     with realms.KINDS[kind]({"admin": realms.FIRST}) as realm:
         cases = Cases(realm, program, Passed())
@@ -95,10 +109,12 @@ def main():
             begun = time.monotonic()
             cases.begin(files).stop()
             passed = time.monotonic() - begun
-            times, whole = measure(cases, files, names, changes)
+            times, whole = measure(cases, files, names[3 * max(changes.CLIENTS) :], count)
             flush = flushes(files.folder)
-    print(f"{realm.KIND}: {principals} principals, a whole pass {passed:.1f} s; {changes} changes: median, 99th and longest from the ask "
-          f"to the answer {spread(times)}; from the write {spread(whole)}; a sync of this disk takes {flush:.1f} ms")
+            now = dict(files.versions)
+        print(f"{realm.KIND}: {principals} principals, a whole pass {passed:.1f} s; {count} changes: median, 99th and longest "
+              f"from the ask to the answer {spread(times)}; from the write {spread(whole)}; a sync of this disk takes {flush:.1f} ms")
+        sys.exit(0 if rates(cases, now) else 1)
 
 
 if __name__ == "__main__":

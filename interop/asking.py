@@ -112,12 +112,12 @@ class Request:
     message: bytes
 
 
-def request_now(client, password, cusec, ahead=0):
+def request_now(client, password, cusec, ahead=0, **key):
     """A change of one's own password, by a clock that is so many seconds ahead.
 
-    No two requests of a client have the same microseconds."""
+    No two requests of a client have the same microseconds. `key` is the service's, where it is another one."""
     now = int(time.time()) + ahead
-    message = wire.request(client.encode(), password.encode(), cusec, ctime=now, starts=now - 60)
+    message = wire.request(client.encode(), password.encode(), cusec, ctime=now, starts=now - 60, **key)
     return Request(now, cusec, message)
 
 

@@ -191,7 +191,7 @@ def sealed(key, usage, plain, kvno=None, confounder=CONFOUNDER):
 CHANGEPW = name(2, b"kadmin", b"changepw")
 
 
-def ticket(client, initial, service, starts):
+def ticket(client, initial, service, kvno, starts):
     part = sequence(
         (0, flags(INITIAL if initial else 0)),
         (1, key_of(SESSION)),
@@ -201,13 +201,13 @@ def ticket(client, initial, service, starts):
         (5, moment(starts)),
         (7, moment(starts + 3_600)),
     )
-    enc_part = sealed(service, 2, application(3, part), 3)
+    enc_part = sealed(service, 2, application(3, part), kvno)
     return application(
         1, sequence((0, integer(5)), (1, string(REALM)), (2, CHANGEPW), (3, enc_part))
     )
 
 
-def ap_req(client, ctime, cusec, initial, service, subkey, starts):
+def ap_req(client, ctime, cusec, initial, service, kvno, subkey, starts):
     authenticator = sequence(
         (0, integer(5)),
         (1, string(REALM)),
@@ -223,7 +223,7 @@ def ap_req(client, ctime, cusec, initial, service, subkey, starts):
             (0, integer(5)),
             (1, integer(14)),
             (2, flags(MUTUAL_REQUIRED)),
-            (3, ticket(client, initial, service, starts)),
+            (3, ticket(client, initial, service, kvno, starts)),
             (4, sealed(SESSION, 11, application(2, authenticator))),
         ),
     )
@@ -259,6 +259,7 @@ def request(
     ctime=1_000_100,
     initial=True,
     service=SERVICE,
+    kvno=3,
     subkey=True,
     ap_first=0x6E,
     forged=False,
@@ -267,7 +268,7 @@ def request(
 ):
     """A request: length, version, the AP-REQ's length, the AP-REQ, the KRB-PRIV. In the earlier
     protocol, version 0x0001, the user-data is the password itself."""
-    ap = ap_req(client, ctime, cusec, initial, service, subkey, starts)
+    ap = ap_req(client, ctime, cusec, initial, service, kvno, subkey, starts)
     ap = bytes([ap_first]) + ap[1:]
     tail = krb_priv(password if old else change_data(password, target), forged)
     return framed(1 if old else 0xFF80, ap, tail)

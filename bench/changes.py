@@ -1,0 +1,120 @@
+"""Changes a second in a realm of many principals, of whom the KDC has each new key at the end.
+
+MIT's kadmind, the service by itself and the service with a follower take turns, so that all see the same
+machine. Each client changes the password of a user of its own again and again, over a new connection each
+time, as the projects' clients do. Its requests are made before the clock starts, and its tickets are forged
+with the key of kadmin/changepw, so that the KDC has nothing to do with them.
+"""
+
+import collections
+import concurrent.futures
+import contextlib
+import dataclasses
+import itertools
+import time
+
+import configuration
+from asking import Connection, request_now, said
+from confirmed import MOST, Confirmed
+from daemons import daemon
+from own_journal import configured
+from realm import SERVICE
+from server import Server
+
+CLIENTS = 1, 16
+WORKERS = 4
+# of each target and number of clients, of which the best counts; and the changes of all clients in a round
+ROUNDS, CHANGES = 3, 128
+# milliseconds: a reply that is held back so long shows in the figure
+WAIT = 2000
+
+
+@dataclasses.dataclass
+class Target:
+    """A server, and users whom it alone changes."""
+
+    name: str
+    port: int
+    users: list
+    # of kadmin/changepw, as `request_now` takes it, where it isn't the service's own
+    key: dict = dataclasses.field(default_factory=dict)
+    made: collections.Counter = dataclasses.field(default_factory=collections.Counter)
+    best: dict = dataclasses.field(default_factory=dict)
+
+    def request(self, user):
+        self.made[user] += 1
+        number = self.made[user]
+        return request_now(user, f"{user}-Pass{number}", number, **self.key)
+
+    def one_after_the_other(self, requests):
+        replies = []
+        for request in requests:
+            with contextlib.closing(Connection(self.port)) as connection:
+                connection.send(request)
+                replies.append(connection.reply())
+        return replies
+
+    def round(self, clients):
+        """Each of them makes its share of the changes."""
+        asked = [
+            [self.request(user) for _ in range(CHANGES // clients)] for user in self.users[:clients]
+        ]
+        with concurrent.futures.ThreadPoolExecutor(clients) as pool:
+            begun = time.monotonic()
+            heard = list(pool.map(self.one_after_the_other, asked))
+            took = time.monotonic() - begun
+        every = itertools.chain.from_iterable
+        for request, reply in zip(every(asked), every(heard)):
+            told = said(request, reply) if reply else "no reply"
+            if not told.startswith("code 0"):
+                raise RuntimeError(f"{self.name} answers {told}")
+        self.best[clients] = max(self.best.get(clients, 0), CHANGES / took)
+
+
+def kadmind(realm, folder, users, stack):
+    """MIT's own, with the key that the KDC has of kadmin/changepw."""
+    entries = configuration.read_keytab(realm.keytab(["admin"]))
+    [found] = [
+        it for it in entries if it.etype == 18 and b"/".join(it.components).decode() == SERVICE
+    ]
+    command = [realm.mit.program("kadmind"), "-nofork"]
+    environment = realm.environment(realm.mit)
+    stack.enter_context(daemon(command, environment, folder / "kadmind.out", realm.kpasswd_port))
+    key = {"service": found.key, "kvno": found.kvno}
+    return Target("kadmind", realm.kpasswd_port, users, key)
+
+
+def served(server, name, users, stack):
+    stack.callback(server.end)
+    server.start(connections=MOST)
+    return Target(name, server.port, users)
+
+
+def measure(cases, versions):
+    """The targets, measured; the KDC has `versions` of the principals, and kadmind is MIT's alone."""
+    realm, most = cases.realm, max(CLIENTS)
+    names = sorted(versions)
+    groups = [names[i : i + most] for i in range(0, 3 * most, most)]
+    text = configured(versions, 3)
+    with contextlib.ExitStack() as stack:
+        alone = realm.folder / "alone"
+        alone.mkdir()
+        server = Server(cases.program, alone, WORKERS)
+        server.configuration.touch(mode=0o600)
+        server.configuration.write_text(text)
+        targets = [served(server, "serve", groups[0], stack)]
+        files = Confirmed(realm.folder / "followed", cases.program, WAIT, WORKERS)
+        files.configure(text)
+        targets.append(served(files.server, "serve with a follower", groups[1], stack))
+        stack.enter_context(cases.following(files))
+        if realm.KIND == "MIT":
+            targets.append(kadmind(realm, alone, groups[2], stack))
+        for clients, _, target in itertools.product(CLIENTS, range(ROUNDS), targets):
+            target.round(clients)
+        if files.unconfirmed():
+            raise RuntimeError("changes were answered before the KDC had them")
+    for target in targets[1:]:
+        for user, count in target.made.items():
+            if realm.kvno(user) != 1 + count:
+                raise RuntimeError(f"the KDC lacks a change of {user} by {target.name}")
+    return targets
