@@ -98,6 +98,7 @@ impl Connections {
         ensures counts { IfSome result (λ slot. Counts self.new (accepted_by self.old + 1) (removed_by self.old)) }
         ensures expired { expired_by self.new ≡ expired_by self.old }
         ensures queues { queues_of self.new ≡ queues_of self.old }
+        ensures bounds { bounds_of self.new ≡ bounds_of self.old }
         ensures unchanged { IfNone result (self.new ≡ self.old) }
     {
         if self.is_full() || self.accepted == u32::MAX {

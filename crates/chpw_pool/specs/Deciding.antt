@@ -1,5 +1,5 @@
 -- Which datagrams are decided, and what is kept of their replies.
-use Rattle.std.specs.Prelude.{◌≡◌, ℕ, ◌⊎◌, List, Option, Some, None, Bool, true, false, not, ◌&&◌, is_none}
+use Rattle.std.specs.Prelude.{◌≡◌, ℕ, ◌<◌, ◌⊎◌, List, length, slice_get, Option, Some, None, Bool, true, false, not, ◌&&◌, is_none}
 use Rattle.std.specs.List.{list_any}
 use Rattle.std.specs.Str.{bytes_eq}
 use Rattle.slab.specs.Slab.{Slab}
@@ -35,13 +35,25 @@ is_unanswered d sender message now = is_answered d.port sender message && is_non
 abbrev pub is_decided : Datagrams → List (Option Place) → Sender → List ℕ → ℕ → Bool
 is_decided d places sender message now = is_unanswered d sender message now && not (is_under_way places sender message)
 
+-- at this place is a datagram of this sender with this message: its reply goes to that sender
+abbrev pub IsPlaced : List (Option Place) → ℕ → Sender → List ℕ → Type 0
+IsPlaced places slot sender message =
+    (d : Datagram) × (slice_get places slot ≡ Some (Some (place.Datagram d))) × (d.sender ≡ sender) × (d.message.items ≡ message)
+
+-- a datagram waits for this worker as a connection whose place it has; the other places stay
+pub record IsQueued (sender : Sender) (message : List ℕ) (before after : List (Option Place)) (b : Bounds) (now number : ℕ)
+    (old new : Slab Connection) (worker workers : ℕ) : Type 0 where
+  pub slot : ℕ
+  pub taken : TakesDatagram b now sender.address number message old new slot worker workers
+  pub placed : slot < length before → IsPlaced after slot sender message
+  pub others : (other : ℕ) → (other ≡ slot → ⊥) → slice_get after other ≡ slice_get before other
+
 -- a datagram that is to be decided waits for this worker
-pub record Queues (d : Datagrams) (places : List (Option Place)) (b : Bounds) (now number : ℕ) (old new : Slab Connection) (worker workers : ℕ) : Type 0 where
+pub record Queues (d : Datagrams) (before after : List (Option Place)) (b : Bounds) (now number : ℕ) (old new : Slab Connection) (worker workers : ℕ) : Type 0 where
   pub sender : Sender
   pub message : List ℕ
-  pub slot : ℕ
-  pub decided : is_decided d places sender message now ≡ true
-  pub taken : TakesDatagram b now sender.address number message old new slot worker workers
+  pub decided : is_decided d before sender message now ≡ true
+  pub queued : IsQueued sender message before after b now number old new worker workers
 
 -- this reply is kept for whoever sends the same again, or nothing is, without memory for it
 abbrev pub KeepsReply : List Answer → List Answer → Sender → List ℕ → List ℕ → ℕ → Type 0

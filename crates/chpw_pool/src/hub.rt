@@ -50,9 +50,10 @@ impl Hub {
     /// Takes the next datagram, if one is there.
     pub fn take_datagram(&mut self, now: u64) -> Progress
         ensures queued { IfSome self.old.sockets.datagrams (λ d. (worker : ℕ) → result ≡ progress.Queued worker
-            → Queues d self.old.sockets.by_slot.items (bounds_of self.new.state.connections) now (accepted_by self.old.state.connections)
+            → Queues d self.old.sockets.by_slot.items self.new.sockets.by_slot.items (bounds_of self.old.state.connections) now (accepted_by self.old.state.connections)
             (slots_of self.old.state.connections) (slots_of self.new.state.connections) worker (workers_of self.old.state.connections)) }
         ensures idle { result ≡ progress.None → self.new.state ≡ self.old.state }
+        ensures bounds { bounds_of self.new.state.connections ≡ bounds_of self.old.state.connections }
         ensures dropped { result ≡ progress.Some → DropsDatagram (slots_of self.old.state.connections) (slots_of self.new.state.connections) }
     {
         self.sockets.take_datagram(&mut self.state, now)

@@ -43,7 +43,8 @@ impl State {
         message: &[u8],
         now: u64,
     ) -> Option<(usize, usize)>
-        ensures taken { IfSome result (λ r. TakesDatagram (bounds_of self.new.connections) now peer (accepted_by self.old.connections) message.now
+        ensures bounds { bounds_of self.new.connections ≡ bounds_of self.old.connections }
+        ensures taken { IfSome result (λ r. TakesDatagram (bounds_of self.old.connections) now peer (accepted_by self.old.connections) message.now
             (slots_of self.old.connections) (slots_of self.new.connections) r.0 r.1 (workers_of self.old.connections)) }
         ensures dropped { IfNone result (DropsDatagram (slots_of self.old.connections) (slots_of self.new.connections)) }
     {

@@ -1,11 +1,11 @@
 //! The sockets of the connections.
-ghost use Rattle.std.specs.Prelude.{◌≡◌, ℕ, IfErr, IfSome, IfNone, false};
+ghost use Rattle.std.specs.Prelude.{◌≡◌, ℕ, ◌<◌, IfErr, IfSome, IfNone, false, length, slice_get};
 ghost use Rattle.slab.specs.Slab.{get};
 ghost use Rattle.chpw_connections.specs.Held.{slots_of, bounds_of, accepted_by};
 ghost use Rattle.chpw_connections.specs.Queues.{workers_of};
 ghost use Rattle.chpw_connections.specs.Todos.{todo_in};
-ghost use Rattle.chpw_pool.specs.Datagrams.{TakesDatagram, DropsDatagram};
-ghost use Rattle.chpw_pool.specs.Deciding.{Queues, is_decided, is_at, is_under_way};
+ghost use Rattle.chpw_pool.specs.Datagrams.{DropsDatagram};
+ghost use Rattle.chpw_pool.specs.Deciding.{Queues, IsQueued, IsPlaced, is_decided, is_at, is_under_way};
 ghost use Rattle.chpw_pool.specs.Pools.{IsUnmade};
 ghost use Rattle.chpw_pool.specs.Steps.{Steps, Drains};
 ghost use Rattle.chpw_pool.specs.declared.state.Progress.TheVariants as progress;
@@ -225,10 +225,11 @@ impl Sockets {
     /// is reported again.
     pub fn take_datagram(&mut self, state: &mut State, now: u64) -> Progress
         ensures queued { IfSome self.old.datagrams (λ d. (worker : ℕ) → result ≡ progress.Queued worker
-            → Queues d self.old.by_slot.items (bounds_of state.new.connections) now (accepted_by state.old.connections)
+            → Queues d self.old.by_slot.items self.new.by_slot.items (bounds_of state.old.connections) now (accepted_by state.old.connections)
             (slots_of state.old.connections) (slots_of state.new.connections) worker (workers_of state.old.connections)) }
         ensures none { IfNone self.old.datagrams ((result ≡ progress.None) × (state.new ≡ state.old)) }
         ensures idle { result ≡ progress.None → state.new ≡ state.old }
+        ensures bounds { bounds_of state.new.connections ≡ bounds_of state.old.connections }
         ensures dropped { result ≡ progress.Some → DropsDatagram (slots_of state.old.connections) (slots_of state.new.connections) }
     {
         let Sockets {
@@ -251,6 +252,7 @@ impl Sockets {
 }
 
 // What is done with a datagram that came.
+#[tactic(auto, using(crate::proofs::PlaceLemmas::queues))]
 fn decide(
     by_slot: &mut [Option<Place>],
     datagrams: &Datagrams,
@@ -260,10 +262,11 @@ fn decide(
     now: u64,
 ) -> Progress
     ensures queued { (worker : ℕ) → result ≡ progress.Queued worker
-        → Queues datagrams.now by_slot.old (bounds_of state.new.connections) now (accepted_by state.old.connections)
+        → Queues datagrams.now by_slot.old by_slot.new (bounds_of state.old.connections) now (accepted_by state.old.connections)
         (slots_of state.old.connections) (slots_of state.new.connections) worker (workers_of state.old.connections) }
     ensures ignored { is_decided datagrams.now by_slot.old sender message.now now ≡ false → (state.new ≡ state.old) × (by_slot.new ≡ by_slot.old) }
     ensures some { (result ≡ progress.None) → ⊥ }
+    ensures bounds { bounds_of state.new.connections ≡ bounds_of state.old.connections }
     ensures dropped { result ≡ progress.Some → DropsDatagram (slots_of state.old.connections) (slots_of state.new.connections) }
 {
     let is_decided = datagrams.is_to_be_decided(sender, message, now)
@@ -301,9 +304,10 @@ fn queue(
     now: u64,
 ) -> Progress
     ensures queued { (worker : ℕ) → result ≡ progress.Queued worker
-        → (slot : ℕ) × TakesDatagram (bounds_of state.new.connections) now sender.address (accepted_by state.old.connections) message.now
-        (slots_of state.old.connections) (slots_of state.new.connections) slot worker (workers_of state.old.connections) }
+        → IsQueued sender message.now by_slot.old by_slot.new (bounds_of state.old.connections) now (accepted_by state.old.connections)
+        (slots_of state.old.connections) (slots_of state.new.connections) worker (workers_of state.old.connections) }
     ensures some { (result ≡ progress.None) → ⊥ }
+    ensures bounds { bounds_of state.new.connections ≡ bounds_of state.old.connections }
     ensures dropped { result ≡ progress.Some → DropsDatagram (slots_of state.old.connections) (slots_of state.new.connections) }
 {
     let Ok(copy) = Vec::from_slice(alloc, message) else {
@@ -312,14 +316,20 @@ fn queue(
     match state.take_datagram(sender.address, message, now) {
         None => Progress::Some,
         Some((slot, worker)) => {
-            if let Some(place) = by_slot.get_mut(slot) {
-                *place = Some(Place::Datagram(Datagram {
-                    sender,
-                    message: copy,
-                }));
-            }
+            put_datagram(by_slot, slot, sender, copy);
             Progress::Queued(worker)
         }
+    }
+}
+
+// The datagram that a connection has come by.
+#[tactic(auto, using(crate::proofs::PlaceLemmas::elsewhere))]
+fn put_datagram(by_slot: &mut [Option<Place>], slot: usize, sender: Sender, message: Vec<u8>)
+    ensures placed { slot < length by_slot.old → IsPlaced by_slot.new slot sender message.items }
+    ensures others { (other : ℕ) → (other ≡ slot → ⊥) → slice_get by_slot.new other ≡ slice_get by_slot.old other }
+{
+    if slot < by_slot.len() {
+        by_slot[slot] = Some(Place::Datagram(Datagram { sender, message }));
     }
 }
 

@@ -1,4 +1,4 @@
-use Rattle.std.proofs.Common.{ℕ, ◌≡◌, ◌∙◌, ap, subst, length, List, Some}
+use Rattle.std.proofs.Common.{ℕ, ◌≡◌, ◌∙◌, sym, ap, subst, length, List, Some}
 use Rattle.slab.specs.Slab.{get}
 use Rattle.chpw_connections.specs.Held.{slots_of, bounds_of, accepted_by}
 use Rattle.chpw_connections.specs.Queues.{workers_of}
@@ -9,12 +9,12 @@ use Rattle.chpw_pool.proofs.state.State.take_datagram.Goals as goal
 
 pub returns-in-Some-clause-taken : goal.returns-in-Some-clause-taken
 returns-in-Some-clause-taken c =
-    takes (bounds_of c.message_came.new.self.connections) (bounds_of c.accept.new.self) (bounds_of c.length_came.new.self.connections)
+    takes (bounds_of c.args.self.now.connections) (bounds_of c.accept.new.self) (bounds_of c.length_came.new.self.connections)
     c.args.now (accepted_by c.args.self.now.connections) c.in_ok-slot.slot c.in-Some.worker
     (workers_of c.args.self.now.connections) c.args.peer c.args.message.now
     (slots_of c.args.self.now.connections) (slots_of c.accept.new.self) (slots_of c.length_came.new.self.connections) (slots_of c.message_came.new.self.connections)
     c.in_ok-length.ensures.fits
-    c.in-Some.ensures.bounds
+    (sym c.in_ok-slot.ensures.bounds ∙ sym c.length_came.ensures.bounds)
     c.length_came.ensures.bounds
     c.in_ok-slot.ensures.accepted
     (subst (λ (l : List ℕ). CameOrFailed (bounds_of c.accept.new.self) c.args.now (slots_of c.accept.new.self) (slots_of c.length_came.new.self.connections) c.in_ok-slot.slot l)

@@ -1,0 +1,50 @@
+-- What stands at the places of a list behind a write at one of them.
+use Rattle.std.proofs.Common.{◌≡◌, ℕ, zero, suc, ◌<◌, List, [], ◌∷◌, length, set, slice_get, refl, ap, subst, arith, true, Option, Some}
+use Rattle.slab.specs.Slab.{Slab}
+use Rattle.chpw_connections.specs.declared.bounds.Bounds.{Bounds}
+use Rattle.chpw_connections.specs.declared.connection.Connection.{Connection}
+use Rattle.chpw_datagrams.specs.declared.sender.Sender.{Sender}
+use Rattle.chpw_pool.specs.Deciding.{IsPlaced, IsQueued, Queues, is_decided}
+use Rattle.chpw_pool.specs.Datagrams.{TakesDatagram}
+use Rattle.chpw_pool.specs.declared.sockets.Place.{Place}
+use Rattle.chpw_pool.specs.declared.state.Progress.{Progress}
+use Rattle.chpw_pool.specs.declared.state.Progress.TheVariants as progress
+use Rattle.chpw_pool.specs.declared.udp.Datagrams.{Datagrams}
+
+pub written : {X : Type 0} → (xs : List X) (i : ℕ) (y : X) → i < length xs → slice_get (set xs i y) i ≡ Some y
+written [] i y within = absurd (omega (arith, within))
+written (x ∷ xs) zero y within = refl
+written (x ∷ xs) (suc i) y within = written xs i y (omega (arith, within))
+
+pub elsewhere : {X : Type 0} → (xs : List X) (i j : ℕ) (y : X) → (j ≡ i → ⊥) → slice_get (set xs i y) j ≡ slice_get xs j
+elsewhere [] i j y differs = refl
+elsewhere (x ∷ xs) zero zero y differs = absurd (differs refl)
+elsewhere (x ∷ xs) zero (suc j) y differs = refl
+elsewhere (x ∷ xs) (suc i) zero y differs = refl
+elsewhere (x ∷ xs) (suc i) (suc j) y differs = elsewhere xs i j y (λ same. differs (ap suc same))
+
+abbrev worker_of : Progress → ℕ
+worker_of (progress.Queued worker) = worker
+worker_of progress.Some = 0
+worker_of progress.None = 0
+
+-- a datagram that waits, with the copy of its message at its place
+pub is_queued : (sender : Sender) (message copy : List ℕ) (before after : List (Option Place)) (b : Bounds) (now number : ℕ)
+    (old new : Slab Connection) (slot queued worker workers : ℕ) → progress.Queued queued ≡ progress.Queued worker
+    → TakesDatagram b now sender.address number message old new slot queued workers → copy ≡ message
+    → (slot < length before → IsPlaced after slot sender copy)
+    → ((other : ℕ) → (other ≡ slot → ⊥) → slice_get after other ≡ slice_get before other)
+    → IsQueued sender message before after b now number old new worker workers
+is_queued sender message copy before after b now number old new slot queued worker workers is taken same placed others = record {
+  slot = slot;
+  taken = subst (λ (w : ℕ). TakesDatagram b now sender.address number message old new slot w workers) (ap worker_of is) taken;
+  placed = λ within. subst (λ (m : List ℕ). IsPlaced after slot sender m) same (placed within);
+  others = others;
+}
+
+pub queues : (d : Datagrams) (sender : Sender) (message : List ℕ) (before after : List (Option Place)) (b : Bounds) (now number : ℕ)
+    (old new : Slab Connection) (worker workers : ℕ) → is_decided d before sender message now ≡ true
+    → IsQueued sender message before after b now number old new worker workers
+    → Queues d before after b now number old new worker workers
+queues d sender message before after b now number old new worker workers decided queued =
+    record { sender = sender; message = message; decided = decided; queued = queued }

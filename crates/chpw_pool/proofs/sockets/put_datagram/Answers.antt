@@ -1,0 +1,12 @@
+use Rattle.std.proofs.Common.{refl, Some}
+use Rattle.chpw_pool.specs.declared.sockets.Place.TheVariants as place
+use Rattle.chpw_pool.proofs.PlaceLemmas.{written}
+use Rattle.chpw_pool.proofs.sockets.put_datagram.Goals as goal
+
+pub returns-then-slot-by_slot-clause-placed : goal.returns-then-slot-by_slot-clause-placed
+returns-then-slot-by_slot-clause-placed c within = (
+  record { sender = c.args.sender; message = c.args.message },
+  written c.args.by_slot.now c.args.slot (Some (place.Datagram (record { sender = c.args.sender; message = c.args.message }))) within,
+  refl,
+  refl,
+)
