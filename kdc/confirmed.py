@@ -1,10 +1,14 @@
 """The service with a follower that confirms its changes, and what it tells of them."""
 
+import time
+
 from follower import Files
 from server import Server
 
 UNCONFIRMED = "not confirmed by the follower"
 TOLD = "a change was answered that the follower has not confirmed, and maybe more"
+# seconds in which no further line comes behind the last reply
+SETTLES = 0.1
 # connections: it doesn't end by itself
 MOST = 1_000_000
 
@@ -27,5 +31,9 @@ class Confirmed(Files):
         self.server.start(connections=MOST)
 
     def unconfirmed(self):
-        """How many changes were answered without the follower's word."""
-        return self.log.read_text().count(UNCONFIRMED)
+        """How many changes were answered without the follower's word; a line may come a moment behind its reply."""
+        text, before = self.log.read_text(), None
+        while text != before:
+            time.sleep(SETTLES)
+            text, before = self.log.read_text(), text
+        return text.count(UNCONFIRMED)

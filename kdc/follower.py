@@ -45,9 +45,14 @@ class Follower:
                 return None
             time.sleep(0.01)
 
-    def told(self, words):
-        """How often it has told a line with these words."""
-        return sum(words in line for line in self.all_lines)
+    def told(self, words, least=0, seconds=10):
+        """How often it has told a line with these words. So many are waited for: a line may be read behind an answer."""
+        end = time.monotonic() + seconds
+        while True:
+            count = sum(words in line for line in self.all_lines)
+            if count >= least or time.monotonic() > end:
+                return count
+            time.sleep(0.01)
 
     def passes(self, seconds=10):
         """What a whole pass has to tell at its end."""

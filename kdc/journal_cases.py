@@ -47,7 +47,7 @@ class JournalCases(Cases):
             self.as_table("all versions", files, [name])
             found = {kvno for _, kvno, *_ in self.realm.keys([other])}
             self.tell("  who changed nothing: kvnos", found, {1})
-            self.tell("told", follower.told(f"{name}@{REALM}: set, kvno"), 4)
+            self.tell("told", follower.told(f"{name}@{REALM}: set, kvno", 4), 4)
 
     def without_asking(self):
         """The journal is looked at without being asked, too."""
@@ -84,7 +84,7 @@ class JournalCases(Cases):
             files.append(files.change(name))
             self.tell("a torn tail that is cut off: an answer", follower.ask())
             self.tell("  kvno", self.realm.kvno(name), files.versions[name][0][0])
-            self.tell("  whole passes", follower.told("principals "), 1)
+            self.tell("  whole passes", follower.told("principals ", 1), 1)
 
     def begun_anew(self):
         """An empty journal and a configuration of the keys of now take the place of both."""
@@ -97,7 +97,7 @@ class JournalCases(Cases):
             files.append(files.change(other))
             self.tell("a journal begun anew, and a change", follower.ask())
             self.as_table("  its keys", files, [name, other])
-            self.tell("  another whole pass", follower.told("principals "), MoreThan(1))
+            self.tell("  another whole pass", follower.told("principals ", 2), MoreThan(1))
 
     def rewritten(self):
         """Another record in place of the last one, in the same file; then a longer file by another name."""
@@ -132,7 +132,7 @@ class JournalCases(Cases):
             told = follower.wait_for("failed: ", 5)
             self.tell("no record", told, "failed: table: status 1: journal: J1 at 2")
             time.sleep(3)
-            self.tell("  told again", follower.told("failed: "), 1)
+            self.tell("  told again", follower.told("failed: ", 1), 1)
             with files.journal.open("r+b") as file:
                 file.truncate(good)
             files.append(files.change(name))
@@ -148,7 +148,7 @@ class JournalCases(Cases):
             self.tell("  kvno of the other", self.realm.kvno(name), 2)
             time.sleep(2.5)
             reason = f"{missing}@{REALM}: the database has no such principal"
-            self.tell("  told", follower.told(reason), 1)
+            self.tell("  told", follower.told(reason, 1), 1)
             self.realm.add(missing, realms.FIRST)
             self.tell("  it is made: set", eventually(lambda: follower.told(f"{missing}@{REALM}: set, kvno 2")))
             self.as_table("  its keys", files, [missing])
@@ -163,10 +163,10 @@ class JournalCases(Cases):
             # between the two it may have had the first alone
             self.tell("changed at the KDC: told", eventually(lambda: follower.told(reason.format(3, 1))))
             time.sleep(2.5)
-            self.tell("  how often", follower.told(reason.format(3, 1)), 1)
+            self.tell("  how often", follower.told(reason.format(3, 1), 1), 1)
             files.append(files.change(name) + files.change(other))
             self.tell("  a change to a lower kvno, and another's: an answer", follower.ask())
-            self.tell("  told", follower.told(reason.format(3, 2)), 1)
+            self.tell("  told", follower.told(reason.format(3, 2), 1), 1)
             self.tell("  the KDC's password", self.realm.kinit(name, "Kdc-pass3"))
             self.tell("  kvno of the other", self.realm.kvno(other), 2)
             files.append(files.change(name, "Table-pass3"))
@@ -185,7 +185,7 @@ class JournalCases(Cases):
             files.append(bytes(record) + files.change(other))
             self.tell("a change under another count, and another's: an answer", follower.ask())
             self.tell("  kvno of both", (self.realm.kvno(name), self.realm.kvno(other)), (1, 2))
-            self.tell("  told", follower.told(f"{name}@{REALM}: {self.realm.COUNT_REASON}"), 1)
+            self.tell("  told", follower.told(f"{name}@{REALM}: {self.realm.COUNT_REASON}", 1), 1)
 
     def thousand(self):
         """Many changes of a few, as fast as they can be written."""
@@ -223,7 +223,7 @@ class JournalCases(Cases):
                 self.tell("locked: an answer", asker.line(), None)
                 files.append(files.change(other) + files.change(name, "Lock-pass3"))
                 time.sleep(6)
-                self.tell("  told", follower.told("failed: database: "), 1)
+                self.tell("  told", follower.told("failed: database: ", 1), 1)
             self.tell("  let go: an answer", follower.ask(seconds=20))
             self.tell("  kinit", self.realm.kinit(name, "Lock-pass3"))
             self.as_table("  its keys", files, [name, other])
@@ -254,7 +254,7 @@ class JournalCases(Cases):
             told = follower.wait_for("failed: database: ")
             self.tell("no database: told", told is not None)
             time.sleep(1.5)
-            self.tell("  how often", follower.told("failed: database: "), 1)
+            self.tell("  how often", follower.told("failed: database: ", 1), 1)
             self.tell("  an answer", follower.ask(0, seconds=0.5), False)
             self.ends(follower)
 
@@ -268,7 +268,7 @@ class JournalCases(Cases):
             wanted = f"failed: table: status 127: {files.program}: No such file or directory"
             self.tell("no program", told, wanted)
             time.sleep(2.5)
-            self.tell("  how often", follower.told("failed: "), 1)
+            self.tell("  how often", follower.told("failed: ", 1), 1)
             files.program.symlink_to(self.program)
             self.tell("  it is there", follower.passes(30), "principals 1, set 0, failed 0")
             self.ends(follower)

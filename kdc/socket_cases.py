@@ -202,7 +202,7 @@ class SocketCases(Cases):
         follower = Follower(self.realm, files, wrap=self.wrap)
         begun = time.monotonic()
         self.tell("a slow pass: an answer", follower.ask(seconds=20 + 2 * seconds))
-        self.tell("  not before it is over", follower.told("principals "), 1)
+        self.tell("  not before it is over", follower.told("principals ", 1), 1)
         self.ends(follower)
         follower = Follower(self.realm, files, wrap=self.wrap)
         time.sleep(seconds / 2)
