@@ -30,12 +30,12 @@ within-full bytes a answers more =
 
 -- ---- what it keeps
 
-pub within-all : (bytes : ℕ) (answers : List Answer) → bytes_of answers ≤ bytes → within bytes answers ≡ answers
-within-all bytes [] fits = refl
-within-all bytes (a ∷ answers) fits =
+pub within_all : (bytes : ℕ) (answers : List Answer) → bytes_of answers ≤ bytes → within bytes answers ≡ answers
+within_all bytes [] fits = refl
+within_all bytes (a ∷ answers) fits =
     let parts = bytes-cons a answers in
     within-fits bytes a answers (omega (arith, parts, fits))
-    ∙ ap (λ (xs : List Answer). a ∷ xs) (within-all (bytes - size_of a) answers (omega (arith, parts, fits)))
+    ∙ ap (λ (xs : List Answer). a ∷ xs) (within_all (bytes - size_of a) answers (omega (arith, parts, fits)))
 
 pub within-append : (bytes : ℕ) (front rest : List Answer) → bytes_of front ≤ bytes
     → within bytes (front ++ rest) ≡ front ++ within (bytes - bytes_of front) rest

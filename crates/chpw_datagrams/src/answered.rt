@@ -77,6 +77,7 @@ impl Answered {
 }
 
 // Drops the oldest ones until the others hold no more bytes than are kept.
+#[tactic(auto, using(crate::proofs::KeptLemmas::within_without_last, crate::proofs::WithinLemmas::within_all))]
 fn drop_oldest(kept: &mut VecDeque<Kept>)
     ensures value { answers_of kept.new.items ≡ within 4194304 (answers_of kept.old.items) }
     ensures capacity { deque_capacity kept.new ≡ deque_capacity kept.old }
