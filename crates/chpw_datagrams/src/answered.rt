@@ -58,7 +58,7 @@ impl Answered {
     }
 
     /// A message was answered with this reply. Answers of five seconds ago, and older ones, are dropped, and then the oldest
-    /// ones, where there are too many or they hold too many bytes. One that holds too many by itself isn't kept either.
+    /// ones, where there are too many or they hold too many bytes. Behind one that holds too many by itself nothing is kept.
     pub fn keep(&mut self, sender: Sender, message: Vec<u8>, reply: Vec<u8>, now: u64)
         ensures value { self.new ≡ behind_keep self.old (record { sender = sender; message = message.items; reply = reply.items; moment = now }) }
         ensures few { length self.new ≤ 1024 }
