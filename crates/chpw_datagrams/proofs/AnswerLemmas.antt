@@ -1,5 +1,5 @@
 -- What is kept of what was answered.
-use Rattle.std.proofs.Common.{◌≡◌, ℕ, zero, suc, ◌+◌, ◌-◌, ◌<◌, ◌≤◌, List, [], ◌∷◌, ◌++◌, length, take, Bool, true, false, ◌&&◌, cond, Option, Some, None, refl, sym, ◌∙◌, ap, subst, append_assoc, arith, nat_lt, nat_eq}
+use Rattle.std.proofs.Common.{◌≡◌, ℕ, zero, suc, ◌+◌, ◌-◌, ◌<◌, ◌≤◌, List, [], ◌∷◌, ◌++◌, length, take, Bool, true, false, ◌&&◌, cond, Option, Some, None, refl, sym, ◌∙◌, ap, subst, append_assoc, arith, nat_lt, nat_le, nat_eq}
 use borrow.Author.Tests.{ltb-true, ltb-false}
 use Rattle.std.specs.List.{All, filter, find}
 use Rattle.std.specs.Option.{IfSome, IsSome, option_map, is_some}
@@ -11,8 +11,9 @@ use Rattle.std.proofs.lemmas.Bool.Decides.{Decides-eqb}
 use Rattle.std.proofs.Math.Seq.{take-append-add}
 use Rattle.chpw_datagrams.specs.declared.sender.Sender.{Sender}
 use Rattle.chpw_datagrams.specs.Senders.{is_same_sender}
-use Rattle.chpw_datagrams.specs.Answers.{Answer, is_recent, is_for, behind_keep, reply_for}
+use Rattle.chpw_datagrams.specs.Answers.{Answer, is_recent, is_for, size_of, bytes_of, within, behind_keep, reply_for}
 use Rattle.chpw_datagrams.specs.Laws.{kept_behind, WasGiven, GivenAgain, IsRemembered}
+use Rattle.chpw_datagrams.proofs.WithinLemmas.{bytes-cons, bytes-filter, within-fits, within-append}
 
 -- ---- tests
 
@@ -58,6 +59,14 @@ each_take P zero xs e = tt
 each_take P (suc n) [] e = tt
 each_take P (suc n) (x ∷ xs) e = (e.0, each_take P n xs e.1)
 
+each_within : (P : Answer → Type 0) (bytes : ℕ) (xs : List Answer) → Each P xs → Each P (within bytes xs)
+each_within P bytes [] e = tt
+each_within P bytes (x ∷ xs) e = by_test (nat_le (size_of x) bytes) (each_within P (bytes - size_of x) xs e.1)
+  where
+    by_test : (b : Bool) → Each P (within (bytes - size_of x) xs) → Each P (cond b (x ∷ within (bytes - size_of x) xs) [])
+    by_test true others = (e.0, others)
+    by_test false others = tt
+
 found : {X : Type 0} (P : X → Type 0) (p : X → Bool) (xs : List X) → Each P xs → IfSome (find p xs) (λ (x : X). P x × (p x ≡ true))
 found P p [] e = tt
 found {X} P p (x ∷ xs) e = by_test (p x) refl (found P p xs e.1)
@@ -86,7 +95,8 @@ all_given done kept [] e = subst (λ (xs : List Answer). Each (Given xs) kept) (
 all_given done kept (b ∷ rest) e =
     let one : Given (done ++ b ∷ []) b = record { before = done; later = []; parts = refl } in
     let others = each_filter (Given (done ++ b ∷ [])) (is_recent b.moment) kept (each_so (Given done) (Given (done ++ b ∷ [])) (given_on done b) kept e) in
-    let next = each_take (Given (done ++ b ∷ [])) 1024 (b ∷ filter (is_recent b.moment) kept) (one, others) in
+    let newest = each_take (Given (done ++ b ∷ [])) 1024 (b ∷ filter (is_recent b.moment) kept) (one, others) in
+    let next = each_within (Given (done ++ b ∷ [])) 4194304 (take 1024 (b ∷ filter (is_recent b.moment) kept)) newest in
     subst (λ (xs : List Answer). Each (Given xs) (kept_behind (behind_keep kept b) rest)) (append_assoc done (b ∷ []) rest)
     (all_given (done ++ b ∷ []) (behind_keep kept b) rest next)
 
@@ -130,12 +140,13 @@ given_again answers sender message now =
 
 -- ---- within five seconds an answer is given again
 
--- it stands among those that are kept, and stays there for so many more
-record Stands (a : Answer) (kept : List Answer) (more : ℕ) : Type 0 where
+-- it stands among those that are kept, and stays there while these are kept
+record Stands (a : Answer) (kept later : List Answer) : Type 0 where
   front : List Answer
   rest : List Answer
   parts : kept ≡ front ++ a ∷ rest
-  few : length front + more < 1024
+  few : length front + length later < 1024
+  few_bytes : bytes_of front + size_of a + bytes_of later ≤ 4194304
 
 fewer : {X : Type 0} (p : X → Bool) (xs : List X) → length (filter p xs) ≤ length xs
 fewer p [] = omega arith
@@ -146,26 +157,35 @@ fewer {X} p (x ∷ xs) = by_test (p x) (fewer p xs)
     by_test false h = omega (arith, h)
 
 -- as many as may be kept, with one that stands in front
-stands_in : (a : Answer) (front rest : List Answer) (more : ℕ) → length front + more < 1024 → Stands a (take 1024 (front ++ a ∷ rest)) more
-stands_in a front rest more few =
+stands_in : (a : Answer) (front rest later : List Answer) → length front + length later < 1024 → bytes_of front + size_of a + bytes_of later ≤ 4194304
+    → Stands a (within 4194304 (take 1024 (front ++ a ∷ rest))) later
+stands_in a front rest later few few_bytes =
     let k = 1023 - length front in
+    let bytes = 4194304 - bytes_of front in
     let size : 1024 ≡ length front + suc k = omega (arith, few) in
     record {
       front = front;
-      rest = take k rest;
-      parts = ap (λ (n : ℕ). take n (front ++ a ∷ rest)) size ∙ take-append-add front (a ∷ rest) (suc k);
+      rest = within (bytes - size_of a) (take k rest);
+      parts =
+          ap (within 4194304) (ap (λ (n : ℕ). take n (front ++ a ∷ rest)) size ∙ take-append-add front (a ∷ rest) (suc k))
+          ∙ within-append 4194304 front (a ∷ take k rest) (omega (arith, few_bytes))
+          ∙ ap (λ (xs : List Answer). front ++ xs) (within-fits bytes a (take k rest) (omega (arith, few_bytes)));
       few = few;
+      few_bytes = few_bytes;
     }
 
-stands_on : (a b : Answer) (kept : List Answer) (more : ℕ) → is_recent b.moment a ≡ true → Stands a kept (suc more) → Stands a (behind_keep kept b) more
-stands_on a b kept more recent s =
+stands_on : (a b : Answer) (kept later : List Answer) → is_recent b.moment a ≡ true → Stands a kept (b ∷ later) → Stands a (behind_keep kept b) later
+stands_on a b kept later recent s =
     let p = is_recent b.moment in
     let still : filter p (a ∷ s.rest) ≡ a ∷ filter p s.rest = ap (λ (t : Bool). cond t (a ∷ filter p s.rest) (filter p s.rest)) recent in
     let parts : filter p kept ≡ filter p s.front ++ a ∷ filter p s.rest =
     ap (filter p) s.parts ∙ filter-append p s.front (a ∷ s.rest) ∙ ap (λ (xs : List Answer). filter p s.front ++ xs) still in
     let shorter : length (filter p s.front) ≤ length s.front = fewer p s.front in
-    let few : length (b ∷ filter p s.front) + more < 1024 = omega (arith, shorter, s.few) in
-    subst (λ (xs : List Answer). Stands a (take 1024 (b ∷ xs)) more) (sym parts) (stands_in a (b ∷ filter p s.front) (filter p s.rest) more few)
+    let few : length (b ∷ filter p s.front) + length later < 1024 = omega (arith, shorter, s.few) in
+    let few_bytes : bytes_of (b ∷ filter p s.front) + size_of a + bytes_of later ≤ 4194304 =
+    omega (arith, bytes-filter p s.front, bytes-cons b (filter p s.front), bytes-cons b later, s.few_bytes) in
+    subst (λ (xs : List Answer). Stands a (within 4194304 (take 1024 (b ∷ xs))) later) (sym parts)
+    (stands_in a (b ∷ filter p s.front) (filter p s.rest) later few few_bytes)
 
 first_of_all : (P : Answer → Type 0) (x : Answer) (xs : List Answer) → All P (x ∷ xs) → P x
 first_of_all P x xs h = h 0 x (omega arith)
@@ -174,13 +194,13 @@ others_of_all : (P : Answer → Type 0) (x : Answer) (xs : List Answer) → All 
 others_of_all P x xs h = λ k d less. h (suc k) d (omega (arith, less))
 
 stands_behind : (a : Answer) (now : ℕ) (kept later : List Answer) → now - a.moment < 5000 → All (λ (b : Answer). b.moment ≤ now) later
-    → Stands a kept (length later) → Stands a (kept_behind kept later) 0
+    → Stands a kept later → Stands a (kept_behind kept later) []
 stands_behind a now kept [] recent ascending s = s
 stands_behind a now kept (b ∷ later) recent ascending s =
     let before : b.moment ≤ now = first_of_all (λ (c : Answer). c.moment ≤ now) b later ascending in
     let still : is_recent b.moment a ≡ true = less_true (b.moment - a.moment) 5000 (omega (arith, before, recent)) in
     stands_behind a now (behind_keep kept b) later recent (others_of_all (λ (c : Answer). c.moment ≤ now) b later ascending)
-    (stands_on a b kept (length later) still s)
+    (stands_on a b kept later still s)
 
 behind_append : (kept xs ys : List Answer) → kept_behind kept (xs ++ ys) ≡ kept_behind (kept_behind kept xs) ys
 behind_append kept [] ys = refl
@@ -199,9 +219,10 @@ some_reply None h = h
 some_reply (Some a) h = refl
 
 pub is_remembered : IsRemembered
-is_remembered before later a now recent ascending few =
+is_remembered before later a now recent ascending few few_bytes =
     let kept = kept_behind [] before in
-    let first : Stands a (behind_keep kept a) (length later) = stands_in a [] (filter (is_recent a.moment) kept) (length later) (omega (arith, few)) in
+    let first : Stands a (behind_keep kept a) later =
+    stands_in a [] (filter (is_recent a.moment) kept) later (omega (arith, few)) (omega (arith, bytes-cons a later, few_bytes)) in
     let s = stands_behind a now (behind_keep kept a) later recent ascending first in
     let p : Answer → Bool = λ b. is_for a.sender a.message b && is_recent now b in
     let same : is_for a.sender a.message a ≡ true =

@@ -1,5 +1,5 @@
 -- What has been answered, and what is answered with the same reply again. Moments are milliseconds.
-use Rattle.std.specs.Prelude.{ℕ, ◌-◌, List, ◌∷◌, take, filter, Option, Bool, ◌&&◌, nat_lt}
+use Rattle.std.specs.Prelude.{ℕ, ◌+◌, ◌-◌, List, [], ◌∷◌, length, sum_by, take, filter, Option, Bool, ◌&&◌, nat_lt, nat_le, if◌then◌else◌}
 use Rattle.std.specs.List.{find}
 use Rattle.std.specs.Option.{option_map}
 use Rattle.std.specs.Str.{bytes_eq}
@@ -21,9 +21,21 @@ is_recent now a = nat_lt (now - a.moment) 5000
 abbrev pub is_for : Sender → List ℕ → Answer → Bool
 is_for sender message a = is_same_sender a.sender sender && bytes_eq a.message message
 
--- no more than 1,024 are kept, the newest first, and none that isn't recent beside a new one
+-- the bytes of its message and of its reply
+abbrev pub size_of : Answer → ℕ
+size_of a = length a.message + length a.reply
+
+abbrev pub bytes_of : List Answer → ℕ
+bytes_of answers = sum_by size_of answers
+
+-- the longest beginning that has no more bytes than these
+abbrev pub within : ℕ → List Answer → List Answer
+within bytes [] = []
+within bytes (a ∷ answers) = if nat_le (size_of a) bytes then a ∷ within (bytes - size_of a) answers else []
+
+-- no more than 1,024 are kept, with 4 MiB of messages and replies, the newest first, and none that isn't recent beside a new one
 abbrev pub behind_keep : List Answer → Answer → List Answer
-behind_keep answers a = take 1024 (a ∷ filter (is_recent a.moment) answers)
+behind_keep answers a = within 4194304 (take 1024 (a ∷ filter (is_recent a.moment) answers))
 
 -- the reply that this message gets again: that of the newest
 abbrev pub reply_for : List Answer → Sender → List ℕ → ℕ → Option (List ℕ)

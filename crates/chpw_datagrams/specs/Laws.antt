@@ -1,7 +1,7 @@
 -- What holds of all that is answered.
 use Rattle.std.specs.Prelude.{◌≡◌, ℕ, ◌-◌, ◌<◌, ◌≤◌, List, [], ◌∷◌, ◌++◌, length, All, IfSome, IsSome}
 use Rattle.chpw_datagrams.specs.declared.sender.Sender.{Sender}
-use Rattle.chpw_datagrams.specs.Answers.{Answer, behind_keep, reply_for}
+use Rattle.chpw_datagrams.specs.Answers.{Answer, bytes_of, behind_keep, reply_for}
 
 -- what is kept behind these answers, the first of them first
 abbrev pub kept_behind : List Answer → List Answer → List Answer
@@ -25,11 +25,12 @@ GivenAgain =
     (answers : List Answer) (sender : Sender) (message : List ℕ) (now : ℕ)
     → IfSome (reply_for (kept_behind [] answers) sender message now) (λ (reply : List ℕ). WasGiven answers sender message reply now)
 
--- within five seconds an answer is given again, unless 1,024 others have been given since: a clock that doesn't go back
+-- within five seconds an answer is given again, unless 1,024 others have been given since, or it has more than 4 MiB with those: a clock that doesn't go back
 abbrev pub IsRemembered : Type 0
 IsRemembered =
     (before later : List Answer) (a : Answer) (now : ℕ)
     → now - a.moment < 5000
     → All (λ (b : Answer). b.moment ≤ now) later
     → length later < 1024
+    → bytes_of (a ∷ later) ≤ 4194304
     → IsSome (reply_for (kept_behind [] (before ++ a ∷ later)) a.sender a.message now)

@@ -1,6 +1,7 @@
 //! What has been answered, and gets the same reply again.
-ghost use Rattle.std.specs.Prelude.{◌≡◌, ◌≤◌, [], length, IfOk, IfSome, IfNone, Some, None};
-ghost use Rattle.chpw_datagrams.specs.Answers.{behind_keep, reply_for};
+ghost use Rattle.std.specs.Prelude.{◌≡◌, ◌≤◌, ◌-◌, ◌^◌, [], length, min, nat_lt, IfOk, IfSome, IfNone, Some, None};
+ghost use Rattle.std.specs.VecDeque.{deque_capacity};
+ghost use Rattle.chpw_datagrams.specs.Answers.{behind_keep, bytes_of, reply_for, within};
 ghost use Rattle.chpw_datagrams.specs.Fields.{answers_of};
 
 use crate::kept::Kept;
@@ -11,6 +12,9 @@ use std::marker::Model;
 
 /// So many answers are kept, at the most.
 pub const MAX_ANSWERS: usize = 1_024;
+
+/// So many bytes of messages and replies are kept, at the most.
+pub const MAX_BYTES: usize = 4_194_304;
 
 /// The answers that are kept, the newest first. Moments are milliseconds of a clock that doesn't go back.
 #[derive(Drop)]
@@ -53,11 +57,12 @@ impl Answered {
         }
     }
 
-    /// A message was answered with this reply. Answers of five seconds ago, and older ones, are dropped, and the oldest one
-    /// where there are too many.
+    /// A message was answered with this reply. Answers of five seconds ago, and older ones, are dropped, and then the oldest
+    /// ones, where there are too many or they hold too many bytes. Behind one that holds too many by itself nothing is kept.
     pub fn keep(&mut self, sender: Sender, message: Vec<u8>, reply: Vec<u8>, now: u64)
         ensures value { self.new ≡ behind_keep self.old (record { sender = sender; message = message.items; reply = reply.items; moment = now }) }
         ensures few { length self.new ≤ 1024 }
+        ensures bytes { bytes_of self.new ≤ 4194304 }
     {
         self.kept.retain(|kept| kept.is_recent(now));
         self.kept.truncate(MAX_ANSWERS - 1);
@@ -67,7 +72,38 @@ impl Answered {
             reply,
             moment: now,
         });
+        drop_oldest(&mut self.kept);
     }
+}
+
+// Drops the oldest ones until the others hold no more bytes than are kept.
+#[tactic(auto, using(crate::proofs::KeptLemmas::within_without_last, crate::proofs::WithinLemmas::within_all))]
+fn drop_oldest(kept: &mut VecDeque<Kept>)
+    ensures value { answers_of kept.new.items ≡ within 4194304 (answers_of kept.old.items) }
+    ensures capacity { deque_capacity kept.new ≡ deque_capacity kept.old }
+{
+    while holds_too_many_bytes(kept) {
+        kept.pop_back();
+    }
+}
+
+// Whether these hold more bytes than are kept.
+fn holds_too_many_bytes(kept: &VecDeque<Kept>) -> bool
+    ensures value { result ≡ nat_lt 4194304 (bytes_of (answers_of kept.now.items)) }
+{
+    let (newer, older) = kept.as_slices();
+    bytes_in(newer).saturating_add(bytes_in(older)) > MAX_BYTES
+}
+
+// How many bytes these hold, as far as they can be counted.
+fn bytes_in(kept: &[Kept]) -> usize
+    ensures value { result ≡ min (2 ^ 64 - 1) (bytes_of (answers_of kept.now)) }
+{
+    let mut bytes: usize = 0;
+    for answer in kept {
+        bytes = bytes.saturating_add(answer.size());
+    }
+    bytes
 }
 
 // The reply of the first of these that answers the message.

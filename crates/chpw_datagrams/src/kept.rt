@@ -1,6 +1,6 @@
 //! An answer that is kept.
 ghost use Rattle.std.specs.Prelude.{◌≡◌, ◌&&◌};
-ghost use Rattle.chpw_datagrams.specs.Answers.{is_for, is_recent as is_recent_answer};
+ghost use Rattle.chpw_datagrams.specs.Answers.{is_for, is_recent as is_recent_answer, size_of};
 ghost use Rattle.chpw_datagrams.specs.Fields.{answer_of};
 
 use crate::sender::Sender;
@@ -23,6 +23,13 @@ impl Kept {
         ensures value { result ≡ is_recent_answer now (answer_of self.now) }
     {
         now.saturating_sub(self.moment) < MAX_AGE
+    }
+
+    // How many bytes its message and its reply hold.
+    pub(crate) fn size(&self) -> usize
+        ensures value { result ≡ size_of (answer_of self.now) }
+    {
+        self.message.len() + self.reply.len()
     }
 
     // Whether it is the answer to this message, and recent.

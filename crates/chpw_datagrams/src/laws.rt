@@ -7,7 +7,8 @@ pub fn only_what_was_given()
     ensures { GivenAgain }
 {}
 
-/// Within five seconds an answer is given again, unless 1,024 others have been given since.
+/// Within five seconds an answer is given again, unless 1,024 others have been given since, or it holds more than 4 MiB
+/// together with those.
 #[tactic(auto, using(crate::proofs::AnswerLemmas::is_remembered))]
 pub fn remembered()
     ensures { IsRemembered }

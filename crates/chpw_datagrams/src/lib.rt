@@ -7,6 +7,6 @@ mod kept;
 pub mod laws;
 mod sender;
 
-pub use answered::{Answered, MAX_ANSWERS};
+pub use answered::{Answered, MAX_ANSWERS, MAX_BYTES};
 pub use kept::MAX_AGE;
 pub use sender::{KPASSWD_PORT, Sender, is_answerable};
