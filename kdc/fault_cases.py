@@ -1,7 +1,7 @@
 """Faults while sixteen users change their passwords: of the follower, the database and the service.
 
 Behind each of them the journal has each change that was answered, and the KDC the table's keys. No reply
-comes later behind its record than `--follower-wait`, a tenth of a second and what it takes where nobody
+comes later behind its record than `--follower-wait`, `--later` and what it takes where nobody
 listens at the socket, which is tried first. crowd.py has how that is seen.
 """
 
@@ -27,8 +27,6 @@ from realms import FIRST
 USERS = 16
 # milliseconds, as where it isn't given
 WAIT = 2000
-# seconds
-LATER = 0.1
 # a follower that is to die lives for so long at most behind its first pass, and somebody has the database
 LIFE = 0.5
 LOCKED = 4
@@ -50,9 +48,10 @@ def keys_once(name, password):
 
 
 class FaultCases(Cases):
-    def run(self, changes):
-        """About so many changes altogether."""
+    def run(self, changes, later):
+        """About so many changes altogether; a reply may come so many milliseconds later than it should."""
         self.changes = max(USERS, changes // CASES)
+        self.later = later / 1000
         self.names = [self.name() for _ in range(USERS)]
         self.library = dying_library(self.realm.folder)
         self.files = Confirmed(self.realm.folder / "faults", self.program, WAIT)
@@ -84,7 +83,7 @@ class FaultCases(Cases):
         longest = max(held, default=0)
         self.tell(f"{what}, {count} changes: other answers", others, [])
         print(f"  {1000 * longest:.0f} ms from a record to its reply at most; not confirmed {lines}", flush=True)
-        self.tell("  no longer than it may take", longest <= self.itself + WAIT / 1000 + LATER)
+        self.tell("  no longer than it may take", longest <= self.itself + WAIT / 1000 + self.later)
         return longest, lines
 
     def nobody(self, over):

@@ -1,5 +1,7 @@
 """Logins by pamtester: pam_krb5 of either project, and sssd. They are asked as clients.py has it."""
 
+import contextlib
+import fcntl
 import os
 import pathlib
 import shutil
@@ -30,6 +32,14 @@ def write_users(folder, users, group):
     (folder / "group").write_text(f"root:x:0:\nall:x:{group}:\n")
 
 
+@contextlib.contextmanager
+def alone():
+    """No other pamtester runs: two that begin at once may take one folder, /tmp/pam.0, for their own."""
+    with (packages_folder() / "pam.lock").open("w") as file:
+        fcntl.flock(file, fcntl.LOCK_EX)
+        yield
+
+
 class Pam:
     """Beside a project's clients: its pam_krb5 as pamtester calls it, for users of a file of its own."""
 
@@ -49,15 +59,16 @@ class Pam:
     def pamtester(self, name, words, typed):
         folder = packages_folder() / "pam"
         wrappers = [next(folder.glob(f"usr/lib/*/lib{kind}_wrapper.so")) for kind in ("pam", "nss")]
-        return self.run(
-            [str(PAMTESTER), "login", name, *words],
-            *typed,
-            LD_PRELOAD=":".join(map(str, wrappers)),
-            PAM_WRAPPER="1",
-            PAM_WRAPPER_SERVICE_DIR=str(self.services),
-            NSS_WRAPPER_PASSWD=str(self.folder / "passwd"),
-            NSS_WRAPPER_GROUP=str(self.folder / "group"),
-        )
+        with alone():
+            return self.run(
+                [str(PAMTESTER), "login", name, *words],
+                *typed,
+                LD_PRELOAD=":".join(map(str, wrappers)),
+                PAM_WRAPPER="1",
+                PAM_WRAPPER_SERVICE_DIR=str(self.services),
+                NSS_WRAPPER_PASSWD=str(self.folder / "passwd"),
+                NSS_WRAPPER_GROUP=str(self.folder / "group"),
+            )
 
     def ticket(self, name, *typed):
         """A login, to the end of the session."""
