@@ -5,7 +5,7 @@ use std::io;
 use thiserror::Error;
 
 /// Why a case has no answer.
-#[derive(Debug, Drop, Error)]
+#[derive(Clone, Copy, Debug, Drop, Error)]
 pub enum Refusal {
     /// It names a piece that there isn't.
     #[error("there is no such case")]
