@@ -11,7 +11,7 @@ use crate::writing::{broken, replied, written};
 use crate::{deciding, words};
 use case_lines::{Answers, Change};
 use std::alloc::{AllocError, Global};
-use std::io;
+use std::io::{self, Error};
 
 /// What the lines before have set.
 #[derive(Drop)]
@@ -30,7 +30,7 @@ impl Answers for Cases {
             Some(("words", text)) => return words::answer(alloc, text),
             _ => return self.of_stream(alloc, case),
         }
-        Ok(String::from_str(alloc, case)?)
+        String::from_str(alloc, case).map_err(Error::from)
     }
 }
 
@@ -49,7 +49,7 @@ impl Cases {
     /// A line more of the configuration.
     fn add_line(&mut self, text: &str) -> Result<(), AllocError> {
         self.base.push_str(text)?;
-        Ok(self.base.push_str("\n")?)
+        self.base.push_str("\n")
     }
 
     /// `quiet N`, and `OLD -> NEW`.
@@ -65,7 +65,7 @@ impl Cases {
 
     fn add_message(&mut self, alloc: Global, text: &str) -> io::Result<String> {
         self.messages.push(read_message(alloc, text)?)?;
-        Ok(String::from_str(alloc, "a message")?)
+        String::from_str(alloc, "a message").map_err(Error::from)
     }
 
     /// The answer to a case of streams.
@@ -102,12 +102,19 @@ impl Cases {
     fn named(&self, alloc: Global, text: &str) -> io::Result<Vec<&Message>> {
         let mut messages = Vec::new(alloc);
         for name in text.split(' ') {
-            let Some(found) = self.messages.iter().find(|m| m.name.as_str() == name) else {
-                return Err(no_case());
-            };
-            messages.push(found)?;
+            messages.push(self.message(name)?)?;
         }
         Ok(messages)
+    }
+
+    /// The message with this name.
+    fn message(&self, name: &str) -> io::Result<&Message> {
+        for message in &self.messages {
+            if message.name.as_str() == name {
+                return Ok(message);
+            }
+        }
+        Err(no_case())
     }
 }
 

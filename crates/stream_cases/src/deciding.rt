@@ -13,7 +13,7 @@ use chpw_journal::MemorySink;
 use chpw_messages::Service;
 use chpw_table::{Counts, DecideFault, Moment, Opened, Refused, Verdict};
 use std::alloc::{AllocError, Global};
-use std::io;
+use std::io::{self, Error};
 
 /// The moment of each decision here.
 fn now() -> Moment
@@ -213,7 +213,7 @@ fn show_verdict(
     table: &Alone<MemorySink>,
 ) -> io::Result<()> {
     let holding = Holding::of(alloc, table)?;
-    Ok(write!(text, "{verdict}, {holding}")?)
+    write!(text, "{verdict}, {holding}").map_err(Error::from)
 }
 
 /// A message's request, with no keys derived, and its password.
@@ -242,7 +242,9 @@ fn complete(opened: &mut Opened, password: &[u8], counts: &Counts) -> io::Result
         return Err(no_case());
     }
     let salt = opened.salt()?;
-    Ok(opened.complete(password, &salt, counts)?)
+    opened
+        .complete(password, &salt, counts)
+        .map_err(Error::from)
 }
 
 /// What keys a decision needs.

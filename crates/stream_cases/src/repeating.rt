@@ -5,7 +5,7 @@ use crate::serving::{How, Outcome, ended_text, serve_anew};
 use crate::world::{Holding, Setting};
 use hex::encode;
 use std::alloc::Global;
-use std::io;
+use std::io::{self, Error};
 
 /// What comes of these bytes, so many times as `how` says before it says how they are served.
 pub fn repeated(alloc: Global, setting: &Setting, how: &str, text: &str) -> io::Result<String> {
@@ -23,7 +23,9 @@ fn shown(alloc: Global, outcome: &Outcome, holding: Holding) -> io::Result<Strin
     };
     let reply = encode(alloc, reply)?;
     let (ended, unread) = (ended_text(outcome.ended), outcome.unread);
-    Ok(format!(in alloc; "[{reply}] {times} times; {ended}, {unread} bytes unread, {holding}")?)
+    format!(in alloc; "[{reply}] {times} times; {ended}, {unread} bytes unread, {holding}").map_err(
+        Error::from,
+    )
 }
 
 /// The bytes of a text in hexadecimal, so many times.
@@ -39,13 +41,12 @@ fn copies(alloc: Global, text: &str, times: u32) -> io::Result<Vec<u8>> {
 /// The first reply with its length before it, and how often it was written; `None` where anything
 /// else was.
 fn only_reply(written: &[u8]) -> Option<(&[u8], usize)> {
-    let header = written.first_chunk()?;
-    let size = (u32::from_be_bytes(*header) as usize).checked_add(4)?;
+    let size = u32::from_be_bytes(*written.first_chunk()?) as usize + 4;
     let first = written.get(..size)?;
-    let mut replies = written.chunks(size);
-    if replies.all(|reply| reply == first) {
-        Some((first, written.len() / size))
-    } else {
-        None
+    for reply in written.chunks(size) {
+        if reply != first {
+            return None;
+        }
     }
+    Some((first, written.len() / size))
 }

@@ -6,7 +6,7 @@ use crate::serving::{How, serve_anew, served_as, stream_of, stream_of_one};
 use crate::world::Setting;
 use case_lines::{Census, Change};
 use std::alloc::Global;
-use std::io;
+use std::io::{self, Error};
 use std::ops::Range;
 
 /// What comes of a message with this change at each of its places.
@@ -21,38 +21,44 @@ pub fn varied(
         return Err(no_case());
     };
     let mut census = Census::new(alloc);
-    for place in 0..message.bytes.len() {
-        let answer = changed(alloc, setting, change, how, message, place)?;
-        census.add(alloc, place, answer.as_str())?;
+    match add_changed(alloc, &mut census, setting, change, how, message) {
+        Ok(()) => census.shown(alloc).map_err(Error::from),
+        Err(error) => Err(error),
     }
-    Ok(census.shown(alloc)?)
 }
 
-/// What comes of a message with this change at a place.
-fn changed(
+/// Adds what comes of a message with this change at each of its places.
+fn add_changed(
     alloc: Global,
+    census: &mut Census,
     setting: &Setting,
     change: Change,
     how: How,
     message: &Message,
-    place: usize,
-) -> io::Result<String> {
-    match change.made(alloc, &message.bytes, place)? {
-        Some(bytes) => sent(alloc, setting, how, message, &bytes),
-        None => Ok(String::from_str(alloc, "left out")?),
+) -> io::Result<()> {
+    for place in 0..message.bytes.len() {
+        let changed = change.made(alloc, &message.bytes, place)?;
+        let answer = sent(alloc, setting, how, message, changed)?;
+        census.add(alloc, place, answer.as_str())?;
     }
+    Ok(())
 }
 
-/// What comes of these bytes in the place of a message.
+/// What comes of these bytes in the place of a message; `left out` of none.
 fn sent(
     alloc: Global,
     setting: &Setting,
     how: How,
     message: &Message,
-    bytes: &[u8],
+    bytes: Option<Vec<u8>>,
 ) -> io::Result<String> {
-    let stream = stream_of_one(alloc, bytes)?;
-    served_as(alloc, setting, how, &[message], &stream)
+    match bytes {
+        Some(bytes) => {
+            let stream = stream_of_one(alloc, &bytes)?;
+            served_as(alloc, setting, how, &[message], &stream)
+        }
+        None => String::from_str(alloc, "left out").map_err(Error::from),
+    }
 }
 
 /// What differs from stream to stream of the same messages.
@@ -110,10 +116,34 @@ pub fn varied_stream(
 ) -> io::Result<String> {
     let stream = stream_of(alloc, messages)?;
     let mut census = Census::new(alloc);
-    for place in variation.places(alloc, setting, how, &stream)? {
-        let (how, stream) = variation.at(how, &stream, place);
+    match add_varied(
+        alloc,
+        &mut census,
+        setting,
+        variation,
+        how,
+        messages,
+        &stream,
+    ) {
+        Ok(()) => census.shown(alloc).map_err(Error::from),
+        Err(error) => Err(error),
+    }
+}
+
+/// Adds what comes of a stream of these messages at each place where it varies.
+fn add_varied(
+    alloc: Global,
+    census: &mut Census,
+    setting: &Setting,
+    variation: Variation,
+    how: How,
+    messages: &[&Message],
+    stream: &[u8],
+) -> io::Result<()> {
+    for place in variation.places(alloc, setting, how, stream)? {
+        let (how, stream) = variation.at(how, stream, place);
         let answer = served_as(alloc, setting, how, messages, stream)?;
         census.add(alloc, place, answer.as_str())?;
     }
-    Ok(census.shown(alloc)?)
+    Ok(())
 }

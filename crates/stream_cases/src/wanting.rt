@@ -18,15 +18,25 @@ pub fn wanting(
     messages: &[&Message],
 ) -> io::Result<String> {
     let stream = stream_of(alloc, messages)?;
-    let (outcome, holding) = match what {
-        "to decide" => undecided(alloc, setting, &stream)?,
-        "to reply" => unanswered(alloc, setting, &stream)?,
-        _ => return Err(no_case()),
-    };
+    let (outcome, holding) = wanted(alloc, setting, what, &stream)?;
     let mut shown = shown_replies(alloc, messages, &outcome.written)?;
     let (ended, unread) = (ended_text(outcome.ended), outcome.unread);
     write!(shown, "{ended}, {unread} bytes unread, {holding}")?;
     Ok(shown)
+}
+
+/// Served without memory for that.
+fn wanted(
+    alloc: Global,
+    setting: &Setting,
+    what: &str,
+    stream: &[u8],
+) -> io::Result<(Outcome, Holding)> {
+    match what {
+        "to decide" => undecided(alloc, setting, stream),
+        "to reply" => unanswered(alloc, setting, stream),
+        _ => Err(no_case()),
+    }
 }
 
 /// Served by a decider that has no memory.

@@ -3,7 +3,7 @@
 use chpw_serve::{Words, WorkerWords};
 use hex::encode;
 use std::alloc::Global;
-use std::io;
+use std::io::{self, Error};
 
 /// The words of a block, as bytes.
 const BLOCK: usize = 64;
@@ -17,11 +17,14 @@ pub fn answer(alloc: Global, text: &str) -> io::Result<String> {
     for _ in 0..number(parts.next()) {
         words.next();
     }
-    Ok(encode(alloc, &block(&mut words))?)
+    encode(alloc, &block(&mut words)).map_err(Error::from)
 }
 
 fn number(text: Option<&str>) -> u64 {
-    text.and_then(|text| text.parse().ok()).unwrap_or(0)
+    match text {
+        Some(text) => text.parse().unwrap_or(0),
+        None => 0,
+    }
 }
 
 /// The seed of zeros but for its last byte.

@@ -5,7 +5,7 @@ use crate::serving::{How, ended_text, serve_anew, stream_of};
 use crate::world::Setting;
 use hex::encode;
 use std::alloc::Global;
-use std::io;
+use std::io::{self, Error};
 
 /// What is written where these bytes are read, how the stream ends, and what the table is then.
 pub fn written(alloc: Global, setting: &Setting, how: How, text: &str) -> io::Result<String> {
@@ -26,7 +26,7 @@ fn shown(alloc: Global, setting: &Setting, how: How, stream: &[u8]) -> io::Resul
     let (outcome, holding) = serve_anew(alloc, setting, how, stream)?;
     let written = encode(alloc, &outcome.written)?;
     let ended = ended_text(outcome.ended);
-    Ok(format!(in alloc; "[{written}] {ended}, {holding}")?)
+    format!(in alloc; "[{written}] {ended}, {holding}").map_err(Error::from)
 }
 
 /// Serves these messages with a write that fails behind each byte of the replies in turn: how
@@ -41,7 +41,7 @@ pub fn broken(
     let (whole, _) = serve_anew(alloc, setting, how, &stream)?;
     let fronts = fronts(alloc, setting, how, &stream, &whole.written)?;
     let count = whole.written.len();
-    Ok(format!(in alloc; "{fronts} faults behind each byte of {count}")?)
+    format!(in alloc; "{fronts} faults behind each byte of {count}").map_err(Error::from)
 }
 
 /// Behind how many of these bytes a write that fails leaves those before it written.
