@@ -63,13 +63,14 @@ impl<'a> Question<'a> {
         }
         let client = name(alloc, self.client)?;
         let target = target_of(alloc, self.target)?;
+        let target = if self.old { None } else { lent(&target) };
         client_request(
             alloc,
             config,
             moment_at(second, micros),
             &client,
             password,
-            lent(&target),
+            target,
             self.initial,
             self.old,
             words,
