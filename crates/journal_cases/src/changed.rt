@@ -2,7 +2,7 @@
 use crate::journal::journal_of;
 use crate::realm::deep_table;
 use crate::refusal::Refusal;
-use crate::restoring::show_told;
+use crate::restoring::{show_census, show_told};
 use case_lines::{Census, Change};
 use chpw_journal::{Restored, restore};
 use chpw_table::{KeyRow, Table};
@@ -19,8 +19,10 @@ pub fn show_changed(
 ) -> Result<(), Refusal> {
     let journal = journal_of(alloc, pieces)?;
     let mut census = Census::new(alloc);
-    add_changed(alloc, &mut census, change, &journal)?;
-    Ok(text.push_str(census.shown(alloc)?.as_str())?)
+    match add_changed(alloc, &mut census, change, &journal) {
+        Ok(()) => show_census(alloc, text, &census),
+        Err(refusal) => Err(refusal),
+    }
 }
 
 fn add_changed(
@@ -49,13 +51,25 @@ fn add_places(
 ) -> Result<(), Refusal> {
     for place in 0..journal.len() {
         let mut text = String::new(alloc);
-        match change.made(alloc, journal, place)? {
-            Some(bytes) => show_compared(alloc, &mut text, written, &bytes)?,
-            None => text.push_str("left out")?,
-        }
+        show_place(alloc, &mut text, change, journal, written, place)?;
         census.add(alloc, place, text.as_str())?;
     }
     Ok(())
+}
+
+/// Adds what restoring a journal gives with a change at this place.
+fn show_place(
+    alloc: Global,
+    text: &mut String,
+    change: Change,
+    journal: &[u8],
+    written: &Table,
+    place: usize,
+) -> Result<(), Refusal> {
+    match change.made(alloc, journal, place)? {
+        Some(bytes) => show_compared(alloc, text, written, &bytes),
+        None => text.push_str("left out").map_err(Refusal::from),
+    }
 }
 
 /// Adds what restoring this journal gives, and what of alice's keys is not as in that table.
@@ -71,7 +85,7 @@ fn show_compared(
             drop(restored);
             shown
         }
-        Err(fault) => Ok(write!(text, "{fault}")?),
+        Err(fault) => write!(text, "{fault}").map_err(Refusal::from),
     }
 }
 
@@ -94,7 +108,7 @@ fn show_difference(
 ) -> Result<(), Refusal> {
     let alice = name(alloc, "alice")?;
     match (one.keys_of(&alice), other.keys_of(&alice)) {
-        (Some(ones), Some(others)) => Ok(show_other_key(text, ones, others)?),
+        (Some(ones), Some(others)) => { show_other_key(text, ones, others).map_err(Refusal::from) }
         _ => Err(Refusal::NoSuchCase),
     }
 }

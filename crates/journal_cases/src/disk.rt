@@ -29,7 +29,7 @@ pub fn show_appended(
     let told = told(&mut sink);
     let failures = sink.failures();
     drop(sink);
-    Ok(write!(text, "{told}, failures {failures}")?)
+    write!(text, "{told}, failures {failures}").map_err(Refusal::from)
 }
 
 fn told(sink: &mut FileSink<Disk>) -> &'static str {

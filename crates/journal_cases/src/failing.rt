@@ -2,7 +2,7 @@
 use crate::journal::number;
 use crate::realm::{show_versions, table};
 use crate::refusal::Refusal;
-use crate::restoring::show_bytes;
+use crate::restoring::{show_bytes, show_census};
 use case_lines::Census;
 use chpw_journal::MemorySink;
 use chpw_rules::ITERATION_COUNTS;
@@ -76,8 +76,10 @@ fn show_answers(
 /// Adds the same of changes of alice, where an append fails before each byte of their journal in turn.
 pub fn show_each_failed(alloc: Global, text: &mut String, changes: &str) -> Result<(), Refusal> {
     let mut census = Census::new(alloc);
-    add_each_failed(alloc, &mut census, changes)?;
-    Ok(text.push_str(census.shown(alloc)?.as_str())?)
+    match add_each_failed(alloc, &mut census, changes) {
+        Ok(()) => show_census(alloc, text, &census),
+        Err(refusal) => Err(refusal),
+    }
 }
 
 fn add_each_failed(alloc: Global, census: &mut Census, changes: &str) -> Result<(), Refusal> {
@@ -170,26 +172,20 @@ fn show_change(
     sink: &mut MemorySink,
     opened: Opened,
 ) -> Result<(), Refusal> {
-    let (code, said, io_failed) = decided(table, sink, opened)?;
-    Ok(show_answer(text, code, said, io_failed)?)
-}
-
-/// Code and text of the answer to a request, and whether an append failed.
-fn decided(
-    table: &mut Table,
-    sink: &mut MemorySink,
-    opened: Opened,
-) -> Result<(u16, &'static str, bool), Refusal> {
     if sink.failures() == u64::MAX {
+        drop(opened);
         return Err(Refusal::NoSuchCase);
     }
     match table.decide(NOW, opened, sink) {
-        Ok(outcome) => Ok((
-            outcome.verdict.code(),
-            outcome.verdict.text(),
-            outcome.io_failed,
-        )),
-        Err(_) => Err(Refusal::NoSuchCase),
+        Ok(outcome) => {
+            let (verdict, io_failed) = (outcome.verdict, outcome.io_failed);
+            drop(outcome);
+            show_answer(text, verdict.code(), verdict.text(), io_failed).map_err(Refusal::from)
+        }
+        Err(refused) => {
+            drop(refused);
+            Err(Refusal::NoSuchCase)
+        }
     }
 }
 
@@ -208,7 +204,7 @@ fn show_raise(
         return Err(Refusal::NoSuchCase);
     };
     let (code, said) = (raise.verdict.code(), raise.verdict.text());
-    Ok(show_answer(text, code, said, raise.io_failed)?)
+    show_answer(text, code, said, raise.io_failed).map_err(Refusal::from)
 }
 
 /// Adds code and text, and whether an append failed.

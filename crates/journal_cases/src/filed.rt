@@ -23,12 +23,24 @@ pub fn show_filed<R: Files<File = File>>(
     pieces: &str,
 ) -> Result<(), Refusal> {
     let _ = fs::remove_file(rt, SCRATCH);
-    if pieces != "no file" {
-        fs::write(rt, SCRATCH, journal_of(alloc, pieces)?.as_slice())?;
-    }
+    write_scratch(rt, alloc, pieces)?;
     let shown = show_case(rt, alloc, text, what, more);
     let _ = fs::remove_file(rt, SCRATCH);
     shown
+}
+
+fn write_scratch<R: Files<File = File>>(
+    rt: &R,
+    alloc: Global,
+    pieces: &str,
+) -> Result<(), Refusal> {
+    match pieces {
+        "no file" => Ok(()),
+        pieces => {
+            let journal = journal_of(alloc, pieces)?;
+            fs::write(rt, SCRATCH, &journal).map_err(Refusal::from)
+        }
+    }
 }
 
 fn show_case<R: Files<File = File>>(
@@ -55,7 +67,7 @@ fn show_opened<R: Files<File = File>>(
 ) -> Result<(), Refusal> {
     show_opening(rt, alloc, text)?;
     let left = fs::metadata(rt, SCRATCH)?.len();
-    Ok(write!(text, ", {left} bytes")?)
+    write!(text, ", {left} bytes").map_err(Refusal::from)
 }
 
 fn show_opening<R: Files<File = File>>(
@@ -69,7 +81,7 @@ fn show_opening<R: Files<File = File>>(
             drop(journal);
             shown
         }
-        Err(fault) => Ok(show_fault(text, fault)?),
+        Err(fault) => show_fault(text, fault).map_err(Refusal::from),
     }
 }
 
@@ -105,14 +117,18 @@ fn show_journal<R: Files<File = File>>(
     if journal.found {
         text.push_str("found, ")?;
     } else {
-        let mode = fs::metadata(rt, SCRATCH)?.permissions().mode() & 0o777;
-        write!(text, "new, mode {mode:o}, ")?;
+        show_mode(rt, text)?;
     }
     show_versions(alloc, text, &journal.table)?;
-    if let Some(kept) = journal.cut_at {
-        write!(text, ", cut off behind {kept}")?;
+    match journal.cut_at {
+        Some(kept) => write!(text, ", cut off behind {kept}").map_err(Refusal::from),
+        None => Ok(()),
     }
-    Ok(())
+}
+
+fn show_mode<R: Files<File = File>>(rt: &R, text: &mut String) -> Result<(), Refusal> {
+    let mode = fs::metadata(rt, SCRATCH)?.permissions().mode() & 0o777;
+    write!(text, "new, mode {mode:o}, ").map_err(Refusal::from)
 }
 
 /// Adds what the next opening gives after one in which these pieces were appended.

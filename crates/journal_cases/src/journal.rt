@@ -24,15 +24,14 @@ fn add_pieces(alloc: Global, journal: &mut Vec<u8>, pieces: &str) -> Result<(), 
 /// ` kind K` or ` length L` behind it where that is another; `NAME KVNO to KVNO`, a record for each
 /// version; `first N of` before a record, of which only so many bytes are there.
 fn add_piece(alloc: Global, journal: &mut Vec<u8>, piece: &str) -> Result<(), Refusal> {
-    if piece == "nothing" {
-        return Ok(());
-    }
     if let Some((first, last)) = piece.split_once(" to ") {
         return add_records(alloc, journal, first, last);
     }
-    match piece.strip_prefix("first ") {
-        None => add_record(alloc, journal, piece),
-        Some(rest) => add_front(alloc, journal, rest),
+    match piece.split_once(' ') {
+        None if piece == "nothing" => Ok(()),
+        None => Err(Refusal::NoSuchCase),
+        Some(("first", rest)) => add_front(alloc, journal, rest),
+        Some((what, rest)) => add_record(alloc, journal, what, rest),
     }
 }
 
@@ -42,7 +41,10 @@ fn add_front(alloc: Global, journal: &mut Vec<u8>, words: &str) -> Result<(), Re
         return Err(Refusal::NoSuchCase);
     };
     let end = journal.len().saturating_add(number(count)? as usize);
-    add_record(alloc, journal, record)?;
+    let Some((what, rest)) = record.split_once(' ') else {
+        return Err(Refusal::NoSuchCase);
+    };
+    add_record(alloc, journal, what, rest)?;
     journal.truncate(end);
     Ok(())
 }
@@ -63,17 +65,14 @@ fn add_records(
     Ok(())
 }
 
-fn add_record(alloc: Global, journal: &mut Vec<u8>, words: &str) -> Result<(), Refusal> {
-    let Some((what, rest)) = words.split_once(' ') else {
-        return Err(Refusal::NoSuchCase);
-    };
+/// Adds a record of `raise` or of a name, and of the words behind it.
+fn add_record(alloc: Global, journal: &mut Vec<u8>, what: &str, rest: &str) -> Result<(), Refusal> {
     let (figure, change) = rest.split_once(' ').unwrap_or((rest, ""));
     let figure = number(figure)?;
     let place = journal.len();
-    if what == "raise" {
-        journal.extend_from_slice(&raise_bytes(figure))?;
-    } else {
-        add_plain_record(alloc, journal, what, figure)?;
+    match what {
+        "raise" => journal.extend_from_slice(&raise_bytes(figure))?,
+        name => add_plain_record(alloc, journal, name, figure)?,
     }
     match journal.as_mut_slice().get_mut(place..) {
         Some(record) => change_record(record, change),
@@ -88,7 +87,7 @@ fn add_plain_record(
     kvno: u32,
 ) -> Result<(), Refusal> {
     let record = plain_record(alloc, name, kvno)?;
-    Ok(journal.extend_from_slice(&record)?)
+    journal.extend_from_slice(&record).map_err(Refusal::from)
 }
 
 fn plain_record(alloc: Global, name: &str, kvno: u32) -> Result<Vec<u8>, Refusal> {

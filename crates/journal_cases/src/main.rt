@@ -78,7 +78,9 @@ impl<R: Files<File = File>> Answers for Cases<'_, R> {
         match show_answer(self.rt, alloc, &mut text, case) {
             Ok(()) => Ok(text),
             Err(Refusal::Memory) => Err(Error::from(ErrorKind::OutOfMemory)),
-            Err(refusal) => Ok(format!(in alloc; "refused: {refusal}")?),
+            Err(refusal) => {
+                format!(in alloc; "refused: {}", refusal.text()).map_err(Error::from)
+            }
         }
     }
 }

@@ -30,7 +30,7 @@ fn kvno(alloc: Global, table: &Table, text: &str) -> Result<u32, Refusal> {
 
 /// A table of it, before any change.
 pub fn table(alloc: Global) -> Result<Table, Refusal> {
-    Ok(test_realm::table(alloc, principals(alloc)?, ITERATIONS, 100)?)
+    test_realm::table(alloc, principals(alloc)?, ITERATIONS, 100).map_err(Refusal::from)
 }
 
 /// The same, with a policy by which the four newest keys of a name are kept.

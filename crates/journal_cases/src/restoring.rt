@@ -46,7 +46,7 @@ fn show_reader<R: Read>(alloc: Global, text: &mut String, reader: &mut R) -> Res
             drop(restored);
             shown
         }
-        Err(fault) => Ok(write!(text, "{fault}")?),
+        Err(fault) => write!(text, "{fault}").map_err(Refusal::from),
     }
 }
 
@@ -59,8 +59,16 @@ pub fn show_failing(
 ) -> Result<(), Refusal> {
     let journal = journal_of(alloc, pieces)?;
     let mut census = Census::new(alloc);
-    add_failing(alloc, &mut census, Way::of(way), &journal)?;
-    Ok(text.push_str(census.shown(alloc)?.as_str())?)
+    match add_failing(alloc, &mut census, Way::of(way), &journal) {
+        Ok(()) => show_census(alloc, text, &census),
+        Err(refusal) => Err(refusal),
+    }
+}
+
+/// Adds which answers came, and at which places.
+pub fn show_census(alloc: Global, text: &mut String, census: &Census) -> Result<(), Refusal> {
+    let shown = census.shown(alloc)?;
+    text.push_str(shown.as_str()).map_err(Refusal::from)
 }
 
 fn add_failing(
