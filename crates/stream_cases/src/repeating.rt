@@ -7,25 +7,33 @@ use hex::encode;
 use std::alloc::Global;
 use std::io::{self, Error};
 
-/// What comes of these bytes, so many times as `how` says before it says how they are served.
-pub fn repeated(alloc: Global, setting: &Setting, how: &str, text: &str) -> io::Result<String> {
+/// Adds what comes of these bytes, so many times as `how` says before it says how they are served.
+pub fn show_repeated(
+    alloc: Global,
+    text: &mut String,
+    setting: &Setting,
+    how: &str,
+    words: &str,
+) -> io::Result<()> {
     let Some((times, how)) = how.split_once(' ') else {
         return Err(no_case());
     };
-    let stream = copies(alloc, text, times.parse().unwrap_or(0))?;
+    let stream = copies(alloc, words, times.parse().unwrap_or(0))?;
     let (outcome, holding) = serve_anew(alloc, setting, How::of(how), &stream)?;
-    shown(alloc, &outcome, holding)
+    show(alloc, text, &outcome, holding)
 }
 
-fn shown(alloc: Global, outcome: &Outcome, holding: Holding) -> io::Result<String> {
+fn show(alloc: Global, text: &mut String, outcome: &Outcome, holding: Holding) -> io::Result<()> {
     let Some((reply, times)) = only_reply(&outcome.written) else {
         return Err(no_case());
     };
     let reply = encode(alloc, reply)?;
     let (ended, unread) = (ended_text(outcome.ended), outcome.unread);
-    format!(in alloc; "[{reply}] {times} times; {ended}, {unread} bytes unread, {holding}").map_err(
-        Error::from,
+    write!(
+        text,
+        "[{reply}] {times} times; {ended}, {unread} bytes unread, {holding}"
     )
+    .map_err(Error::from)
 }
 
 /// The bytes of a text in hexadecimal, so many times.
