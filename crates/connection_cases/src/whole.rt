@@ -2,7 +2,7 @@
 
 use crate::script::Script;
 use crate::showing::{show_bytes, show_peer, show_slots};
-use crate::words::{address, no_case, number};
+use crate::words::{address, number};
 use chpw_connections::{Taken, Todo};
 use std::alloc::AllocError;
 use std::io::{self, Error};
@@ -21,17 +21,35 @@ impl Script {
         now: u64,
     ) -> io::Result<()> {
         match kind {
-            "accept" => self.show_accepted(text, address(words)?, now),
-            "confirm" => self.show_confirmed(text, number(words)?, now),
-            "overdue" => self.show_overdue(text, number(words)?, now),
-            "take" => self.show_taken(text, number(words)?, now),
+            "accept" => self.show_accepted(text, words, now),
+            "confirm" | "overdue" | "take" => self.show_numbered(text, kind, words, now),
+            _ => self.show_rest(text, kind, now).map_err(Error::from),
+        }
+    }
+
+    fn show_numbered(
+        &mut self,
+        text: &mut String,
+        kind: &str,
+        words: &str,
+        now: u64,
+    ) -> io::Result<()> {
+        let number = number::<u64>(words)?;
+        let shown = match kind {
+            "confirm" => self.show_confirmed(text, number, now),
+            "overdue" => self.show_overdue(text, number, now),
+            _ => self.show_taken(text, number as usize, now),
+        };
+        shown.map_err(Error::from)
+    }
+
+    fn show_rest(&mut self, text: &mut String, kind: &str, now: u64) -> Result<(), AllocError> {
+        match kind {
             "look" => self.show_looked(text),
             "show" => self.show_all(text),
             "pass" => self.show_passed(text, now),
-            "room" => self.show_made_room(text),
-            _ => return Err(no_case()),
+            _ => self.show_made_room(text),
         }
-        .map_err(Error::from)
     }
 
     fn show_passed(&mut self, text: &mut String, now: u64) -> Result<(), AllocError> {
@@ -52,16 +70,13 @@ impl Script {
         })
     }
 
-    fn show_accepted(
-        &mut self,
-        text: &mut String,
-        peer: [u8; 4],
-        now: u64,
-    ) -> Result<(), AllocError> {
-        match self.connections.accept(peer, now) {
+    fn show_accepted(&mut self, text: &mut String, words: &str, now: u64) -> io::Result<()> {
+        let peer = address(words)?;
+        let shown = match self.connections.accept(peer, now) {
             None => text.push_str("no room"),
             Some(slot) => write!(text, "slot {slot}"),
-        }
+        };
+        shown.map_err(Error::from)
     }
 
     /// Adds the message that a worker takes, and whose it is.
