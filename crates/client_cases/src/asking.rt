@@ -7,7 +7,7 @@ use crate::world::no_case;
 use chpw_client::{LONGEST_PASSWORD, Sent, client_request};
 use chpw_rules::{Config, Name};
 use std::alloc::Global;
-use std::io;
+use std::io::{self, Error};
 use test_realm::name;
 
 /// What a client asks.
@@ -24,7 +24,9 @@ impl<'a> Question<'a> {
     /// `NAME: PASSWORD` or `NAME for TARGET: PASSWORD`, perhaps with `, not initial` behind the
     /// names, and then `, old`, which goes without a target.
     pub fn of(alloc: Global, text: &'a str) -> io::Result<Question<'a>> {
-        let (who, password) = text.split_once(": ").ok_or(no_case())?;
+        let Some((who, password)) = text.split_once(": ") else {
+            return Err(no_case());
+        };
         let earlier = who.strip_suffix(", old");
         let who = earlier.unwrap_or(who);
         let flagless = who.strip_suffix(", not initial");
@@ -51,8 +53,6 @@ impl<'a> Question<'a> {
         micros: u32,
         words: &mut Counting,
     ) -> io::Result<Sent> {
-        let client = name(alloc, self.client)?;
-        let target = target_of(alloc, self.target)?;
         let password = self.password.as_bytes();
         if password.len() > LONGEST_PASSWORD
             || !config.fits()
@@ -61,8 +61,10 @@ impl<'a> Question<'a> {
         {
             return Err(no_case());
         }
+        let client = name(alloc, self.client)?;
+        let target = target_of(alloc, self.target)?;
         let target = if self.old { None } else { lent(&target) };
-        let sent = client_request(
+        client_request(
             alloc,
             config,
             moment_at(second, micros),
@@ -72,8 +74,8 @@ impl<'a> Question<'a> {
             self.initial,
             self.old,
             words,
-        )?;
-        Ok(sent)
+        )
+        .map_err(Error::from)
     }
 }
 
@@ -83,7 +85,7 @@ fn expanded(alloc: Global, text: &str) -> io::Result<String> {
         Some((count, text)) => (count.parse().unwrap_or(0), text),
         None => (1, text),
     };
-    Ok(text.repeat(alloc, count)?)
+    text.repeat(alloc, count).map_err(Error::from)
 }
 
 fn target_of(alloc: Global, text: Option<&str>) -> io::Result<Option<Name>>

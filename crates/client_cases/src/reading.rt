@@ -2,15 +2,15 @@
 
 use chpw_client::{Sent, client_line};
 use std::alloc::{AllocError, Global};
-use std::io;
+use std::io::{self, Error};
 
 /// The line and the status, or `none`.
 pub fn told(alloc: Global, sent: &Sent, reply: &[u8]) -> io::Result<String> {
     match client_line(alloc, sent, reply)? {
-        None => Ok(String::from_str(alloc, "none")?),
+        None => String::from_str(alloc, "none").map_err(Error::from),
         Some((line, status)) => {
             let line = str::from_utf8(line.as_slice()).unwrap_or("no UTF-8");
-            Ok(format!(in alloc; "{line}, status {status}")?)
+            format!(in alloc; "{line}, status {status}").map_err(Error::from)
         }
     }
 }
@@ -27,18 +27,30 @@ pub fn cut(alloc: Global, sent: &Sent, reply: &[u8]) -> io::Result<String> {
             read = read.saturating_add(1);
         }
     }
-    Ok(format!(in alloc; "{read} read of {}", reply.len())?)
+    format!(in alloc; "{read} read of {}", reply.len()).map_err(Error::from)
 }
 
 /// How many are read of the reply with the lowest bit of each of its bytes changed in turn.
 pub fn changed(alloc: Global, sent: &Sent, reply: &[u8]) -> io::Result<String> {
     let mut read = 0u32;
     for place in 0..reply.len() {
-        let mut forged = Vec::from_slice(alloc, reply)?;
-        forged[place] ^= 1;
-        if is_read(alloc, sent, &forged)? {
+        if is_read_changed(alloc, sent, reply, place)? {
             read = read.saturating_add(1);
         }
     }
-    Ok(format!(in alloc; "{read} read of {}", reply.len())?)
+    format!(in alloc; "{read} read of {}", reply.len()).map_err(Error::from)
+}
+
+/// Whether the reply is read with the lowest bit of the byte at this place changed.
+fn is_read_changed(
+    alloc: Global,
+    sent: &Sent,
+    reply: &[u8],
+    place: usize,
+) -> Result<bool, AllocError> {
+    let mut forged = Vec::from_slice(alloc, reply)?;
+    if let Some(byte) = forged.get_mut(place) {
+        *byte ^= 1;
+    }
+    is_read(alloc, sent, &forged)
 }

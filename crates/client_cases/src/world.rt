@@ -65,19 +65,26 @@ impl World {
             &mut Standing { second },
             &mut Counting::new(),
         );
-        match read_tcp(alloc, &mut written.as_slice())? {
-            Received::Message(reply) => Ok(reply),
-            _ => Err(no_case()),
-        }
+        first_reply(alloc, &written)
     }
 
     /// The newest kvno of a name, 0 where it is none of a principal.
     pub fn kvno(&self, alloc: Global, name: &str) -> io::Result<u32> {
-        let name = Name::parse(alloc, name)?.ok_or(no_case())?;
-        Ok(match self.alone.table().lookup(&name) {
-            None => 0,
-            Some(shown) => shown.kvno,
-        })
+        let Some(name) = Name::parse(alloc, name)? else {
+            return Err(no_case());
+        };
+        match self.alone.table().lookup(&name) {
+            None => Ok(0),
+            Some(shown) => Ok(shown.kvno),
+        }
+    }
+}
+
+/// The first of these replies.
+fn first_reply(alloc: Global, mut replies: &[u8]) -> io::Result<Vec<u8>> {
+    match read_tcp(alloc, &mut replies)? {
+        Received::Message(reply) => Ok(reply),
+        _ => Err(no_case()),
     }
 }
 

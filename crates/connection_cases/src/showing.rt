@@ -3,94 +3,98 @@
 use crate::script::Script;
 use chpw_connections::Todo;
 use hex::encode;
-use std::alloc::Global;
-use std::io;
+use std::alloc::{AllocError, Global};
 
-/// Bytes in hexadecimal, `-` for none; of many the first and the last.
-pub fn shown(alloc: Global, bytes: &[u8]) -> io::Result<String> {
-    if bytes.is_empty() {
-        return Ok(String::from_str(alloc, "-")?);
+/// Adds bytes in hexadecimal, `-` for none; of many the first and the last.
+pub fn show_bytes(alloc: Global, text: &mut String, bytes: &[u8]) -> Result<(), AllocError> {
+    let count = bytes.len();
+    if count == 0 {
+        return text.push_str("-");
     }
-    if bytes.len() <= 32 {
-        return Ok(encode(alloc, bytes)?);
+    if count <= 32 {
+        return show_hex(alloc, text, bytes);
     }
     let (front, _) = bytes.split_at(8);
-    let (_, back) = bytes.split_at(bytes.len() - 4);
-    let (front, back) = (encode(alloc, front)?, encode(alloc, back)?);
-    Ok(format!(in alloc; "{front}..{back} of {} bytes", bytes.len())?)
+    let (_, back) = bytes.split_at(count - 4);
+    show_hex(alloc, text, front)?;
+    text.push_str("..")?;
+    show_hex(alloc, text, back)?;
+    write!(text, " of {count} bytes")
 }
 
-/// Slots with spaces between, `-` for none.
-pub fn slots_text(alloc: Global, slots: &[usize]) -> io::Result<String> {
-    if slots.is_empty() {
-        return Ok(String::from_str(alloc, "-")?);
-    }
-    let mut text = String::new(alloc);
-    for slot in slots {
-        if !text.is_empty() {
-            text.push_str(" ")?;
-        }
-        text.push_str(format!(in alloc; "{slot}")?.as_str())?;
-    }
-    Ok(text)
+fn show_hex(alloc: Global, text: &mut String, bytes: &[u8]) -> Result<(), AllocError> {
+    let hex = encode(alloc, bytes)?;
+    text.push_str(hex.as_str())
 }
 
-/// An address as it is written.
-pub fn peer_text(alloc: Global, peer: [u8; 4]) -> io::Result<String> {
+/// Adds slots with spaces between, `-` for none.
+pub fn show_slots(text: &mut String, slots: &[usize]) -> Result<(), AllocError> {
+    let [first, rest @ ..] = slots else {
+        return text.push_str("-");
+    };
+    write!(text, "{first}")?;
+    for slot in rest {
+        write!(text, " {slot}")?;
+    }
+    Ok(())
+}
+
+/// Adds an address as it is written.
+pub fn show_peer(text: &mut String, peer: [u8; 4]) -> Result<(), AllocError> {
     let [a, b, c, d] = peer;
-    Ok(format!(in alloc; "{a}.{b}.{c}.{d}")?)
+    write!(text, "{a}.{b}.{c}.{d}")
 }
 
 impl Script {
-    /// Where the connection in a slot is.
-    pub fn state(&self, slot: usize) -> io::Result<String> {
-        let alloc = self.alloc;
+    /// Adds where the connection in a slot is.
+    pub fn show_state(&self, text: &mut String, slot: usize) -> Result<(), AllocError> {
         let left = self.connections.unwritten(slot);
         let wanted = self.connections.wanted(slot);
         if self.connections.is_ended(slot) {
-            Ok(String::from_str(alloc, "has ended")?)
+            text.push_str("has ended")
         } else if self.connections.is_lingering(slot) {
-            Ok(String::from_str(alloc, "lingers")?)
+            text.push_str("lingers")
         } else if !left.is_empty() {
-            let bytes = shown(alloc, left)?;
-            Ok(format!(in alloc; "has {} to write: {bytes}", left.len())?)
+            write!(text, "has {} to write: ", left.len())?;
+            show_bytes(self.alloc, text, left)
         } else if wanted > 0 {
-            Ok(format!(in alloc; "wants {wanted}")?)
+            write!(text, "wants {wanted}")
         } else {
-            Ok(String::from_str(alloc, "waits")?)
+            text.push_str("waits")
         }
     }
 
-    /// What is to be done for the connection in a slot.
-    fn todo(&self, slot: usize) -> io::Result<String> {
-        let alloc = self.alloc;
+    /// Adds what is to be done for the connection in a slot.
+    fn show_todo(&self, text: &mut String, slot: usize) -> Result<(), AllocError> {
         match self.connections.todo(slot) {
-            Todo::Read(count) => Ok(format!(in alloc; "read {count}")?),
+            Todo::Read(count) => write!(text, "read {count}"),
             Todo::Write => {
-                let left = shown(alloc, self.connections.unwritten(slot))?;
-                Ok(format!(in alloc; "write {left}")?)
+                text.push_str("write ")?;
+                show_bytes(self.alloc, text, self.connections.unwritten(slot))
             }
-            Todo::Linger => Ok(String::from_str(alloc, "linger")?),
-            Todo::Close => Ok(String::from_str(alloc, "close")?),
-            Todo::Wait => Ok(String::from_str(alloc, "wait")?),
+            Todo::Linger => text.push_str("linger"),
+            Todo::Close => text.push_str("close"),
+            Todo::Wait => text.push_str("wait"),
         }
     }
 
-    /// Each slot, and then what is told of all together.
-    pub fn shown(&self) -> io::Result<String> {
-        let mut text = String::new(self.alloc);
+    /// Adds each slot, and then what is told of all together.
+    pub fn show_all(&self, text: &mut String) -> Result<(), AllocError> {
         for slot in 0..self.slots {
-            let todo = self.todo(slot)?;
-            let wanted = self.connections.wanted(slot);
-            let left = self.connections.unwritten(slot).len();
-            let slot = format!(in self.alloc; "{slot} {todo}, wanted {wanted}, left {left} | ")?;
-            text.push_str(slot.as_str())?;
+            self.show_slot(text, slot)?;
         }
-        text.push_str(self.counts()?.as_str())?;
-        Ok(text)
+        self.show_counts(text)
     }
 
-    fn counts(&self) -> io::Result<String> {
+    fn show_slot(&self, text: &mut String, slot: usize) -> Result<(), AllocError> {
+        write!(text, "{slot} ")?;
+        self.show_todo(text, slot)?;
+        let wanted = self.connections.wanted(slot);
+        let left = self.connections.unwritten(slot).len();
+        write!(text, ", wanted {wanted}, left {left} | ")
+    }
+
+    fn show_counts(&self, text: &mut String) -> Result<(), AllocError> {
         let connections = &self.connections;
         let count = connections.len();
         let word = if connections.is_empty() {
@@ -101,20 +105,23 @@ impl Script {
             ""
         };
         let (held, accepted) = (connections.held(), connections.accepted());
-        let (expired, workers) = (connections.expired(), self.waited_for()?);
-        Ok(format!(in self.alloc;
-            "connections {count}{word}, held {held}, accepted {accepted}, expired {expired}, messages for {workers}"
-        )?)
+        let expired = connections.expired();
+        write!(
+            text,
+            "connections {count}{word}, held {held}, accepted {accepted}, expired {expired}, messages for"
+        )?;
+        self.show_waited_for(text)
     }
 
-    /// The workers for whom a message waits.
-    fn waited_for(&self) -> io::Result<String> {
-        let mut workers = Vec::new(self.alloc);
+    /// Adds the workers for whom a message waits, each behind a space.
+    fn show_waited_for(&self, text: &mut String) -> Result<(), AllocError> {
+        let mut is_none = true;
         for worker in 0..self.workers {
             if self.connections.has_message(worker) {
-                workers.push(worker)?;
+                write!(text, " {worker}")?;
+                is_none = false;
             }
         }
-        slots_text(self.alloc, &workers)
+        if is_none { text.push_str(" -") } else { Ok(()) }
     }
 }

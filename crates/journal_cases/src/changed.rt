@@ -1,54 +1,125 @@
 //! Journals with a change at each of their places in turn.
+use crate::journal::journal_of;
 use crate::realm::deep_table;
 use crate::refusal::Refusal;
-use crate::restoring::told;
+use crate::restoring::{show_census, show_told};
 use case_lines::{Census, Change};
-use chpw_journal::restore;
+use chpw_journal::{Restored, restore};
 use chpw_table::{KeyRow, Table};
-use std::alloc::Global;
+use std::alloc::{AllocError, Global};
 use test_realm::name;
 
-/// What restoring a journal gives with this change at each of its places, and what of alice's keys is not
-/// as it was written then. Her four newest keys are kept.
-pub fn changed(alloc: Global, change: Change, journal: &[u8]) -> Result<String, Refusal> {
-    let mut whole = journal;
-    let Ok(written) = restore(alloc, deep_table(alloc)?, &mut whole) else {
-        return Err(Refusal::NoSuchCase);
-    };
+/// Adds what restoring a journal gives with this change at each of its places, and what of alice's keys is
+/// not as it was written then. Her four newest keys are kept.
+pub fn show_changed(
+    alloc: Global,
+    text: &mut String,
+    change: Change,
+    pieces: &str,
+) -> Result<(), Refusal> {
+    let journal = journal_of(alloc, pieces)?;
     let mut census = Census::new(alloc);
-    for place in 0..journal.len() {
-        let answer = match change.made(alloc, journal, place)? {
-            Some(bytes) => compared(alloc, &written.table, &bytes)?,
-            None => String::from_str(alloc, "left out")?,
-        };
-        census.add(alloc, place, answer.as_str())?;
+    match add_changed(alloc, &mut census, change, &journal) {
+        Ok(()) => show_census(alloc, text, &census),
+        Err(refusal) => Err(refusal),
     }
-    Ok(census.shown(alloc)?)
 }
 
-/// What restoring this journal gives, and what of alice's keys is not as in that table.
-fn compared(alloc: Global, written: &Table, mut journal: &[u8]) -> Result<String, Refusal> {
+fn add_changed(
+    alloc: Global,
+    census: &mut Census,
+    change: Change,
+    journal: &[u8],
+) -> Result<(), Refusal> {
+    let mut whole = journal;
+    match restore(alloc, deep_table(alloc)?, &mut whole) {
+        Ok(written) => {
+            let added = add_places(alloc, census, change, journal, &written.table);
+            drop(written);
+            added
+        }
+        Err(_) => Err(Refusal::NoSuchCase),
+    }
+}
+
+fn add_places(
+    alloc: Global,
+    census: &mut Census,
+    change: Change,
+    journal: &[u8],
+    written: &Table,
+) -> Result<(), Refusal> {
+    for place in 0..journal.len() {
+        let mut text = String::new(alloc);
+        show_place(alloc, &mut text, change, journal, written, place)?;
+        census.add(alloc, place, text.as_str())?;
+    }
+    Ok(())
+}
+
+/// Adds what restoring a journal gives with a change at this place.
+fn show_place(
+    alloc: Global,
+    text: &mut String,
+    change: Change,
+    journal: &[u8],
+    written: &Table,
+    place: usize,
+) -> Result<(), Refusal> {
+    match change.made(alloc, journal, place)? {
+        Some(bytes) => show_compared(alloc, text, written, &bytes),
+        None => text.push_str("left out").map_err(Refusal::from),
+    }
+}
+
+/// Adds what restoring this journal gives, and what of alice's keys is not as in that table.
+fn show_compared(
+    alloc: Global,
+    text: &mut String,
+    written: &Table,
+    mut journal: &[u8],
+) -> Result<(), Refusal> {
     match restore(alloc, deep_table(alloc)?, &mut journal) {
         Ok(restored) => {
-            let mut text = told(alloc, &restored)?;
-            text.push_str(difference(alloc, written, &restored.table)?.as_str())?;
-            Ok(text)
+            let shown = show_both(alloc, text, written, &restored);
+            drop(restored);
+            shown
         }
-        Err(fault) => Ok(format!(in alloc; "{fault}")?),
+        Err(fault) => write!(text, "{fault}").map_err(Refusal::from),
     }
 }
 
-/// The first of alice's keys that two tables hold with one kvno and in another form.
-fn difference(alloc: Global, one: &Table, other: &Table) -> Result<String, Refusal> {
+fn show_both(
+    alloc: Global,
+    text: &mut String,
+    written: &Table,
+    restored: &Restored,
+) -> Result<(), Refusal> {
+    show_told(alloc, text, restored)?;
+    show_difference(alloc, text, written, &restored.table)
+}
+
+/// Adds the first of alice's keys that two tables hold with one kvno and in another form.
+fn show_difference(
+    alloc: Global,
+    text: &mut String,
+    one: &Table,
+    other: &Table,
+) -> Result<(), Refusal> {
     let alice = name(alloc, "alice")?;
-    let ones = one.keys_of(&alice).ok_or(Refusal::NoSuchCase)?;
-    let others = other.keys_of(&alice).ok_or(Refusal::NoSuchCase)?;
+    match (one.keys_of(&alice), other.keys_of(&alice)) {
+        (Some(ones), Some(others)) => { show_other_key(text, ones, others).map_err(Refusal::from) }
+        _ => Err(Refusal::NoSuchCase),
+    }
+}
+
+fn show_other_key(text: &mut String, ones: &[KeyRow], others: &[KeyRow]) -> Result<(), AllocError> {
     for (one, other) in ones.iter().zip(others) {
         if let Some(part) = other_part(one, other) {
-            return Ok(format!(in alloc; ", another {part} of kvno {}", one.kvno)?);
+            return write!(text, ", another {part} of kvno {}", one.kvno);
         }
     }
-    Ok(String::new(alloc))
+    Ok(())
 }
 
 /// What isn't the same in two keys of one kvno.

@@ -10,25 +10,36 @@ use std::io::{self, Error, ErrorKind, Write};
 /// The length of a record.
 const RECORD: usize = 66;
 
-/// What comes of a record that is appended to a file which takes bytes in this way, where they are put on the
-/// disk (`synced`), or can't be (`not synced`).
-pub fn appended(alloc: Global, way: &str, end: &str) -> Result<String, Refusal> {
-    let taker = Taker {
-        taken: Vec::new(alloc),
-        course: Course::start(Way::of(way)),
-    };
-    let mut sink = FileSink::new(Disk {
-        taker,
+/// Adds what comes of a record that is appended to a file which takes bytes in this way, where they are put
+/// on the disk (`synced`), or can't be (`not synced`).
+pub fn show_appended(
+    alloc: Global,
+    text: &mut String,
+    way: &str,
+    end: &str,
+) -> Result<(), Refusal> {
+    let disk = Disk {
+        taker: Taker {
+            taken: Vec::new(alloc),
+            course: Course::start(Way::of(way)),
+        },
         is_synced: end == "synced",
-    });
+    };
+    let mut sink = FileSink::new(disk);
+    let told = told(&mut sink);
+    let failures = sink.failures();
+    drop(sink);
+    write!(text, "{told}, failures {failures}").map_err(Refusal::from)
+}
+
+fn told(sink: &mut FileSink<Disk>) -> &'static str {
     if sink.failures() == u64::MAX {
-        return Err(Refusal::NoSuchCase);
+        return "failed too often";
     }
-    let told = match sink.append(&[7; RECORD]) {
+    match sink.append(&[7; RECORD]) {
         Ok(()) => "appended",
         Err(_) => "failed",
-    };
-    Ok(format!(in alloc; "{told}, failures {}", sink.failures())?)
+    }
 }
 
 /// A file, and whether what it takes is put on the disk.

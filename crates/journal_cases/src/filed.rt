@@ -1,100 +1,201 @@
 //! Journals in a file.
 use crate::journal::journal_of;
-use crate::realm::{table, versions};
+use crate::realm::{show_versions, table};
 use crate::refusal::Refusal;
 use crate::unsynced::Unsynced;
 use chpw_journal::{Journal, JournalFile, OpenFault, open_journal};
 use chpw_table::JournalSink;
-use std::alloc::Global;
+use std::alloc::{AllocError, Global};
 use std::fs::{self, File, Files};
 use std::os::unix::fs::PermissionsExt;
 
 /// Where the journal stands.
 const SCRATCH: &str = "scratch-journal";
 
-/// What comes of a journal with these pieces as a file, of which there is none with `no file`: `open`,
+/// Adds what comes of a journal with these pieces as a file, of which there is none with `no file`: `open`,
 /// `twice`, `unsynced`, or `append PIECES`.
-pub fn filed<R: Files<File = File>>(
+pub fn show_filed<R: Files<File = File>>(
     rt: &R,
     alloc: Global,
+    text: &mut String,
     what: &str,
+    more: &str,
     pieces: &str,
-) -> Result<String, Refusal> {
+) -> Result<(), Refusal> {
     let _ = fs::remove_file(rt, SCRATCH);
-    if pieces != "no file" {
-        fs::write(rt, SCRATCH, journal_of(alloc, pieces)?.as_slice())?;
-    }
-    let answer = match what.split_once(' ') {
-        None if what == "open" => opened(rt, alloc),
-        None if what == "twice" => twice(rt, alloc),
-        None if what == "unsynced" => unsynced(rt, alloc),
-        Some(("append", more)) => appended(rt, alloc, journal_of(alloc, more)?.as_slice()),
-        _ => Err(Refusal::NoSuchCase),
-    };
+    write_scratch(rt, alloc, pieces)?;
+    let shown = show_case(rt, alloc, text, what, more);
     let _ = fs::remove_file(rt, SCRATCH);
-    answer
+    shown
 }
 
-/// What opening the file gives, and how many bytes are in it then.
-fn opened<R: Files<File = File>>(rt: &R, alloc: Global) -> Result<String, Refusal> {
-    let told = match open_journal(rt, alloc, SCRATCH, table(alloc)?) {
-        Ok(journal) => told(rt, alloc, &journal)?,
-        Err(OpenFault::CannotRead) => format!(in alloc; "cannot read")?,
-        Err(OpenFault::CannotWrite) => format!(in alloc; "cannot write")?,
-        Err(OpenFault::Restore(fault)) => format!(in alloc; "{fault}")?,
-    };
-    let left = fs::metadata(rt, SCRATCH)?.len();
-    Ok(format!(in alloc; "{told}, {left} bytes")?)
-}
-
-/// The same where the file's folder can't be put on the disk.
-fn unsynced<R: Files<File = File>>(rt: &R, alloc: Global) -> Result<String, Refusal> {
-    opened(
-        &Unsynced {
-            inner: rt,
-            folder: ".",
-        },
-        alloc,
-    )
-}
-
-/// Whether the file was there, the mode of one that wasn't, the versions in the table, and where a torn tail
-/// was cut off.
-fn told<R: Files<File = File>>(
+fn write_scratch<R: Files<File = File>>(
     rt: &R,
     alloc: Global,
+    pieces: &str,
+) -> Result<(), Refusal> {
+    match pieces {
+        "no file" => Ok(()),
+        pieces => {
+            let journal = journal_of(alloc, pieces)?;
+            fs::write(rt, SCRATCH, &journal).map_err(Refusal::from)
+        }
+    }
+}
+
+fn show_case<R: Files<File = File>>(
+    rt: &R,
+    alloc: Global,
+    text: &mut String,
+    what: &str,
+    more: &str,
+) -> Result<(), Refusal> {
+    match what {
+        "append" => show_appended(rt, alloc, text, more),
+        "open" => show_opened(rt, alloc, text),
+        "twice" => show_twice(rt, alloc, text),
+        "unsynced" => show_unsynced(rt, alloc, text),
+        _ => Err(Refusal::NoSuchCase),
+    }
+}
+
+/// Adds what opening the file gives, and how many bytes are in it then.
+fn show_opened<R: Files<File = File>>(
+    rt: &R,
+    alloc: Global,
+    text: &mut String,
+) -> Result<(), Refusal> {
+    show_opening(rt, alloc, text)?;
+    let left = fs::metadata(rt, SCRATCH)?.len();
+    write!(text, ", {left} bytes").map_err(Refusal::from)
+}
+
+fn show_opening<R: Files<File = File>>(
+    rt: &R,
+    alloc: Global,
+    text: &mut String,
+) -> Result<(), Refusal> {
+    match open_journal(rt, alloc, SCRATCH, table(alloc)?) {
+        Ok(journal) => {
+            let shown = show_journal(rt, alloc, text, &journal);
+            drop(journal);
+            shown
+        }
+        Err(fault) => show_fault(text, fault).map_err(Refusal::from),
+    }
+}
+
+fn show_fault(text: &mut String, fault: OpenFault) -> Result<(), AllocError> {
+    match fault {
+        OpenFault::CannotRead => text.push_str("cannot read"),
+        OpenFault::CannotWrite => text.push_str("cannot write"),
+        OpenFault::Restore(fault) => write!(text, "{fault}"),
+    }
+}
+
+/// Adds the same where the file's folder can't be put on the disk.
+fn show_unsynced<R: Files<File = File>>(
+    rt: &R,
+    alloc: Global,
+    text: &mut String,
+) -> Result<(), Refusal> {
+    let unsynced = Unsynced {
+        inner: rt,
+        folder: ".",
+    };
+    show_opened(&unsynced, alloc, text)
+}
+
+/// Adds whether the file was there, the mode of one that wasn't, the versions in the table, and where a torn
+/// tail was cut off.
+fn show_journal<R: Files<File = File>>(
+    rt: &R,
+    alloc: Global,
+    text: &mut String,
     journal: &Journal,
-) -> Result<String, Refusal> {
-    let held = versions(alloc, &journal.table)?;
-    if let Some(kept) = journal.cut_at {
-        return Ok(format!(in alloc; "found, {held}, cut off behind {kept}")?);
-    }
+) -> Result<(), Refusal> {
     if journal.found {
-        return Ok(format!(in alloc; "found, {held}")?);
+        text.push_str("found, ")?;
+    } else {
+        show_mode(rt, text)?;
     }
+    show_versions(alloc, text, &journal.table)?;
+    match journal.cut_at {
+        Some(kept) => write!(text, ", cut off behind {kept}").map_err(Refusal::from),
+        None => Ok(()),
+    }
+}
+
+fn show_mode<R: Files<File = File>>(rt: &R, text: &mut String) -> Result<(), Refusal> {
     let mode = fs::metadata(rt, SCRATCH)?.permissions().mode() & 0o777;
-    Ok(format!(in alloc; "new, mode {mode:o}, {held}")?)
+    write!(text, "new, mode {mode:o}, ").map_err(Refusal::from)
 }
 
-/// What the next opening gives after one in which these bytes were appended.
-fn appended<R: Files<File = File>>(rt: &R, alloc: Global, more: &[u8]) -> Result<String, Refusal> {
-    let mut journal = JournalFile::lock(rt, SCRATCH)?.restore(alloc, table(alloc)?)?;
-    if journal.sink.append(more).is_err() {
-        return Err(Refusal::File);
-    }
+/// Adds what the next opening gives after one in which these pieces were appended.
+fn show_appended<R: Files<File = File>>(
+    rt: &R,
+    alloc: Global,
+    text: &mut String,
+    more: &str,
+) -> Result<(), Refusal> {
+    let more = journal_of(alloc, more)?;
+    append(rt, alloc, &more)?;
+    show_opened(rt, alloc, text)
+}
+
+fn append<R: Files<File = File>>(rt: &R, alloc: Global, more: &[u8]) -> Result<(), Refusal> {
+    let mut journal = open_journal(rt, alloc, SCRATCH, table(alloc)?)?;
+    let appended = journal.sink.append(more);
     drop(journal);
-    opened(rt, alloc)
+    match appended {
+        Ok(()) => Ok(()),
+        Err(_) => Err(Refusal::File),
+    }
 }
 
-/// Whether the file was there when it was locked, and what opening it gives beside the locked file,
+/// Adds whether the file was there when it was locked, and what opening it gives beside the locked file,
 /// beside the journal restored from it, and after both.
-fn twice<R: Files<File = File>>(rt: &R, alloc: Global) -> Result<String, Refusal> {
+fn show_twice<R: Files<File = File>>(
+    rt: &R,
+    alloc: Global,
+    text: &mut String,
+) -> Result<(), Refusal> {
+    let journal = shown_locked(rt, alloc, text)?;
+    let shown = show_next(rt, alloc, text);
+    drop(journal);
+    shown?;
+    show_next(rt, alloc, text)
+}
+
+/// Adds whether the file was there when it was locked, and what opening it gives beside it.
+fn shown_locked<R: Files<File = File>>(
+    rt: &R,
+    alloc: Global,
+    text: &mut String,
+) -> Result<Journal, Refusal> {
     let locked = JournalFile::lock(rt, SCRATCH)?;
     let found = if locked.found { "found" } else { "new" };
-    let beside_locked = opened(rt, alloc)?;
-    let journal = locked.restore(alloc, table(alloc)?)?;
-    let beside_journal = opened(rt, alloc)?;
-    drop(journal);
-    let after = opened(rt, alloc)?;
-    Ok(format!(in alloc; "{found}; {beside_locked}; {beside_journal}; {after}")?)
+    match show_found(rt, alloc, text, found) {
+        Ok(()) => Ok(locked.restore(alloc, table(alloc)?)?),
+        Err(refusal) => Err(refusal),
+    }
+}
+
+fn show_found<R: Files<File = File>>(
+    rt: &R,
+    alloc: Global,
+    text: &mut String,
+    found: &str,
+) -> Result<(), Refusal> {
+    text.push_str(found)?;
+    show_next(rt, alloc, text)
+}
+
+fn show_next<R: Files<File = File>>(
+    rt: &R,
+    alloc: Global,
+    text: &mut String,
+) -> Result<(), Refusal> {
+    text.push_str("; ")?;
+    show_opened(rt, alloc, text)
 }

@@ -7,53 +7,87 @@ use std::alloc::Global;
 /// The journal with these pieces.
 pub fn journal_of(alloc: Global, pieces: &str) -> Result<Vec<u8>, Refusal> {
     let mut journal = Vec::new(alloc);
-    for piece in pieces.split(',') {
-        journal.extend_from_slice(bytes_of(alloc, piece.trim())?.as_slice())?;
+    match add_pieces(alloc, &mut journal, pieces) {
+        Ok(()) => Ok(journal),
+        Err(refusal) => Err(refusal),
     }
-    Ok(journal)
 }
 
-/// A piece: `nothing`; `NAME KVNO`, the record of a change, or `raise COUNT`, that of a raise, with
+fn add_pieces(alloc: Global, journal: &mut Vec<u8>, pieces: &str) -> Result<(), Refusal> {
+    for piece in pieces.split(',') {
+        add_piece(alloc, journal, piece.trim())?;
+    }
+    Ok(())
+}
+
+/// Adds a piece: `nothing`; `NAME KVNO`, the record of a change, or `raise COUNT`, that of a raise, with
 /// ` kind K` or ` length L` behind it where that is another; `NAME KVNO to KVNO`, a record for each
 /// version; `first N of` before a record, of which only so many bytes are there.
-fn bytes_of(alloc: Global, piece: &str) -> Result<Vec<u8>, Refusal> {
-    if piece == "nothing" {
-        return Ok(Vec::new(alloc));
-    }
+fn add_piece(alloc: Global, journal: &mut Vec<u8>, piece: &str) -> Result<(), Refusal> {
     if let Some((first, last)) = piece.split_once(" to ") {
-        return records_of(alloc, first, last);
+        return add_records(alloc, journal, first, last);
     }
-    match piece.strip_prefix("first ") {
-        None => record_of(alloc, piece),
-        Some(rest) => {
-            let (count, record) = rest.split_once(" of ").ok_or(Refusal::NoSuchCase)?;
-            let count = number(count)? as usize;
-            let mut bytes = record_of(alloc, record)?;
-            bytes.truncate(count);
-            Ok(bytes)
-        }
+    match piece.split_once(' ') {
+        None if piece == "nothing" => Ok(()),
+        None => Err(Refusal::NoSuchCase),
+        Some(("first", rest)) => add_front(alloc, journal, rest),
+        Some((what, rest)) => add_record(alloc, journal, what, rest),
     }
 }
 
-/// From `NAME KVNO` to the other version.
-fn records_of(alloc: Global, first: &str, last: &str) -> Result<Vec<u8>, Refusal> {
-    let (name, first) = first.split_once(' ').ok_or(Refusal::NoSuchCase)?;
-    let mut records = Vec::new(alloc);
-    for kvno in number(first)?..=number(last)? {
-        records.extend_from_slice(plain_record(alloc, name, kvno)?.as_slice())?;
-    }
-    Ok(records)
-}
-
-fn record_of(alloc: Global, words: &str) -> Result<Vec<u8>, Refusal> {
-    let (what, rest) = words.split_once(' ').ok_or(Refusal::NoSuchCase)?;
-    let (figure, change) = rest.split_once(' ').unwrap_or((rest, ""));
-    let mut record = match what {
-        "raise" => Vec::from_slice(alloc, &raise_bytes(number(figure)?))?,
-        name => plain_record(alloc, name, number(figure)?)?,
+/// Adds the front of a record, `N of` and the record.
+fn add_front(alloc: Global, journal: &mut Vec<u8>, words: &str) -> Result<(), Refusal> {
+    let Some((count, record)) = words.split_once(" of ") else {
+        return Err(Refusal::NoSuchCase);
     };
-    change_record(&mut record, change)?;
-    Ok(record)
+    let end = journal.len().saturating_add(number(count)? as usize);
+    let Some((what, rest)) = record.split_once(' ') else {
+        return Err(Refusal::NoSuchCase);
+    };
+    add_record(alloc, journal, what, rest)?;
+    journal.truncate(end);
+    Ok(())
+}
+
+/// Adds a record for each version from `NAME KVNO` to the other one.
+fn add_records(
+    alloc: Global,
+    journal: &mut Vec<u8>,
+    first: &str,
+    last: &str,
+) -> Result<(), Refusal> {
+    let Some((name, first)) = first.split_once(' ') else {
+        return Err(Refusal::NoSuchCase);
+    };
+    for kvno in number(first)?..=number(last)? {
+        add_plain_record(alloc, journal, name, kvno)?;
+    }
+    Ok(())
+}
+
+/// Adds a record of `raise` or of a name, and of the words behind it.
+fn add_record(alloc: Global, journal: &mut Vec<u8>, what: &str, rest: &str) -> Result<(), Refusal> {
+    let (figure, change) = rest.split_once(' ').unwrap_or((rest, ""));
+    let figure = number(figure)?;
+    let place = journal.len();
+    match what {
+        "raise" => journal.extend_from_slice(&raise_bytes(figure))?,
+        name => add_plain_record(alloc, journal, name, figure)?,
+    }
+    match journal.as_mut_slice().get_mut(place..) {
+        Some(record) => change_record(record, change),
+        None => Err(Refusal::NoSuchCase),
+    }
+}
+
+fn add_plain_record(
+    alloc: Global,
+    journal: &mut Vec<u8>,
+    name: &str,
+    kvno: u32,
+) -> Result<(), Refusal> {
+    let record = plain_record(alloc, name, kvno)?;
+    journal.extend_from_slice(&record).map_err(Refusal::from)
 }
 
 fn plain_record(alloc: Global, name: &str, kvno: u32) -> Result<Vec<u8>, Refusal> {
@@ -72,26 +106,32 @@ fn plain_record(alloc: Global, name: &str, kvno: u32) -> Result<Vec<u8>, Refusal
     Ok(record_bytes(alloc, &name, &key)?)
 }
 
-fn change_record(record: &mut Vec<u8>, change: &str) -> Result<(), Refusal> {
-    match change.split_once(' ') {
-        None if change.is_empty() => {}
-        Some(("kind", kind)) => {
-            let kind = u8::try_from(number(kind)?).map_err(|_| Refusal::NoSuchCase)?;
-            if let [_, _, place, ..] = record.as_mut_slice() {
-                *place = kind;
-            }
-        }
-        Some(("length", length)) => {
-            let length = u16::try_from(number(length)?).map_err(|_| Refusal::NoSuchCase)?;
-            if let [high, low, ..] = record.as_mut_slice() {
-                [*high, *low] = length.to_be_bytes();
-            }
-        }
+/// Gives a record another kind or another length field.
+fn change_record(record: &mut [u8], change: &str) -> Result<(), Refusal> {
+    if change.is_empty() {
+        return Ok(());
+    }
+    let Some((what, figure)) = change.split_once(' ') else {
+        return Err(Refusal::NoSuchCase);
+    };
+    let Ok(figure) = u16::try_from(number(figure)?) else {
+        return Err(Refusal::NoSuchCase);
+    };
+    let [high, low, kind, ..] = record else {
+        return Err(Refusal::NoSuchCase);
+    };
+    let [first, second] = figure.to_be_bytes();
+    match what {
+        "kind" if first == 0 => *kind = second,
+        "length" => (*high, *low) = (first, second),
         _ => return Err(Refusal::NoSuchCase),
     }
     Ok(())
 }
 
-fn number(word: &str) -> Result<u32, Refusal> {
-    word.parse::<u32>().map_err(|_| Refusal::NoSuchCase)
+pub fn number(word: &str) -> Result<u32, Refusal> {
+    match word.parse::<u32>() {
+        Ok(number) => Ok(number),
+        Err(_) => Err(Refusal::NoSuchCase),
+    }
 }

@@ -18,36 +18,52 @@ mod restoring;
 mod unsynced;
 
 use case_lines::{Answers, Change, print_answers};
-use changed::changed;
-use disk::appended;
-use failing::{decided, each_failed};
-use filed::filed;
-use journal::journal_of;
+use changed::show_changed;
+use disk::show_appended;
+use failing::{show_decided, show_each_failed};
+use filed::show_filed;
 use refusal::Refusal;
-use restoring::{failing, read, restored};
+use restoring::{show_failing, show_read, show_restored};
 use std::alloc::Global;
 use std::fs::{File, Files};
 use std::io::{self, Error, ErrorKind};
 
-/// The answer to a case.
-fn answer<R: Files<File = File> + AllocGlobal>(
+/// Adds the answer to a case.
+fn show_answer<R: Files<File = File>>(
     rt: &R,
     alloc: Global,
+    text: &mut String,
     line: &str,
-) -> Result<String, Refusal> {
+) -> Result<(), Refusal> {
     let Some((what, pieces)) = line.split_once(": ") else {
-        return restored(alloc, journal_of(alloc, line)?.as_slice());
+        return show_restored(alloc, text, line);
     };
     if let Some(change) = Change::of(what) {
-        return changed(alloc, change, journal_of(alloc, pieces)?.as_slice());
+        return show_changed(alloc, text, change, pieces);
     }
     match what.split_once(' ') {
-        Some(("appends", "fail")) => each_failed(alloc, pieces),
-        Some(("failing", way)) => failing(alloc, way, journal_of(alloc, pieces)?.as_slice()),
-        Some(("sink", sink)) => decided(alloc, sink, pieces),
-        Some(("disk", way)) => appended(alloc, way, pieces),
-        Some(("read", way)) => read(alloc, way, journal_of(alloc, pieces)?.as_slice()),
-        _ => filed(rt, alloc, what, pieces),
+        Some((kind, how)) => show_case(rt, alloc, text, kind, how, pieces),
+        None => show_filed(rt, alloc, text, what, "", pieces),
+    }
+}
+
+/// Adds the answer to a case of this kind.
+fn show_case<R: Files<File = File>>(
+    rt: &R,
+    alloc: Global,
+    text: &mut String,
+    kind: &str,
+    how: &str,
+    pieces: &str,
+) -> Result<(), Refusal> {
+    match kind {
+        "appends" if how == "fail" => show_each_failed(alloc, text, pieces),
+        "failing" => show_failing(alloc, text, how, pieces),
+        "sink" => show_decided(alloc, text, how, pieces),
+        "disk" => show_appended(alloc, text, how, pieces),
+        "read" => show_read(alloc, text, how, pieces),
+        "append" => show_filed(rt, alloc, text, kind, how, pieces),
+        _ => Err(Refusal::NoSuchCase),
     }
 }
 
@@ -56,12 +72,15 @@ struct Cases<'a, R: Files<File = File>> {
     rt: &'a R,
 }
 
-impl<R: Files<File = File> + AllocGlobal> Answers for Cases<'_, R> {
+impl<R: Files<File = File>> Answers for Cases<'_, R> {
     fn answer(&mut self, alloc: Global, case: &str) -> io::Result<String> {
-        match answer(self.rt, alloc, case) {
-            Ok(text) => Ok(text),
+        let mut text = String::new(alloc);
+        match show_answer(self.rt, alloc, &mut text, case) {
+            Ok(()) => Ok(text),
             Err(Refusal::Memory) => Err(Error::from(ErrorKind::OutOfMemory)),
-            Err(refusal) => Ok(format!(in alloc; "refused: {refusal}")?),
+            Err(refusal) => {
+                format!(in alloc; "refused: {}", refusal.text()).map_err(Error::from)
+            }
         }
     }
 }

@@ -8,27 +8,29 @@ use test_realm::name;
 /// The iteration count of the configuration.
 const ITERATIONS: u32 = 4096;
 
-/// Both principals and the newest versions of their keys in a table, and its iteration count where that is
-/// not the configuration's.
-pub fn versions(alloc: Global, table: &Table) -> Result<String, Refusal> {
+/// Adds both principals and the newest versions of their keys in a table, and its iteration count where that
+/// is not the configuration's.
+pub fn show_versions(alloc: Global, text: &mut String, table: &Table) -> Result<(), Refusal> {
     let alice = kvno(alloc, table, "alice")?;
     let bob = kvno(alloc, table, "bob/admin")?;
-    if table.count() == ITERATIONS {
-        Ok(format!(in alloc; "alice {alice} bob/admin {bob}")?)
-    } else {
-        let count = table.count();
-        Ok(format!(in alloc; "alice {alice} bob/admin {bob} count {count}")?)
+    write!(text, "alice {alice} bob/admin {bob}")?;
+    let count = table.count();
+    if count != ITERATIONS {
+        write!(text, " count {count}")?;
     }
+    Ok(())
 }
 
 fn kvno(alloc: Global, table: &Table, text: &str) -> Result<u32, Refusal> {
-    let shown = table.lookup(&name(alloc, text)?);
-    Ok(shown.ok_or(Refusal::NoSuchCase)?.kvno)
+    match table.lookup(&name(alloc, text)?) {
+        Some(shown) => Ok(shown.kvno),
+        None => Err(Refusal::NoSuchCase),
+    }
 }
 
 /// A table of it, before any change.
 pub fn table(alloc: Global) -> Result<Table, Refusal> {
-    Ok(test_realm::table(alloc, principals(alloc)?, ITERATIONS, 100)?)
+    test_realm::table(alloc, principals(alloc)?, ITERATIONS, 100).map_err(Refusal::from)
 }
 
 /// The same, with a policy by which the four newest keys of a name are kept.

@@ -2,20 +2,27 @@
 use chpw_journal::OpenFault;
 use std::alloc::{AllocError, AllocFailed};
 use std::io;
-use thiserror::Error;
 
 /// Why a case has no answer.
-#[derive(Debug, Drop, Error)]
+#[derive(Clone, Copy, Drop)]
 pub enum Refusal {
     /// It names a piece that there isn't.
-    #[error("there is no such case")]
     NoSuchCase,
     /// The scratch file can't be written, read or opened.
-    #[error("no scratch file")]
     File,
     /// Memory ran out.
-    #[error("out of memory")]
     Memory,
+}
+
+impl Refusal {
+    /// The same in words.
+    pub fn text(self) -> &'static str {
+        match self {
+            Refusal::NoSuchCase => "there is no such case",
+            Refusal::File => "no scratch file",
+            Refusal::Memory => "out of memory",
+        }
+    }
 }
 
 impl From<AllocError> for Refusal {

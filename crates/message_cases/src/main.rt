@@ -27,7 +27,9 @@ impl Answers for Cases {
         match answer(alloc, case) {
             Ok(text) => Ok(text),
             Err(Refusal::Memory) => Err(Error::from(ErrorKind::OutOfMemory)),
-            Err(refusal) => Ok(format!(in alloc; "refused: {refusal}")?),
+            Err(refusal) => {
+                format!(in alloc; "refused: {}", refusal.text()).map_err(Error::from)
+            }
         }
     }
 }

@@ -13,7 +13,7 @@ use chpw_journal::MemorySink;
 use chpw_messages::Service;
 use chpw_table::{Counts, DecideFault, Moment, Opened, Refused, Verdict};
 use std::alloc::{AllocError, Global};
-use std::io;
+use std::io::{self, Error};
 
 /// The moment of each decision here.
 fn now() -> Moment
@@ -33,52 +33,58 @@ fn mood_of(who: &str) -> Mood {
     }
 }
 
-/// The replies to these messages, and how the decider was asked.
-pub fn answered(
+/// Adds the replies to these messages, and how the decider was asked.
+pub fn show_answered(
     alloc: Global,
+    text: &mut String,
     setting: &Setting,
     who: &str,
     messages: &[&Message],
-) -> io::Result<String> {
+) -> io::Result<()> {
     let World { service, alone } = setting.start(alloc)?;
     let mut decider = Watched::of(alloc, alone, mood_of(who));
-    let shown = shown_calls(alloc, &service, &mut decider, messages);
-    drop((service, decider));
+    let shown = show_asked(alloc, text, &service, &mut decider, messages);
+    drop(service);
+    drop(decider);
     shown
 }
 
-fn shown_calls(
+fn show_asked(
     alloc: Global,
+    text: &mut String,
     service: &Service,
     decider: &mut Watched<MemorySink>,
     messages: &[&Message],
-) -> io::Result<String> {
-    let mut text = String::new(alloc);
-    show_answers(alloc, &mut text, service, decider, messages)?;
-    show_calls(&mut text, decider)?;
-    Ok(text)
+) -> io::Result<()> {
+    show_answers(alloc, text, service, decider, messages)?;
+    show_calls(text, decider).map_err(Error::from)
 }
 
-/// The replies to these messages, the names that were looked up, and how often the decider was asked.
-pub fn looked_up(alloc: Global, setting: &Setting, messages: &[&Message]) -> io::Result<String> {
+/// Adds the replies to these messages, the names that were looked up, and how often the decider was asked.
+pub fn show_looked_up(
+    alloc: Global,
+    text: &mut String,
+    setting: &Setting,
+    messages: &[&Message],
+) -> io::Result<()> {
     let World { service, alone } = setting.start(alloc)?;
     let mut decider = Watched::of(alloc, alone, Mood::Plain);
-    let shown = shown_names(alloc, &service, &mut decider, messages);
-    drop((service, decider));
+    let shown = show_names(alloc, text, &service, &mut decider, messages);
+    drop(service);
+    drop(decider);
     shown
 }
 
-fn shown_names(
+fn show_names(
     alloc: Global,
+    text: &mut String,
     service: &Service,
     decider: &mut Watched<MemorySink>,
     messages: &[&Message],
-) -> io::Result<String> {
-    let mut text = String::new(alloc);
-    show_answers(alloc, &mut text, service, decider, messages)?;
+) -> io::Result<()> {
+    show_answers(alloc, text, service, decider, messages)?;
     let (names, decides) = (text_of(&decider.names), decider.decides);
-    write!(text, "looked up{names}, decide {decides}")?;
-    Ok(text)
+    write!(text, "looked up{names}, decide {decides}").map_err(Error::from)
 }
 
 /// Adds a decider's replies to these messages.
@@ -126,16 +132,19 @@ fn show_counts(text: &mut String, counts: &Counts) -> Result<(), AllocError> {
     Ok(())
 }
 
-/// A message's request decided with no keys derived, then with its password, and in a fresh world
+/// Adds a message's request decided with no keys derived, then with its password, and in a fresh world
 /// with the keys that were asked for.
-pub fn alone(alloc: Global, setting: &Setting, messages: &[&Message]) -> io::Result<String> {
+pub fn show_alone(
+    alloc: Global,
+    text: &mut String,
+    setting: &Setting,
+    messages: &[&Message],
+) -> io::Result<()> {
     let [message, ..] = messages else {
         return Err(no_case());
     };
-    let mut text = String::new(alloc);
-    let counts = without_keys(alloc, &mut text, setting, message)?;
-    with_keys(alloc, &mut text, setting, message, &counts)?;
-    Ok(text)
+    let counts = without_keys(alloc, text, setting, message)?;
+    with_keys(alloc, text, setting, message, &counts)
 }
 
 /// Adds the counts that a decision of a message's request asks for, and what comes of it with its
@@ -213,7 +222,7 @@ fn show_verdict(
     table: &Alone<MemorySink>,
 ) -> io::Result<()> {
     let holding = Holding::of(alloc, table)?;
-    Ok(write!(text, "{verdict}, {holding}")?)
+    write!(text, "{verdict}, {holding}").map_err(Error::from)
 }
 
 /// A message's request, with no keys derived, and its password.
@@ -242,7 +251,9 @@ fn complete(opened: &mut Opened, password: &[u8], counts: &Counts) -> io::Result
         return Err(no_case());
     }
     let salt = opened.salt()?;
-    Ok(opened.complete(password, &salt, counts)?)
+    opened
+        .complete(password, &salt, counts)
+        .map_err(Error::from)
 }
 
 /// What keys a decision needs.
@@ -253,7 +264,10 @@ fn needed(decided: Result<Verdict, Refused>) -> io::Result<(Opened, Counts)> {
             let Refused { fault, opened } = refused;
             match fault {
                 DecideFault::NeedKeys(counts) => Ok((opened, counts)),
-                DecideFault::Full | DecideFault::Memory => Err(no_case()),
+                DecideFault::Full | DecideFault::Memory => {
+                    drop(opened);
+                    Err(no_case())
+                }
             }
         }
     }
@@ -262,6 +276,9 @@ fn needed(decided: Result<Verdict, Refused>) -> io::Result<(Opened, Counts)> {
 fn verdict_text(decided: Result<Verdict, Refused>) -> &'static str {
     match decided {
         Ok(verdict) => verdict.text(),
-        Err(_) => "refused",
+        Err(refused) => {
+            drop(refused);
+            "refused"
+        }
     }
 }

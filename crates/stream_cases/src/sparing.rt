@@ -7,7 +7,7 @@ use krb_protocol::Refusal;
 use std::alloc::{AllocError, Global};
 
 /// The same messages, but that no reply to an opened request is made.
-#[derive(Clone, Copy, Drop)]
+#[derive(Drop)]
 pub struct Sparing<'a, M: Messages> {
     pub messages: &'a M,
 }

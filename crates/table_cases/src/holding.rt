@@ -1,4 +1,7 @@
 //! The table that a configuration and a journal hold.
+ghost use Rattle.std.specs.Prelude.{◌≡◌, true};
+ghost use Rattle.chpw_rules.specs.Fitting.{config_fits};
+
 use chpw_config::read_config;
 use chpw_held::{HeldTable, held_from, write_configuration};
 use chpw_report::{Form, write_report};
@@ -15,10 +18,15 @@ pub enum Found {
 
 /// The table that is held.
 pub fn found_in(alloc: Global, config: &str, journal: &[u8]) -> Result<Found> {
-    let config = match read_config(alloc, config) {
-        Ok(config) => config,
-        Err(error) => return Ok(Found::Faulty(error.to_string(alloc)?)),
-    };
+    match read_config(alloc, config) {
+        Ok(config) => found_with(alloc, config, journal),
+        Err(error) => Ok(Found::Faulty(error.to_string(alloc)?)),
+    }
+}
+
+fn found_with(alloc: Global, config: Config, journal: &[u8]) -> Result<Found>
+    requires fits { config_fits config ≡ true }
+{
     let realm = Vec::from_slice(alloc, config.realm.as_slice())?;
     match held_from(alloc, config, journal) {
         Ok(held) => Ok(Found::Held { realm, held }),

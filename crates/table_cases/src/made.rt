@@ -1,6 +1,7 @@
 //! Large tables.
 use crate::holding::{Found, found_in, report};
 use crate::telling::{made_configuration, print_likeness};
+use chpw_held::HeldTable;
 use chpw_report::Form;
 use std::alloc::Global;
 use std::io::{Result, Write};
@@ -39,17 +40,49 @@ pub fn print_made<W: Write>(alloc: Global, out: &mut W, line: &str) -> Result<()
     let changes = changes.parse::<u32>().unwrap_or(0);
     let config = config_of(alloc, principals)?;
     let journal = journal_of(alloc, principals, changes)?;
-    match found_in(alloc, config.as_str(), &journal)? {
+    print_table(alloc, out, line, config.as_str(), &journal)
+}
+
+fn print_table<W: Write>(
+    alloc: Global,
+    out: &mut W,
+    line: &str,
+    config: &str,
+    journal: &[u8],
+) -> Result<()> {
+    let found = found_in(alloc, config, journal)?;
+    let printed = match &found {
+        Found::Held { realm, held } => print_held(alloc, out, line, config, realm, held),
         Found::Faulty(words) => writeln!(out, "{line}: {words}"),
-        Found::Held { realm, held } => {
-            let lines = report(alloc, Form::Lines, &realm, &held, held.changes)?;
-            let keys = report(alloc, Form::Keys, &realm, &held, held.changes)?;
-            let text = made_configuration(alloc, config.as_str(), &held)?;
-            writeln!(out, "{line}: {}", last_line(&lines))?;
-            writeln!(out, "bytes {} {} {}", lines.len(), keys.len(), text.len())?;
-            print_likeness(alloc, out, &text, &realm, &held)
-        }
-    }
+    };
+    drop(found);
+    printed
+}
+
+fn print_held<W: Write>(
+    alloc: Global,
+    out: &mut W,
+    line: &str,
+    config: &str,
+    realm: &[u8],
+    held: &HeldTable,
+) -> Result<()> {
+    let lines = report(alloc, Form::Lines, realm, held, held.changes)?;
+    let keys = report(alloc, Form::Keys, realm, held, held.changes)?;
+    let text = made_configuration(alloc, config, held)?;
+    print_sizes(out, line, &lines, &keys, &text)?;
+    print_likeness(alloc, out, &text, realm, held)
+}
+
+fn print_sizes<W: Write>(
+    out: &mut W,
+    line: &str,
+    lines: &[u8],
+    keys: &[u8],
+    text: &[u8],
+) -> Result<()> {
+    writeln!(out, "{line}: {}", last_line(lines))?;
+    writeln!(out, "bytes {} {} {}", lines.len(), keys.len(), text.len())
 }
 
 fn last_line(text: &[u8]) -> &str {
@@ -60,28 +93,28 @@ fn last_line(text: &[u8]) -> &str {
 fn config_of(alloc: Global, principals: u32) -> Result<String> {
     let mut text = String::from_str(alloc, SETTINGS)?;
     for number in (0..principals).rev() {
-        let name = format!(in alloc; "[[principal]]\nname = 'client{number:05}'\n")?;
-        text.push_str(name.as_str())?;
-        text.push_str(KEYS)?;
+        write!(text, "[[principal]]\nname = 'client{number:05}'\n{KEYS}")?;
     }
     Ok(text)
 }
 
-// A record for each change of each principal, docs/JOURNAL.md's.
 fn journal_of(alloc: Global, principals: u32, changes: u32) -> Result<Vec<u8>> {
     let mut journal = Vec::new(alloc);
     for change in 0..changes {
         for number in 0..principals {
-            let kvno = change.saturating_add(2);
-            journal.extend_from_slice(b"\x00\x46\x01")?;
-            journal.extend_from_slice(&kvno.to_be_bytes())?;
-            journal.extend_from_slice(&4096u32.to_be_bytes())?;
-            journal.extend_from_slice(&[0x33; 16])?;
-            journal.extend_from_slice(&[0x44; 32])?;
-            journal.extend_from_slice(b"\x01\x0b")?;
-            let name = format!(in alloc; "client{number:05}")?;
-            journal.extend_from_slice(name.as_bytes())?;
+            add_record(&mut journal, change.saturating_add(2), number)?;
         }
     }
     Ok(journal)
+}
+
+// Adds a record of a change of a principal, docs/JOURNAL.md's.
+fn add_record(journal: &mut Vec<u8>, kvno: u32, number: u32) -> Result<()> {
+    journal.extend_from_slice(b"\x00\x46\x01")?;
+    journal.extend_from_slice(&kvno.to_be_bytes())?;
+    journal.extend_from_slice(&4096u32.to_be_bytes())?;
+    journal.extend_from_slice(&[0x33; 16])?;
+    journal.extend_from_slice(&[0x44; 32])?;
+    journal.extend_from_slice(b"\x01\x0b")?;
+    write!(journal, "client{number:05}")
 }

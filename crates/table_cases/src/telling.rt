@@ -30,14 +30,25 @@ fn print_report<W: Write>(
     config: &str,
     journal: &[u8],
 ) -> Result<()> {
-    match found_in(alloc, config, journal)? {
-        Found::Held { realm, held } => {
-            print_torn(out, &held)?;
-            let text = report(alloc, form, &realm, &held, held.changes)?;
-            out.write_all(&text)
-        }
+    let found = found_in(alloc, config, journal)?;
+    let printed = match &found {
+        Found::Held { realm, held } => print_form(alloc, out, form, realm, held),
         Found::Faulty(words) => writeln!(out, "{words}"),
-    }
+    };
+    drop(found);
+    printed
+}
+
+fn print_form<W: Write>(
+    alloc: Global,
+    out: &mut W,
+    form: Form,
+    realm: &[u8],
+    held: &HeldTable,
+) -> Result<()> {
+    print_torn(out, held)?;
+    let text = report(alloc, form, realm, held, held.changes)?;
+    out.write_all(&text)
 }
 
 // What `table` tells on standard error.
@@ -55,15 +66,26 @@ fn print_configuration<W: Write>(
     config: &str,
     journal: &[u8],
 ) -> Result<()> {
-    match found_in(alloc, config, journal)? {
-        Found::Held { realm, held } => {
-            print_torn(out, &held)?;
-            let text = made_configuration(alloc, config, &held)?;
-            out.write_all(&text)?;
-            print_likeness(alloc, out, &text, &realm, &held)
-        }
+    let found = found_in(alloc, config, journal)?;
+    let printed = match &found {
+        Found::Held { realm, held } => print_made(alloc, out, config, realm, held),
         Found::Faulty(words) => writeln!(out, "{words}"),
-    }
+    };
+    drop(found);
+    printed
+}
+
+fn print_made<W: Write>(
+    alloc: Global,
+    out: &mut W,
+    config: &str,
+    realm: &[u8],
+    held: &HeldTable,
+) -> Result<()> {
+    print_torn(out, held)?;
+    let text = made_configuration(alloc, config, held)?;
+    out.write_all(&text)?;
+    print_likeness(alloc, out, &text, realm, held)
 }
 
 /// The file of the configuration that is held, the other settings as in this one.
@@ -98,20 +120,39 @@ fn is_told_alike(alloc: Global, config: &[u8], realm: &[u8], held: &HeldTable) -
     let Ok(config) = str::from_utf8(config) else {
         return Ok(false);
     };
-    let Found::Held {
-        realm: realm_again,
-        held: again,
-    } = found_in(alloc, config, &[])?
-    else {
-        return Ok(false);
+    let found = found_in(alloc, config, &[])?;
+    let alike = match &found {
+        Found::Held { realm: r, held: h } => are_told_alike(alloc, realm, held, r, h),
+        Found::Faulty(_) => Ok(false),
     };
-    let mut alike = true;
-    for form in [Form::Lines, Form::Keys] {
-        let text = report(alloc, form, realm, held, 0)?;
-        let text_again = report(alloc, form, &realm_again, &again, again.changes)?;
-        alike = alike && text.as_slice() == text_again.as_slice();
-    }
-    Ok(alike)
+    drop(found);
+    alike
+}
+
+// Whether both reports of a table are those of another.
+fn are_told_alike(
+    alloc: Global,
+    realm: &[u8],
+    held: &HeldTable,
+    other_realm: &[u8],
+    other: &HeldTable,
+) -> Result<bool> {
+    let lines = is_alike(alloc, Form::Lines, realm, held, other_realm, other)?;
+    let keys = is_alike(alloc, Form::Keys, realm, held, other_realm, other)?;
+    Ok(lines && keys)
+}
+
+fn is_alike(
+    alloc: Global,
+    form: Form,
+    realm: &[u8],
+    held: &HeldTable,
+    other_realm: &[u8],
+    other: &HeldTable,
+) -> Result<bool> {
+    let text = report(alloc, form, realm, held, 0)?;
+    let again = report(alloc, form, other_realm, other, other.changes)?;
+    Ok(text.as_slice() == again.as_slice())
 }
 
 // What the lines are of each proper prefix of the journal, `;` standing for a newline, behind the count of
@@ -123,12 +164,23 @@ fn print_prefixes<W: Write>(
     journal: &[u8],
 ) -> Result<()> {
     let mut census = Census::new(alloc);
+    add_prefixes(alloc, &mut census, config, journal)?;
+    writeln!(out, "{}", census.shown(alloc)?)
+}
+
+fn add_prefixes(alloc: Global, census: &mut Census, config: &str, journal: &[u8]) -> Result<()> {
     for length in 0..journal.len() {
         let mut told = Vec::new(alloc);
         print_report(alloc, &mut told, Form::Lines, config, &journal[..length])?;
-        let told = str::from_utf8(&told).unwrap_or("");
-        let line = told.trim_end().replace(alloc, "\n", "; ")?;
-        census.add(alloc, length, line.as_str())?;
+        add_told(alloc, census, length, &told)?;
     }
-    writeln!(out, "{}", census.shown(alloc)?)
+    Ok(())
+}
+
+fn add_told(alloc: Global, census: &mut Census, length: usize, told: &[u8]) -> Result<()> {
+    let told = str::from_utf8(told).unwrap_or("");
+    let line = told.trim_end().replace(alloc, "\n", "; ")?;
+    census
+        .add(alloc, length, line.as_str())
+        .map_err(Error::from)
 }
