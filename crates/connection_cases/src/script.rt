@@ -1,9 +1,10 @@
 //! The machine that a script runs, and the lines of the script.
 
-use crate::words::{no_case, number, numbers};
+use crate::showing::slots_text;
+use crate::words::{no_case, number};
 use chpw_connections::{Bounds, Connections};
-use std::alloc::{AllocError, Global};
-use std::io::{self, Error};
+use std::alloc::Global;
+use std::io;
 
 /// The greatest count of connections and of workers here.
 const MOST: usize = 100;
@@ -20,16 +21,19 @@ pub struct Script {
 impl Script {
     /// `CONNECTIONS BYTES IDLE GRACE WAIT LINGER WORKERS`
     pub fn of(alloc: Global, words: &str) -> io::Result<Script> {
-        let [connections, bytes, idle, grace, wait, linger, workers] = numbers(words)?;
-        let bounds = Bounds {
-            connections: connections as usize,
-            bytes: bytes as usize,
-            idle,
-            grace,
-            wait,
-            linger,
+        let words: Vec<&str> = words.split(' ').collect(alloc)?;
+        let [connections, bytes, idle, grace, wait, linger, workers] = words.as_slice() else {
+            return Err(no_case());
         };
-        Script::new(alloc, bounds, workers as usize)
+        let bounds = Bounds {
+            connections: number(connections)?,
+            bytes: number(bytes)?,
+            idle: number(idle)?,
+            grace: number(grace)?,
+            wait: number(wait)?,
+            linger: number(linger)?,
+        };
+        Script::new(alloc, bounds, number(workers)?)
     }
 
     pub fn new(alloc: Global, bounds: Bounds, workers: usize) -> io::Result<Script> {
@@ -44,81 +48,41 @@ impl Script {
         })
     }
 
-    /// Adds what comes of a line, and which other connections have ended by it.
-    pub fn show_answer(
-        &mut self,
-        text: &mut String,
-        kind: &str,
-        words: &str,
-        now: u64,
-    ) -> io::Result<()> {
+    /// What comes of a line, and which other connections have ended by it.
+    pub fn answer(&mut self, kind: &str, words: &str, now: u64) -> io::Result<String> {
         let before = self.ended()?;
-        self.show_line(text, &before, kind, words, now)
-    }
-
-    fn show_line(
-        &mut self,
-        text: &mut String,
-        before: &[usize],
-        kind: &str,
-        words: &str,
-        now: u64,
-    ) -> io::Result<()> {
-        let own = self.show_own(text, kind, words, now)?;
-        self.show_ended(text, before, own).map_err(Error::from)
-    }
-
-    /// Adds what comes of a line; the slot that it is about.
-    fn show_own(
-        &mut self,
-        text: &mut String,
-        kind: &str,
-        words: &str,
-        now: u64,
-    ) -> io::Result<Option<usize>> {
-        if is_whole(kind) {
-            self.show_whole(text, kind, words, now)?;
-            return Ok(None);
-        }
         let (slot, rest) = words.split_once(' ').unwrap_or((words, ""));
-        let slot = number(slot)?;
-        self.show_event(text, kind, slot, rest, now)?;
-        Ok(Some(slot))
+        let (own, text) = match kind {
+            "accept" | "pass" | "room" | "show" | "look" | "confirm" | "overdue" => {
+                (None, self.whole(kind, words, now)?)
+            }
+            "take" => (None, self.taken(number(words)?, now)?),
+            _ => {
+                let slot = number(slot)?;
+                (Some(slot), self.event(kind, slot, rest, now)?)
+            }
+        };
+        let others = self.ended_besides(&before, own)?;
+        if others.is_empty() {
+            return Ok(text);
+        }
+        let others = slots_text(self.alloc, &others)?;
+        Ok(format!(in self.alloc; "{text}; ended {others}")?)
     }
 
     /// The slots whose connections have ended.
-    fn ended(&self) -> Result<Vec<usize>, AllocError> {
+    fn ended(&self) -> io::Result<Vec<usize>> {
+        self.ended_besides(&[], None)
+    }
+
+    /// The same but for these, and for this one.
+    fn ended_besides(&self, before: &[usize], own: Option<usize>) -> io::Result<Vec<usize>> {
         let mut ended = Vec::new(self.alloc);
         for slot in 0..self.slots {
-            if self.connections.is_ended(slot) {
+            if self.connections.is_ended(slot) && own != Some(slot) && !before.contains(&slot) {
                 ended.push(slot)?;
             }
         }
         Ok(ended)
-    }
-
-    /// Adds those but for these, and for this one.
-    fn show_ended(
-        &self,
-        text: &mut String,
-        before: &[usize],
-        own: Option<usize>,
-    ) -> Result<(), AllocError> {
-        let mut front = "; ended ";
-        for slot in 0..self.slots {
-            if self.connections.is_ended(slot) && own != Some(slot) && !before.contains(&slot) {
-                write!(text, "{front}{slot}")?;
-                front = " ";
-            }
-        }
-        Ok(())
-    }
-}
-
-/// Whether a line of this kind is about no slot's connection in particular.
-fn is_whole(kind: &str) -> bool {
-    match kind {
-        "accept" | "pass" | "room" | "show" | "look" | "confirm" | "overdue" | "take" => true,
-        _ => false,
     }
 }

@@ -3,98 +3,94 @@
 use crate::script::Script;
 use chpw_connections::Todo;
 use hex::encode;
-use std::alloc::{AllocError, Global};
+use std::alloc::Global;
+use std::io;
 
-/// Adds bytes in hexadecimal, `-` for none; of many the first and the last.
-pub fn show_bytes(alloc: Global, text: &mut String, bytes: &[u8]) -> Result<(), AllocError> {
-    let count = bytes.len();
-    if count == 0 {
-        return text.push_str("-");
+/// Bytes in hexadecimal, `-` for none; of many the first and the last.
+pub fn shown(alloc: Global, bytes: &[u8]) -> io::Result<String> {
+    if bytes.is_empty() {
+        return Ok(String::from_str(alloc, "-")?);
     }
-    if count <= 32 {
-        return show_hex(alloc, text, bytes);
+    if bytes.len() <= 32 {
+        return Ok(encode(alloc, bytes)?);
     }
     let (front, _) = bytes.split_at(8);
-    let (_, back) = bytes.split_at(count - 4);
-    show_hex(alloc, text, front)?;
-    text.push_str("..")?;
-    show_hex(alloc, text, back)?;
-    write!(text, " of {count} bytes")
+    let (_, back) = bytes.split_at(bytes.len() - 4);
+    let (front, back) = (encode(alloc, front)?, encode(alloc, back)?);
+    Ok(format!(in alloc; "{front}..{back} of {} bytes", bytes.len())?)
 }
 
-fn show_hex(alloc: Global, text: &mut String, bytes: &[u8]) -> Result<(), AllocError> {
-    let hex = encode(alloc, bytes)?;
-    text.push_str(hex.as_str())
-}
-
-/// Adds slots with spaces between, `-` for none.
-pub fn show_slots(text: &mut String, slots: &[usize]) -> Result<(), AllocError> {
-    let [first, rest @ ..] = slots else {
-        return text.push_str("-");
-    };
-    write!(text, "{first}")?;
-    for slot in rest {
-        write!(text, " {slot}")?;
+/// Slots with spaces between, `-` for none.
+pub fn slots_text(alloc: Global, slots: &[usize]) -> io::Result<String> {
+    if slots.is_empty() {
+        return Ok(String::from_str(alloc, "-")?);
     }
-    Ok(())
+    let mut text = String::new(alloc);
+    for slot in slots {
+        if !text.is_empty() {
+            text.push_str(" ")?;
+        }
+        text.push_str(format!(in alloc; "{slot}")?.as_str())?;
+    }
+    Ok(text)
 }
 
-/// Adds an address as it is written.
-pub fn show_peer(text: &mut String, peer: [u8; 4]) -> Result<(), AllocError> {
+/// An address as it is written.
+pub fn peer_text(alloc: Global, peer: [u8; 4]) -> io::Result<String> {
     let [a, b, c, d] = peer;
-    write!(text, "{a}.{b}.{c}.{d}")
+    Ok(format!(in alloc; "{a}.{b}.{c}.{d}")?)
 }
 
 impl Script {
-    /// Adds where the connection in a slot is.
-    pub fn show_state(&self, text: &mut String, slot: usize) -> Result<(), AllocError> {
+    /// Where the connection in a slot is.
+    pub fn state(&self, slot: usize) -> io::Result<String> {
+        let alloc = self.alloc;
         let left = self.connections.unwritten(slot);
         let wanted = self.connections.wanted(slot);
         if self.connections.is_ended(slot) {
-            text.push_str("has ended")
+            Ok(String::from_str(alloc, "has ended")?)
         } else if self.connections.is_lingering(slot) {
-            text.push_str("lingers")
+            Ok(String::from_str(alloc, "lingers")?)
         } else if !left.is_empty() {
-            write!(text, "has {} to write: ", left.len())?;
-            show_bytes(self.alloc, text, left)
+            let bytes = shown(alloc, left)?;
+            Ok(format!(in alloc; "has {} to write: {bytes}", left.len())?)
         } else if wanted > 0 {
-            write!(text, "wants {wanted}")
+            Ok(format!(in alloc; "wants {wanted}")?)
         } else {
-            text.push_str("waits")
+            Ok(String::from_str(alloc, "waits")?)
         }
     }
 
-    /// Adds what is to be done for the connection in a slot.
-    fn show_todo(&self, text: &mut String, slot: usize) -> Result<(), AllocError> {
+    /// What is to be done for the connection in a slot.
+    fn todo(&self, slot: usize) -> io::Result<String> {
+        let alloc = self.alloc;
         match self.connections.todo(slot) {
-            Todo::Read(count) => write!(text, "read {count}"),
+            Todo::Read(count) => Ok(format!(in alloc; "read {count}")?),
             Todo::Write => {
-                text.push_str("write ")?;
-                show_bytes(self.alloc, text, self.connections.unwritten(slot))
+                let left = shown(alloc, self.connections.unwritten(slot))?;
+                Ok(format!(in alloc; "write {left}")?)
             }
-            Todo::Linger => text.push_str("linger"),
-            Todo::Close => text.push_str("close"),
-            Todo::Wait => text.push_str("wait"),
+            Todo::Linger => Ok(String::from_str(alloc, "linger")?),
+            Todo::Close => Ok(String::from_str(alloc, "close")?),
+            Todo::Wait => Ok(String::from_str(alloc, "wait")?),
         }
     }
 
-    /// Adds each slot, and then what is told of all together.
-    pub fn show_all(&self, text: &mut String) -> Result<(), AllocError> {
+    /// Each slot, and then what is told of all together.
+    pub fn shown(&self) -> io::Result<String> {
+        let mut text = String::new(self.alloc);
         for slot in 0..self.slots {
-            self.show_slot(text, slot)?;
+            let todo = self.todo(slot)?;
+            let wanted = self.connections.wanted(slot);
+            let left = self.connections.unwritten(slot).len();
+            let slot = format!(in self.alloc; "{slot} {todo}, wanted {wanted}, left {left} | ")?;
+            text.push_str(slot.as_str())?;
         }
-        self.show_counts(text)
+        text.push_str(self.counts()?.as_str())?;
+        Ok(text)
     }
 
-    fn show_slot(&self, text: &mut String, slot: usize) -> Result<(), AllocError> {
-        write!(text, "{slot} ")?;
-        self.show_todo(text, slot)?;
-        let wanted = self.connections.wanted(slot);
-        let left = self.connections.unwritten(slot).len();
-        write!(text, ", wanted {wanted}, left {left} | ")
-    }
-
-    fn show_counts(&self, text: &mut String) -> Result<(), AllocError> {
+    fn counts(&self) -> io::Result<String> {
         let connections = &self.connections;
         let count = connections.len();
         let word = if connections.is_empty() {
@@ -105,23 +101,20 @@ impl Script {
             ""
         };
         let (held, accepted) = (connections.held(), connections.accepted());
-        let expired = connections.expired();
-        write!(
-            text,
-            "connections {count}{word}, held {held}, accepted {accepted}, expired {expired}, messages for"
-        )?;
-        self.show_waited_for(text)
+        let (expired, workers) = (connections.expired(), self.waited_for()?);
+        Ok(format!(in self.alloc;
+            "connections {count}{word}, held {held}, accepted {accepted}, expired {expired}, messages for {workers}"
+        )?)
     }
 
-    /// Adds the workers for whom a message waits, each behind a space.
-    fn show_waited_for(&self, text: &mut String) -> Result<(), AllocError> {
-        let mut is_none = true;
+    /// The workers for whom a message waits.
+    fn waited_for(&self) -> io::Result<String> {
+        let mut workers = Vec::new(self.alloc);
         for worker in 0..self.workers {
             if self.connections.has_message(worker) {
-                write!(text, " {worker}")?;
-                is_none = false;
+                workers.push(worker)?;
             }
         }
-        if is_none { text.push_str(" -") } else { Ok(()) }
+        slots_text(self.alloc, &workers)
     }
 }

@@ -1,17 +1,12 @@
 //! The records of AP-REQs.
 
-use crate::parts::put;
 use crate::refusal::Refusal;
 use crate::world::{
     OPTIONS, PEER, SERVICE, address, authenticator, bytes, client, name, ticket_part,
 };
-use krb_der::{
-    Authenticator, EncTicketPart, EncryptionKey, HostAddress, KerberosTime, PrincipalName,
-    SequenceOf,
-};
+use krb_der::{Authenticator, EncTicketPart, EncryptionKey, HostAddress, KerberosTime, SequenceOf};
 use krb_keys::Key;
 use krb_msgs::ServiceKey;
-use krb_protocol::ADDR_TYPE_IPV4;
 use std::alloc::{AllocError, Global};
 
 /// What an AP-REQ is made of, and the service keys that are held.
@@ -57,13 +52,12 @@ pub fn change_case(alloc: Global, case: &mut Case, changes: &str) -> Result<(), 
 
 /// Each change is of one kind: of the records, of the message or of its text.
 fn change_records(alloc: Global, case: &mut Case, change: &str) -> Result<(), Refusal> {
-    let (kind, how) = change.split_once(' ').unwrap_or((change, ""));
-    match kind {
-        "ticket" => change_ticket(alloc, &mut case.part, how),
-        "addresses" => change_addresses(alloc, &mut case.part, how),
-        "authenticator" => change_authenticator(alloc, &mut case.authenticator, how),
-        "service" => change_service(case, how),
-        "message" | "text" | "" => Ok(()),
+    match change.split_once(' ').unwrap_or((change, "")) {
+        ("ticket", how) => change_ticket(alloc, &mut case.part, how),
+        ("addresses", how) => change_addresses(alloc, &mut case.part, how),
+        ("authenticator", how) => change_authenticator(alloc, &mut case.authenticator, how),
+        ("service", how) => change_service(case, how),
+        ("message", _) | ("text", _) | ("", _) => Ok(()),
         _ => Err(Refusal::NoSuchCase),
     }
 }
@@ -71,28 +65,21 @@ fn change_records(alloc: Global, case: &mut Case, change: &str) -> Result<(), Re
 fn change_ticket(alloc: Global, part: &mut EncTicketPart, how: &str) -> Result<(), Refusal> {
     match how {
         "keytype 23" => part.key.keytype = 23,
-        "key of 16 bytes" => put(&mut part.key.keyvalue, bytes(alloc, &[0x33; 16])?),
+        "key of 16 bytes" => part.key.keyvalue = bytes(alloc, &[0x33; 16])?,
+        "cname alice/admin" => {
+            part.cname = name(alloc, 1, &[b"alice".as_slice(), b"admin".as_slice()])?;
+        }
+        "cname of another name-type" => part.cname = name(alloc, 5, &[b"alice".as_slice()])?,
         "starttime" => part.starttime = Some(KerberosTime(1_000_050)),
-        _ => put(&mut part.cname, changed_name(alloc, how)?),
+        _ => return Err(Refusal::NoSuchCase),
     }
     Ok(())
-}
-
-fn changed_name(alloc: Global, how: &str) -> Result<PrincipalName, Refusal> {
-    let alice = b"alice".as_slice();
-    match how {
-        "cname alice/admin" => {
-            name(alloc, 1, &[alice, b"admin".as_slice()]).map_err(Refusal::from)
-        }
-        "cname of another name-type" => name(alloc, 5, &[alice]).map_err(Refusal::from),
-        _ => Err(Refusal::NoSuchCase),
-    }
 }
 
 fn change_addresses(alloc: Global, part: &mut EncTicketPart, how: &str) -> Result<(), Refusal> {
     let mut addresses: Vec<HostAddress> = Vec::new(alloc);
     add_addresses(alloc, &mut addresses, how)?;
-    put(&mut part.caddr, Some(SequenceOf::of(addresses)));
+    part.caddr = Some(SequenceOf::of(addresses));
     Ok(())
 }
 
@@ -102,26 +89,19 @@ fn add_addresses(
     how: &str,
 ) -> Result<(), Refusal> {
     match how {
-        "none" => Ok(()),
-        "127.0.0.2" => add_address(alloc, addresses, ADDR_TYPE_IPV4, 2),
+        "none" => {}
+        "127.0.0.2" => addresses.push(address(alloc, 2)?)?,
         "127.0.0.2 and the peer's" => {
-            add_address(alloc, addresses, ADDR_TYPE_IPV4, 2)?;
-            add_address(alloc, addresses, ADDR_TYPE_IPV4, 1)
+            addresses.push(address(alloc, 2)?)?;
+            addresses.push(address(alloc, 1)?)?;
         }
-        "the peer's under type 3" => add_address(alloc, addresses, 3, 1),
-        _ => Err(Refusal::NoSuchCase),
+        "the peer's under type 3" => {
+            let mut other = address(alloc, 1)?;
+            other.addr_type = 3;
+            addresses.push(other)?;
+        }
+        _ => return Err(Refusal::NoSuchCase),
     }
-}
-
-fn add_address(
-    alloc: Global,
-    addresses: &mut Vec<HostAddress>,
-    addr_type: i32,
-    last: u8,
-) -> Result<(), Refusal> {
-    let mut address = address(alloc, last)?;
-    address.addr_type = addr_type;
-    addresses.push(address)?;
     Ok(())
 }
 
@@ -132,21 +112,15 @@ fn change_authenticator(
 ) -> Result<(), Refusal> {
     match how {
         "vno 4" => authenticator.authenticator_vno = 4,
-        "cname bob" => put(&mut authenticator.cname, client(alloc, b"bob")?),
-        "crealm EXAMPLE.ORG" => put(&mut authenticator.crealm, bytes(alloc, b"EXAMPLE.ORG")?),
+        "cname bob" => authenticator.cname = client(alloc, b"bob")?,
+        "crealm EXAMPLE.ORG" => authenticator.crealm = bytes(alloc, b"EXAMPLE.ORG")?,
+        "subkey absent" => authenticator.subkey = None,
+        "subkey of keytype 23" => authenticator.subkey = Some(subkey(alloc, 23, &[0x44; 32])?),
+        "subkey of keytype 17" => authenticator.subkey = Some(subkey(alloc, 17, &[0x44; 16])?),
         "seq-number absent" => authenticator.seq_number = None,
-        _ => put(&mut authenticator.subkey, changed_subkey(alloc, how)?),
+        _ => return Err(Refusal::NoSuchCase),
     }
     Ok(())
-}
-
-fn changed_subkey(alloc: Global, how: &str) -> Result<Option<EncryptionKey>, Refusal> {
-    match how {
-        "subkey absent" => Ok(None),
-        "subkey of keytype 23" => Ok(Some(subkey(alloc, 23, &[0x44; 32])?)),
-        "subkey of keytype 17" => Ok(Some(subkey(alloc, 17, &[0x44; 16])?)),
-        _ => Err(Refusal::NoSuchCase),
-    }
 }
 
 fn subkey(alloc: Global, keytype: i32, value: &[u8]) -> Result<EncryptionKey, AllocError> {

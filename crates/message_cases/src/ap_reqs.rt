@@ -2,10 +2,10 @@
 
 use crate::ap_records::{Case, change_case, start_case};
 use crate::making::ap_req;
-use crate::parts::{change_first, put, sealed_bytes, sealed_record};
+use crate::parts::{change_first, sealed_bytes, sealed_record};
 use crate::refusal::Refusal;
 use crate::world::{REALM, SESSION, bytes, name, service_name, text_of};
-use krb_der::{ApReq, EncryptedData, PrincipalName, Ticket, fits, read_ap_req, write_ap_req};
+use krb_der::{ApReq, EncryptedData, Ticket, fits, read_ap_req, write_ap_req};
 use krb_keys::{Key, USAGE_AP_REQ_AUTHENTICATOR, USAGE_TICKET};
 use krb_msgs::{ApFault, ApOpened, OpenError, open_ap};
 use std::alloc::{AllocError, Global};
@@ -75,44 +75,30 @@ fn change_message(
         "tkt-vno 4" => message.ticket.tkt_vno = 4,
         "msg-type 15" => message.msg_type = 15,
         "use-session-key" => message.ap_options.0 |= 0x4000_0000,
+        "ticket etype 23" => message.ticket.enc_part.etype = 23,
+        "ticket etype 17" => message.ticket.enc_part.etype = 17,
+        "ticket kvno 4" => message.ticket.enc_part.kvno = Some(4),
+        "ticket kvno absent" => message.ticket.enc_part.kvno = None,
         "authenticator etype 17" => message.authenticator.etype = 17,
         "authenticator kvno 1" => message.authenticator.kvno = Some(1),
+        "ticket not DER" => change_sealed_ticket(alloc, case, &mut message.ticket.enc_part)?,
         "authenticator usage 7" | "authenticator not DER" => {
-            put(
-                &mut message.authenticator,
-                sealed_authenticator(alloc, case, how)?,
-            );
+            message.authenticator = sealed_authenticator(alloc, case, how)?;
         }
-        _ => return change_ticket(alloc, case, &mut message.ticket, how),
+        _ => return change_service_name(alloc, &mut message.ticket, how),
     }
     Ok(())
 }
 
-fn change_ticket(
-    alloc: Global,
-    case: &Case,
-    ticket: &mut Ticket,
-    how: &str,
-) -> Result<(), Refusal> {
+/// The ticket's realm and service.
+fn change_service_name(alloc: Global, ticket: &mut Ticket, how: &str) -> Result<(), Refusal> {
     match how {
-        "ticket etype 23" => ticket.enc_part.etype = 23,
-        "ticket etype 17" => ticket.enc_part.etype = 17,
-        "ticket kvno 4" => ticket.enc_part.kvno = Some(4),
-        "ticket kvno absent" => ticket.enc_part.kvno = None,
-        "ticket not DER" => return change_sealed_ticket(alloc, case, &mut ticket.enc_part),
-        "realm EXAMPLE.ORG" => put(&mut ticket.realm, bytes(alloc, b"EXAMPLE.ORG")?),
-        _ => put(&mut ticket.sname, changed_service(alloc, how)?),
+        "sname kadmin/admin" => ticket.sname = service_name(alloc, b"admin")?,
+        "sname kadmin" => ticket.sname = name(alloc, 2, &[b"kadmin".as_slice()])?,
+        "realm EXAMPLE.ORG" => ticket.realm = bytes(alloc, b"EXAMPLE.ORG")?,
+        _ => return Err(Refusal::NoSuchCase),
     }
     Ok(())
-}
-
-/// The service of a ticket.
-fn changed_service(alloc: Global, how: &str) -> Result<PrincipalName, Refusal> {
-    match how {
-        "sname kadmin/admin" => service_name(alloc, b"admin").map_err(Refusal::from),
-        "sname kadmin" => name(alloc, 2, &[b"kadmin".as_slice()]).map_err(Refusal::from),
-        _ => Err(Refusal::NoSuchCase),
-    }
 }
 
 /// Bytes that are no part of a ticket, sealed in its place.
@@ -123,40 +109,31 @@ fn change_sealed_ticket(
 ) -> Result<(), Refusal> {
     let sealed = sealed_bytes(alloc, &case.service.key, USAGE_TICKET, b"no")?;
     part.etype = sealed.etype;
-    put(&mut part.cipher, sealed.cipher);
+    part.cipher = sealed.cipher;
     Ok(())
 }
 
 /// The authenticator under another key usage, or bytes that are none.
 fn sealed_authenticator(alloc: Global, case: &Case, how: &str) -> Result<EncryptedData, Refusal> {
-    match how {
-        "authenticator usage 7" => sealed_record(alloc, &SESSION, 7, &case.authenticator),
-        _ => sealed_bytes(alloc, &SESSION, USAGE_AP_REQ_AUTHENTICATOR, b"no"),
+    if how == "authenticator usage 7" {
+        return sealed_record(alloc, &SESSION, 7, &case.authenticator);
     }
+    sealed_bytes(alloc, &SESSION, USAGE_AP_REQ_AUTHENTICATOR, b"no")
 }
 
 /// The number that all bytes of a key are, or 0.
 fn shown_key(key: &Key) -> u8 {
-    let [first, rest @ ..] = key.bytes() else {
-        return 0;
-    };
-    for byte in rest {
-        if byte != first {
-            return 0;
-        }
+    match key.bytes() {
+        [first, rest @ ..] if rest.iter().all(|b| b == first) => *first,
+        _ => 0,
     }
-    *first
 }
 
 /// What an AP-REQ opens to.
 fn told(alloc: Global, opened: Result<ApOpened, OpenError<ApFault>>) -> Result<String, Refusal> {
     match opened {
-        Ok(opened) => {
-            let shown = shown(alloc, &opened);
-            drop(opened);
-            shown.map_err(Refusal::from)
-        }
-        Err(OpenError::Fault(fault)) => shown_fault(alloc, fault).map_err(Refusal::from),
+        Ok(opened) => Ok(shown(alloc, &opened)?),
+        Err(OpenError::Fault(fault)) => Ok(shown_fault(alloc, fault)?),
         Err(OpenError::Memory) => Err(Refusal::Memory),
     }
 }
@@ -178,9 +155,11 @@ fn shown(alloc: Global, opened: &ApOpened) -> Result<String, AllocError> {
 fn show_client(shown: &mut String, opened: &ApOpened) -> Result<(), AllocError> {
     shown.push_str("opened")?;
     for component in opened.cname.name_string.as_slice() {
-        write!(shown, " {}", text_of(component.as_slice()))?;
+        shown.push_str(" ")?;
+        shown.push_str(text_of(component.as_slice()))?;
     }
-    write!(shown, " of {}", text_of(opened.crealm.as_slice()))
+    shown.push_str(" of ")?;
+    Ok(shown.push_str(text_of(opened.crealm.as_slice()))?)
 }
 
 fn show_times(shown: &mut String, opened: &ApOpened) -> Result<(), AllocError> {

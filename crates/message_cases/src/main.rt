@@ -27,9 +27,7 @@ impl Answers for Cases {
         match answer(alloc, case) {
             Ok(text) => Ok(text),
             Err(Refusal::Memory) => Err(Error::from(ErrorKind::OutOfMemory)),
-            Err(refusal) => {
-                format!(in alloc; "refused: {}", refusal.text()).map_err(Error::from)
-            }
+            Err(refusal) => Ok(format!(in alloc; "refused: {refusal}")?),
         }
     }
 }

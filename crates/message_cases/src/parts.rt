@@ -6,7 +6,6 @@ use krb_der::{Bytes, EncryptedData};
 use krb_elements::{Write, write_all};
 use krb_keys::{Key, seal};
 use std::alloc::{AllocError, Global};
-use std::mem;
 
 /// A part that seals bytes under a key, for any usage.
 pub fn sealed_bytes(
@@ -34,11 +33,6 @@ pub fn sealed_record<T: Write>(
 ) -> Result<EncryptedData, Refusal> {
     let plain = write_all(alloc, content)?;
     sealed_bytes(alloc, key, usage, &plain)
-}
-
-/// Puts a value in a place, and lets go what was there.
-pub fn put<T: Drop>(place: &mut T, value: T) {
-    drop(mem::replace(place, value));
 }
 
 /// Puts another first byte into a text.

@@ -1,7 +1,7 @@
 //! KRB-PRIVs.
 
 use crate::making::krb_priv;
-use crate::parts::{change_first, forged, put, sealed_bytes, sealed_record};
+use crate::parts::{change_first, forged, sealed_bytes, sealed_record};
 use crate::refusal::Refusal;
 use crate::world::{CTIME, CUSEC, REALM, SESSION, SUBKEY, bytes, client, private_part, text_of};
 use krb_der::{
@@ -86,27 +86,12 @@ fn changed_message(
     changes: &str,
 ) -> Result<KrbPriv, Refusal> {
     let mut message = start_message(alloc, part)?;
-    match change_messages(alloc, &mut message, part, changes) {
-        Ok(()) => Ok(message),
-        Err(refusal) => {
-            drop(message);
-            Err(refusal)
-        }
-    }
-}
-
-fn change_messages(
-    alloc: Global,
-    message: &mut KrbPriv,
-    part: &EncKrbPrivPart,
-    changes: &str,
-) -> Result<(), Refusal> {
     for change in changes.split(',') {
-        if let Some(how) = change.trim().strip_prefix("message ") {
-            change_message(alloc, message, part, how)?;
+        if let Some(("message", how)) = change.trim().split_once(' ') {
+            change_message(alloc, &mut message, part, how)?;
         }
     }
-    Ok(())
+    Ok(message)
 }
 
 fn written(alloc: Global, message: &KrbPriv) -> Result<Vec<u8>, Refusal> {
@@ -142,11 +127,8 @@ fn change_message(
         "msg-type 20" => message.msg_type = 20,
         "etype 17" => message.enc_part.etype = 17,
         "kvno 1" => message.enc_part.kvno = Some(1),
-        "forged" => {
-            let forged = forged(alloc, &message.enc_part)?;
-            put(&mut message.enc_part, forged);
-        }
-        _ => put(&mut message.enc_part, sealed_part(alloc, part, how)?),
+        "forged" => message.enc_part = forged(alloc, &message.enc_part)?,
+        _ => message.enc_part = sealed_part(alloc, part, how)?,
     }
     Ok(())
 }
@@ -164,8 +146,8 @@ fn sealed_part(alloc: Global, part: &EncKrbPrivPart, how: &str) -> Result<Encryp
 /// What a KRB-PRIV opens to.
 fn told(alloc: Global, opened: Result<Private, OpenError<PrivFault>>) -> Result<String, Refusal> {
     match opened {
-        Ok(private) => shown(alloc, &private).map_err(Refusal::from),
-        Err(OpenError::Fault(fault)) => format!(in alloc; "{fault:?}").map_err(Refusal::from),
+        Ok(private) => Ok(shown(alloc, &private)?),
+        Err(OpenError::Fault(fault)) => Ok(format!(in alloc; "{fault:?}")?),
         Err(OpenError::Memory) => Err(Refusal::Memory),
     }
 }

@@ -2,27 +2,20 @@
 
 use krb_der::ReadError;
 use std::alloc::{AllocError, AllocFailed};
+use thiserror::Error;
 
 /// Why a case has no answer.
-#[derive(Clone, Copy, Drop)]
+#[derive(Debug, Drop, Error)]
 pub enum Refusal {
     /// It names a message or a change that there isn't.
+    #[error("there is no such case")]
     NoSuchCase,
     /// A record or a message is too long to be written, or isn't one that is read again.
+    #[error("not a message")]
     NoMessage,
     /// Memory ran out.
+    #[error("out of memory")]
     Memory,
-}
-
-impl Refusal {
-    /// The same in words.
-    pub fn text(self) -> &'static str {
-        match self {
-            Refusal::NoSuchCase => "there is no such case",
-            Refusal::NoMessage => "not a message",
-            Refusal::Memory => "out of memory",
-        }
-    }
 }
 
 impl From<AllocError> for Refusal {

@@ -1,7 +1,7 @@
 //! Replies: an AP-REP and a KRB-PRIV, or a KRB-ERROR.
 
 use crate::making::{ap_rep, krb_error};
-use crate::parts::{change_first, forged, put, sealed_bytes};
+use crate::parts::{change_first, forged, sealed_bytes};
 use crate::privates;
 use crate::refusal::Refusal;
 use crate::world::{CTIME, CUSEC, SESSION, SUBKEY, ap_rep_part, bytes, private_part, text_of};
@@ -91,17 +91,10 @@ fn start_ap_rep(alloc: Global) -> Result<ApRep, Refusal> {
 
 fn changed_ap_rep(alloc: Global, changes: &str) -> Result<ApRep, Refusal> {
     let mut message = start_ap_rep(alloc)?;
-    match change_ap_reps(alloc, &mut message, changes) {
-        Ok(()) => Ok(message),
-        Err(refusal) => Err(refusal),
-    }
-}
-
-fn change_ap_reps(alloc: Global, message: &mut ApRep, changes: &str) -> Result<(), Refusal> {
     for change in changes.split(',') {
-        change_ap_rep(alloc, message, change.trim())?;
+        change_ap_rep(alloc, &mut message, change.trim())?;
     }
-    Ok(())
+    Ok(message)
 }
 
 fn written_ap_rep(alloc: Global, message: &ApRep) -> Result<Vec<u8>, Refusal> {
@@ -116,13 +109,9 @@ fn change_ap_rep(alloc: Global, message: &mut ApRep, change: &str) -> Result<(),
         "ap-rep pvno 4" => message.pvno = 4,
         "ap-rep msg-type 14" => message.msg_type = 14,
         "ap-rep etype 17" => message.enc_part.etype = 17,
-        "ap-rep forged" => {
-            let forged = forged(alloc, &message.enc_part)?;
-            put(&mut message.enc_part, forged);
-        }
+        "ap-rep forged" => message.enc_part = forged(alloc, &message.enc_part)?,
         "ap-rep not DER" => {
-            let sealed = sealed_bytes(alloc, &SESSION, USAGE_AP_REP_ENC_PART, b"no")?;
-            put(&mut message.enc_part, sealed);
+            message.enc_part = sealed_bytes(alloc, &SESSION, USAGE_AP_REP_ENC_PART, b"no")?;
         }
         _ => {}
     }
@@ -173,8 +162,8 @@ fn change_error(alloc: Global, message: &mut KrbError, change: &str) -> Result<(
     match change {
         "pvno 4" => message.pvno = 4,
         "msg-type 29" => message.msg_type = 29,
-        "e-data absent" => put(&mut message.e_data, None),
-        "e-data of one byte" => put(&mut message.e_data, Some(bytes(alloc, b"\x00")?)),
+        "e-data absent" => message.e_data = None,
+        "e-data of one byte" => message.e_data = Some(bytes(alloc, b"\x00")?),
         "text 7f" | "" => {}
         _ => return Err(Refusal::NoSuchCase),
     }
@@ -191,8 +180,8 @@ fn written_error(alloc: Global, message: &KrbError) -> Result<Vec<u8>, Refusal> 
 /// What a reply says.
 fn told(alloc: Global, reply: Result<Reply, OpenError<ReplyFault>>) -> Result<String, Refusal> {
     match reply {
-        Ok(reply) => shown(alloc, &reply).map_err(Refusal::from),
-        Err(OpenError::Fault(fault)) => format!(in alloc; "{fault:?}").map_err(Refusal::from),
+        Ok(reply) => Ok(shown(alloc, &reply)?),
+        Err(OpenError::Fault(fault)) => Ok(format!(in alloc; "{fault:?}")?),
         Err(OpenError::Memory) => Err(Refusal::Memory),
     }
 }

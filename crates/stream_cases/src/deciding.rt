@@ -13,7 +13,7 @@ use chpw_journal::MemorySink;
 use chpw_messages::Service;
 use chpw_table::{Counts, DecideFault, Moment, Opened, Refused, Verdict};
 use std::alloc::{AllocError, Global};
-use std::io::{self, Error};
+use std::io;
 
 /// The moment of each decision here.
 fn now() -> Moment
@@ -33,58 +33,52 @@ fn mood_of(who: &str) -> Mood {
     }
 }
 
-/// Adds the replies to these messages, and how the decider was asked.
-pub fn show_answered(
+/// The replies to these messages, and how the decider was asked.
+pub fn answered(
     alloc: Global,
-    text: &mut String,
     setting: &Setting,
     who: &str,
     messages: &[&Message],
-) -> io::Result<()> {
+) -> io::Result<String> {
     let World { service, alone } = setting.start(alloc)?;
     let mut decider = Watched::of(alloc, alone, mood_of(who));
-    let shown = show_asked(alloc, text, &service, &mut decider, messages);
-    drop(service);
-    drop(decider);
+    let shown = shown_calls(alloc, &service, &mut decider, messages);
+    drop((service, decider));
     shown
 }
 
-fn show_asked(
+fn shown_calls(
     alloc: Global,
-    text: &mut String,
     service: &Service,
     decider: &mut Watched<MemorySink>,
     messages: &[&Message],
-) -> io::Result<()> {
-    show_answers(alloc, text, service, decider, messages)?;
-    show_calls(text, decider).map_err(Error::from)
+) -> io::Result<String> {
+    let mut text = String::new(alloc);
+    show_answers(alloc, &mut text, service, decider, messages)?;
+    show_calls(&mut text, decider)?;
+    Ok(text)
 }
 
-/// Adds the replies to these messages, the names that were looked up, and how often the decider was asked.
-pub fn show_looked_up(
-    alloc: Global,
-    text: &mut String,
-    setting: &Setting,
-    messages: &[&Message],
-) -> io::Result<()> {
+/// The replies to these messages, the names that were looked up, and how often the decider was asked.
+pub fn looked_up(alloc: Global, setting: &Setting, messages: &[&Message]) -> io::Result<String> {
     let World { service, alone } = setting.start(alloc)?;
     let mut decider = Watched::of(alloc, alone, Mood::Plain);
-    let shown = show_names(alloc, text, &service, &mut decider, messages);
-    drop(service);
-    drop(decider);
+    let shown = shown_names(alloc, &service, &mut decider, messages);
+    drop((service, decider));
     shown
 }
 
-fn show_names(
+fn shown_names(
     alloc: Global,
-    text: &mut String,
     service: &Service,
     decider: &mut Watched<MemorySink>,
     messages: &[&Message],
-) -> io::Result<()> {
-    show_answers(alloc, text, service, decider, messages)?;
+) -> io::Result<String> {
+    let mut text = String::new(alloc);
+    show_answers(alloc, &mut text, service, decider, messages)?;
     let (names, decides) = (text_of(&decider.names), decider.decides);
-    write!(text, "looked up{names}, decide {decides}").map_err(Error::from)
+    write!(text, "looked up{names}, decide {decides}")?;
+    Ok(text)
 }
 
 /// Adds a decider's replies to these messages.
@@ -132,19 +126,16 @@ fn show_counts(text: &mut String, counts: &Counts) -> Result<(), AllocError> {
     Ok(())
 }
 
-/// Adds a message's request decided with no keys derived, then with its password, and in a fresh world
+/// A message's request decided with no keys derived, then with its password, and in a fresh world
 /// with the keys that were asked for.
-pub fn show_alone(
-    alloc: Global,
-    text: &mut String,
-    setting: &Setting,
-    messages: &[&Message],
-) -> io::Result<()> {
+pub fn alone(alloc: Global, setting: &Setting, messages: &[&Message]) -> io::Result<String> {
     let [message, ..] = messages else {
         return Err(no_case());
     };
-    let counts = without_keys(alloc, text, setting, message)?;
-    with_keys(alloc, text, setting, message, &counts)
+    let mut text = String::new(alloc);
+    let counts = without_keys(alloc, &mut text, setting, message)?;
+    with_keys(alloc, &mut text, setting, message, &counts)?;
+    Ok(text)
 }
 
 /// Adds the counts that a decision of a message's request asks for, and what comes of it with its
@@ -222,7 +213,7 @@ fn show_verdict(
     table: &Alone<MemorySink>,
 ) -> io::Result<()> {
     let holding = Holding::of(alloc, table)?;
-    write!(text, "{verdict}, {holding}").map_err(Error::from)
+    Ok(write!(text, "{verdict}, {holding}")?)
 }
 
 /// A message's request, with no keys derived, and its password.
@@ -251,9 +242,7 @@ fn complete(opened: &mut Opened, password: &[u8], counts: &Counts) -> io::Result
         return Err(no_case());
     }
     let salt = opened.salt()?;
-    opened
-        .complete(password, &salt, counts)
-        .map_err(Error::from)
+    Ok(opened.complete(password, &salt, counts)?)
 }
 
 /// What keys a decision needs.
@@ -264,10 +253,7 @@ fn needed(decided: Result<Verdict, Refused>) -> io::Result<(Opened, Counts)> {
             let Refused { fault, opened } = refused;
             match fault {
                 DecideFault::NeedKeys(counts) => Ok((opened, counts)),
-                DecideFault::Full | DecideFault::Memory => {
-                    drop(opened);
-                    Err(no_case())
-                }
+                DecideFault::Full | DecideFault::Memory => Err(no_case()),
             }
         }
     }
@@ -276,9 +262,6 @@ fn needed(decided: Result<Verdict, Refused>) -> io::Result<(Opened, Counts)> {
 fn verdict_text(decided: Result<Verdict, Refused>) -> &'static str {
     match decided {
         Ok(verdict) => verdict.text(),
-        Err(refused) => {
-            drop(refused);
-            "refused"
-        }
+        Err(_) => "refused",
     }
 }

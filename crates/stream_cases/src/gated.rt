@@ -2,14 +2,14 @@
 
 use crate::messages::Message;
 use crate::serving::{How, ended_text, serve_by, stream_of};
-use crate::world::Setting;
+use crate::world::{Setting, World};
 use chpw_answer::{Gate, Spot};
 use chpw_serve::Ended;
 use chpw_table::{Event, Moment, Opened, Receipt};
 use fake_streams::Way;
 use krb_protocol::Refusal;
 use std::alloc::Global;
-use std::io::{self, Error};
+use std::io;
 
 /// The places that were passed and what was heard there, each with what divides it from the next.
 #[derive(Drop)]
@@ -44,28 +44,29 @@ impl Gate for Noting {
     fn refused(&mut self, peer: [u8; 4], now: Moment, opened: Option<&Opened>, refusal: &Refusal) {
         let [_, _, _, host] = peer;
         let (said, second) = (refusal.text, now.seconds);
-        let what = match opened {
-            Some(_) => "undecided",
-            None => "refused",
+        let what = if opened.is_some() {
+            "undecided"
+        } else {
+            "refused"
         };
         let _ = write!(self.passed, "{what}: {said} at {second} by {host}; ");
     }
 }
 
-/// Adds the places that the worker passed with these messages, and how the stream ended.
-pub fn show_gated(
+/// The places that the worker passed with these messages, and how the stream ended.
+pub fn gated(
     alloc: Global,
-    text: &mut String,
     setting: &Setting,
     how: How,
     messages: &[&Message],
-) -> io::Result<()> {
+) -> io::Result<String> {
     let stream = stream_of(alloc, messages)?;
     let mut gate = Noting {
         passed: String::new(alloc),
     };
     let ended = serve_past(alloc, &mut gate, setting, how, &stream)?;
-    write!(text, "{}{}", gate.passed.as_str(), ended_text(ended)).map_err(Error::from)
+    gate.passed.push_str(ended_text(ended))?;
+    Ok(gate.passed)
 }
 
 /// Serves a stream past this gate, its writer as `how` says of the reader; how the stream ended.
@@ -76,13 +77,13 @@ fn serve_past(
     how: How,
     stream: &[u8],
 ) -> io::Result<Ended> {
-    let mut world = setting.start(alloc)?;
+    let World { service, mut alone } = setting.start(alloc)?;
     let how = How {
         reader: Way::of(""),
         writer: how.reader,
         ..how
     };
-    let outcome = serve_by(alloc, &world.service, &mut world.alone, gate, how, stream);
-    drop(world);
+    let outcome = serve_by(alloc, &service, &mut alone, gate, how, stream);
+    drop((service, alone));
     Ok(outcome.ended)
 }

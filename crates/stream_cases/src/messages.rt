@@ -30,10 +30,7 @@ pub fn no_case() -> Error {
 /// The bytes of a text in hexadecimal, `-` for none, and so many zeros behind them as in `00 zeros 4`.
 pub fn bytes_of(alloc: Global, text: &str) -> io::Result<Vec<u8>> {
     let (text, zeros) = text.split_once(" zeros ").unwrap_or((text, "0"));
-    let text = match text {
-        "-" => "",
-        text => text,
-    };
+    let text = if text == "-" { "" } else { text };
     let Ok(mut bytes) = decode(alloc, text) else {
         return Err(no_case());
     };
@@ -70,12 +67,12 @@ pub fn show_reply(
     reply: &[u8],
 ) -> io::Result<()> {
     let Ok(parts) = split_reply(reply) else {
-        return text.push_str("no reply; ").map_err(Error::from);
+        return Ok(text.push_str("no reply; ")?);
     };
     let (ctime, cusec) = (KerberosTime(message.ctime), Microseconds(message.cusec));
     match read_reply(alloc, &SESSION, &SUBKEY, ctime, cusec, parts.ap, parts.tail) {
-        Ok(reply) => show(text, &reply).map_err(Error::from),
-        Err(OpenError::Fault(fault)) => write!(text, "{fault:?}; ").map_err(Error::from),
+        Ok(reply) => Ok(show(text, &reply)?),
+        Err(OpenError::Fault(fault)) => Ok(write!(text, "{fault:?}; ")?),
         Err(OpenError::Memory) => Err(Error::from(ErrorKind::OutOfMemory)),
     }
 }

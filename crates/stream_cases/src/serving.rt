@@ -10,7 +10,7 @@ use chpw_journal::MemorySink;
 use chpw_serve::{Ended, serve_alone, serve_stream};
 use fake_streams::{Course, Giver, Taker, Way};
 use std::alloc::Global;
-use std::io::{self, Error};
+use std::io;
 
 /// The client's address.
 pub const PEER: [u8; 4] = [127, 0, 0, 1];
@@ -176,47 +176,41 @@ pub fn with_holding(
     Ok((outcome, holding))
 }
 
-/// Adds each reply, how the stream ended, and what the table holds then.
-pub fn show_served(
+/// Each reply, how the stream ended, and what the table holds then.
+pub fn served(
     alloc: Global,
-    text: &mut String,
     setting: &Setting,
     how: How,
     messages: &[&Message],
-) -> io::Result<()> {
-    let stream = stream_of(alloc, messages)?;
-    show_served_as(alloc, text, setting, how, messages, &stream)
+) -> io::Result<String> {
+    served_as(alloc, setting, how, messages, &stream_of(alloc, messages)?)
 }
 
-/// Adds the same where these bytes are the stream.
-pub fn show_served_as(
+/// The same where these bytes are the stream.
+pub fn served_as(
     alloc: Global,
-    text: &mut String,
     setting: &Setting,
     how: How,
     messages: &[&Message],
     stream: &[u8],
-) -> io::Result<()> {
+) -> io::Result<String> {
     let (outcome, holding) = serve_anew(alloc, setting, how, stream)?;
-    show_replies(alloc, text, messages, &outcome.written)?;
-    write!(text, "{}, {holding}", ended_text(outcome.ended)).map_err(Error::from)
+    let mut shown = shown_replies(alloc, messages, &outcome.written)?;
+    write!(shown, "{}, {holding}", ended_text(outcome.ended))?;
+    Ok(shown)
 }
 
-/// Adds the replies in their order, each to its message, with what divides them behind each.
-pub fn show_replies(
-    alloc: Global,
-    text: &mut String,
-    messages: &[&Message],
-    written: &[u8],
-) -> io::Result<()> {
+/// The replies in their order, each to its message, with what divides them behind each.
+pub fn shown_replies(alloc: Global, messages: &[&Message], written: &[u8]) -> io::Result<String> {
     let mut left = written;
+    let mut shown = String::new(alloc);
     for message in messages {
         let Received::Message(reply) = read_tcp(alloc, &mut left)? else {
             break;
         };
-        show_reply(alloc, text, message, &reply)?;
+        show_reply(alloc, &mut shown, message, &reply)?;
     }
-    Ok(())
+    Ok(shown)
 }
 
 /// How a stream ended.

@@ -7,7 +7,7 @@ use krb_protocol::Refusal;
 use std::alloc::{AllocError, Global};
 
 /// The same messages, but that no reply to an opened request is made.
-#[derive(Drop)]
+#[derive(Clone, Copy, Drop)]
 pub struct Sparing<'a, M: Messages> {
     pub messages: &'a M,
 }

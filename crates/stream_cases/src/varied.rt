@@ -2,81 +2,57 @@
 //! bytes at a call, each served in a world of its own.
 
 use crate::messages::{Message, no_case};
-use crate::serving::{How, serve_anew, show_served_as, stream_of, stream_of_one};
+use crate::serving::{How, serve_anew, served_as, stream_of, stream_of_one};
 use crate::world::Setting;
 use case_lines::{Census, Change};
-use std::alloc::{AllocError, Global};
-use std::io::{self, Error};
+use std::alloc::Global;
+use std::io;
 use std::ops::Range;
 
-/// Adds what comes of a message with this change at each of its places.
-pub fn show_varied(
+/// What comes of a message with this change at each of its places.
+pub fn varied(
     alloc: Global,
-    text: &mut String,
     setting: &Setting,
     change: Change,
     how: How,
     messages: &[&Message],
-) -> io::Result<()> {
+) -> io::Result<String> {
     let [message] = messages else {
         return Err(no_case());
     };
     let mut census = Census::new(alloc);
-    match add_changed(alloc, &mut census, setting, change, how, message) {
-        Ok(()) => show_census(alloc, text, &census).map_err(Error::from),
-        Err(error) => Err(error),
-    }
-}
-
-fn show_census(alloc: Global, text: &mut String, census: &Census) -> Result<(), AllocError> {
-    let shown = census.shown(alloc)?;
-    text.push_str(shown.as_str())
-}
-
-/// Adds what comes of a message with this change at each of its places.
-fn add_changed(
-    alloc: Global,
-    census: &mut Census,
-    setting: &Setting,
-    change: Change,
-    how: How,
-    message: &Message,
-) -> io::Result<()> {
     for place in 0..message.bytes.len() {
-        let mut text = String::new(alloc);
-        show_changed(alloc, &mut text, setting, change, how, message, place)?;
-        census.add(alloc, place, text.as_str())?;
+        let answer = changed(alloc, setting, change, how, message, place)?;
+        census.add(alloc, place, answer.as_str())?;
     }
-    Ok(())
+    Ok(census.shown(alloc)?)
 }
 
-/// Adds what comes of a message with this change at a place.
-fn show_changed(
+/// What comes of a message with this change at a place.
+fn changed(
     alloc: Global,
-    text: &mut String,
     setting: &Setting,
     change: Change,
     how: How,
     message: &Message,
     place: usize,
-) -> io::Result<()> {
+) -> io::Result<String> {
     match change.made(alloc, &message.bytes, place)? {
-        Some(bytes) => show_sent(alloc, text, setting, how, message, &bytes),
-        None => text.push_str("left out").map_err(Error::from),
+        Some(bytes) => sent(alloc, setting, how, message, &bytes),
+        None => Ok(String::from_str(alloc, "left out")?),
     }
 }
 
-/// Adds what comes of these bytes in the place of a message.
-fn show_sent(
+/// What comes of these bytes in the place of a message.
+fn sent(
     alloc: Global,
-    text: &mut String,
     setting: &Setting,
     how: How,
     message: &Message,
     bytes: &[u8],
-) -> io::Result<()> {
+) -> io::Result<String> {
     let stream = stream_of_one(alloc, bytes)?;
-    show_served_as(alloc, text, setting, how, &[message], &stream)
+    served_as(alloc, setting, how, &[message], &stream)
 }
 
 /// What differs from stream to stream of the same messages.
@@ -124,46 +100,20 @@ impl Variation {
     }
 }
 
-/// Adds what comes of these messages at each place where their stream varies.
-pub fn show_streams(
+/// What comes of these messages at each place where their stream varies.
+pub fn varied_stream(
     alloc: Global,
-    text: &mut String,
     setting: &Setting,
     variation: Variation,
     how: How,
     messages: &[&Message],
-) -> io::Result<()> {
+) -> io::Result<String> {
     let stream = stream_of(alloc, messages)?;
     let mut census = Census::new(alloc);
-    match add_varied(
-        alloc,
-        &mut census,
-        setting,
-        variation,
-        how,
-        messages,
-        &stream,
-    ) {
-        Ok(()) => show_census(alloc, text, &census).map_err(Error::from),
-        Err(error) => Err(error),
+    for place in variation.places(alloc, setting, how, &stream)? {
+        let (how, stream) = variation.at(how, &stream, place);
+        let answer = served_as(alloc, setting, how, messages, stream)?;
+        census.add(alloc, place, answer.as_str())?;
     }
-}
-
-/// Adds what comes of a stream of these messages at each place where it varies.
-fn add_varied(
-    alloc: Global,
-    census: &mut Census,
-    setting: &Setting,
-    variation: Variation,
-    how: How,
-    messages: &[&Message],
-    stream: &[u8],
-) -> io::Result<()> {
-    for place in variation.places(alloc, setting, how, stream)? {
-        let (how, stream) = variation.at(how, stream, place);
-        let mut text = String::new(alloc);
-        show_served_as(alloc, &mut text, setting, how, messages, stream)?;
-        census.add(alloc, place, text.as_str())?;
-    }
-    Ok(())
+    Ok(census.shown(alloc)?)
 }

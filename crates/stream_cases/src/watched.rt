@@ -9,7 +9,7 @@ use chpw_table::{
 use std::alloc::Global;
 
 /// What it does when it is asked to decide.
-#[derive(Clone, Copy, Drop)]
+#[derive(Clone, Copy, PartialEq, Eq, Drop)]
 pub enum Mood {
     /// What the table does.
     Plain,

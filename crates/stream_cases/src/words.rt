@@ -3,29 +3,25 @@
 use chpw_serve::{Words, WorkerWords};
 use hex::encode;
 use std::alloc::Global;
-use std::io::{self, Error};
+use std::io;
 
 /// The words of a block, as bytes.
 const BLOCK: usize = 64;
 
-/// `N STREAM PLACE`: adds the bytes of the sixteen words from that place on; N is the seed's last byte.
-pub fn show(alloc: Global, text: &mut String, case: &str) -> io::Result<()> {
-    let mut parts = case.split(' ');
+/// `N STREAM PLACE`: the bytes of the sixteen words from that place on; N is the seed's last byte.
+pub fn answer(alloc: Global, text: &str) -> io::Result<String> {
+    let mut parts = text.split(' ');
     let seed = seed_of(parts.next().unwrap_or(""));
     let stream = number(parts.next());
     let mut words = WorkerWords::new(seed, stream);
     for _ in 0..number(parts.next()) {
         words.next();
     }
-    let bytes = encode(alloc, &block(&mut words))?;
-    text.push_str(bytes.as_str()).map_err(Error::from)
+    Ok(encode(alloc, &block(&mut words))?)
 }
 
 fn number(text: Option<&str>) -> u64 {
-    match text {
-        Some(text) => text.parse().unwrap_or(0),
-        None => 0,
-    }
+    text.and_then(|text| text.parse().ok()).unwrap_or(0)
 }
 
 /// The seed of zeros but for its last byte.

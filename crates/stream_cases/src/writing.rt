@@ -5,59 +5,43 @@ use crate::serving::{How, ended_text, serve_anew, stream_of};
 use crate::world::Setting;
 use hex::encode;
 use std::alloc::Global;
-use std::io::{self, Error};
+use std::io;
 
-/// Adds what is written where these bytes are read, how the stream ends, and what the table is then.
-pub fn show_written(
-    alloc: Global,
-    text: &mut String,
-    setting: &Setting,
-    how: How,
-    words: &str,
-) -> io::Result<()> {
-    let stream = bytes_of(alloc, words)?;
-    show_stream(alloc, text, setting, how, &stream)
+/// What is written where these bytes are read, how the stream ends, and what the table is then.
+pub fn written(alloc: Global, setting: &Setting, how: How, text: &str) -> io::Result<String> {
+    shown(alloc, setting, how, &bytes_of(alloc, text)?)
 }
 
-/// Adds the same of the stream of these messages.
-pub fn show_replied(
+/// The same of the stream of these messages.
+pub fn replied(
     alloc: Global,
-    text: &mut String,
     setting: &Setting,
     how: How,
     messages: &[&Message],
-) -> io::Result<()> {
-    let stream = stream_of(alloc, messages)?;
-    show_stream(alloc, text, setting, how, &stream)
+) -> io::Result<String> {
+    shown(alloc, setting, how, &stream_of(alloc, messages)?)
 }
 
-fn show_stream(
-    alloc: Global,
-    text: &mut String,
-    setting: &Setting,
-    how: How,
-    stream: &[u8],
-) -> io::Result<()> {
+fn shown(alloc: Global, setting: &Setting, how: How, stream: &[u8]) -> io::Result<String> {
     let (outcome, holding) = serve_anew(alloc, setting, how, stream)?;
     let written = encode(alloc, &outcome.written)?;
     let ended = ended_text(outcome.ended);
-    write!(text, "[{written}] {ended}, {holding}").map_err(Error::from)
+    Ok(format!(in alloc; "[{written}] {ended}, {holding}")?)
 }
 
-/// Serves these messages with a write that fails behind each byte of the replies in turn, and adds how
+/// Serves these messages with a write that fails behind each byte of the replies in turn: how
 /// often just the bytes before the fault were written, and the stream ended for it.
-pub fn show_broken(
+pub fn broken(
     alloc: Global,
-    text: &mut String,
     setting: &Setting,
     how: How,
     messages: &[&Message],
-) -> io::Result<()> {
+) -> io::Result<String> {
     let stream = stream_of(alloc, messages)?;
     let (whole, _) = serve_anew(alloc, setting, how, &stream)?;
     let fronts = fronts(alloc, setting, how, &stream, &whole.written)?;
     let count = whole.written.len();
-    write!(text, "{fronts} faults behind each byte of {count}").map_err(Error::from)
+    Ok(format!(in alloc; "{fronts} faults behind each byte of {count}")?)
 }
 
 /// Behind how many of these bytes a write that fails leaves those before it written.
