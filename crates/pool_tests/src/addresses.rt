@@ -1,6 +1,8 @@
 //! A ticket that names the only address that it may come from.
 use crate::realm::{CHANGED, SetClock};
-use crate::site::{Clients, Site, connect, expect_line, send, serve_all, terms};
+use crate::site::{
+    Clients, Site, connect, expect_line, listen, port_of, send, serve_all, serve_by_clock, terms,
+};
 use chpw_client::Sent;
 use chpw_rules::Items;
 use hex::decode;
@@ -11,7 +13,6 @@ use std::io;
 use std::net::{Ipv4Addr, Net, OpenListener, SocketAddr, SocketAddrV4, TcpListener, TcpStream};
 use std::os::fd::{AsRawFd, RawFd};
 use std::process::Abort;
-use std::test::Fail;
 
 /// A request of alice at 1000100 s and 7 us, of interop/changepw_client.py. Its ticket's only address is
 /// 127.0.0.2.
@@ -34,17 +35,15 @@ const REQUEST: &str = "\
 const ELSEWHERE: &[u8] = b"code 3 error 38 authentication failed";
 
 // The request, with the keys of that Python program.
-fn sent(alloc: Global) -> Result<Sent, Fail> {
-    let Ok(message) = decode(alloc, REQUEST) else {
-        return Err(Fail::new("no hexadecimal digits"));
-    };
-    Ok(Sent {
+fn sent<R: Abort>(rt: &R, alloc: Global) -> Sent {
+    let message = decode(alloc, REQUEST).ok().expect(rt, "hexadecimal digits");
+    Sent {
         message: Items::of(message),
         session: Key::Aes256([0x33; 32]),
         subkey: Key::Aes256([0x44; 32]),
         ctime: KerberosTime(1_000_100),
         cusec: Microseconds(7),
-    })
+    }
 }
 
 // One client, and how it is answered.
@@ -92,39 +91,30 @@ impl AsRawFd for FromElsewhere<'_> {
 }
 
 #[test]
-fn a_ticket_for_another_address(rt: HostRuntime) -> Result<(), Fail> {
-    let listener = TcpListener::bind(&rt, ("127.0.0.1", 0u16))?;
-    let port = listener.local_addr()?.port();
-    let site = Site {
-        time: &SetClock::new(1_000_100),
-        listener: &listener,
-        port,
-        workers: 1,
-        terms: terms(1),
-    };
+fn a_ticket_for_another_address(rt: HostRuntime) {
+    let time = SetClock::new(1_000_100);
     let client = Answered {
-        sent: sent(rt.alloc())?,
+        sent: sent(&rt, rt.alloc()),
         line: ELSEWHERE,
     };
-    serve_all(&rt, rt.alloc(), &site, &client)
+    serve_by_clock(&rt, rt.alloc(), &time, 1, terms(1), &client);
 }
 
 #[test]
-fn a_ticket_for_this_address(rt: HostRuntime) -> Result<(), Fail> {
-    let listener = TcpListener::bind(&rt, ("127.0.0.1", 0u16))?;
-    let port = listener.local_addr()?.port();
+fn a_ticket_for_this_address(rt: HostRuntime) {
+    let listener = listen(&rt);
     let site = Site {
         time: &SetClock::new(1_000_100),
         listener: &FromElsewhere {
             listener: &listener,
         },
-        port,
+        port: port_of(&rt, &listener),
         workers: 1,
         terms: terms(1),
     };
     let client = Answered {
-        sent: sent(rt.alloc())?,
+        sent: sent(&rt, rt.alloc()),
         line: CHANGED,
     };
-    serve_all(&rt, rt.alloc(), &site, &client)
+    serve_all(&rt, rt.alloc(), &site, &client);
 }

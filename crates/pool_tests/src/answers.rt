@@ -3,7 +3,7 @@ ghost use Rattle.std.specs.Prelude.{◌≡◌};
 ghost use Rattle.chpw_book.specs.Starting.{IsNamed, workers_of};
 
 use crate::gates::Together;
-use crate::realm::{CHANGED, opening, request, told};
+use crate::realm::{CHANGED, name_of, opening, request, told};
 use chpw_answer::{Gate, NoGate, answer};
 use chpw_book::{AtDesk, CloseRefused, Closed, Desk, DeskName, Pass, UnnamedDesk};
 use chpw_client::Sent;
@@ -15,9 +15,7 @@ use std::alloc::Global;
 use std::marker::Brand;
 use std::process::Abort;
 use std::sync::{Barrier, Wait};
-use std::test::Fail;
 use std::thread::{Threads, join};
-use test_realm::name;
 
 pub const NOW: Moment = Moment {
     seconds: 1_000_100,
@@ -66,30 +64,34 @@ pub fn answered_at<P: Decider, G: Gate, R: Abort>(
 }
 
 /// A desk with a journal in memory, and its passes.
-pub fn started<D: DeskName, R: Wait>(
+pub fn started<D: DeskName, R: Wait + Abort>(
     rt: &R,
     alloc: Global,
     unnamed: UnnamedDesk,
-) -> Result<(Desk<D, MemorySink>, Vec<Pass<D>>), Fail>
+) -> (Desk<D, MemorySink>, Vec<Pass<D>>)
     requires name { IsNamed unnamed D.name D.parts D.book D.root D.workers }
 {
-    let sink = MemorySink::new(alloc, ROOM)?;
-    Ok(Desk::<D, MemorySink>::start(rt, alloc, unnamed, sink)?)
+    let sink = MemorySink::new(alloc, ROOM).ok().expect(rt, "memory");
+    Desk::<D, MemorySink>::start(rt, alloc, unnamed, sink)
+        .ok()
+        .expect(rt, "a desk")
 }
 
 /// The same, where the journal fails at an append behind so many of its bytes.
-pub fn started_failing<D: DeskName, R: Wait>(
+pub fn started_failing<D: DeskName, R: Wait + Abort>(
     rt: &R,
     alloc: Global,
     unnamed: UnnamedDesk,
     append: u32,
     taken: usize,
-) -> Result<(Desk<D, MemorySink>, Vec<Pass<D>>), Fail>
+) -> (Desk<D, MemorySink>, Vec<Pass<D>>)
     requires name { IsNamed unnamed D.name D.parts D.book D.root D.workers }
 {
-    let mut sink = MemorySink::new(alloc, ROOM)?;
+    let mut sink = MemorySink::new(alloc, ROOM).ok().expect(rt, "memory");
     sink.fail_at(append, taken);
-    Ok(Desk::<D, MemorySink>::start(rt, alloc, unnamed, sink)?)
+    Desk::<D, MemorySink>::start(rt, alloc, unnamed, sink)
+        .ok()
+        .expect(rt, "a desk")
 }
 
 // The history of a desk that can be closed, and its journal.
@@ -142,51 +144,68 @@ fn expect_kept<R: Abort>(
 }
 
 #[test]
-fn one_message_of_two_workers(rt: HostRuntime) -> Result<(), Fail> {
+fn one_message_of_two_workers(rt: HostRuntime) {
     let sent = request(&rt, rt.alloc(), "alice", NOW, "New-pass2");
     let (service, table) = opening(&rt, rt.alloc(), 100);
     two_at::<Brand, _>(&rt, rt.alloc(), UnnamedDesk::of(table, 2), &service, &sent)
 }
 
-// Both are held until both have opened it: one changes the password, and the other tells a replay.
+// One message of two workers at a desk.
 fn two_at<D: DeskName + Send + Sync, R: Threads + Wait + Abort + Sync>(
     rt: &R,
     alloc: Global,
     unnamed: UnnamedDesk,
     service: &Service,
     sent: &Sent,
-) -> Result<(), Fail>
+)
     requires name { IsNamed unnamed D.name D.parts D.book D.root D.workers }
     requires workers { workers_of unnamed ≡ 2 }
 {
-    let (desk, mut passes) = started::<D, R>(rt, alloc, unnamed)?;
-    let mut second = passes.pop().expect(rt, "a pass");
-    let mut first = passes.pop().expect(rt, "a pass");
+    let (desk, mut passes) = started::<D, R>(rt, alloc, unnamed);
+    ask_both(rt, alloc, service, &desk, &mut passes, sent);
+    expect_closed(rt, desk, passes, 2, 66);
+}
+
+// Both are held until both have opened it: one changes the password, and the other tells a replay.
+fn ask_both<D: DeskName + Send + Sync, R: Threads + Wait + Abort + Sync>(
+    rt: &R,
+    alloc: Global,
+    service: &Service,
+    desk: &Desk<D, MemorySink>,
+    passes: &mut [Pass<D>],
+    sent: &Sent,
+) {
+    let [first, second] = passes else {
+        panic!(rt; "not two passes")
+    };
     let barrier = Barrier::new(2);
-    let (desk_ref, barrier_ref) = (&desk, &barrier);
-    let (a, b) = join(
+    let (a, b) = both_answers(rt, alloc, service, desk, &barrier, first, second, sent);
+    expect_one_change(rt, a.as_slice(), b.as_slice());
+    show_change(rt, alloc, desk, first, second, a.as_slice());
+}
+
+// What both are told.
+fn both_answers<D: DeskName + Send + Sync, R: Threads + Wait + Abort + Sync>(
+    rt: &R,
+    alloc: Global,
+    service: &Service,
+    desk: &Desk<D, MemorySink>,
+    barrier: &Barrier,
+    first: &mut Pass<D>,
+    second: &mut Pass<D>,
+    sent: &Sent,
+) -> (Vec<u8>, Vec<u8>) {
+    join(
         rt,
         || {
-            let mut gate = Together {
-                rt,
-                barrier: barrier_ref,
-            };
-            answered(rt, alloc, service, desk_ref, &mut first, &mut gate, sent)
+            let mut gate = Together { rt, barrier };
+            answered(rt, alloc, service, desk, first, &mut gate, sent)
         },
         || {
-            let mut gate = Together {
-                rt,
-                barrier: barrier_ref,
-            };
-            answered(rt, alloc, service, desk_ref, &mut second, &mut gate, sent)
+            let mut gate = Together { rt, barrier };
+            answered(rt, alloc, service, desk, second, &mut gate, sent)
         },
-    );
-    expect_one_change(rt, a.as_slice(), b.as_slice());
-    show_change(rt, alloc, &desk, &mut first, &mut second, a.as_slice());
-    passes.push(first).ok().expect(rt, "a place");
-    passes.push(second).ok().expect(rt, "a place");
-    expect_closed(rt, desk, passes, 2, 66);
-    Ok(())
+    )
 }
 
 pub const REPLAYED: &[u8] = b"code 3 error 34 request replayed";
@@ -233,7 +252,7 @@ fn expect_shown<D: DeskName, R: Abort>(
     desk: &Desk<D, MemorySink>,
     pass: &mut Pass<D>,
 ) {
-    let alice = name(alloc, "alice").ok().expect(rt, "a name");
+    let alice = name_of(rt, alloc, "alice");
     let found = desk.lookup(pass, &alice).ok().expect(rt, "entered");
     expect_once_changed(rt, &found.expect(rt, "a principal"));
 }
@@ -243,7 +262,7 @@ fn expect_once_changed<R: Abort>(rt: &R, shown: &Lookup) {
 }
 
 #[test]
-fn failed_append(rt: HostRuntime) -> Result<(), Fail> {
+fn failed_append(rt: HostRuntime) {
     let first = request(&rt, rt.alloc(), "alice", NOW, "New-pass2");
     let second = request(&rt, rt.alloc(), "bob", NOW, "New-pass3");
     let (service, table) = opening(&rt, rt.alloc(), 100);
@@ -256,26 +275,35 @@ fn failed_append(rt: HostRuntime) -> Result<(), Fail> {
     )
 }
 
-// Bob's change isn't accepted, and a lookup sees alice's alone.
+// The journal doesn't take the second change.
 fn break_second<D: DeskName, R: Wait + Abort>(
     rt: &R,
     alloc: Global,
     unnamed: UnnamedDesk,
     service: &Service,
     requests: [&Sent; 2],
-) -> Result<(), Fail>
+)
     requires name { IsNamed unnamed D.name D.parts D.book D.root D.workers }
 {
-    let (desk, mut passes) = started_failing::<D, R>(rt, alloc, unnamed, 2, 0)?;
-    let mut pass = passes.pop().expect(rt, "a pass");
-    let [first, second] = requests;
-    expect_answer(rt, alloc, service, &desk, &mut pass, first, CHANGED);
-    expect_shown(rt, alloc, &desk, &mut pass);
-    expect_answer(rt, alloc, service, &desk, &mut pass, second, BROKEN);
-    expect_shown(rt, alloc, &desk, &mut pass);
-    passes.push(pass).ok().expect(rt, "a place");
+    let (desk, mut passes) = started_failing::<D, R>(rt, alloc, unnamed, 2, 0);
+    expect_broken(rt, alloc, service, &desk, &mut passes, requests);
     expect_closed(rt, desk, passes, 2, 66);
-    Ok(())
+}
+
+// Bob's change isn't accepted, and a lookup sees alice's alone.
+fn expect_broken<D: DeskName, R: Wait + Abort>(
+    rt: &R,
+    alloc: Global,
+    service: &Service,
+    desk: &Desk<D, MemorySink>,
+    passes: &mut [Pass<D>],
+    [alice, bob]: [&Sent; 2],
+) {
+    let pass = passes.first_mut().expect(rt, "a pass");
+    expect_answer(rt, alloc, service, desk, pass, alice, CHANGED);
+    expect_shown(rt, alloc, desk, pass);
+    expect_answer(rt, alloc, service, desk, pass, bob, BROKEN);
+    expect_shown(rt, alloc, desk, pass);
 }
 
 /// A worker's answer to a client's request says so.
@@ -293,7 +321,7 @@ pub fn expect_answer<D: DeskName, R: Wait + Abort>(
 }
 
 #[test]
-fn full_history(rt: HostRuntime) -> Result<(), Fail> {
+fn full_history(rt: HostRuntime) {
     let first = request(&rt, rt.alloc(), "alice", NOW, "New-pass2");
     let second = request(&rt, rt.alloc(), "alice", NOW, "New-pass3");
     let (service, table) = opening(&rt, rt.alloc(), 1);
@@ -306,27 +334,36 @@ fn full_history(rt: HostRuntime) -> Result<(), Fail> {
     )
 }
 
-// A history of one entry: the second request is told that it is full.
+// A history of one entry.
 fn fill<D: DeskName, R: Wait + Abort>(
     rt: &R,
     alloc: Global,
     unnamed: UnnamedDesk,
     service: &Service,
     requests: [&Sent; 2],
-) -> Result<(), Fail>
+)
     requires name { IsNamed unnamed D.name D.parts D.book D.root D.workers }
     requires workers { workers_of unnamed ≡ 1 }
 {
-    let (desk, mut passes) = started::<D, R>(rt, alloc, unnamed)?;
-    let mut pass = passes.pop().expect(rt, "a pass");
-    let [first, second] = requests;
-    expect_answer(rt, alloc, service, &desk, &mut pass, first, CHANGED);
-    expect_room(rt, &pass, true);
-    expect_answer(rt, alloc, service, &desk, &mut pass, second, FULL);
-    expect_room(rt, &pass, false);
-    passes.push(pass).ok().expect(rt, "a place");
+    let (desk, mut passes) = started::<D, R>(rt, alloc, unnamed);
+    expect_full(rt, alloc, service, &desk, &mut passes, requests);
     expect_closed(rt, desk, passes, 1, 66);
-    Ok(())
+}
+
+// The second request is told that the history is full.
+fn expect_full<D: DeskName, R: Wait + Abort>(
+    rt: &R,
+    alloc: Global,
+    service: &Service,
+    desk: &Desk<D, MemorySink>,
+    passes: &mut [Pass<D>],
+    [first, second]: [&Sent; 2],
+) {
+    let pass = passes.first_mut().expect(rt, "a pass");
+    expect_answer(rt, alloc, service, desk, pass, first, CHANGED);
+    expect_room(rt, pass, true);
+    expect_answer(rt, alloc, service, desk, pass, second, FULL);
+    expect_room(rt, pass, false);
 }
 
 // Whether the history had room for the last decision.

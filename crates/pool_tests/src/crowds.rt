@@ -2,38 +2,18 @@
 use crate::gates::{HeldClock, SlowClock};
 use crate::realm::CHANGED;
 use crate::site::{
-    Clients, Machine, Site, connect, expect_line, reply, requests, send, serve_all, terms,
+    Clients, NO_REQUEST, both_requests, change, connect, expect_line, expect_reply, expect_within,
+    keep, one_request, pause, reply, send, serve_by_clock, serve_here, spent, started_at, terms,
 };
 use chpw_client::Sent;
 use chpw_frame::LONGEST_MESSAGE;
 use chpw_pool::Terms;
 use std::alloc::Global;
 use std::io::{ErrorKind, Read, Write};
-use std::net::{Net, Shutdown, TcpListener, TcpStream};
+use std::net::{Net, Shutdown, TcpStream};
 use std::process::Abort;
 use std::sync::{Mutex, Wait};
-use std::test::Fail;
-use std::thread;
-use std::time::{Clock, Duration, Instant};
-
-// A pool of one worker on these terms, beside these clients.
-fn beside<R: Machine, K: Clients<R> + Sync>(
-    rt: &R,
-    alloc: Global,
-    listener: &TcpListener,
-    terms: Terms,
-    clients: &K,
-) -> Result<(), Fail> {
-    let port = listener.local_addr()?.port();
-    let site = Site {
-        time: rt,
-        listener,
-        port,
-        workers: 1,
-        terms,
-    };
-    serve_all(rt, alloc, &site, clients)
-}
+use std::time::{Clock, Duration};
 
 /// Whether the service ends a connection without an answer.
 pub fn is_ended(mut stream: &TcpStream) -> bool {
@@ -58,25 +38,16 @@ impl<R: Net<Stream = TcpStream> + Abort> Clients<R> for BehindSilentOnes {
             if number % 2 == 0 {
                 assert!(rt; (&stream).write_all(&[0, 0, 1, 0, 1]).is_ok());
             }
-            silent.push(stream).ok().expect(rt, "memory");
+            keep(rt, &mut silent, stream);
         }
-        let stream = connect(rt, port);
-        send(rt, &stream, self.sent.message.as_slice());
-        expect_line(rt, alloc, &self.sent, &stream, CHANGED);
+        change(rt, alloc, &connect(rt, port), &self.sent);
     }
 }
 
 #[test]
-fn thirty_four_connections_at_one_worker(rt: HostRuntime) -> Result<(), Fail> {
-    let (sent, _) = requests(&rt, rt.alloc())?;
-    let listener = TcpListener::bind(&rt, ("127.0.0.1", 0u16))?;
-    beside(
-        &rt,
-        rt.alloc(),
-        &listener,
-        terms(34),
-        &BehindSilentOnes { sent },
-    )
+fn thirty_four_connections_at_one_worker(rt: HostRuntime) {
+    let sent = one_request(&rt, rt.alloc());
+    serve_here(&rt, rt.alloc(), 1, terms(34), &BehindSilentOnes { sent });
 }
 
 // One sends a byte each tenth of a second, and is ended a second after it came; another is answered meanwhile.
@@ -87,42 +58,37 @@ struct BesideOneThatDrips {
 
 impl<R: Net<Stream = TcpStream> + Clock + Abort> Clients<R> for BesideOneThatDrips {
     fn ask(&self, rt: &R, alloc: Global, port: u16) {
-        let start = Instant::now(rt).ok().expect(rt, "a clock");
+        let start = started_at(rt);
         let slow = connect(rt, port);
         assert!(rt; (&slow).write_all(&[0, 0, 255, 255]).is_ok());
         assert!(rt; slow.set_nonblocking(true).is_ok());
-        for turn in 0..60u8 {
-            if turn == 2 {
-                let stream = connect(rt, port);
-                send(rt, &stream, self.sent.message.as_slice());
-                expect_line(rt, alloc, &self.sent, &stream, CHANGED);
-            }
-            if (&slow).write_all(&[0]).is_err() || is_ended(&slow) {
-                break;
-            }
-            thread::sleep(rt, Duration::from_millis(100));
-        }
-        let spent = start.elapsed(rt).ok().expect(rt, "a clock");
+        drip(rt, &slow, 2);
+        change(rt, alloc, &connect(rt, port), &self.sent);
+        drip(rt, &slow, 58);
+        let spent = spent(rt, start);
         assert!(rt; spent >= Duration::from_secs(1));
         assert!(rt; spent < Duration::from_secs(3));
     }
 }
 
+// Sends a byte each tenth of a second, so many at the most, until the connection is ended.
+fn drip<R: Clock>(rt: &R, mut stream: &TcpStream, turns: u8) {
+    for _ in 0..turns {
+        if stream.write_all(&[0]).is_err() || is_ended(stream) {
+            break;
+        }
+        pause(rt, 100);
+    }
+}
+
 #[test]
-fn a_client_that_drips(rt: HostRuntime) -> Result<(), Fail> {
-    let (sent, _) = requests(&rt, rt.alloc())?;
-    let listener = TcpListener::bind(&rt, ("127.0.0.1", 0u16))?;
+fn a_client_that_drips(rt: HostRuntime) {
+    let sent = one_request(&rt, rt.alloc());
     let terms = Terms {
         idle: 1,
         ..terms(2)
     };
-    beside(
-        &rt,
-        rt.alloc(),
-        &listener,
-        terms,
-        &BesideOneThatDrips { sent },
-    )
+    serve_here(&rt, rt.alloc(), 1, terms, &BesideOneThatDrips { sent });
 }
 
 // Two may be there at a time: for the third the first one ends, which has waited the longest.
@@ -137,26 +103,23 @@ impl<R: Net<Stream = TcpStream> + Abort> Clients<R> for OneTooMany {
         let first = connect(rt, port);
         let second = connect(rt, port);
         // An answer shows that both are there.
-        send(rt, &second, self.one.message.as_slice());
-        expect_line(rt, alloc, &self.one, &second, CHANGED);
+        change(rt, alloc, &second, &self.one);
         let third = connect(rt, port);
-        send(rt, &third, self.two.message.as_slice());
-        expect_line(rt, alloc, &self.two, &third, CHANGED);
+        change(rt, alloc, &third, &self.two);
         assert!(rt; is_ended(&first));
-        send(rt, &second, &[0, 6, 0xff, 0x80, 0, 0]);
-        let _ = reply(rt, alloc, &second);
+        send(rt, &second, NO_REQUEST);
+        expect_reply(rt, alloc, &second);
     }
 }
 
 #[test]
-fn more_clients_than_may_be(rt: HostRuntime) -> Result<(), Fail> {
-    let (one, two) = requests(&rt, rt.alloc())?;
-    let listener = TcpListener::bind(&rt, ("127.0.0.1", 0u16))?;
+fn more_clients_than_may_be(rt: HostRuntime) {
+    let (one, two) = both_requests(&rt, rt.alloc());
     let terms = Terms {
         clients: 2,
         ..terms(3)
     };
-    beside(&rt, rt.alloc(), &listener, terms, &OneTooMany { one, two })
+    serve_here(&rt, rt.alloc(), 1, terms, &OneTooMany { one, two });
 }
 
 // So many clients have each announced so many bytes and sent all of them but one.
@@ -171,9 +134,15 @@ fn almost<R: Net<Stream = TcpStream> + Abort>(
     for _ in 0..clients {
         let stream = connect(rt, port);
         send_almost(&stream, bytes);
-        held.push(stream).ok().expect(rt, "memory");
+        keep(rt, &mut held, stream);
     }
     held
+}
+
+// The first of these connections is ended.
+fn expect_first_ended<R: Abort>(rt: &R, held: &[TcpStream]) {
+    let first = held.first().expect(rt, "a client");
+    assert!(rt; is_ended(first));
 }
 
 // A message of so many bytes but for the last one, as far as the service takes it.
@@ -202,21 +171,19 @@ impl<R: Net<Stream = TcpStream> + Abort> Clients<R> for TooMuchAtOnce {
     fn ask(&self, rt: &R, alloc: Global, port: u16) {
         let held = almost(rt, alloc, port, 280, 4_096);
         let stream = connect(rt, port);
-        send(rt, &stream, self.sent.message.as_slice());
-        expect_line(rt, alloc, &self.sent, &stream, CHANGED);
-        assert!(rt; held.first().is_some_and(|first| is_ended(first)));
+        change(rt, alloc, &stream, &self.sent);
+        expect_first_ended(rt, &held);
     }
 }
 
 #[test]
-fn more_bytes_than_may_be(rt: HostRuntime) -> Result<(), Fail> {
-    let (sent, _) = requests(&rt, rt.alloc())?;
-    let listener = TcpListener::bind(&rt, ("127.0.0.1", 0u16))?;
+fn more_bytes_than_may_be(rt: HostRuntime) {
+    let sent = one_request(&rt, rt.alloc());
     let terms = Terms {
         buffers: 1,
         ..terms(281)
     };
-    beside(&rt, rt.alloc(), &listener, terms, &TooMuchAtOnce { sent })
+    serve_here(&rt, rt.alloc(), 1, terms, &TooMuchAtOnce { sent });
 }
 
 // Large messages that aren't whole hold half of the MiB, and no more: a small one is answered beside them, and a large
@@ -228,29 +195,27 @@ struct ManyLargeOnes {
 
 impl<R: Net<Stream = TcpStream> + Clock + Abort> Clients<R> for ManyLargeOnes {
     fn ask(&self, rt: &R, alloc: Global, port: u16) {
-        let start = Instant::now(rt).ok().expect(rt, "a clock");
+        let start = started_at(rt);
         let held = almost(rt, alloc, port, 20, 65_535);
         let small = connect(rt, port);
-        send(rt, &small, self.sent.message.as_slice());
-        expect_line(rt, alloc, &self.sent, &small, CHANGED);
+        change(rt, alloc, &small, &self.sent);
         let large = connect(rt, port);
         send_almost(&large, 65_535);
         send(rt, &large, &[0]);
-        assert!(rt; !reply(rt, alloc, &large).is_empty());
-        assert!(rt; held.first().is_some_and(|first| is_ended(first)));
-        assert!(rt; start.elapsed(rt).ok().expect(rt, "a clock") < Duration::from_secs(5));
+        expect_some_reply(rt, alloc, &large);
+        expect_first_ended(rt, &held);
+        expect_within(rt, start, 5_000);
     }
 }
 
 #[test]
-fn large_messages_leave_room(rt: HostRuntime) -> Result<(), Fail> {
-    let (sent, _) = requests(&rt, rt.alloc())?;
-    let listener = TcpListener::bind(&rt, ("127.0.0.1", 0u16))?;
+fn large_messages_leave_room(rt: HostRuntime) {
+    let sent = one_request(&rt, rt.alloc());
     let terms = Terms {
         buffers: 1,
         ..terms(22)
     };
-    beside(&rt, rt.alloc(), &listener, terms, &ManyLargeOnes { sent })
+    serve_here(&rt, rt.alloc(), 1, terms, &ManyLargeOnes { sent });
 }
 
 // One sends many messages, and reads no answer until another one has its own.
@@ -263,35 +228,32 @@ const UNREAD: u32 = 300;
 
 impl<R: Net<Stream = TcpStream> + Clock + Abort> Clients<R> for OneThatReadsNothing {
     fn ask(&self, rt: &R, alloc: Global, port: u16) {
-        let start = Instant::now(rt).ok().expect(rt, "a clock");
+        let start = started_at(rt);
         let first = connect(rt, port);
         let second = connect(rt, port);
         for _ in 0..UNREAD {
-            send(rt, &first, &[0, 6, 0xff, 0x80, 0, 0]);
+            send(rt, &first, NO_REQUEST);
         }
-        send(rt, &second, self.sent.message.as_slice());
-        expect_line(rt, alloc, &self.sent, &second, CHANGED);
+        change(rt, alloc, &second, &self.sent);
         assert!(rt; first.shutdown(Shutdown::Write).is_ok());
-        for _ in 0..UNREAD {
-            let _ = reply(rt, alloc, &first);
-        }
-        assert!(rt; is_ended(&first));
+        read_all(rt, alloc, &first);
         // The next message doesn't wait for the reactor's next look round, a tenth of a second later.
-        assert!(rt; start.elapsed(rt).ok().expect(rt, "a clock") < Duration::from_secs(15));
+        expect_within(rt, start, 15_000);
     }
 }
 
+// All the answers, and then the end.
+fn read_all<R: Abort>(rt: &R, alloc: Global, stream: &TcpStream) {
+    for _ in 0..UNREAD {
+        expect_reply(rt, alloc, stream);
+    }
+    assert!(rt; is_ended(stream));
+}
+
 #[test]
-fn a_client_that_reads_late(rt: HostRuntime) -> Result<(), Fail> {
-    let (sent, _) = requests(&rt, rt.alloc())?;
-    let listener = TcpListener::bind(&rt, ("127.0.0.1", 0u16))?;
-    beside(
-        &rt,
-        rt.alloc(),
-        &listener,
-        terms(2),
-        &OneThatReadsNothing { sent },
-    )
+fn a_client_that_reads_late(rt: HostRuntime) {
+    let sent = one_request(&rt, rt.alloc());
+    serve_here(&rt, rt.alloc(), 1, terms(2), &OneThatReadsNothing { sent });
 }
 
 // Thirty messages over one connection, each behind the answer to the one before.
@@ -301,29 +263,21 @@ struct OneAfterTheOther;
 impl<R: Net<Stream = TcpStream> + Clock + Abort> Clients<R> for OneAfterTheOther {
     fn ask(&self, rt: &R, alloc: Global, port: u16) {
         let stream = connect(rt, port);
-        let start = Instant::now(rt).ok().expect(rt, "a clock");
+        let start = started_at(rt);
         for _ in 0..30u8 {
-            send(rt, &stream, &[0, 6, 0xff, 0x80, 0, 0]);
-            let _ = reply(rt, alloc, &stream);
+            send(rt, &stream, NO_REQUEST);
+            expect_reply(rt, alloc, &stream);
         }
         // An answer goes out as soon as it is there, and not when the reactor next looks round, a tenth of a second later.
-        assert!(rt; start.elapsed(rt).ok().expect(rt, "a clock") < Duration::from_millis(1_500));
+        expect_within(rt, start, 1_500);
     }
 }
 
 #[test]
-fn answers_that_come_at_once(rt: HostRuntime) -> Result<(), Fail> {
-    let listener = TcpListener::bind(&rt, ("127.0.0.1", 0u16))?;
-    let port = listener.local_addr()?.port();
+fn answers_that_come_at_once(rt: HostRuntime) {
     // The reactor waits for its next event long before a worker has its moment.
-    let site = Site {
-        time: &SlowClock { rt: &rt },
-        listener: &listener,
-        port,
-        workers: 1,
-        terms: terms(1),
-    };
-    serve_all(&rt, rt.alloc(), &site, &OneAfterTheOther)
+    let time = SlowClock { rt: &rt };
+    serve_by_clock(&rt, rt.alloc(), &time, 1, terms(1), &OneAfterTheOther);
 }
 
 // Fourteen clients have each sent sixteen messages of the greatest length. There is room for seven at a time: all have
@@ -338,7 +292,7 @@ impl<R: Net<Stream = TcpStream> + Abort> Clients<R> for LargeOnesInTurn {
         for _ in 0..14u8 {
             let stream = connect(rt, port);
             send_often(rt, &stream, &message);
-            streams.push(stream).ok().expect(rt, "memory");
+            keep(rt, &mut streams, stream);
         }
         for stream in streams.iter() {
             expect_replies(rt, alloc, stream);
@@ -352,36 +306,34 @@ struct TwentyForOnePlace;
 
 impl<R: Net<Stream = TcpStream> + Clock + Abort> Clients<R> for TwentyForOnePlace {
     fn ask(&self, rt: &R, alloc: Global, port: u16) {
-        let start = Instant::now(rt).ok().expect(rt, "a clock");
-        let mut streams = Vec::new(alloc);
-        for _ in 0..20u8 {
-            let stream = connect(rt, port);
-            send(rt, &stream, &[0, 6, 0xff, 0x80, 0, 0]);
-            streams.push(stream).ok().expect(rt, "memory");
-        }
-        for stream in streams.iter() {
-            let _ = reply(rt, alloc, stream);
+        let start = started_at(rt);
+        for stream in twenty(rt, alloc, port).iter() {
+            expect_reply(rt, alloc, stream);
         }
         // The place is given as soon as it is free, and not when the reactor next looks round, a tenth of a second later.
-        assert!(rt; start.elapsed(rt).ok().expect(rt, "a clock") < Duration::from_millis(1_000));
+        expect_within(rt, start, 1_000);
     }
 }
 
+// Twenty clients, each of which has sent a message.
+fn twenty<R: Net<Stream = TcpStream> + Abort>(rt: &R, alloc: Global, port: u16) -> Vec<TcpStream> {
+    let mut streams = Vec::new(alloc);
+    for _ in 0..20u8 {
+        let stream = connect(rt, port);
+        send(rt, &stream, NO_REQUEST);
+        keep(rt, &mut streams, stream);
+    }
+    streams
+}
+
 #[test]
-fn newcomers_one_after_the_other(rt: HostRuntime) -> Result<(), Fail> {
-    let listener = TcpListener::bind(&rt, ("127.0.0.1", 0u16))?;
-    let port = listener.local_addr()?.port();
-    let site = Site {
-        time: &SlowClock { rt: &rt },
-        listener: &listener,
-        port,
-        workers: 1,
-        terms: Terms {
-            clients: 1,
-            ..terms(20)
-        },
+fn newcomers_one_after_the_other(rt: HostRuntime) {
+    let time = SlowClock { rt: &rt };
+    let terms = Terms {
+        clients: 1,
+        ..terms(20)
     };
-    serve_all(&rt, rt.alloc(), &site, &TwentyForOnePlace)
+    serve_by_clock(&rt, rt.alloc(), &time, 1, terms, &TwentyForOnePlace);
 }
 
 // Behind its last reply the service closes its side, and the client sees that at once.
@@ -391,20 +343,19 @@ struct OneThatStays;
 impl<R: Net<Stream = TcpStream> + Clock + Abort> Clients<R> for OneThatStays {
     fn ask(&self, rt: &R, alloc: Global, port: u16) {
         let stream = connect(rt, port);
-        let start = Instant::now(rt).ok().expect(rt, "a clock");
+        let start = started_at(rt);
         // A message that is too long: its length alone is answered.
         assert!(rt; (&stream).write_all(&[0, 1, 0, 0]).is_ok());
-        let _ = reply(rt, alloc, &stream);
+        expect_reply(rt, alloc, &stream);
         assert!(rt; is_ended(&stream));
         // The connection itself would be closed a second behind the reply.
-        assert!(rt; start.elapsed(rt).ok().expect(rt, "a clock") < Duration::from_millis(800));
+        expect_within(rt, start, 800);
     }
 }
 
 #[test]
-fn the_end_behind_the_last_reply(rt: HostRuntime) -> Result<(), Fail> {
-    let listener = TcpListener::bind(&rt, ("127.0.0.1", 0u16))?;
-    beside(&rt, rt.alloc(), &listener, terms(1), &OneThatStays)
+fn the_end_behind_the_last_reply(rt: HostRuntime) {
+    serve_here(&rt, rt.alloc(), 1, terms(1), &OneThatStays);
 }
 
 /// A message of the greatest length.
@@ -422,19 +373,23 @@ fn send_often<R: Abort>(rt: &R, stream: &TcpStream, message: &[u8]) {
 
 fn expect_replies<R: Abort>(rt: &R, alloc: Global, stream: &TcpStream) {
     for _ in 0..16u8 {
-        assert!(rt; !reply(rt, alloc, stream).is_empty());
+        expect_some_reply(rt, alloc, stream);
     }
 }
 
+// The next reply has bytes.
+fn expect_some_reply<R: Abort>(rt: &R, alloc: Global, stream: &TcpStream) {
+    assert!(rt; !reply(rt, alloc, stream).is_empty());
+}
+
 #[test]
-fn large_messages_in_turn(rt: HostRuntime) -> Result<(), Fail> {
-    let listener = TcpListener::bind(&rt, ("127.0.0.1", 0u16))?;
+fn large_messages_in_turn(rt: HostRuntime) {
     let terms = Terms {
         buffers: 1,
         idle: 1,
         ..terms(14)
     };
-    beside(&rt, rt.alloc(), &listener, terms, &LargeOnesInTurn)
+    serve_here(&rt, rt.alloc(), 1, terms, &LargeOnesInTurn);
 }
 
 // One may be there at a time, and its message is being answered: the second is kept until the first has its answer.
@@ -449,10 +404,10 @@ impl<R: Net<Stream = TcpStream> + Wait + Clock + Abort> Clients<R> for TwoForOne
     fn ask(&self, rt: &R, alloc: Global, port: u16) {
         let first = connect(rt, port);
         send(rt, &first, self.one.message.as_slice());
-        thread::sleep(rt, Duration::from_millis(300));
+        pause(rt, 300);
         let second = connect(rt, port);
         send(rt, &second, self.two.message.as_slice());
-        thread::sleep(rt, Duration::from_millis(300));
+        pause(rt, 300);
         *self.is_told.lock(rt) = true;
         expect_line(rt, alloc, &self.one, &first, CHANGED);
         expect_line(rt, alloc, &self.two, &second, CHANGED);
@@ -460,28 +415,21 @@ impl<R: Net<Stream = TcpStream> + Wait + Clock + Abort> Clients<R> for TwoForOne
 }
 
 #[test]
-fn a_newcomer_waits_for_room(rt: HostRuntime) -> Result<(), Fail> {
-    let (one, two) = requests(&rt, rt.alloc())?;
-    let listener = TcpListener::bind(&rt, ("127.0.0.1", 0u16))?;
-    let port = listener.local_addr()?.port();
+fn a_newcomer_waits_for_room(rt: HostRuntime) {
+    let (one, two) = both_requests(&rt, rt.alloc());
     let is_told = Mutex::new(false);
-    let site = Site {
-        time: &HeldClock {
-            rt: &rt,
-            is_told: &is_told,
-        },
-        listener: &listener,
-        port,
-        workers: 1,
-        terms: Terms {
-            clients: 1,
-            ..terms(2)
-        },
+    let time = HeldClock {
+        rt: &rt,
+        is_told: &is_told,
     };
     let clients = TwoForOnePlace {
         one,
         two,
         is_told: &is_told,
     };
-    serve_all(&rt, rt.alloc(), &site, &clients)
+    let terms = Terms {
+        clients: 1,
+        ..terms(2)
+    };
+    serve_by_clock(&rt, rt.alloc(), &time, 1, terms, &clients);
 }

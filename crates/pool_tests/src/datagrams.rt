@@ -1,15 +1,13 @@
 //! A service that takes messages over UDP, too.
 ghost use Rattle.std.specs.Prelude.{◌≤◌};
 
-use crate::realm::{CHANGED, SetClock, request, told};
-use crate::services::{START, ask_in_turn, files_at, moment, options, prepare};
+use crate::realm::{CHANGED, SetClock, expect_told, request};
+use crate::services::{START, ask_in_turn, files_at, moment, options, prepare, serves};
 use chpw_client::Sent;
 use chpw_invocation::ServeOptions;
-use chpw_service::serve_by;
 use std::alloc::Global;
 use std::net::{Net, TcpStream, UdpSocket};
 use std::process::Abort;
-use std::test::Fail;
 use std::thread::{self, join};
 use std::time::{Clock, Duration};
 
@@ -65,10 +63,6 @@ fn ask_soon<R: Clock + Abort>(
     panic!(rt; "no reply")
 }
 
-fn expect_told<R: Abort>(rt: &R, alloc: Global, sent: &Sent, reply: &[u8], line: &[u8]) {
-    assert_eq!(rt; told(rt, alloc, sent, reply).as_slice(), line);
-}
-
 // A datagram changes the password; sent once more it has the very same reply, and nothing is decided; from another port,
 // and over TCP, it is a replay.
 fn ask_again<R: Net<Stream = TcpStream> + Clock + Abort>(
@@ -91,18 +85,17 @@ fn ask_again<R: Net<Stream = TcpStream> + Clock + Abort>(
 }
 
 #[test]
-fn a_datagram_and_the_same_again(rt: HostRuntime) -> Result<(), Fail> {
+fn a_datagram_and_the_same_again(rt: HostRuntime) {
     let paths = files_at("datagrams.toml", "datagrams.seed", "datagrams.journal");
-    let port = prepare(&rt, paths, "")?;
+    let port = prepare(&rt, paths, "");
     let sent = request(&rt, rt.alloc(), "alice", moment(START), "New-pass2");
     let clock = SetClock::new(START);
     let (served, ()) = join(
         &rt,
-        || serve_by(&rt, &clock, over_udp(port, 3)).is_ok(),
+        || serves(&rt, &clock, over_udp(port, 3)),
         || ask_again(&rt, rt.alloc(), &clock, port, &sent),
     );
     assert!(rt; served);
-    Ok(())
 }
 
 // Datagrams that get no answer: nothing; too little; a length that isn't theirs; a version of no protocol; a KRB-ERROR,
@@ -119,24 +112,28 @@ fn ask_in_vain<R: Net<Stream = TcpStream> + Clock + Abort>(
     rt: &R,
     alloc: Global,
     port: u16,
-    sent: [&Sent; 2],
+    [alice, bob]: [&Sent; 2],
 ) {
     let socket = client(rt, port);
-    let reply = ask_soon(rt, alloc, &socket, sent[0].message.as_slice());
-    expect_told(rt, alloc, sent[0], &reply, CHANGED);
+    change_soon(rt, alloc, &socket, alice);
     for datagram in UNANSWERED {
         assert!(rt; socket.send(datagram).is_ok());
         assert!(rt; next_reply(rt, alloc, &socket).is_none());
     }
-    let reply = ask_soon(rt, alloc, &socket, sent[1].message.as_slice());
-    expect_told(rt, alloc, sent[1], &reply, CHANGED);
+    change_soon(rt, alloc, &socket, bob);
+}
+
+// A datagram changes a password.
+fn change_soon<R: Clock + Abort>(rt: &R, alloc: Global, socket: &UdpSocket, sent: &Sent) {
+    let reply = ask_soon(rt, alloc, socket, sent.message.as_slice());
+    expect_told(rt, alloc, sent, &reply, CHANGED);
 }
 
 // None of them counts: the service takes two, one before them and one behind.
 #[test]
-fn datagrams_without_an_answer(rt: HostRuntime) -> Result<(), Fail> {
+fn datagrams_without_an_answer(rt: HostRuntime) {
     let paths = files_at("unanswered.toml", "unanswered.seed", "unanswered.journal");
-    let port = prepare(&rt, paths, "")?;
+    let port = prepare(&rt, paths, "");
     let alice = request(&rt, rt.alloc(), "alice", moment(START), "New-pass2");
     let bob = request(&rt, rt.alloc(), "bob", moment(START), "New-pass2");
     let clock = SetClock::new(START);
@@ -144,9 +141,8 @@ fn datagrams_without_an_answer(rt: HostRuntime) -> Result<(), Fail> {
     options.udp = true;
     let (served, ()) = join(
         &rt,
-        || serve_by(&rt, &clock, options).is_ok(),
+        || serves(&rt, &clock, options),
         || ask_in_vain(&rt, rt.alloc(), port, [&alice, &bob]),
     );
     assert!(rt; served);
-    Ok(())
 }

@@ -1,19 +1,17 @@
 //! A service whose replies to changes wait for a follower.
 ghost use Rattle.std.specs.Prelude.{◌≤◌};
 
-use crate::realm::{CHANGED, SetClock, request};
-use crate::services::{Paths, START, ask_in_turn, moment, options, prepare};
+use crate::realm::{CHANGED, SetClock, expect_bytes, request};
+use crate::services::{Paths, START, ask_in_turn, moment, options, prepare, serves, text_of};
 use chpw_client::Sent;
 use chpw_invocation::ServeOptions;
-use chpw_service::serve_by;
 use std::fs::{self, Files};
 use std::io::{Read, Write};
 use std::net::{Net, TcpStream};
 use std::os::unix::net::{UnixListener, UnixStream};
 use std::process::Abort;
 use std::sync::atomic::{AtomicBool, Ordering};
-use std::test::Fail;
-use std::thread::{self, join};
+use std::thread::{self, Threads, join};
 use std::time::{Clock, Duration};
 
 /// How a request is refused that was decided before.
@@ -42,9 +40,9 @@ fn followed<'a>(place: Place<'a>, port: u16, wait: u32) -> ServeOptions<'a>
 }
 
 // A follower that listens.
-fn listen(rt: &HostRuntime, socket: &str) -> Result<UnixListener, Fail> {
+fn listen<R: Files + Net + Abort>(rt: &R, socket: &str) -> UnixListener {
     let _ = fs::remove_file(rt, socket);
-    Ok(UnixListener::bind(rt, socket)?)
+    UnixListener::bind(rt, socket).ok().expect(rt, "a listener")
 }
 
 // The service connects.
@@ -57,7 +55,7 @@ fn accept<R: Abort>(rt: &R, listener: &UnixListener) -> UnixStream {
 fn expect_ask<R: Abort>(rt: &R, stream: &mut UnixStream, asked: &[u8]) {
     let mut ask = [0; 16];
     let count = stream.read(&mut ask).ok().expect(rt, "an ask");
-    assert_eq!(rt; &ask[..count], asked);
+    expect_bytes(rt, &ask[..count], asked);
 }
 
 // A client changes its password, and is answered then.
@@ -96,12 +94,20 @@ fn told_place<'a>() -> Place<'a> {
 
 // So many lines of the log say that the change of 66 bytes wasn't confirmed, behind the line of the change.
 fn expect_unconfirmed<R: Files + AllocGlobal + Abort>(rt: &R, log: &str, count: usize) {
-    let text = fs::read_to_string(rt, log).ok().expect(rt, "a log");
-    let mut lines = text.as_str().lines();
-    let first = lines.next().unwrap_or("");
-    assert!(rt; first.ends_with("kvno 2 text password changed"));
-    let found = lines.filter(|line| line.ends_with(UNCONFIRMED)).count();
-    assert_eq!(rt; found, count);
+    let text = text_of(rt, log);
+    assert!(rt; begins_with_the_change(text.as_str()));
+    assert_eq!(rt; unconfirmed(text.as_str()), count);
+}
+
+fn begins_with_the_change(text: &str) -> bool {
+    let first = text.lines().next().unwrap_or("");
+    first.ends_with("kvno 2 text password changed")
+}
+
+// How many lines behind the first one say so.
+fn unconfirmed(text: &str) -> usize {
+    let behind = text.lines().skip(1);
+    behind.filter(|line| line.ends_with(UNCONFIRMED)).count()
 }
 
 // What a follower says of the 66 bytes, and how often the log tells that the change isn't confirmed.
@@ -116,29 +122,38 @@ const SAID: [(&[u8], usize); 5] = [
 // The reply goes out when the follower has said that the KDC has the change, or anything else, or hangs up; and what it
 // didn't confirm is told.
 #[test]
-fn what_a_follower_says(rt: HostRuntime) -> Result<(), Fail> {
+fn what_a_follower_says(rt: HostRuntime) {
     let place = told_place();
     let sent = request(&rt, rt.alloc(), "alice", moment(START), "New-pass2");
     for (said, unconfirmed) in SAID {
-        let port = prepare(&rt, place.paths, "")?;
-        let listener = listen(&rt, place.socket)?;
+        let port = prepare(&rt, place.paths, "");
+        let listener = listen(&rt, place.socket);
         let clock = SetClock::new(START);
-        let is_answered = AtomicBool::new(false);
-        let (served, _) = join(
+        let (served, ()) = join(
             &rt,
-            || serve_by(&rt, &clock, followed(place, port, 60_000)).is_ok(),
-            || {
-                join(
-                    &rt,
-                    || say(&rt, &listener, said, &is_answered),
-                    || change(&rt, &clock, port, &sent, &is_answered),
-                )
-            },
+            || serves(&rt, &clock, followed(place, port, 60_000)),
+            || say_and_change(&rt, &listener, said, &clock, port, &sent),
         );
         assert!(rt; served);
         expect_unconfirmed(&rt, place.log, unconfirmed);
     }
-    Ok(())
+}
+
+// The follower says this while a client changes its password.
+fn say_and_change<R: Threads + Net<Stream = TcpStream> + Clock + Abort + AllocGlobal + Sync>(
+    rt: &R,
+    listener: &UnixListener,
+    said: &[u8],
+    clock: &SetClock,
+    port: u16,
+    sent: &Sent,
+) {
+    let is_answered = AtomicBool::new(false);
+    join(
+        rt,
+        || say(rt, listener, said, &is_answered),
+        || change(rt, clock, port, sent, &is_answered),
+    );
 }
 
 fn silent_place<'a>() -> Place<'a> {
@@ -154,50 +169,43 @@ fn silent_place<'a>() -> Place<'a> {
     }
 }
 
-// A client changes its password, which takes at least this long.
+// A client changes its password, which takes at least so many milliseconds.
 fn change_within<R: Net<Stream = TcpStream> + Clock + Abort + AllocGlobal>(
     rt: &R,
     clock: &SetClock,
     port: u16,
     sent: &Sent,
-    least: Duration,
+    least: u64,
 ) {
     let is_answered = AtomicBool::new(false);
     let before = rt.monotonic().ok().expect(rt, "a moment");
     change(rt, clock, port, sent, &is_answered);
     let after = rt.monotonic().ok().expect(rt, "a moment");
-    assert!(rt; after.saturating_sub(before) >= least);
+    assert!(rt; after.saturating_sub(before) >= Duration::from_millis(least));
 }
 
 // A follower that takes the ask and says nothing holds a reply up for as long as it may wait, and one that isn't there
 // doesn't at all: it may wait a minute, and the client reads for ten seconds.
 #[test]
-fn a_follower_that_says_nothing(rt: HostRuntime) -> Result<(), Fail> {
+fn a_follower_that_says_nothing(rt: HostRuntime) {
     let place = silent_place();
     let sent = request(&rt, rt.alloc(), "alice", moment(START), "New-pass2");
-    for (is_there, least) in [(true, 300), (false, 0)] {
-        let port = prepare(&rt, place.paths, "")?;
-        let listener = listen(&rt, place.socket)?;
+    for (is_there, wait, least) in [(true, 300, 300), (false, 60_000, 0)] {
+        let port = prepare(&rt, place.paths, "");
+        let listener = listen(&rt, place.socket);
         if !is_there {
-            fs::remove_file(&rt, place.socket)?;
+            assert!(rt; fs::remove_file(&rt, place.socket).is_ok());
         }
-        let least = Duration::from_millis(least);
         let clock = SetClock::new(START);
         let (served, ()) = join(
             &rt,
-            || serve_by(
-                &rt,
-                &clock,
-                followed(place, port, if is_there { 300 } else { 60_000 }),
-            )
-            .is_ok(),
+            || serves(&rt, &clock, followed(place, port, wait)),
             || change_within(&rt, &clock, port, &sent, least),
         );
         assert!(rt; served);
         expect_unconfirmed(&rt, place.log, 1);
         drop(listener);
     }
-    Ok(())
 }
 
 fn again_place<'a>() -> Place<'a> {
@@ -224,10 +232,10 @@ fn confirm_twice<R: Abort>(rt: &R, listener: &UnixListener) {
 
 // A follower that starts again confirms what comes then. Between the changes the first one is sent once more and refused.
 #[test]
-fn a_follower_that_starts_again(rt: HostRuntime) -> Result<(), Fail> {
+fn a_follower_that_starts_again(rt: HostRuntime) {
     let place = again_place();
-    let port = prepare(&rt, place.paths, "")?;
-    let listener = listen(&rt, place.socket)?;
+    let port = prepare(&rt, place.paths, "");
+    let listener = listen(&rt, place.socket);
     let first = request(&rt, rt.alloc(), "alice", moment(START), "New-pass2");
     let second = request(&rt, rt.alloc(), "bob", moment(START), "New-pass3");
     let clock = SetClock::new(START);
@@ -236,18 +244,26 @@ fn a_follower_that_starts_again(rt: HostRuntime) -> Result<(), Fail> {
         (START, &first, REPLAYED),
         (START, &second, CHANGED),
     ];
-    let (served, _) = join(
+    let (served, ()) = join(
         &rt,
-        || serve_by(&rt, &clock, followed(place, port, 60_000)).is_ok(),
-        || {
-            join(
-                &rt,
-                || confirm_twice(&rt, &listener),
-                || ask_in_turn(&rt, rt.alloc(), &clock, port, &asked),
-            )
-        },
+        || serves(&rt, &clock, followed(place, port, 60_000)),
+        || confirm_and_ask(&rt, &listener, &clock, port, &asked),
     );
     assert!(rt; served);
     expect_unconfirmed(&rt, place.log, 0);
-    Ok(())
+}
+
+// The follower confirms two changes while a client asks for these in turn.
+fn confirm_and_ask<R: Threads + Net<Stream = TcpStream> + Clock + Abort + AllocGlobal + Sync>(
+    rt: &R,
+    listener: &UnixListener,
+    clock: &SetClock,
+    port: u16,
+    asked: &[(u64, &Sent, &[u8])],
+) {
+    join(
+        rt,
+        || confirm_twice(rt, listener),
+        || ask_in_turn(rt, rt.alloc(), clock, port, asked),
+    );
 }

@@ -1,18 +1,16 @@
 //! Listeners that fail, clients who keep silent, and a connection that the service ends.
-use crate::realm::CHANGED;
 use crate::site::{
-    Clients, Site, both_requests, connect, expect_line, run, send, serve_all, serve_here, terms,
+    Clients, Site, both_requests, change, connect, expect_reply, listen, one_request, port_of, run,
+    serve_all, serve_here, terms,
 };
 use chpw_client::Sent;
-use chpw_frame::{Received, read_tcp};
-use chpw_pool::{PoolFault, Terms};
+use chpw_pool::{Pool, PoolFault, Terms};
 use std::alloc::Global;
 use std::io::{self, Error, Read, Write};
 use std::net::{Net, OpenListener, Shutdown, SocketAddr, TcpListener, TcpStream};
 use std::os::fd::{AsRawFd, RawFd};
 use std::process::Abort;
 use std::sync::atomic::{AtomicU64, Ordering};
-use std::test::Fail;
 
 // A listener whose first accepts fail, one for each of these faults of Linux.
 #[derive(Drop)]
@@ -54,19 +52,16 @@ struct InTurn {
 impl<R: Net<Stream = TcpStream> + Abort> Clients<R> for InTurn {
     fn ask(&self, rt: &R, alloc: Global, port: u16) {
         for sent in [&self.one, &self.two] {
-            let stream = connect(rt, port);
-            send(rt, &stream, sent.message.as_slice());
-            expect_line(rt, alloc, sent, &stream, CHANGED);
+            change(rt, alloc, &connect(rt, port), sent);
         }
     }
 }
 
 // EINTR, ENOMEM, ENFILE, EMFILE, ECONNABORTED and ENOBUFS pass.
 #[test]
-fn accepts_that_fail_for_a_moment(rt: HostRuntime) -> Result<(), Fail> {
+fn accepts_that_fail_for_a_moment(rt: HostRuntime) {
     let (one, two) = both_requests(&rt, rt.alloc());
-    let listener = TcpListener::bind(&rt, ("127.0.0.1", 0u16))?;
-    let port = listener.local_addr()?.port();
+    let listener = listen(&rt);
     let failing = Failing {
         listener: &listener,
         faults: [4, 12, 23, 24, 103, 105],
@@ -75,11 +70,11 @@ fn accepts_that_fail_for_a_moment(rt: HostRuntime) -> Result<(), Fail> {
     let site = Site {
         time: &rt,
         listener: &failing,
-        port,
+        port: port_of(&rt, &listener),
         workers: 2,
         terms: terms(2),
     };
-    serve_all(&rt, rt.alloc(), &site, &InTurn { one, two })
+    serve_all(&rt, rt.alloc(), &site, &InTurn { one, two });
 }
 
 // Nobody comes.
@@ -115,21 +110,24 @@ impl AsRawFd for Broken<'_> {
 }
 
 #[test]
-fn nothing_to_accept(rt: HostRuntime) -> Result<(), Fail> {
-    let listener = TcpListener::bind(&rt, ("127.0.0.1", 0u16))?;
-    let port = listener.local_addr()?.port();
+fn nothing_to_accept(rt: HostRuntime) {
+    let listener = listen(&rt);
     let site = Site {
         time: &rt,
         listener: &Broken {
             listener: &listener,
         },
-        port,
+        port: port_of(&rt, &listener),
         workers: 1,
         terms: terms(2),
     };
-    let pool = run(&rt, rt.alloc(), &site, &Nobody)?;
+    let pool = run(&rt, rt.alloc(), &site, &Nobody);
+    expect_no_accept(&rt, &pool);
+}
+
+// Nobody was served, since no connection could be accepted.
+fn expect_no_accept<R: Abort>(rt: &R, pool: &Pool) {
     assert!(rt; pool.served == 0 && pool.fault == Some(PoolFault::Accept));
-    Ok(())
 }
 
 // One keeps silent until its connection is ended; another one is answered before.
@@ -142,21 +140,24 @@ impl<R: Net<Stream = TcpStream> + Abort> Clients<R> for Behind {
     fn ask(&self, rt: &R, alloc: Global, port: u16) {
         let silent = connect(rt, port);
         let other = connect(rt, port);
-        send(rt, &other, self.sent.message.as_slice());
-        expect_line(rt, alloc, &self.sent, &other, CHANGED);
-        assert!(rt; matches!((&silent).read(&mut [0; 1]), Ok(0)));
+        change(rt, alloc, &other, &self.sent);
+        expect_end(rt, &silent);
     }
 }
 
+// The service ends the connection, and nothing was left to read.
+fn expect_end<R: Abort>(rt: &R, mut stream: &TcpStream) {
+    assert!(rt; matches!(stream.read(&mut [0; 1]), Ok(0)));
+}
+
 #[test]
-fn a_silent_connection_is_ended(rt: HostRuntime) -> Result<(), Fail> {
-    let listener = TcpListener::bind(&rt, ("127.0.0.1", 0u16))?;
-    let (sent, _) = both_requests(&rt, rt.alloc());
+fn a_silent_connection_is_ended(rt: HostRuntime) {
+    let sent = one_request(&rt, rt.alloc());
     let terms = Terms {
         idle: 1,
         ..terms(2)
     };
-    serve_here(&rt, rt.alloc(), &listener, 1, terms, &Behind { sent })
+    serve_here(&rt, rt.alloc(), 1, terms, &Behind { sent });
 }
 
 // A message that is too long is sent whole, and then its reply is read.
@@ -166,18 +167,21 @@ struct TooLong;
 impl<R: Net<Stream = TcpStream> + Abort> Clients<R> for TooLong {
     fn ask(&self, rt: &R, alloc: Global, port: u16) {
         let stream = connect(rt, port);
-        assert!(rt; (&stream).write_all(&[0, 3, 0, 0]).is_ok());
-        for _ in 0..192 {
-            assert!(rt; (&stream).write_all(&[0; 1024]).is_ok());
-        }
+        send_too_long(rt, &stream);
         assert!(rt; stream.shutdown(Shutdown::Write).is_ok());
-        assert!(rt; matches!(read_tcp(alloc, &mut &stream), Ok(Received::Message(_))));
-        assert!(rt; matches!((&stream).read(&mut [0; 1]), Ok(0)));
+        expect_reply(rt, alloc, &stream);
+        expect_end(rt, &stream);
+    }
+}
+
+fn send_too_long<R: Abort>(rt: &R, mut stream: &TcpStream) {
+    assert!(rt; stream.write_all(&[0, 3, 0, 0]).is_ok());
+    for _ in 0..192 {
+        assert!(rt; stream.write_all(&[0; 1024]).is_ok());
     }
 }
 
 #[test]
-fn a_reply_arrives_before_the_end(rt: HostRuntime) -> Result<(), Fail> {
-    let listener = TcpListener::bind(&rt, ("127.0.0.1", 0u16))?;
-    serve_here(&rt, rt.alloc(), &listener, 1, terms(1), &TooLong)
+fn a_reply_arrives_before_the_end(rt: HostRuntime) {
+    serve_here(&rt, rt.alloc(), 1, terms(1), &TooLong);
 }

@@ -1,10 +1,11 @@
 //! The log of a service: how it is gone on with, which files it can't be, and how many lines a flood has.
 
-use crate::realm::{CHANGED, SetClock, request};
+use crate::realm::{CHANGED, SetClock, expect_bytes, request};
 use crate::services::{
-    Paths, SETTINGS, START, ask_in_turn, connect_soon, moment, options, prepare,
+    Paths, SETTINGS, START, ask_in_turn, bytes_of, connect_soon, moment, options, prepare, serves,
+    text_of, write_file,
 };
-use crate::site::{reply, send};
+use crate::site::{expect_reply, send};
 use chpw_client::Sent;
 use chpw_service::{ServeFault, serve_by};
 use std::alloc::{AllocError, Global};
@@ -15,7 +16,6 @@ use std::os::fd::{AsRawFd, RawFd};
 use std::os::unix::fs::symlink;
 use std::process::Abort;
 use std::sync::Wait;
-use std::test::Fail;
 use std::thread::{Threads, join};
 use std::time::Clock;
 
@@ -32,7 +32,7 @@ const FORMER: [(&str, &str); 4] = [
 ];
 
 #[test]
-fn a_log_that_is_gone_on_with(rt: HostRuntime) -> Result<(), Fail> {
+fn a_log_that_is_gone_on_with(rt: HostRuntime) {
     let paths = Paths {
         config: "gone_on.toml",
         seed: "gone_on.seed",
@@ -41,24 +41,29 @@ fn a_log_that_is_gone_on_with(rt: HostRuntime) -> Result<(), Fail> {
     };
     let sent = request(&rt, rt.alloc(), "alice", moment(START), "New-pass2");
     for (former, begins) in FORMER {
-        let port = prepare(&rt, paths, "")?;
-        fs::write(&rt, "gone_on.log", former.as_bytes())?;
+        let port = prepare(&rt, paths, "");
+        write_file(&rt, "gone_on.log", former.as_bytes());
         let clock = SetClock::new(START);
         let (served, ()) = join(
             &rt,
-            || serve_by(&rt, &clock, options(paths, port, 1, 1)).is_ok(),
+            || serves(&rt, &clock, options(paths, port, 1, 1)),
             || ask_in_turn(&rt, rt.alloc(), &clock, port, &[(START, &sent, CHANGED)]),
         );
         assert!(rt; served);
-        let log = fs::read_to_string(&rt, "gone_on.log")?;
-        expect_line(&rt, log.as_str().strip_prefix(begins).unwrap_or(""));
+        expect_line(&rt, "gone_on.log", begins);
     }
-    Ok(())
 }
 
-fn expect_line<R: Abort>(rt: &R, line: &str) {
-    assert!(rt; line.starts_with("1970-01-12T13:48:20.000000Z worker 0 peer 127.0.0.1"));
-    assert!(rt; line.ends_with(LINE) && line.lines().count() == 1);
+// A log that begins so has one line behind that.
+fn expect_line<R: Files + AllocGlobal + Abort>(rt: &R, log: &str, begins: &str) {
+    let log = text_of(rt, log);
+    assert!(rt; is_line(log.as_str().strip_prefix(begins).unwrap_or("")));
+}
+
+fn is_line(line: &str) -> bool {
+    line.starts_with("1970-01-12T13:48:20.000000Z worker 0 peer 127.0.0.1")
+        && line.ends_with(LINE)
+        && line.lines().count() == 1
 }
 
 // The file that the service can't write, if that is why it ended.
@@ -81,6 +86,26 @@ fn unwritten<
     }
 }
 
+// The service ends since it can't write this one of its files.
+fn refuse<
+    R: Files<File = File>
+        + Net<Listener = TcpListener, Stream = TcpStream>
+        + Threads
+        + Wait
+        + Clock
+        + Print
+        + Eprint
+        + AllocGlobal
+        + Abort
+        + Sync,
+>(rt: &R, paths: Paths<'_>, path: &str) {
+    expect_text(rt, unwritten(rt, paths), path);
+}
+
+fn expect_text<R: Abort>(rt: &R, found: &str, wanted: &str) {
+    assert_eq!(rt; found, wanted);
+}
+
 fn twice<'a>(journal: &'a str, log: &'a str) -> Paths<'a> {
     Paths {
         config: "twice.toml",
@@ -91,14 +116,13 @@ fn twice<'a>(journal: &'a str, log: &'a str) -> Paths<'a> {
 }
 
 // The files under other names; the last leads to the journal, which isn't there.
-fn link_files(rt: &HostRuntime) -> Result<(), Fail> {
+fn link_files<R: Files + Abort>(rt: &R) {
     for path in ["twice.hard", "twice.soft", "twice.dangling"] {
         let _ = fs::remove_file(rt, path);
     }
-    fs::hard_link(rt, "twice.toml", "twice.hard")?;
-    symlink(rt, "twice.seed", "twice.soft")?;
-    symlink(rt, "twice.journal", "twice.dangling")?;
-    Ok(())
+    assert!(rt; fs::hard_link(rt, "twice.toml", "twice.hard").is_ok());
+    assert!(rt; symlink(rt, "twice.seed", "twice.soft").is_ok());
+    assert!(rt; symlink(rt, "twice.journal", "twice.dangling").is_ok());
 }
 
 // A log that is another file of the start under any name.
@@ -125,7 +149,7 @@ fn refuse_logs<
         + Sync,
 >(rt: &R, logs: &[&str]) {
     for log in logs {
-        assert_eq!(rt; unwritten(rt, twice("twice.journal", log)), *log);
+        refuse(rt, twice("twice.journal", log), log);
     }
 }
 
@@ -145,28 +169,28 @@ fn refuse_journals<
         + Sync,
 >(rt: &R) {
     for journal in JOURNALS {
-        assert_eq!(rt; unwritten(rt, twice(journal, "twice.log")), journal);
+        refuse(rt, twice(journal, "twice.log"), journal);
     }
 }
 
 // They are refused, and none of the files is written to.
 #[test]
-fn one_file_twice(rt: HostRuntime) -> Result<(), Fail> {
-    prepare(&rt, twice("twice.journal", "twice.log"), "")?;
-    link_files(&rt)?;
+fn one_file_twice(rt: HostRuntime) {
+    prepare(&rt, twice("twice.journal", "twice.log"), "");
+    link_files(&rt);
     refuse_logs(&rt, &LOGS);
     refuse_journals(&rt);
     expect_no_file(&rt, "twice.journal");
     expect_no_file(&rt, "twice.log");
     // The journal isn't there yet, and would be where the log leads to.
     refuse_logs(&rt, &["twice.dangling"]);
-    assert_eq!(rt; fs::read(&rt, "twice.seed")?.as_slice(), [1; 32].as_slice());
-    assert!(rt;
-        fs::read_to_string(&rt, "twice.toml")?
-            .as_str()
-            .ends_with(SETTINGS)
-    );
-    Ok(())
+    expect_whole(&rt);
+}
+
+// The seed and the configuration are as they were.
+fn expect_whole<R: Files + AllocGlobal + Abort>(rt: &R) {
+    expect_bytes(rt, bytes_of(rt, "twice.seed").as_slice(), &[1; 32]);
+    assert!(rt; text_of(rt, "twice.toml").as_str().ends_with(SETTINGS));
 }
 
 fn expect_no_file<R: Files + Abort>(rt: &R, path: &str) {
@@ -183,32 +207,15 @@ fn no_file(log: &str) -> Paths<'_> {
     }
 }
 
-// A service ends since it can't write this log.
-fn refuse<
-    R: Files<File = File>
-        + Net<Listener = TcpListener, Stream = TcpStream>
-        + Threads
-        + Wait
-        + Clock
-        + Print
-        + Eprint
-        + AllocGlobal
-        + Abort
-        + Sync,
->(rt: &R, log: &str) {
-    assert_eq!(rt; unwritten(rt, no_file(log)), log);
-}
-
 // A pipe, whose opener would wait, and a folder are no logs.
 #[test]
-fn a_log_that_is_no_file(rt: HostRuntime) -> Result<(), Fail> {
-    let _port = prepare(&rt, no_file("no_file.log"), "")?;
-    let (reader, writer) = io::pipe(&rt)?;
-    refuse(&rt, ".");
+fn a_log_that_is_no_file(rt: HostRuntime) {
+    prepare(&rt, no_file("no_file.log"), "");
+    let (reader, writer) = io::pipe(&rt).ok().expect(&rt, "a pipe");
+    refuse(&rt, no_file("."), ".");
     refuse_descriptor(&rt, writer.as_raw_fd());
     expect_no_file(&rt, "no_file.journal");
     drop(reader);
-    Ok(())
 }
 
 fn refuse_descriptor<
@@ -224,24 +231,25 @@ fn refuse_descriptor<
         + Sync,
 >(rt: &R, descriptor: RawFd) {
     let path = format!(in rt.alloc(); "/dev/fd/{descriptor}");
-    refuse(rt, path.ok().expect(rt, "memory").as_str());
+    let path = path.ok().expect(rt, "memory");
+    refuse(rt, no_file(path.as_str()), path.as_str());
 }
 
 // Standard error and /dev/null are.
 #[test]
-fn a_log_on_a_device(rt: HostRuntime) -> Result<(), Fail> {
+fn a_log_on_a_device(rt: HostRuntime) {
     let sent = request(&rt, rt.alloc(), "alice", moment(START), "New-pass2");
     for log in ["-", "/dev/null"] {
-        let port = prepare(&rt, device("device.log"), "")?;
+        let port = prepare(&rt, device("device.log"), "");
         let clock = SetClock::new(START);
         let (served, ()) = join(
             &rt,
-            || serve_by(&rt, &clock, options(device(log), port, 1, 1)).is_ok(),
+            || serves(&rt, &clock, options(device(log), port, 1, 1)),
             || ask_in_turn(&rt, rt.alloc(), &clock, port, &[(START, &sent, CHANGED)]),
         );
-        assert!(rt; served && fs::metadata(&rt, "-").is_err());
+        assert!(rt; served);
+        expect_no_file(&rt, "-");
     }
-    Ok(())
 }
 
 // Files with this log.
@@ -258,7 +266,7 @@ fn device(log: &str) -> Paths<'_> {
 fn flood<R: Abort>(rt: &R, alloc: Global, stream: &TcpStream, count: u32) {
     for _ in 0..count {
         send(rt, stream, b"\x00");
-        let _ = reply(rt, alloc, stream);
+        expect_reply(rt, alloc, stream);
     }
 }
 
@@ -274,7 +282,7 @@ fn flood_in_turn<R: Net<Stream = TcpStream> + Clock + Abort>(
     let stream = connect_soon(rt, port);
     flood(rt, alloc, &stream, 30);
     send(rt, &stream, sent.message.as_slice());
-    let _ = reply(rt, alloc, &stream);
+    expect_reply(rt, alloc, &stream);
     clock.set(START + 1);
     flood(rt, alloc, &stream, 2);
     clock.set(START + 2);
@@ -291,30 +299,29 @@ const TEXTS: &str = "\
     5 more did not open: 5 from 127.0.0.0/8, 0 from elsewhere\n";
 
 #[test]
-fn a_flood_of_what_does_not_open(rt: HostRuntime) -> Result<(), Fail> {
+fn a_flood_of_what_does_not_open(rt: HostRuntime) {
     let paths = Paths {
         config: "flood.toml",
         seed: "flood.seed",
         journal: "flood.journal",
         log: Some("flood.log"),
     };
-    let port = prepare(&rt, paths, "")?;
+    let port = prepare(&rt, paths, "");
     let sent = request(&rt, rt.alloc(), "alice", moment(START), "New-pass2");
     let clock = SetClock::new(START);
     let (served, ()) = join(
         &rt,
-        || serve_by(&rt, &clock, options(paths, port, 1, 1)).is_ok(),
+        || serves(&rt, &clock, options(paths, port, 1, 1)),
         || flood_in_turn(&rt, rt.alloc(), &clock, port, &sent),
     );
     assert!(rt; served);
     expect_texts(&rt, rt.alloc());
-    Ok(())
 }
 
 fn expect_texts<R: Files + AllocGlobal + Abort>(rt: &R, alloc: Global) {
-    let log = fs::read_to_string(rt, "flood.log").ok().expect(rt, "a log");
+    let log = text_of(rt, "flood.log");
     let texts = texts_of(alloc, log.as_str()).ok().expect(rt, "memory");
-    assert_eq!(rt; texts.as_str(), TEXTS);
+    expect_text(rt, texts.as_str(), TEXTS);
 }
 
 fn texts_of(alloc: Global, log: &str) -> Result<String, AllocError> {

@@ -6,11 +6,13 @@ use crate::answers::started;
 use crate::gates::SecondFirst;
 use crate::realm::{CHANGED, opening};
 use crate::site::{
-    Clients, Machine, both_requests, connect, expect_line, reply, send, serve_here, terms,
+    Clients, Machine, both_requests, connect, expect_line, expect_served, listen, port_of, reply,
+    send, serve_here, terms,
 };
-use chpw_book::{DeskName, UnnamedDesk};
+use chpw_book::{Desk, DeskName, Pass, UnnamedDesk};
 use chpw_client::Sent;
 use chpw_frame::split_reply;
+use chpw_journal::MemorySink;
 use chpw_messages::Service;
 use chpw_pool::{Pool, run_pool_with};
 use std::alloc::Global;
@@ -18,9 +20,9 @@ use std::io::Write;
 use std::marker::Brand;
 use std::net::{Net, TcpListener, TcpStream};
 use std::process::Abort;
-use std::sync::Mutex;
-use std::test::Fail;
-use std::thread::join;
+use std::sync::{Mutex, Wait};
+use std::thread::{Threads, join};
+use std::time::Clock;
 
 // Two clients who connect before either asks; the second is answered first.
 #[derive(Drop)]
@@ -41,10 +43,9 @@ impl<R: Net<Stream = TcpStream> + Abort> Clients<R> for Both {
 }
 
 #[test]
-fn two_connections(rt: HostRuntime) -> Result<(), Fail> {
-    let listener = TcpListener::bind(&rt, ("127.0.0.1", 0u16))?;
+fn two_connections(rt: HostRuntime) {
     let (one, two) = both_requests(&rt, rt.alloc());
-    serve_here(&rt, rt.alloc(), &listener, 2, terms(2), &Both { one, two })
+    serve_here(&rt, rt.alloc(), 2, terms(2), &Both { one, two });
 }
 
 // A connection that ends in the middle of a message, while others go on.
@@ -64,13 +65,12 @@ impl<R: Net<Stream = TcpStream> + Abort> Clients<R> for AfterOneCutOff {
 }
 
 #[test]
-fn a_connection_cut_off(rt: HostRuntime) -> Result<(), Fail> {
-    let listener = TcpListener::bind(&rt, ("127.0.0.1", 0u16))?;
+fn a_connection_cut_off(rt: HostRuntime) {
     let (one, two) = both_requests(&rt, rt.alloc());
     let clients = AfterOneCutOff {
         others: Both { one, two },
     };
-    serve_here(&rt, rt.alloc(), &listener, 2, terms(3), &clients)
+    serve_here(&rt, rt.alloc(), 2, terms(3), &clients);
 }
 
 // The second connects when the first has its reply. The replies are sealed under the same keys, and have
@@ -102,23 +102,14 @@ fn expect_other_words<R: Abort>(rt: &R, one: &[u8], two: &[u8]) {
 }
 
 #[test]
-fn one_worker_draws_no_word_twice(rt: HostRuntime) -> Result<(), Fail> {
-    let listener = TcpListener::bind(&rt, ("127.0.0.1", 0u16))?;
+fn one_worker_draws_no_word_twice(rt: HostRuntime) {
     let (one, two) = both_requests(&rt, rt.alloc());
-    serve_here(
-        &rt,
-        rt.alloc(),
-        &listener,
-        1,
-        terms(2),
-        &OneByOne { one, two },
-    )
+    serve_here(&rt, rt.alloc(), 1, terms(2), &OneByOne { one, two });
 }
 
 #[test]
-fn the_second_answered_first(rt: HostRuntime) -> Result<(), Fail> {
-    let listener = TcpListener::bind(&rt, ("127.0.0.1", 0u16))?;
-    let port = listener.local_addr()?.port();
+fn the_second_answered_first(rt: HostRuntime) {
+    let listener = listen(&rt);
     let (service, table) = opening(&rt, rt.alloc(), 100);
     let pool = gated_pool::<Brand, _>(
         &rt,
@@ -126,51 +117,51 @@ fn the_second_answered_first(rt: HostRuntime) -> Result<(), Fail> {
         UnnamedDesk::of(table, 2),
         &service,
         &listener,
-        port,
-    )?;
-    assert!(rt; pool.served == 2 && pool.fault.is_none());
-    Ok(())
+    );
+    expect_served(&rt, &pool, 2);
 }
 
 // The worker of alice's connection decides only after bob has his reply.
-fn gated_pool<D: DeskName + Send + Sync, R: Machine>(
-    rt: &R,
-    alloc: Global,
-    unnamed: UnnamedDesk,
-    service: &Service,
-    listener: &TcpListener,
-    port: u16,
-) -> Result<Pool, Fail>
+fn gated_pool<
+    D: DeskName + Send + Sync,
+    R: Threads + Wait + Clock + Abort + Sync + Net<Listener = TcpListener, Stream = TcpStream>,
+>(rt: &R, alloc: Global, unnamed: UnnamedDesk, service: &Service, listener: &TcpListener) -> Pool
     requires name { IsNamed unnamed D.name D.parts D.book D.root D.workers }
     requires workers { workers_of unnamed ≡ 2 }
 {
-    let (desk, mut passes) = started::<D, R>(rt, alloc, unnamed)?;
-    let (one, two) = both_requests(rt, alloc);
-    let clients = Both { one, two };
+    let (desk, mut passes) = started::<D, R>(rt, alloc, unnamed);
     let answered = Mutex::new(false);
     let gates = vec![in alloc; gate(rt, true, &answered), gate(rt, false, &answered)];
     let gates = gates.ok().expect(rt, "memory");
-    let shared = &desk;
+    let pool = run_gated(rt, alloc, service, &desk, &mut passes, listener, gates);
+    desk.abandon(rt);
+    pool
+}
+
+// Runs the pool behind these gates beside its clients.
+fn run_gated<D: DeskName + Send + Sync, R: Machine>(
+    rt: &R,
+    alloc: Global,
+    service: &Service,
+    desk: &Desk<D, MemorySink>,
+    passes: &mut [Pass<D>],
+    listener: &TcpListener,
+    gates: Vec<SecondFirst<'_, R>>,
+) -> Pool {
+    let (one, two) = both_requests(rt, alloc);
+    let clients = Both { one, two };
+    let port = port_of(rt, listener);
     let (pool, ()) = join(
         rt,
         || {
             assert!(rt; !passes.is_empty() && gates.len() == passes.len());
             run_pool_with(
-                rt,
-                alloc,
-                listener,
-                service,
-                shared,
-                &mut passes,
-                [7; 32],
-                2,
-                gates,
+                rt, alloc, listener, service, desk, passes, [7; 32], 2, gates,
             )
         },
         || clients.ask(rt, alloc, port),
     );
-    desk.abandon(rt);
-    Ok(pool)
+    pool
 }
 
 fn gate<'a, R: Machine>(

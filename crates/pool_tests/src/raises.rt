@@ -7,7 +7,7 @@ use crate::answers::{
     started_failing,
 };
 use crate::overtaken::Overtaken;
-use crate::realm::{CHANGED, opening, request};
+use crate::realm::{CHANGED, name_of, opening, request};
 use chpw_answer::{Gate, NoGate, Spot};
 use chpw_book::{AtDesk, Desk, DeskName, Pass, UnnamedDesk};
 use chpw_client::Sent;
@@ -19,8 +19,6 @@ use std::alloc::Global;
 use std::marker::Brand;
 use std::process::Abort;
 use std::sync::Wait;
-use std::test::Fail;
-use test_realm::name;
 
 /// The count that is raised to, from 4.
 const HIGHER: u32 = 8;
@@ -60,7 +58,7 @@ impl<D: DeskName, R: Wait + Abort> Gate for Raises<'_, D, R> {
 }
 
 #[test]
-fn a_raise_while_a_message_waits(rt: HostRuntime) -> Result<(), Fail> {
+fn a_raise_while_a_message_waits(rt: HostRuntime) {
     let sent = request(&rt, rt.alloc(), "alice", NOW, "New-pass2");
     let (service, table) = opening(&rt, rt.alloc(), 100);
     raised_at::<Brand, _>(&rt, rt.alloc(), UnnamedDesk::of(table, 2), &service, &sent)
@@ -74,21 +72,15 @@ fn raised_at<D: DeskName, R: Wait + Abort>(
     unnamed: UnnamedDesk,
     service: &Service,
     sent: &Sent,
-) -> Result<(), Fail>
+)
     requires name { IsNamed unnamed D.name D.parts D.book D.root D.workers }
     requires workers { workers_of unnamed ≡ 2 }
 {
-    let (desk, mut passes) = started::<D, R>(rt, alloc, unnamed)?;
-    let mut second = passes.pop().expect(rt, "a pass");
-    let mut first = passes.pop().expect(rt, "a pass");
-    change_raised(rt, alloc, service, &desk, &mut first, &mut second, sent);
-    let shown = shown_of_alice(rt, alloc, &desk, &mut first);
-    expect_changed(rt, &shown, HIGHER, 2);
-    passes.push(first).ok().expect(rt, "a place");
-    passes.push(second).ok().expect(rt, "a place");
+    let (desk, mut passes) = started::<D, R>(rt, alloc, unnamed);
+    change_raised(rt, alloc, service, &desk, &mut passes, sent);
+    expect_changed(rt, alloc, &desk, &mut passes, HIGHER, 2);
     let (history, journal) = closed(rt, desk, passes).expect(rt, "all agree");
     expect_both(rt, alloc, &history, &journal);
-    Ok(())
 }
 
 // The first worker's message waits while the second raises the count.
@@ -97,10 +89,12 @@ fn change_raised<D: DeskName, R: Wait + Abort>(
     alloc: Global,
     service: &Service,
     desk: &Desk<D, MemorySink>,
-    first: &mut Pass<D>,
-    second: &mut Pass<D>,
+    passes: &mut [Pass<D>],
     sent: &Sent,
 ) {
+    let [first, second] = passes else {
+        panic!(rt; "not two passes")
+    };
     let mut gate = Raises {
         rt,
         desk,
@@ -111,9 +105,24 @@ fn change_raised<D: DeskName, R: Wait + Abort>(
 }
 
 // Alice's password was changed under this count, and the lookup saw so many events.
-fn expect_changed<R: Abort>(rt: &R, shown: &Lookup, count: u32, seen: u32) {
-    assert!(rt; shown.kvno == 2 && shown.policy == count && shown.seen == seen);
-    assert!(rt; shown.held.as_slice() == [count, 4].as_slice());
+fn expect_changed<D: DeskName, R: Abort>(
+    rt: &R,
+    alloc: Global,
+    desk: &Desk<D, MemorySink>,
+    passes: &mut [Pass<D>],
+    count: u32,
+    seen: u32,
+) {
+    let pass = passes.first_mut().expect(rt, "a pass");
+    let shown = shown_of_alice(rt, alloc, desk, pass);
+    assert!(rt; is_changed(&shown, count, seen));
+}
+
+fn is_changed(shown: &Lookup, count: u32, seen: u32) -> bool {
+    shown.kvno == 2
+        && shown.policy == count
+        && shown.seen == seen
+        && shown.held.as_slice() == [count, 4].as_slice()
 }
 
 // All is as it was at the start.
@@ -169,7 +178,7 @@ fn shown_of_alice<D: DeskName, R: Abort>(
     desk: &Desk<D, MemorySink>,
     pass: &mut Pass<D>,
 ) -> Lookup {
-    let alice = name(alloc, "alice").ok().expect(rt, "a name");
+    let alice = name_of(rt, alloc, "alice");
     let found = desk.lookup(pass, &alice).ok().expect(rt, "entered");
     found.expect(rt, "a principal")
 }
@@ -223,7 +232,7 @@ const TRIED: [Tried; 4] = [
 ];
 
 #[test]
-fn raises_between_derivation_and_decision(rt: HostRuntime) -> Result<(), Fail> {
+fn raises_between_derivation_and_decision(rt: HostRuntime) {
     let sent = request(&rt, rt.alloc(), "alice", NOW, "New-pass2");
     for tried in TRIED {
         let (service, table) = opening(&rt, rt.alloc(), 100);
@@ -234,9 +243,8 @@ fn raises_between_derivation_and_decision(rt: HostRuntime) -> Result<(), Fail> {
             &service,
             &sent,
             tried,
-        )?;
+        );
     }
-    Ok(())
 }
 
 // Alice's password is changed under the last count, whatever was raised before a decision of it.
@@ -247,29 +255,14 @@ fn overtaken_at<D: DeskName, R: Wait + Abort>(
     service: &Service,
     sent: &Sent,
     tried: Tried,
-) -> Result<(), Fail>
+)
     requires name { IsNamed unnamed D.name D.parts D.book D.root D.workers }
     requires workers { workers_of unnamed ≡ 2 }
 {
-    let (desk, mut passes) = started::<D, R>(rt, alloc, unnamed)?;
-    let mut second = passes.pop().expect(rt, "a pass");
-    let mut first = passes.pop().expect(rt, "a pass");
-    change_overtaken(
-        rt,
-        alloc,
-        service,
-        &desk,
-        &mut first,
-        &mut second,
-        sent,
-        tried,
-    );
-    let shown = shown_of_alice(rt, alloc, &desk, &mut first);
-    expect_changed(rt, &shown, tried.count, tried.entries);
-    passes.push(first).ok().expect(rt, "a place");
-    passes.push(second).ok().expect(rt, "a place");
+    let (desk, mut passes) = started::<D, R>(rt, alloc, unnamed);
+    change_overtaken(rt, alloc, service, &desk, &mut passes, sent, tried);
+    expect_changed(rt, alloc, &desk, &mut passes, tried.count, tried.entries);
     expect_closed(rt, desk, passes, tried.entries as usize, tried.journal);
-    Ok(())
 }
 
 // The first worker decides while the second raises the count.
@@ -278,11 +271,13 @@ fn change_overtaken<D: DeskName, R: Wait + Abort>(
     alloc: Global,
     service: &Service,
     desk: &Desk<D, MemorySink>,
-    first: &mut Pass<D>,
-    second: &mut Pass<D>,
+    passes: &mut [Pass<D>],
     sent: &Sent,
     tried: Tried,
 ) {
+    let [first, second] = passes else {
+        panic!(rt; "not two passes")
+    };
     let mut overtaken = Overtaken {
         place: AtDesk {
             rt,
@@ -301,7 +296,7 @@ fn change_overtaken<D: DeskName, R: Wait + Abort>(
 }
 
 #[test]
-fn a_raise_that_the_journal_does_not_take(rt: HostRuntime) -> Result<(), Fail> {
+fn a_raise_that_the_journal_does_not_take(rt: HostRuntime) {
     let sent = request(&rt, rt.alloc(), "alice", NOW, "New-pass2");
     for taken in 0..7 {
         let (service, table) = opening(&rt, rt.alloc(), 100);
@@ -312,13 +307,11 @@ fn a_raise_that_the_journal_does_not_take(rt: HostRuntime) -> Result<(), Fail> {
             &service,
             &sent,
             taken,
-        )?;
+        );
     }
-    Ok(())
 }
 
-// The journal takes so many bytes of the raise: lookups show the count of before, nothing is accepted any
-// more, and the journal restores the count of before.
+// The journal takes so many bytes of the raise, and restores the count of before.
 fn broken_at<D: DeskName, R: Wait + Abort>(
     rt: &R,
     alloc: Global,
@@ -326,19 +319,29 @@ fn broken_at<D: DeskName, R: Wait + Abort>(
     service: &Service,
     sent: &Sent,
     taken: usize,
-) -> Result<(), Fail>
+)
     requires name { IsNamed unnamed D.name D.parts D.book D.root D.workers }
 {
-    let (desk, mut passes) = started_failing::<D, R>(rt, alloc, unnamed, 1, taken)?;
-    let mut pass = passes.pop().expect(rt, "a pass");
-    expect_broken(rt, alloc, &desk, &mut pass);
-    assert!(rt; pass.front().is_none());
-    expect_answer(rt, alloc, service, &desk, &mut pass, sent, BROKEN);
-    expect_broken(rt, alloc, &desk, &mut pass);
-    passes.push(pass).ok().expect(rt, "a place");
+    let (desk, mut passes) = started_failing::<D, R>(rt, alloc, unnamed, 1, taken);
+    raise_in_vain(rt, alloc, service, &desk, &mut passes, sent);
     let (history, journal) = closed(rt, desk, passes).expect(rt, "all agree");
     expect_torn(rt, alloc, &history, &journal, taken);
-    Ok(())
+}
+
+// Lookups show the count of before, and nothing is accepted any more.
+fn raise_in_vain<D: DeskName, R: Wait + Abort>(
+    rt: &R,
+    alloc: Global,
+    service: &Service,
+    desk: &Desk<D, MemorySink>,
+    passes: &mut [Pass<D>],
+    sent: &Sent,
+) {
+    let pass = passes.first_mut().expect(rt, "a pass");
+    expect_broken(rt, alloc, desk, pass);
+    assert!(rt; pass.front().is_none());
+    expect_answer(rt, alloc, service, desk, pass, sent, BROKEN);
+    expect_broken(rt, alloc, desk, pass);
 }
 
 // A raise isn't taken, and a lookup shows nothing of it.

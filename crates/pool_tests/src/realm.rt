@@ -1,8 +1,11 @@
 //! The realm of alice and bob: the service, its clients' requests, and what they print of the replies.
-ghost use Rattle.std.specs.Prelude.{◌≤◌};
+ghost use Rattle.std.specs.Prelude.{◌≡◌, ◌≤◌, true};
+ghost use Rattle.chpw_rules.specs.Fitting.{config_fits};
+ghost use Rattle.chpw_rules.specs.Names.{is_name};
 
 use chpw_client::{LAST_START, LONGEST_PASSWORD, Sent, client_line, client_request};
 use chpw_messages::Service;
+use chpw_rules::{Config, Name};
 use chpw_serve::WorkerWords;
 use chpw_table::{Moment, Table};
 use std::alloc::Global;
@@ -16,39 +19,56 @@ pub const CHANGED: &[u8] = b"code 0 password changed";
 
 /// The service, and the table that it opens with, with this many entries at the most.
 pub fn opening<R: Abort>(rt: &R, alloc: Global, max_entries: u32) -> (Service, Table) {
-    opened(alloc, max_entries).ok().expect(rt, "a realm")
+    let config = config_of(rt, alloc, max_entries);
+    let service = Service::of(alloc, &config).ok().expect(rt, "a service");
+    let table = Table::start(alloc, config, -1).ok().expect(rt, "a table");
+    (service, table)
 }
 
-fn opened(alloc: Global, max_entries: u32) -> io::Result<(Service, Table)> {
-    let names = vec![in alloc; name(alloc, "alice")?, name(alloc, "bob")?]?;
-    let config = config(alloc, names, 4, max_entries)?;
-    let service = Service::of(alloc, &config)?;
-    Ok((service, Table::start(alloc, config, -1)?))
+fn config_of<R: Abort>(rt: &R, alloc: Global, max_entries: u32) -> Config
+    ensures fits { config_fits result ≡ true }
+{
+    let names = vec![in alloc; name_of(rt, alloc, "alice"), name_of(rt, alloc, "bob")];
+    let names = names.ok().expect(rt, "memory");
+    config(alloc, names, 4, max_entries)
+        .ok()
+        .expect(rt, "a configuration")
+}
+
+/// A principal's name.
+pub fn name_of<R: Abort>(rt: &R, alloc: Global, text: &str) -> Name
+    ensures fits { is_name result ≡ true }
+{
+    name(alloc, text).ok().expect(rt, "a name")
 }
 
 /// The request of a client at a moment for a new password of its own.
 pub fn request<R: Abort>(rt: &R, alloc: Global, client: &str, now: Moment, password: &str) -> Sent {
-    made(rt, alloc, client, now, password.as_bytes())
-        .ok()
-        .expect(rt, "a request")
+    let client = name_of(rt, alloc, client);
+    let config = config(alloc, Vec::new(alloc), 4, 1);
+    let config = config.ok().expect(rt, "a configuration");
+    made(rt, alloc, &config, &client, now, password.as_bytes())
 }
 
 fn made<R: Abort>(
     rt: &R,
     alloc: Global,
-    client: &str,
+    config: &Config,
+    client: &Name,
     now: Moment,
     password: &[u8],
-) -> io::Result<Sent> {
+) -> Sent
+    requires fits { config_fits config.now ≡ true }
+    requires client { is_name client.now ≡ true }
+{
     assert!(rt; password.len() <= LONGEST_PASSWORD);
     assert!(rt; 0 <= now.seconds && now.seconds <= LAST_START && now.micros < 1_000_000);
-    let client = name(alloc, client)?;
-    let config = config(alloc, Vec::new(alloc), 4, 1)?;
     assert!(rt; !config.service.as_slice().is_empty());
     let mut words = WorkerWords::new([1; 32], 0);
-    Ok(client_request(
-        alloc, &config, now, &client, password, None, true, false, &mut words,
-    )?)
+    let sent = client_request(
+        alloc, config, now, client, password, None, true, false, &mut words,
+    );
+    sent.ok().expect(rt, "a request")
 }
 
 /// What the client prints of the reply to its request.
@@ -56,6 +76,16 @@ pub fn told<R: Abort>(rt: &R, alloc: Global, sent: &Sent, reply: &[u8]) -> Vec<u
     let line = client_line(alloc, sent, reply).ok().expect(rt, "memory");
     let (line, _) = line.expect(rt, "a reply to the request");
     line
+}
+
+/// The reply to a request says so.
+pub fn expect_told<R: Abort>(rt: &R, alloc: Global, sent: &Sent, reply: &[u8], line: &[u8]) {
+    expect_bytes(rt, told(rt, alloc, sent, reply).as_slice(), line);
+}
+
+/// These bytes are what they are to be.
+pub fn expect_bytes<R: Abort>(rt: &R, found: &[u8], wanted: &[u8]) {
+    assert_eq!(rt; found, wanted);
 }
 
 /// A clock that stands still at a second until it is set.

@@ -1,14 +1,14 @@
 //! Many clients beside one another while history follows history: none is left unanswered, and none changes twice.
-use crate::realm::{CHANGED, SetClock, request, told};
-use crate::services::{START, connect_soon, expect_length, files_at, moment, options, prepare};
-use crate::site::{reply, send};
+use crate::realm::{CHANGED, SetClock, expect_bytes, request, told};
+use crate::services::{
+    START, connect_soon, expect_length, files_at, moment, options, prepare, serves,
+};
+use crate::site::{keep, reply, send};
 use chpw_client::Sent;
-use chpw_service::serve_by;
 use std::alloc::Global;
 use std::io::Write;
 use std::net::{Net, TcpStream};
 use std::process::Abort;
-use std::test::Fail;
 use std::thread::join;
 use std::time::Clock;
 
@@ -29,18 +29,29 @@ fn ask_all<R: Net<Stream = TcpStream> + Clock + Abort>(
     port: u16,
     requests: &[Sent],
 ) {
-    let mut streams = Vec::new(alloc);
-    for _ in requests {
-        streams
-            .push(connect_soon(rt, port))
-            .ok()
-            .expect(rt, "memory");
-    }
-    for (sent, stream) in requests.iter().zip(streams.iter()) {
-        send(rt, stream, sent.message.as_slice());
-    }
+    let streams = connect_all(rt, alloc, port, requests.len());
+    send_all(rt, requests, &streams);
     for (sent, stream) in requests.iter().zip(streams.iter()) {
         expect_change(rt, alloc, stream, sent);
+    }
+}
+
+fn connect_all<R: Net<Stream = TcpStream> + Clock + Abort>(
+    rt: &R,
+    alloc: Global,
+    port: u16,
+    count: usize,
+) -> Vec<TcpStream> {
+    let mut streams = Vec::new(alloc);
+    for _ in 0..count {
+        keep(rt, &mut streams, connect_soon(rt, port));
+    }
+    streams
+}
+
+fn send_all<R: Abort>(rt: &R, requests: &[Sent], streams: &[TcpStream]) {
+    for (sent, stream) in requests.iter().zip(streams.iter()) {
+        send(rt, stream, sent.message.as_slice());
     }
 }
 
@@ -69,13 +80,7 @@ fn flood<R: Net<Stream = TcpStream> + Clock + Abort>(
 ) -> TcpStream {
     let stream = connect_soon(rt, port);
     assert!(rt; stream.set_nonblocking(true).is_ok());
-    let mut messages = Vec::new(alloc);
-    for _ in 0..100u8 {
-        messages
-            .extend_from_slice(&[0, 0, 0, 6, 0, 6, 0xff, 0x80, 0, 0])
-            .ok()
-            .expect(rt, "memory");
-    }
+    let messages = hundred_messages(rt, alloc);
     for _ in 0..400u32 {
         if (&stream).write_all(&messages).is_err() {
             break;
@@ -84,13 +89,22 @@ fn flood<R: Net<Stream = TcpStream> + Clock + Abort>(
     stream
 }
 
+fn hundred_messages<R: Abort>(rt: &R, alloc: Global) -> Vec<u8> {
+    let mut messages = Vec::new(alloc);
+    for _ in 0..100u8 {
+        let added = messages.extend_from_slice(&[0, 0, 0, 6, 0, 6, 0xff, 0x80, 0, 0]);
+        assert!(rt; added.is_ok());
+    }
+    messages
+}
+
 fn expect_change<R: Abort>(rt: &R, alloc: Global, stream: &TcpStream, sent: &Sent) {
     for _ in 0..TRIES {
         let line = told(rt, alloc, sent, &reply(rt, alloc, stream));
         if line.as_slice() == CHANGED {
             return;
         }
-        assert_eq!(rt; line.as_slice(), FULL);
+        expect_bytes(rt, line.as_slice(), FULL);
         send(rt, stream, sent.message.as_slice());
     }
     panic!(rt; "the history is always full");
@@ -108,10 +122,7 @@ fn request_of<R: Abort>(rt: &R, alloc: Global, number: u8) -> Sent {
 fn requests_of<R: Abort>(rt: &R, alloc: Global) -> Vec<Sent> {
     let mut requests = Vec::new(alloc);
     for number in 0..CLIENTS {
-        requests
-            .push(request_of(rt, alloc, number))
-            .ok()
-            .expect(rt, "memory");
+        keep(rt, &mut requests, request_of(rt, alloc, number));
     }
     requests
 }
@@ -120,35 +131,31 @@ fn requests_of<R: Abort>(rt: &R, alloc: Global) -> Vec<Sent> {
 const FIVE: &str = "max_entries = 5\n";
 
 #[test]
-fn histories_amid_sixteen_workers(rt: HostRuntime) -> Result<(), Fail> {
+fn histories_amid_sixteen_workers(rt: HostRuntime) {
     let paths = files_at("amid.toml", "amid.seed", "amid.journal");
-    let port = prepare(&rt, paths, FIVE)?;
+    let port = prepare(&rt, paths, FIVE);
     let requests = requests_of(&rt, rt.alloc());
-    let options = options(paths, port, 16, u32::from(CLIENTS));
     let clock = SetClock::new(START);
     let (served, ()) = join(
         &rt,
-        || serve_by(&rt, &clock, options).is_ok(),
+        || serves(&rt, &clock, options(paths, port, 16, u32::from(CLIENTS))),
         || ask_beside(&rt, rt.alloc(), port, requests.as_slice(), false),
     );
     assert!(rt; served);
     expect_length(&rt, "amid.journal", 12 * 66 + 12 * 64);
-    Ok(())
 }
 
 #[test]
-fn histories_beside_a_client_that_reads_nothing(rt: HostRuntime) -> Result<(), Fail> {
+fn histories_beside_a_client_that_reads_nothing(rt: HostRuntime) {
     let paths = files_at("mute.toml", "mute.seed", "mute.journal");
-    let port = prepare(&rt, paths, FIVE)?;
+    let port = prepare(&rt, paths, FIVE);
     let requests = requests_of(&rt, rt.alloc());
-    let options = options(paths, port, 2, u32::from(CLIENTS) + 1);
     let clock = SetClock::new(START);
     let (served, ()) = join(
         &rt,
-        || serve_by(&rt, &clock, options).is_ok(),
+        || serves(&rt, &clock, options(paths, port, 2, u32::from(CLIENTS) + 1)),
         || ask_beside(&rt, rt.alloc(), port, requests.as_slice(), true),
     );
     assert!(rt; served);
     expect_length(&rt, "mute.journal", 12 * 66 + 12 * 64);
-    Ok(())
 }

@@ -1,8 +1,8 @@
 //! The service with its files: where it listens, its words, and a second start at one journal.
 ghost use Rattle.std.specs.Prelude.{◌≡◌, ◌≤◌, ◌<◌, ◌^◌, ℕ, Some};
 
-use crate::realm::{CHANGED, SetClock, opening, request, told};
-use crate::site::{expect_line, reply, send};
+use crate::realm::{CHANGED, SetClock, expect_told, name_of, opening, request};
+use crate::site::{expect_line, keep, listen, port_of, reply, send};
 use chpw_client::Sent;
 use chpw_frame::split_reply;
 use chpw_invocation::{ServeOptions, USUAL_FOLLOWER_WAIT};
@@ -14,11 +14,10 @@ use std::fs::{self, File, Files};
 use std::io;
 use std::net::{Net, TcpListener, TcpStream};
 use std::process::Abort;
+use std::sync::Wait;
 use std::sync::atomic::{AtomicBool, AtomicU64, Ordering};
-use std::test::Fail;
-use std::thread::{self, join};
+use std::thread::{self, Threads, join};
 use std::time::{Clock, Duration};
-use test_realm::name;
 
 /// Alice and bob, and the key of the requests' tickets, behind the line `[service]`.
 pub const SETTINGS: &str = "\
@@ -58,6 +57,22 @@ pub const START: u64 = 1_000_100;
 /// How a request is refused that was decided before.
 const REPLAYED: &[u8] = b"code 3 error 34 request replayed";
 
+/// Runs a service; whether it ends well.
+pub fn serves<
+    R: Files<File = File>
+        + Net<Listener = TcpListener, Stream = TcpStream>
+        + Threads
+        + Wait
+        + Clock
+        + Print
+        + Eprint
+        + AllocGlobal
+        + Sync,
+    T: Clock + Sync,
+>(rt: &R, time: &T, options: ServeOptions<'_>) -> bool {
+    serve_by(rt, time, options).is_ok()
+}
+
 /// Where the files of a service are.
 #[derive(Clone, Copy, Drop)]
 pub struct Paths<'a> {
@@ -69,21 +84,29 @@ pub struct Paths<'a> {
 
 /// Writes the configuration, whose first table begins with this, and the seed, and removes what a former run left;
 /// a port where nobody listens.
-pub fn prepare(rt: &HostRuntime, paths: Paths<'_>, bound: &str) -> Result<u16, Fail> {
-    write_config(rt, paths.config, bound)?;
-    fs::write(rt, paths.seed, [1; 32].as_slice())?;
+pub fn prepare<R: Files + Net<Listener = TcpListener, Stream = TcpStream> + AllocGlobal + Abort>(
+    rt: &R,
+    paths: Paths<'_>,
+    bound: &str,
+) -> u16 {
+    write_config(rt, paths.config, bound);
+    write_file(rt, paths.seed, &[1; 32]);
     let _ = fs::remove_file(rt, paths.journal);
     if let Some(log) = paths.log {
         let _ = fs::remove_file(rt, log);
     }
-    let listener = TcpListener::bind(rt, ("127.0.0.1", 0u16))?;
-    Ok(listener.local_addr()?.port())
+    port_of(rt, &listen(rt))
 }
 
-fn write_config(rt: &HostRuntime, file: &str, bound: &str) -> Result<(), Fail> {
-    let config = format!(in rt.alloc(); "[service]\n{bound}{SETTINGS}")?;
-    fs::write(rt, file, config.as_bytes())?;
-    Ok(())
+fn write_config<R: Files + AllocGlobal + Abort>(rt: &R, file: &str, bound: &str) {
+    let config = format!(in rt.alloc(); "[service]\n{bound}{SETTINGS}");
+    let config = config.ok().expect(rt, "memory");
+    write_file(rt, file, config.as_bytes());
+}
+
+/// Writes a file.
+pub fn write_file<R: Files + Abort>(rt: &R, file: &str, bytes: &[u8]) {
+    assert!(rt; fs::write(rt, file, bytes).is_ok());
 }
 
 /// A service on these files.
@@ -111,8 +134,17 @@ pub fn options<'a>(paths: Paths<'a>, port: u16, workers: u8, connections: u32) -
 
 /// The file has so many bytes.
 pub fn expect_length<R: Files + AllocGlobal + Abort>(rt: &R, file: &str, bytes: usize) {
-    let found = fs::read(rt, file).ok().expect(rt, "a file");
-    assert_eq!(rt; found.len(), bytes);
+    assert_eq!(rt; bytes_of(rt, file).len(), bytes);
+}
+
+/// What a file holds.
+pub fn bytes_of<R: Files + AllocGlobal + Abort>(rt: &R, file: &str) -> Vec<u8> {
+    fs::read(rt, file).ok().expect(rt, "a file")
+}
+
+/// The text of a file.
+pub fn text_of<R: Files + AllocGlobal + Abort>(rt: &R, file: &str) -> String {
+    fs::read_to_string(rt, file).ok().expect(rt, "a text")
 }
 
 /// A connection to a service that is starting. A read that waits 10 seconds fails.
@@ -165,17 +197,17 @@ pub fn files_at<'a>(config: &'a str, seed: &'a str, journal: &'a str) -> Paths<'
 
 // The former run's message is refused, and a new one taken 301 seconds after the start.
 #[test]
-fn a_second_start(rt: HostRuntime) -> Result<(), Fail> {
+fn a_second_start(rt: HostRuntime) {
     let paths = files_at("restarts.toml", "restarts.seed", "restarts.journal");
-    let port = prepare(&rt, paths, "")?;
+    let port = prepare(&rt, paths, "");
     let former = request(&rt, rt.alloc(), "alice", moment(START), "New-pass2");
     let later = request(&rt, rt.alloc(), "alice", moment(START + 301), "New-pass3");
     let options = options(paths, port, 1, 1);
-    let clock = SetClock::new(START);
     let once = [(START, &former, CHANGED)];
+    let clock = SetClock::new(START);
     let (first, ()) = join(
         &rt,
-        || serve_by(&rt, &clock, options).is_ok(),
+        || serves(&rt, &clock, options),
         || ask_in_turn(&rt, rt.alloc(), &clock, port, &once),
     );
     let again = [
@@ -186,12 +218,11 @@ fn a_second_start(rt: HostRuntime) -> Result<(), Fail> {
     clock.set(START);
     let (second, ()) = join(
         &rt,
-        || serve_by(&rt, &clock, options).is_ok(),
+        || serves(&rt, &clock, options),
         || ask_in_turn(&rt, rt.alloc(), &clock, port, &again),
     );
     assert!(rt; first && second);
     expect_length(&rt, "restarts.journal", 2 * 66);
-    Ok(())
 }
 
 // The count that a service raises to, where it does.
@@ -245,24 +276,25 @@ const RAISES: [(u32, &str, bool); 3] = [
 
 // All that is changed after the raise is changed under 8.
 #[test]
-fn a_second_start_behind_a_raise(rt: HostRuntime) -> Result<(), Fail> {
+fn a_second_start_behind_a_raise(rt: HostRuntime) {
     let paths = files_at("raised.toml", "raised.seed", "raised.journal");
-    let port = prepare(&rt, paths, "")?;
-    let clock = SetClock::new(START);
+    let port = prepare(&rt, paths, "");
     for (later, password, raises) in RAISES {
-        let options = raising(port, raises);
-        clock.set(START + u64::from(later));
+        let clock = SetClock::new(START + u64::from(later));
         let (served, ()) = join(
             &rt,
-            || serve_by(&rt, &clock, options).is_ok(),
+            || serves(&rt, &clock, raising(port, raises)),
             || change_later(&rt, rt.alloc(), &clock, port, later, password),
         );
         assert!(rt; served);
     }
-    let journal = fs::read(&rt, "raised.journal")?;
-    assert_eq!(rt; journal.len(), 7 + 3 * 66);
-    restore_raised(&rt, rt.alloc(), journal.as_slice());
-    Ok(())
+    expect_length(&rt, "raised.journal", 7 + 3 * 66);
+    expect_journal(&rt, rt.alloc());
+}
+
+fn expect_journal<R: Files + AllocGlobal + Abort>(rt: &R, alloc: Global) {
+    let journal = bytes_of(rt, "raised.journal");
+    restore_raised(rt, alloc, journal.as_slice());
 }
 
 fn restore_raised<R: Abort>(rt: &R, alloc: Global, mut journal: &[u8]) {
@@ -273,7 +305,7 @@ fn restore_raised<R: Abort>(rt: &R, alloc: Global, mut journal: &[u8]) {
 
 // The raise and three changes of alice.
 fn expect_raised<R: Abort>(rt: &R, alloc: Global, restored: &Restored) {
-    let alice = name(alloc, "alice").ok().expect(rt, "a name");
+    let alice = name_of(rt, alloc, "alice");
     let shown = restored.table.lookup(&alice).expect(rt, "a principal");
     assert!(rt; restored.records == 4 && shown.policy == 8 && shown.kvno == 4);
     assert!(rt; shown.held.as_slice() == [8, 8].as_slice());
@@ -289,7 +321,7 @@ fn answered<R: Abort>(
 ) -> Vec<u8> {
     send(rt, stream, sent.message.as_slice());
     let reply = reply(rt, alloc, stream);
-    assert_eq!(rt; told(rt, alloc, sent, &reply).as_slice(), line);
+    expect_told(rt, alloc, sent, &reply, line);
     reply
 }
 
@@ -320,22 +352,20 @@ fn expect_other_words<R: Abort>(rt: &R, one: &[u8], two: &[u8]) {
 
 // A full history is followed by another one, which knows the requests of the former.
 #[test]
-fn a_full_history_and_the_next(rt: HostRuntime) -> Result<(), Fail> {
+fn a_full_history_and_the_next(rt: HostRuntime) {
     let paths = files_at("full.toml", "full.seed", "full.journal");
-    let port = prepare(&rt, paths, "max_entries = 2\n")?;
+    let port = prepare(&rt, paths, "max_entries = 2\n");
     let first = request(&rt, rt.alloc(), "alice", moment(START), "New-pass2");
     let second = request(&rt, rt.alloc(), "alice", moment(START + 1), "New-pass3");
     let third = request(&rt, rt.alloc(), "bob", moment(START), "New-pass4");
-    let options = options(paths, port, 1, 2);
     let clock = SetClock::new(START);
     let (served, ()) = join(
         &rt,
-        || serve_by(&rt, &clock, options).is_ok(),
+        || serves(&rt, &clock, options(paths, port, 1, 2)),
         || ask_beyond_the_end(&rt, rt.alloc(), port, [&first, &second, &third]),
     );
     assert!(rt; served);
     expect_length(&rt, "full.journal", 66 + 66 + 64);
-    Ok(())
 }
 
 // The reply of a service, which is at 127.0.0.1 alone.
@@ -353,9 +383,9 @@ fn ask_once<R: Net<Stream = TcpStream> + Clock + Abort>(
 
 // One seed gives one reply to a request, another seed another.
 #[test]
-fn words_of_the_seed(rt: HostRuntime) -> Result<(), Fail> {
-    let port = prepare(&rt, files_at("words.toml", "one.seed", "words.journal"), "")?;
-    fs::write(&rt, "other.seed", [2; 32].as_slice())?;
+fn words_of_the_seed(rt: HostRuntime) {
+    let port = prepare(&rt, files_at("words.toml", "one.seed", "words.journal"), "");
+    write_file(&rt, "other.seed", &[2; 32]);
     let sent = request(&rt, rt.alloc(), "alice", moment(START), "New-pass2");
     let clock = SetClock::new(START);
     let mut replies = Vec::new(rt.alloc());
@@ -364,14 +394,13 @@ fn words_of_the_seed(rt: HostRuntime) -> Result<(), Fail> {
         let options = options(files_at("words.toml", seed, "words.journal"), port, 1, 1);
         let (served, found) = join(
             &rt,
-            || serve_by(&rt, &clock, options).is_ok(),
+            || serves(&rt, &clock, options),
             || ask_once(&rt, rt.alloc(), port, &sent),
         );
         assert!(rt; served);
-        replies.push(found).ok().expect(&rt, "memory");
+        keep(&rt, &mut replies, found);
     }
     compare(&rt, replies.as_slice());
-    Ok(())
 }
 
 fn compare<R: Abort>(rt: &R, replies: &[Vec<u8>]) {
@@ -409,9 +438,9 @@ impl<R: Files<File = File>> Clock for LookingClock<'_, R> {
 
 // What a start is refused that other processes may have preceded depends on its moment, so it is read behind the lock.
 #[test]
-fn a_start_that_is_read_behind_the_lock(rt: HostRuntime) -> Result<(), Fail> {
+fn a_start_that_is_read_behind_the_lock(rt: HostRuntime) {
     let paths = files_at("looking.toml", "looking.seed", "looking.journal");
-    let port = prepare(&rt, paths, "")?;
+    let port = prepare(&rt, paths, "");
     let sent = request(&rt, rt.alloc(), "alice", moment(START), "New-pass2");
     let clock = LookingClock {
         rt: &rt,
@@ -421,9 +450,8 @@ fn a_start_that_is_read_behind_the_lock(rt: HostRuntime) -> Result<(), Fail> {
     };
     let (served, _) = join(
         &rt,
-        || serve_by(&rt, &clock, options(paths, port, 1, 1)).is_ok(),
+        || serves(&rt, &clock, options(paths, port, 1, 1)),
         || ask_once(&rt, rt.alloc(), port, &sent),
     );
     assert!(rt; served && clock.was_locked.load(Ordering::SeqCst));
-    Ok(())
 }

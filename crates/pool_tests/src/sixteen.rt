@@ -5,55 +5,64 @@ ghost use Rattle.chpw_book.specs.Starting.{IsNamed, workers_of};
 use crate::answers::{NOW, REPLAYED, answered, expect_closed, started};
 use crate::gates::Together;
 use crate::realm::{CHANGED, opening, request};
-use chpw_book::{DeskName, UnnamedDesk};
+use chpw_book::{Desk, DeskName, Pass, UnnamedDesk};
 use chpw_client::Sent;
+use chpw_journal::MemorySink;
 use chpw_messages::Service;
 use std::alloc::Global;
 use std::marker::Brand;
 use std::process::Abort;
 use std::sync::atomic::{AtomicU32, Ordering};
 use std::sync::{Barrier, Wait};
-use std::test::Fail;
 use std::thread;
 use std::thread::Threads;
 
 #[test]
-fn one_message_of_sixteen_workers(rt: HostRuntime) -> Result<(), Fail> {
+fn one_message_of_sixteen_workers(rt: HostRuntime) {
     let sent = request(&rt, rt.alloc(), "alice", NOW, "New-pass2");
     let (service, table) = opening(&rt, rt.alloc(), 100);
     all_at::<Brand, _>(&rt, rt.alloc(), UnnamedDesk::of(table, 16), &service, &sent)
 }
 
-// All are held until each has opened it: one changes the password, and the others tell a replay.
+// One changes the password, and the others tell a replay.
 fn all_at<D: DeskName + Send + Sync, R: Threads + Wait + Abort + Sync>(
     rt: &R,
     alloc: Global,
     unnamed: UnnamedDesk,
     service: &Service,
     sent: &Sent,
-) -> Result<(), Fail>
+)
     requires name { IsNamed unnamed D.name D.parts D.book D.root D.workers }
     requires workers { workers_of unnamed ≡ 16 }
 {
-    let (desk, mut passes) = started::<D, R>(rt, alloc, unnamed)?;
+    let (desk, mut passes) = started::<D, R>(rt, alloc, unnamed);
     let told = Told::new();
-    let barrier = Barrier::new(16);
-    let (shared, told_ref, barrier_ref) = (&desk, &told, &barrier);
-    thread::for_each_mut(
-        rt,
-        &mut passes,
-        16,
-        &|_, pass| {
-            let mut gate = Together {
-                rt,
-                barrier: barrier_ref,
-            };
-            told_ref.note(&answered(rt, alloc, service, shared, pass, &mut gate, sent));
-        },
-    );
+    ask_all(rt, alloc, service, &desk, &mut passes, &told, sent);
     assert!(rt; told.counts() == (1, 15));
     expect_closed(rt, desk, passes, 16, 66);
-    Ok(())
+}
+
+// All are held until each has opened it.
+fn ask_all<D: DeskName + Send + Sync, R: Threads + Wait + Abort + Sync>(
+    rt: &R,
+    alloc: Global,
+    service: &Service,
+    desk: &Desk<D, MemorySink>,
+    passes: &mut [Pass<D>],
+    told: &Told,
+    sent: &Sent,
+) {
+    let barrier = Barrier::new(16);
+    let barrier = &barrier;
+    thread::for_each_mut(
+        rt,
+        passes,
+        16,
+        &|_, pass| {
+            let mut gate = Together { rt, barrier };
+            told.note(&answered(rt, alloc, service, desk, pass, &mut gate, sent));
+        },
+    );
 }
 
 // How many workers told a change, and how many a replay.

@@ -1,6 +1,6 @@
 use mir.Syntax.{named}
 use denote.Param.{param}
-use denote.Param.Send.{sendable, shr_send, mut_send, shr_sync}
+use denote.Param.Send.{sendable, shr_send, mut_slice_send, shr_sync}
 use denote.Struct.Field.{shr_ref_field}
 use Rattle.std.specs.contracts.alloc.Global as Global
 use Rattle.std.proofs.alloc.Global.TheSendSync as global
@@ -19,17 +19,17 @@ use Rattle.chpw_journal.specs.contracts.memory_sink.MemorySinkJournalSink.TheImp
 use Rattle.chpw_journal.proofs.memory_sink.MemorySink.TheSendSync as memory
 use Rattle.chpw_messages.specs.contracts.service.Service as Service
 use Rattle.chpw_messages.proofs.service.Service.TheSendSync as service
-use Rattle.pool_tests.specs.contracts.gates.SecondFirst as SecondFirst
-use Rattle.pool_tests.proofs.gates.SecondFirst.TheSendSync as gate
+use Rattle.pool_tests.specs.contracts.gates.UntilTold as UntilTold
+use Rattle.pool_tests.proofs.gates.UntilTold.TheSendSync as gate
 use Rattle.pool_tests.proofs.SendLemmas.{seven_send}
-use Rattle.pool_tests.proofs.pools.gated_pool.Goals as goal
+use Rattle.pool_tests.proofs.given_up.run_held.Goals as goal
 
 pub join-requires-send-F : goal.join-requires-send-F
 join-requires-send-F g c κs within =
     let desk = Desk.the_row (param 0 g.row.D) MemorySink.the_row g.D.DeskName g.D.Ledger g.D.ListName sink.ghosts in
-    let passes = Vec.the_row (Pass.the_row (param 0 g.row.D) g.D.DeskName g.D.Ledger g.D.ListName) Global.the_row allocator.ghosts in
-    let gates = Vec.the_row (SecondFirst.the_row (record { mir = named 7; lft = κs.1.1.1.1.1.1.1.0 }) (param 1 g.row.R)) Global.the_row allocator.ghosts in
+    let passes = Pass.the_row (param 0 g.row.D) g.D.DeskName g.D.Ledger g.D.ListName in
+    let gates = Vec.the_row (UntilTold.the_row (record { mir = named 7; lft = κs.1.1.1.1.1.1.1.0 }) (param 1 g.row.R)) Global.the_row allocator.ghosts in
     let place = (shr_ref_field (record { mir = named 9; lft = κs.1.1.1.1.1.1.1.1.1.0 }) (param 1 g.row.R) tt).row in
-    seven_send _ _ _ _ gates _ _ _ _ _ (mut_send _ _ passes (search (vec.the_send, pass.the_send, global.the_send, Crossing.crosses, sendable) depth 20)) (search (vec.the_send, gate.the_send, global.the_send, Crossing.crosses, sendable) depth 20)
+    seven_send _ _ _ _ gates _ _ _ _ _ (mut_slice_send _ _ passes (search (pass.the_send, sendable))) (search (vec.the_send, gate.the_send, global.the_send, Crossing.crosses, sendable) depth 20)
     (shr_send _ _ place (shr_sync _ _ (param 1 g.row.R) (search sendable))) (shr_send _ _ Global.the_row (search (global.the_sync, sendable))) (shr_send _ _ TcpListener.the_row (search (listener.the_sync, sendable)))
     (shr_send _ _ Service.the_row (search (service.the_sync, sendable))) (shr_send _ _ desk (search (desk_sync, memory.the_send, sendable)))
