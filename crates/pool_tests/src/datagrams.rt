@@ -117,10 +117,14 @@ fn ask_in_vain<R: Net<Stream = TcpStream> + Clock + Abort>(
     let socket = client(rt, port);
     change_soon(rt, alloc, &socket, alice);
     for datagram in UNANSWERED {
-        assert!(rt; socket.send(datagram).is_ok());
-        assert!(rt; next_reply(rt, alloc, &socket).is_none());
+        expect_no_reply(rt, alloc, &socket, datagram);
     }
     change_soon(rt, alloc, &socket, bob);
+}
+
+fn expect_no_reply<R: Abort>(rt: &R, alloc: Global, socket: &UdpSocket, datagram: &[u8]) {
+    assert!(rt; socket.send(datagram).is_ok());
+    assert!(rt; next_reply(rt, alloc, socket).is_none());
 }
 
 // A datagram changes a password.

@@ -117,12 +117,16 @@ fn twice<'a>(journal: &'a str, log: &'a str) -> Paths<'a> {
 
 // The files under other names; the last leads to the journal, which isn't there.
 fn link_files<R: Files + Abort>(rt: &R) {
-    for path in ["twice.hard", "twice.soft", "twice.dangling"] {
-        let _ = fs::remove_file(rt, path);
-    }
+    let _ = fs::remove_file(rt, "twice.hard");
     assert!(rt; fs::hard_link(rt, "twice.toml", "twice.hard").is_ok());
-    assert!(rt; symlink(rt, "twice.seed", "twice.soft").is_ok());
-    assert!(rt; symlink(rt, "twice.journal", "twice.dangling").is_ok());
+    link(rt, "twice.seed", "twice.soft");
+    link(rt, "twice.journal", "twice.dangling");
+}
+
+// A symbolic link to a file.
+fn link<R: Files + Abort>(rt: &R, file: &str, path: &str) {
+    let _ = fs::remove_file(rt, path);
+    assert!(rt; symlink(rt, file, path).is_ok());
 }
 
 // A log that is another file of the start under any name.

@@ -30,6 +30,6 @@ join-requires-send-F g c κs within =
     let passes = Pass.the_row (param 0 g.row.D) g.D.DeskName g.D.Ledger g.D.ListName in
     let gates = Vec.the_row (SecondFirst.the_row (record { mir = named 7; lft = κs.1.1.1.1.1.1.1.0 }) (param 1 g.row.R)) Global.the_row allocator.ghosts in
     let place = (shr_ref_field (record { mir = named 9; lft = κs.1.1.1.1.1.1.1.1.1.0 }) (param 1 g.row.R) tt).row in
-    seven_send _ _ _ _ gates _ _ _ _ _ (mut_slice_send _ _ passes (search (pass.the_send, sendable))) (search (vec.the_send, gate.the_send, global.the_send, Crossing.crosses, sendable) depth 20)
+    seven_send _ _ _ _ gates _ _ _ _ _ (mut_slice_send _ _ passes (search (pass.the_send, sendable))) (search (vec.the_send, gate.the_send, Crossing.crosses, sendable) depth 20)
     (shr_send _ _ place (shr_sync _ _ (param 1 g.row.R) (search sendable))) (shr_send _ _ Global.the_row (search (global.the_sync, sendable))) (shr_send _ _ TcpListener.the_row (search (listener.the_sync, sendable)))
     (shr_send _ _ Service.the_row (search (service.the_sync, sendable))) (shr_send _ _ desk (search (desk_sync, memory.the_send, sendable)))

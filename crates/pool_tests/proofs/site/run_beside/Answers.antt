@@ -4,10 +4,6 @@ use denote.Param.Send.{sendable, shr_send, mut_slice_send, shr_sync}
 use denote.Struct.Field.{shr_ref_field}
 use Rattle.std.specs.contracts.alloc.Global as Global
 use Rattle.std.proofs.alloc.Global.TheSendSync as global
-use Rattle.std.specs.contracts.vec.Vec as Vec
-use Rattle.std.specs.contracts.impls.GlobalAllocator.TheImpl as allocator
-use Rattle.std.proofs.Crossing
-use Rattle.std.proofs.vec.Vec.TheSendSync as vec
 use Rattle.chpw_book.specs.contracts.pass.Pass as Pass
 use Rattle.chpw_book.specs.contracts.desk.Desk as Desk
 use Rattle.chpw_book.proofs.pass.Pass.TheSendSync as pass
