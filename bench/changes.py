@@ -3,7 +3,8 @@
 MIT's kadmind, the service by itself and the service with a follower take turns, so that all see the same
 machine. Each client changes the password of a user of its own again and again, over a new connection each
 time, as the projects' clients do. Its requests are made before the clock starts, and its tickets are forged
-with the key of kadmin/changepw, so that the KDC has nothing to do with them.
+with the key of kadmin/changepw, so that the KDC has nothing to do with them. All ask in the earlier protocol,
+as MIT's kpasswd does.
 """
 
 import collections
@@ -44,7 +45,7 @@ class Target:
     def request(self, user):
         self.made[user] += 1
         number = self.made[user]
-        return request_now(user, f"{user}-Pass{number}", number, **self.key)
+        return request_now(user, f"{user}-Pass{number}", number, old=True, **self.key)
 
     def one_after_the_other(self, requests):
         replies = []
@@ -72,7 +73,7 @@ class Target:
 
 
 def kadmind(realm, folder, users, stack):
-    """MIT's own, with the key that the KDC has of kadmin/changepw."""
+    """MIT's own server, with the key that the KDC has of kadmin/changepw."""
     entries = configuration.read_keytab(realm.keytab(["admin"]))
     [found] = [
         it for it in entries if it.etype == 18 and b"/".join(it.components).decode() == SERVICE

@@ -19,8 +19,8 @@ import time
 TOP = pathlib.Path(__file__).resolve().parent.parent
 sys.path.insert(0, str(TOP / "kdc"))
 
-import changes
 import realms
+import changes
 from cases import Cases, Passed
 from follower import Asker
 
@@ -83,7 +83,7 @@ def rates(cases, versions):
     best = {target.name: target.best for target in targets}
     for clients in changes.CLIENTS:
         told = ", ".join(f"{name} {found[clients]:.0f}" for name, found in best.items())
-        print(f"{cases.realm.KIND}: changes a second with {clients} clients: {told}", flush=True)
+        print(f"{cases.realm.KIND}: changes a second, clients {clients}: {told}", flush=True)
     followed, other = best["serve with a follower"], best.get("kadmind")
     return other is None or all(followed[clients] >= other[clients] for clients in changes.CLIENTS)
 

@@ -112,12 +112,12 @@ class Request:
     message: bytes
 
 
-def request_now(client, password, cusec, ahead=0, **key):
+def request_now(client, password, cusec, ahead=0, **more):
     """A change of one's own password, by a clock that is so many seconds ahead.
 
-    No two requests of a client have the same microseconds. `key` is the service's, where it is another one."""
+    No two requests of a client have the same microseconds. `more` is what `changepw_client.request` takes."""
     now = int(time.time()) + ahead
-    message = wire.request(client.encode(), password.encode(), cusec, ctime=now, starts=now - 60, **key)
+    message = wire.request(client.encode(), password.encode(), cusec, ctime=now, starts=now - 60, **more)
     return Request(now, cusec, message)
 
 
