@@ -53,6 +53,8 @@ class ReplicaCases(Cases):
             for number in range(3):
                 told = self.write(f"Each-pass{number}"), comes(self.is_there)
                 self.tell("replica: a change, at the primary and there", told, (True, True))
+            # its KDC refuses for a moment where it meets the write itself
+            comes(lambda: self.tickets("Each-pass2") == self.primary.ALL, 10)
             self.tell("  tickets", self.tickets("Each-pass2"), self.primary.ALL)
             answers = [self.write(f"Many-pass{number}") for number in range(20)]
             self.tell("replica: 20 changes at once", (all(answers), comes(self.is_there)), (True, True))
