@@ -1,13 +1,13 @@
 #!/usr/bin/env bash
 # Processor seconds that the gate's parts take of each crate, from nothing and one after the other: its
-# proof, its tests, its must-fail edits. All crates, in the order of crates.txt, or those of the
+# proof, its tests, its edits of must-fail/. All crates, in the order of crates.txt, or those of the
 # arguments; the libraries below them are built first where they aren't. It works on a copy, and takes
 # three hours and more for all. It prints rows for the table in docs/GATE.md, at last one for all.
 set -euo pipefail
 cd "$(dirname "$0")/.."
 copy=$(mktemp -d)
 trap 'rm -rf "$copy"' EXIT
-tar --exclude='*/out/incremental' -cf - crates crates.txt HANDLES | tar -C "$copy" -xf -
+tar --exclude='*/out/incremental' -cf - crates crates.txt HANDLES prove trials must-fail | tar -C "$copy" -xf -
 git -C "$copy" init --quiet
 cd "$copy"
 names=("$@")
@@ -36,7 +36,8 @@ for name in "${names[@]}"; do
     rm -rf "$crate/out"
     mv "$copy/kept" "$crate/out"
   fi
-  [ ! -d "$crate/must-fail" ] || edits=$(spent . rt must-fail "$name")
+  rm -rf "$crate/out/incremental"
+  [ ! -d "must-fail/$name" ] || edits=$(spent . trials/run --in must-fail "$name")
   echo "| $name | $proof | $tests | $edits |"
   all=($((all[0] + proof)) $((all[1] + tests)) $((all[2] + edits)))
 done

@@ -4,33 +4,56 @@ A contract stands for its function in the proofs of all others, so what is said 
 that one's body alone, whatever bodies the others have.
 """
 import re
+from typing import NamedTuple
 
 FUNCTION = re.compile(r"( *)(?:pub(?:\(\w+\))? )?(?:const )?(?:unsafe )?fn (\w+)")
+# What methods stand in: an impl of a trait, an impl of a type alone, or a trait.
+BLOCK = re.compile(r"(?:pub(?:\(\w+\))? )?(?:impl(?:<.*?>)? (?:(?:\w+::)*(\w+)(?:<.*>)? for )?(?:\w+::)*(\w+)|trait (\w+))")
 # What is said of a function whose own proof fails.
 FAILED = re.compile(r"not proved|no proof: expected answers in ")
+# What is said of a goal of it.
+GOAL = "it is not proved that "
 # What is said further where that may be since a callee's does.
 CALLEE = "which is not proved"
 # A proof file that names what an edit took away: such a line says nothing of the contract.
 NAMES = re.compile(r"has no field|is not in scope|has no `|was not admitted")
 
 
+class Function(NamedTuple):
+    """A function of a source: its name as the prover writes it, with its type; the line at which it begins, the first
+    one of its body and the one behind that."""
+    name: str
+    head: int
+    opened: int
+    closed: int
+
+
 def functions_of(text):
-    """The functions of a source in rt fmt's layout: a name, and the first line of the body and the one behind its last."""
-    lines, found = text.split("\n"), []
+    """The functions of a source in rt fmt's layout."""
+    lines, found, block = text.split("\n"), [], ""
     for at, line in enumerate(lines):
+        if BLOCK.match(line):
+            of_trait, of_type, trait = BLOCK.match(line).groups()
+            block = f"{trait or of_type + (of_trait or '')}::"
         head = FUNCTION.match(line)
         if not head:
             continue
-        indent = head[1]
+        indent, name = head[1], f"{block if head[1] else ''}{head[2]}"
         for opened in range(at, len(lines)):
             if lines[opened].startswith(indent) and lines[opened][len(indent) :][:1] not in ("", " "):
                 if lines[opened].endswith("{"):
                     closed = next((it for it in range(opened, len(lines)) if lines[it] == indent + "}"), opened)
-                    found.append((head[2], opened + 1, closed))
+                    found.append(Function(name, at, opened + 1, closed))
                     break
                 if opened > at and not lines[opened].startswith(indent + ")") and lines[opened] != indent + "where":
                     break
     return found
+
+
+def module_of(path):
+    """The module of a source."""
+    module = path.removeprefix("src/").removesuffix(".rt").removesuffix("/mod").replace("/", "::")
+    return "" if module in ("lib", "main") else module
 
 
 def function_changed(path, was, now):
@@ -42,11 +65,10 @@ def function_changed(path, was, now):
     while last > first and len(after) - len(before) + last > first and before[last - 1] == after[len(after) - len(before) + last - 1]:
         last -= 1
     functions = functions_of(was)
-    names = [name for name, _, _ in functions]
-    for name, opened, closed in functions:
-        if opened <= first and last <= closed and names.count(name) == 1:
-            module = path.removeprefix("src/").removesuffix(".rt").removesuffix("/mod").replace("/", "::")
-            return "" if module in ("lib", "main") else module, name
+    names = [it.name for it in functions]
+    for it in functions:
+        if it.opened <= first and last <= it.closed and names.count(it.name) == 1:
+            return module_of(path), it.name
     return None
 
 
@@ -64,15 +86,28 @@ def shares(edits, most):
     return lists
 
 
-def failed_proof(said, crate, function):
+def path_of(function):
+    """A function's path below its crate."""
+    return "::".join(filter(None, function))
+
+
+def is_within(line, function, texts):
+    """Whether what is said is of a place in this function, by the sources' texts."""
+    place = re.match(r"(?:note: )?(?:\./)?(src/\S+?\.rt):(\d+):\d+: ", line)
+    if not place or place[1] not in texts or module_of(place[1]) != function[0]:
+        return False
+    at = int(place[2]) - 1
+    return any(it.name == function[1] and it.head <= at <= it.closed for it in functions_of(texts[place[1]]))
+
+
+def failed_proof(said, crate, function, texts):
     """The line in which a check says that a function's own proof fails; None where it doesn't, or that isn't sure."""
-    module, name = function
-    path = f"{module}::" if module else ""
-    verdicts = [it for it in said if re.match(rf"fn {crate}::{path}(?:\w+::)?{name}: ", it)]
+    verdicts = [it for it in said if it.startswith(f"fn {crate}::{path_of(function)}: ")]
     if len(verdicts) != 1 or not FAILED.match(verdicts[0].split(": ", 1)[1]):
         return None
-    proofs = rf"(?:\./)?proofs/{path.replace('::', '/')}(?:\w+/)?{name}/\S+ error"
+    goal = next((it for it in said if GOAL in it and is_within(it, function, texts)), None)
+    proofs = rf"(?:\./)?proofs/{path_of(function).replace('::', '/')}/\S+ error"
     errors = [it for it in said if re.match(proofs, it)]
-    if any(NAMES.search(it) for it in errors) or CALLEE in verdicts[0] and not errors:
+    if goal is None and (any(NAMES.search(it) for it in errors) or CALLEE in verdicts[0] and not errors):
         return None
-    return verdicts[0]
+    return goal or verdicts[0]
