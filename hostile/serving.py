@@ -28,6 +28,8 @@ NO_REQUEST = bytes.fromhex("0006ff800000")
 # the most bytes of a message, and the most seconds that a read waits
 LONGEST = 65_535
 PATIENCE = 10
+# iterations that keep a worker busy for most of a second or longer
+BUSY = 1_000_000
 # the record of a change of alice, and one of bob's (docs/RULES, The journal)
 ALICES, BOBS = 66, 64
 
@@ -40,6 +42,12 @@ def request(name, ctime=START, password="New-pass2", cusec=7, **more):
 def both_requests():
     """Requests of alice and of bob at this moment, of one second and microsecond."""
     return [asking.request_now(name, "New-pass2", 7) for name in ("alice", "bob")]
+
+
+def parts_of(reply):
+    """AP-REP and KRB-PRIV of a reply (RFC 3244 section 2)."""
+    size = int.from_bytes(reply[4:6], "big")
+    return reply[6 : 6 + size], reply[6 + size :]
 
 
 def behind_length(message):
@@ -146,7 +154,7 @@ class Case:
         self.realm()
 
     def realm(self, **settings):
-        """The realm of alice and bob, with keys under four iterations."""
+        """The realm of alice and bob, with keys under four iterations where the settings have no others."""
         write_configuration(self.server.configuration, ["alice", "bob"], **{"iterations": 4, **settings})
 
     def start(self, connections, workers=1, options=(), **words):
