@@ -70,7 +70,14 @@ class Client(asking.Connection):
 
     def told(self, sent):
         """What the next reply says to a request."""
-        reply = self.reply()
+        try:
+            reply = self.reply()
+        except TimeoutError:
+            return f"no reply within {PATIENCE} s"
+        return self.said(sent, reply)
+
+    @staticmethod
+    def said(sent, reply):
         return asking.said(sent, reply) if reply else "no reply"
 
     def ask(self, sent):
@@ -157,11 +164,16 @@ class Case:
         """The realm of alice and bob, with keys under four iterations where the settings have no others."""
         write_configuration(self.server.configuration, ["alice", "bob"], **{"iterations": 4, **settings})
 
-    def start(self, connections, workers=1, options=(), **words):
+    def start(self, connections, **words):
+        """The service, once it listens."""
+        self.launch(connections, **words)
+        self.server.listens()
+
+    def launch(self, connections, workers=1, options=(), **words):
         """The service for so many connections, with these options, and a machine as these words have it."""
         self.server.workers, self.server.options = workers, list(options)
         environment = machine(self.folder, **words) if words else None
-        self.server.start(connections, env=environment, cwd=self.folder)
+        self.server.launch(connections, env=environment, cwd=self.folder)
 
     def client(self, *address):
         self.clients.append(Client(self.server, *address))
@@ -177,8 +189,8 @@ class Case:
 
     def last_lines(self):
         """What the service says, and how it ends, once the clients have left: all connections were served."""
-        for client in self.clients:
-            client.close()
+        while self.clients:
+            self.clients.pop().close()
         return self.server.last_words().splitlines(), self.server.process.returncode
 
     def tell_end(self, *lines):

@@ -38,6 +38,11 @@ class Server:
 
     def start(self, connections, **options):
         """Until it says that it listens; what it says instead is raised."""
+        self.launch(connections, **options)
+        self.listens()
+
+    def launch(self, connections, **options):
+        """Starts it, and doesn't wait."""
         self.process = subprocess.Popen(
             self.command(connections),
             stdin=subprocess.DEVNULL,
@@ -47,6 +52,9 @@ class Server:
             start_new_session=True,
             **options,
         )
+
+    def listens(self):
+        """It says that it listens; what it says instead is raised."""
         self.said = self.lines_before(f"listening on 127.0.0.1:{self.port}")
 
     def lines_before(self, wanted):
