@@ -28,8 +28,6 @@ NO_REQUEST = bytes.fromhex("0006ff800000")
 # the most bytes of a message, and the most seconds that a read waits
 LONGEST = 65_535
 PATIENCE = 10
-# iterations that keep a worker busy for some tenths of a second or longer
-BUSY = 200_000
 # the record of a change of alice, and one of bob's (docs/RULES, The journal)
 ALICES, BOBS = 66, 64
 

@@ -21,13 +21,11 @@ aes256 = "{aes256}"
 """
 
 
-def configuration(names, iterations=4096, max_entries=None, counts=None):
-    """The text; at most `max_entries` decisions, by default as many as the service takes. `counts` are the iterations
-    of those whose keys have others than new keys."""
-    counts = counts or {}
+def configuration(names, iterations=4096, max_entries=None):
+    """The text; at most `max_entries` decisions, by default as many as the service takes."""
     limit = "" if max_entries is None else f"max_entries = {max_entries}\n"
     principals = "".join(
-        PRINCIPAL.format(name=name, iterations=counts.get(name, iterations), aes128="11" * 16, aes256="22" * 32)
+        PRINCIPAL.format(name=name, iterations=iterations, aes128="11" * 16, aes256="22" * 32)
         for name in names
     )
     return f"""\
