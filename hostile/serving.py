@@ -8,7 +8,6 @@ import argparse
 import os
 import pathlib
 import select
-import socket
 import tempfile
 import time
 
@@ -54,11 +53,10 @@ def behind_length(message):
 
 
 class Client(asking.Connection):
-    """A connection to a service, from this address."""
+    """A connection to a service, from this address, where there is one."""
 
-    def __init__(self, server, address="127.0.0.1"):
-        self.socket = socket.create_connection(("127.0.0.1", server.port), PATIENCE, (address, 0))
-        self.reader = self.socket.makefile("rb")
+    def __init__(self, server, address=None):
+        super().__init__(server.port, PATIENCE, address)
 
     def send_bytes(self, *texts):
         self.socket.sendall(b"".join(texts))
