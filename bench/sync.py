@@ -2,7 +2,7 @@
 
     python3 sync.py [--server PROGRAM] [--slow MILLISECONDS] [--count N] [--changers N ..]
 
-`serve` has four workers, and each sync of its journal takes so many milliseconds (hostile/slow.c). Clients change
+`serve` has four workers, and each sync of its journal takes so many milliseconds (hostile/machine.c). Clients change
 passwords as fast as they are answered, none of them at first and then so many; beside them one client asks, one request
 after the other, each over a connection of its own, of four kinds in turn: a password that is too short, a message that
 was answered before, a forged ticket, and a change. A line for each number of changers and kind has the median and the
@@ -116,7 +116,7 @@ def main():
     report = Report("limits {} failed {}")
     with tempfile.TemporaryDirectory(prefix="chpw-sync-") as folder:
         library = pathlib.Path(folder) / "slow.so"
-        subprocess.run(["gcc", "-shared", "-fPIC", "-O1", "-o", library, HERE / "../hostile/slow.c"], check=True)
+        subprocess.run(["gcc", "-shared", "-fPIC", "-O1", "-o", library, HERE / "../hostile/machine.c"], check=True)
         server = Server(arguments.server, pathlib.Path(folder), workers=WORKERS)
         names = [f"changer{number}" for number in range(max(arguments.changers, default=0))]
         write_configuration(server.configuration, ["asker", *names], iterations=16)

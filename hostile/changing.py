@@ -1,4 +1,4 @@
-"""What the scripts here have in common: changes by the service's own client, and a journal whose sync takes long."""
+"""What the scripts here have in common: changes by the service's own client, and a machine as a script wants it."""
 
 import os
 import pathlib
@@ -18,9 +18,14 @@ def change(server, name, number):
     return (done.stdout + done.stderr).strip()
 
 
+def machine(folder, **words):
+    """The environment of a program whose machine does as these words have it (machine.c)."""
+    library = pathlib.Path(folder) / "machine.so"
+    subprocess.run(
+        ["gcc", "-std=c11", "-O1", "-shared", "-fPIC", "-o", library, TOP / "hostile/machine.c"], check=True)
+    return {**os.environ, "LD_PRELOAD": str(library), **{name: str(value) for name, value in words.items()}}
+
+
 def slow_sync(folder, milliseconds):
     """The environment in which each sync of a program takes so long."""
-    library = pathlib.Path(folder) / "slow.so"
-    subprocess.run(
-        ["gcc", "-shared", "-fPIC", "-O1", "-o", library, TOP / "hostile/slow.c"], check=True)
-    return {**os.environ, "LD_PRELOAD": str(library), "SLOW": str(milliseconds)}
+    return machine(folder, SLOW=milliseconds)

@@ -191,7 +191,8 @@ def sealed(key, usage, plain, kvno=None, confounder=CONFOUNDER):
 CHANGEPW = name(2, b"kadmin", b"changepw")
 
 
-def ticket(client, initial, service, kvno, starts):
+def ticket(client, initial, service, kvno, starts, addresses=()):
+    """The addresses, if there are any, are those that it may come from: the last byte of each, of 127.0.0.0/24."""
     part = sequence(
         (0, flags(INITIAL if initial else 0)),
         (1, key_of(SESSION)),
@@ -200,6 +201,7 @@ def ticket(client, initial, service, kvno, starts):
         (4, sequence((0, integer(0)), (1, octets(b"")))),
         (5, moment(starts)),
         (7, moment(starts + 3_600)),
+        (9, tlv(0x30, b"".join(map(address, addresses))) if addresses else None),
     )
     enc_part = sealed(service, 2, application(3, part), kvno)
     return application(
@@ -207,7 +209,7 @@ def ticket(client, initial, service, kvno, starts):
     )
 
 
-def ap_req(client, ctime, cusec, initial, service, kvno, subkey, starts):
+def ap_req(client, ctime, cusec, initial, service, kvno, subkey, starts, addresses=()):
     authenticator = sequence(
         (0, integer(5)),
         (1, string(REALM)),
@@ -223,7 +225,7 @@ def ap_req(client, ctime, cusec, initial, service, kvno, subkey, starts):
             (0, integer(5)),
             (1, integer(14)),
             (2, flags(MUTUAL_REQUIRED)),
-            (3, ticket(client, initial, service, kvno, starts)),
+            (3, ticket(client, initial, service, kvno, starts, addresses)),
             (4, sealed(SESSION, 11, application(2, authenticator))),
         ),
     )
@@ -264,11 +266,12 @@ def request(
     ap_first=0x6E,
     forged=False,
     starts=1_000_000,
+    addresses=(),
     old=False,
 ):
     """A request: length, version, the AP-REQ's length, the AP-REQ, the KRB-PRIV. In the earlier
     protocol, version 0x0001, the user-data is the password itself."""
-    ap = ap_req(client, ctime, cusec, initial, service, kvno, subkey, starts)
+    ap = ap_req(client, ctime, cusec, initial, service, kvno, subkey, starts, addresses)
     ap = bytes([ap_first]) + ap[1:]
     tail = krb_priv(password if old else change_data(password, target), forged)
     return framed(1 if old else 0xFF80, ap, tail)

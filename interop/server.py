@@ -38,6 +38,11 @@ class Server:
 
     def start(self, connections, **options):
         """Until it says that it listens; what it says instead is raised."""
+        self.launch(connections, **options)
+        self.listens()
+
+    def launch(self, connections, **options):
+        """Starts it, and doesn't wait."""
         self.process = subprocess.Popen(
             self.command(connections),
             stdin=subprocess.DEVNULL,
@@ -47,17 +52,27 @@ class Server:
             start_new_session=True,
             **options,
         )
+
+    def listens(self):
+        """It says that it listens; what it says instead is raised."""
         self.said = self.lines_before(f"listening on 127.0.0.1:{self.port}")
 
     def lines_before(self, wanted):
         """The lines that it prints before this one; all that it says is raised where this one doesn't come."""
         lines = []
-        for line in self.process.stdout:
+        for line in iter(self.next_line, ""):
             if line.rstrip("\n") == wanted:
                 return lines
             lines.append(line.rstrip("\n"))
         self.end()
         raise RuntimeError(f"serve says: {lines} {self.process.stderr.read()}")
+
+    def next_line(self):
+        """The next line that it prints, and nothing behind it: `last_words` doesn't see what was read ahead."""
+        line = b""
+        while not line.endswith(b"\n") and (byte := os.read(self.process.stdout.fileno(), 1)):
+            line += byte
+        return line.decode()
 
     def connect(self):
         """A connection without a message."""

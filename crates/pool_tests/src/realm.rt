@@ -9,10 +9,7 @@ use chpw_rules::{Config, Name};
 use chpw_serve::WorkerWords;
 use chpw_table::{Moment, Table};
 use std::alloc::Global;
-use std::io;
 use std::process::Abort;
-use std::sync::atomic::{AtomicU64, Ordering};
-use std::time::{Clock, Duration};
 use test_realm::{config, name};
 
 pub const CHANGED: &[u8] = b"code 0 password changed";
@@ -76,46 +73,4 @@ pub fn told<R: Abort>(rt: &R, alloc: Global, sent: &Sent, reply: &[u8]) -> Vec<u
     let line = client_line(alloc, sent, reply).ok().expect(rt, "memory");
     let (line, _) = line.expect(rt, "a reply to the request");
     line
-}
-
-/// The reply to a request says so.
-pub fn expect_told<R: Abort>(rt: &R, alloc: Global, sent: &Sent, reply: &[u8], line: &[u8]) {
-    expect_bytes(rt, told(rt, alloc, sent, reply).as_slice(), line);
-}
-
-/// These bytes are what they are to be.
-pub fn expect_bytes<R: Abort>(rt: &R, found: &[u8], wanted: &[u8]) {
-    assert_eq!(rt; found, wanted);
-}
-
-/// A clock that stands still at a second until it is set.
-#[derive(Drop)]
-pub struct SetClock {
-    seconds: AtomicU64,
-}
-
-impl SetClock {
-    pub fn new(seconds: u64) -> SetClock {
-        SetClock {
-            seconds: AtomicU64::new(seconds),
-        }
-    }
-
-    pub fn set(&self, seconds: u64) {
-        self.seconds.store(seconds, Ordering::SeqCst);
-    }
-
-    fn time(&self) -> Duration {
-        Duration::from_secs(self.seconds.load(Ordering::SeqCst))
-    }
-}
-
-impl Clock for SetClock {
-    fn monotonic(&self) -> io::Result<Duration> {
-        Ok(self.time())
-    }
-
-    fn since_1970(&self) -> io::Result<Duration> {
-        Ok(self.time())
-    }
 }

@@ -1,0 +1,99 @@
+/* The machine as a script wants it, for a program that is started with LD_PRELOAD. Each of these holds where the
+   environment has it:
+
+   SLOW     a sync of a file takes so many milliseconds longer
+   CLOCK    the clock of the day stands still at the second that this file has in decimal digits
+   TICK     it takes so many milliseconds to look at that clock
+   HELD     while this file is there, the first to look at that clock puts .held behind the file's name, and waits until
+            the file isn't there under that name either
+   LOCK     the same for the first to lock a file
+   ACCEPTS  the first accepts fail, each with the next one of these faults of Linux, in decimal digits with a space
+            between them */
+
+#define _GNU_SOURCE
+#include <errno.h>
+#include <fcntl.h>
+#include <stdatomic.h>
+#include <stdio.h>
+#include <stdlib.h>
+#include <sys/socket.h>
+#include <sys/syscall.h>
+#include <time.h>
+#include <unistd.h>
+
+static void wait_for(const char *milliseconds)
+{
+    long all = milliseconds == NULL ? 0 : strtol(milliseconds, NULL, 10);
+    struct timespec time = {all / 1000, all % 1000 * 1000000};
+    if (all > 0)
+        syscall(SYS_nanosleep, &time, NULL);
+}
+
+static void hold(const char *file)
+{
+    char held[4096];
+    if (file == NULL || snprintf(held, sizeof held, "%s.held", file) >= (int)sizeof held)
+        return;
+    if (syscall(SYS_rename, file, held) == 0)
+        while (syscall(SYS_access, held, F_OK) == 0)
+            wait_for("1");
+}
+
+int fsync(int file)
+{
+    wait_for(getenv("SLOW"));
+    return (int)syscall(SYS_fsync, file);
+}
+
+int fdatasync(int file)
+{
+    wait_for(getenv("SLOW"));
+    return (int)syscall(SYS_fdatasync, file);
+}
+
+int flock(int file, int how)
+{
+    hold(getenv("LOCK"));
+    return (int)syscall(SYS_flock, file, how);
+}
+
+static void set_by(const char *file, struct timespec *now)
+{
+    char text[32] = "";
+    int opened = file == NULL ? -1 : (int)syscall(SYS_openat, AT_FDCWD, file, O_RDONLY | O_CLOEXEC);
+    if (opened < 0)
+        return;
+    if (syscall(SYS_read, opened, text, sizeof text - 1) > 0) {
+        now->tv_sec = strtol(text, NULL, 10);
+        now->tv_nsec = 0;
+    }
+    syscall(SYS_close, opened);
+}
+
+int clock_gettime(clockid_t clock, struct timespec *now)
+{
+    int done = (int)syscall(SYS_clock_gettime, clock, now);
+    if (done == 0 && clock == CLOCK_REALTIME) {
+        hold(getenv("HELD"));
+        wait_for(getenv("TICK"));
+        set_by(getenv("CLOCK"), now);
+    }
+    return done;
+}
+
+int accept4(int listener, struct sockaddr *restrict address, socklen_t *restrict length, int flags)
+{
+    static atomic_int accepts;
+    const char *faults = getenv("ACCEPTS");
+    long fault = 0;
+    if (faults != NULL) {
+        int number = atomic_fetch_add(&accepts, 1);
+        for (char *rest = (char *)faults; number >= 0; number--)
+            fault = strtol(rest, &rest, 10);
+    }
+    if (fault != 0) {
+        errno = (int)fault;
+        return -1;
+    }
+    return (int)syscall(SYS_accept4, listener, address, length, flags);
+}
