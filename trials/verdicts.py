@@ -2,6 +2,7 @@
 import fcntl
 import hashlib
 import os
+import re
 import shutil
 import subprocess
 
@@ -11,6 +12,23 @@ def files_of(folder):
     parts = (os.walk(f"{folder}/{part}") for part in ("src", "specs", "proofs"))
     cases = [f"{folder}/{name}" for name in ("stdin", "stdout") if os.path.exists(f"{folder}/{name}")]
     return sorted([f"{at}/{name}" for part in parts for at, _, names in part for name in names] + cases)
+
+
+# What a script uses: a Python module, or a C source by its name.
+USED = re.compile(r"^(?:from|import) (\w+)|\b(\w+\.c)\b", re.M)
+
+
+def used_by(script, top):
+    """A script with all that it uses of its own folder and of the scripts' other folders, in order."""
+    found, left = set(), [script]
+    while left:
+        path = left.pop()
+        found.add(path)
+        with open(f"{top}/{path}", encoding="utf-8") as file:
+            names = [source or f"{module}.py" for module, source in USED.findall(file.read())]
+        beside = (f"{folder}/{name}" for folder in (os.path.dirname(path), "interop", "hostile") for name in names)
+        left += [it for it in beside if os.path.exists(f"{top}/{it}") and it not in found]
+    return sorted(found)
 
 
 class Verdicts:
@@ -41,9 +59,10 @@ class Verdicts:
         return self.sums[name]
 
     def sum_of(self, edit, crate, script=None):
-        """The sum of an edit, the crate that was checked or tested over it, all below that, a script, and the toolchain."""
+        """The sum of an edit, the crate that was checked or tested over it, all below that, a script with what it uses, and
+        the toolchain."""
         found = hashlib.sha256(self.kit)
-        for path in [f"trials/{edit}", *([script] if script else [])]:
+        for path in [f"trials/{edit}", *(used_by(script, self.top) if script else [])]:
             with open(f"{self.top}/{path}", "rb") as file:
                 found.update(file.read())
         for it in sorted(self.all_below(crate) | {crate}):
