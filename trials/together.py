@@ -87,8 +87,10 @@ def shares(edits, most):
 
 
 def path_of(function):
-    """A function's path below its crate."""
-    return "::".join(filter(None, function))
+    """What a function's path below its crate ends with. A method stands in the module of its type, whatever file it is
+    written in."""
+    module, name = function
+    return name if "::" in name or not module else f"{module}::{name}"
 
 
 def is_within(line, function, texts):
@@ -102,11 +104,12 @@ def is_within(line, function, texts):
 
 def failed_proof(said, crate, function, texts):
     """The line in which a check says that a function's own proof fails; None where it doesn't, or that isn't sure."""
-    verdicts = [it for it in said if it.startswith(f"fn {crate}::{path_of(function)}: ")]
+    verdicts = [it for it in said if re.match(rf"fn {crate}::(?:\w+::)*{re.escape(path_of(function))}: ", it)]
     if len(verdicts) != 1 or not FAILED.match(verdicts[0].split(": ", 1)[1]):
         return None
+    place = verdicts[0].split(": ")[0].removeprefix(f"fn {crate}::").replace("::", "/")
     goal = next((it for it in said if GOAL in it and is_within(it, function, texts)), None)
-    proofs = rf"(?:\./)?proofs/{path_of(function).replace('::', '/')}/\S+ error"
+    proofs = rf"(?:\./)?proofs/{re.escape(place)}/\S+ error"
     errors = [it for it in said if re.match(proofs, it)]
     if goal is None and (any(NAMES.search(it) for it in errors) or CALLEE in verdicts[0] and not errors):
         return None
