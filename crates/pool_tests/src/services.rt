@@ -128,6 +128,7 @@ pub fn options<'a>(paths: Paths<'a>, port: u16, workers: u8, connections: u32) -
         log: paths.log,
         follower: None,
         follower_wait: USUAL_FOLLOWER_WAIT,
+        control: None,
         udp: false,
     }
 }
@@ -248,6 +249,7 @@ fn raising<'a>(port: u16, raises: bool) -> ServeOptions<'a> {
         log: None,
         follower: None,
         follower_wait: USUAL_FOLLOWER_WAIT,
+        control: None,
         udp: false,
     }
 }
