@@ -6,6 +6,7 @@ mod invocation;
 mod matching;
 mod options;
 mod program;
+mod refusing;
 
 pub use invocation::{
     ClientOptions, ControlCommand, ControlOptions, GREATEST_CONNECTIONS, GREATEST_COUNT,

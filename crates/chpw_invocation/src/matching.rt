@@ -5,10 +5,10 @@ ghost use Rattle.clap.specs.Words.{first_of, found_of, rows_of, subcommand_of, s
 ghost use Rattle.clap.specs.Simple.{filled};
 ghost use Rattle.chpw_invocation.specs.Needs.{IsSuited, Meets, Suits};
 ghost use Rattle.chpw_invocation.specs.Options as options_of;
-ghost use Rattle.chpw_invocation.specs.Options.{flag, may_be_numbered, required, required_word};
+ghost use Rattle.chpw_invocation.specs.Options.{may_be_numbered, required, required_word};
 ghost use Rattle.chpw_invocation.specs.Program as specs_of;
 ghost use Rattle.chpw_invocation.specs.Program.{program};
-ghost use Rattle.chpw_invocation.specs.Invocations.{AimsOld, AsksFor, HasNoPassword, HasNumber, HasNumberOr, HasPassword, HasRealm, HasTakenNumber, HasText, HasTwoPasswords, IsGiven, IsInFile, IsOwnReason, IsOwnRefusal, IsRefusal, LacksGiven, LacksNumber, LacksRealm, MayHaveNumber, RefusesClient, RefusesControl, form_asked, form_of_name};
+ghost use Rattle.chpw_invocation.specs.Invocations.{AsksFor, HasNoPassword, HasNumber, HasNumberOr, HasPassword, HasRealm, HasTakenNumber, HasText, HasTwoPasswords, IsGiven, IsInFile, IsOwnReason, IsRefusal, LacksGiven, LacksNumber, LacksRealm, MayHaveNumber, RefusesClient, RefusesControl, form_asked, form_of_name};
 ghost use Rattle.chpw_invocation.specs.Controls as controls;
 ghost use Rattle.chpw_invocation.specs.Controls.{file_of, word_of};
 
@@ -20,29 +20,10 @@ use crate::invocation::{
     USUAL_FOLLOWER_WAIT, USUAL_IDLE, USUAL_KVNO,
 };
 use crate::program::program as new_program;
+use crate::refusing::refusal_of;
 use clap::error::ErrorKind;
 use clap::{ArgMatches, Error};
 use std::alloc::Global;
-
-// In clap's own words for two options that exclude one another.
-const OLD_TARGET: &str = "the argument '--old' cannot be used with '--target <NAME>'";
-
-// The same for two passwords.
-const TWO_PASSWORDS: &str =
-    "the argument '--password <TEXT>' cannot be used with '--password-file <FILE>'";
-
-const NO_PASSWORD: &str = "either '--password <TEXT>' or '--password-file <FILE>' is required";
-
-const NO_COMMAND: &str =
-    "a value for '<COMMAND>' is one of: status, reload, reopen-log, stop, compact";
-
-const NO_FILE: &str = "the command 'compact' wants a '<FILE>'";
-
-const SPARE_FILE: &str = "no command but 'compact' takes a '<FILE>'";
-
-const NO_FORM: &str = "a value for '--as <FORM>' is one of: lines, configuration, keys";
-
-const NO_REALM: &str = "a value for '--realm <REALM>' has 1 to 255 bytes";
 
 /// The command that the words ask for, the first of them the program's name.
 ///
@@ -63,53 +44,6 @@ pub fn command_of<'a>(alloc: Global, words: &'a [String]) -> Result<Invocation<'
             let (kind, text) = refusal_of(&matches);
             Err(program.error(kind, text)?)
         }
-    }
-}
-
-// Why the words that clap matched ask for nothing, and the text that says so. Without a fault a command
-// that isn't named here has one reason alone.
-fn refusal_of(matches: &ArgMatches<'_>) -> (ErrorKind, &'static str)
-    ensures why { IsSuited (subcommand_rows_of matches.now) → IsOwnReason (subcommand_rows_of matches.now)
-        → IsOwnRefusal (subcommand_rows_of matches.now) result.0 }
-{
-    let Some((name, options)) = matches.subcommand() else {
-        return (ErrorKind::InvalidValue, NO_REALM);
-    };
-    match name {
-        "client" => client_refusal(options),
-        "control" => control_refusal(options),
-        "table" => (ErrorKind::InvalidValue, NO_FORM),
-        _ => (ErrorKind::InvalidValue, NO_REALM),
-    }
-}
-
-// Why `client` is refused.
-fn client_refusal(options: &ArgMatches<'_>) -> (ErrorKind, &'static str)
-    ensures why { Suits (filled (flag (codes "old"))) (rows_of (found_of options.now))
-        → (kind : ErrorKind) → RefusesClient (rows_of (found_of options.now)) kind
-        → RefusesClient (rows_of (found_of options.now)) result.0 }
-{
-    if aims_old(options) {
-        (ErrorKind::ArgumentConflict, OLD_TARGET)
-    } else if text_of(options, "password").is_some() {
-        (ErrorKind::ArgumentConflict, TWO_PASSWORDS)
-    } else {
-        (ErrorKind::MissingRequiredArgument, NO_PASSWORD)
-    }
-}
-
-// Why `control` is refused.
-fn control_refusal(options: &ArgMatches<'_>) -> (ErrorKind, &'static str)
-    ensures why { (kind : ErrorKind) → RefusesControl (rows_of (found_of options.now)) kind
-        → RefusesControl (rows_of (found_of options.now)) result.0 }
-{
-    match text_of(options, "command") {
-        None => (ErrorKind::InvalidValue, NO_COMMAND),
-        Some(word) => match takes_file(word) {
-            None => (ErrorKind::InvalidValue, NO_COMMAND),
-            Some(true) => (ErrorKind::MissingRequiredArgument, NO_FILE),
-            Some(false) => (ErrorKind::UnknownArgument, SPARE_FILE),
-        },
     }
 }
 
@@ -295,26 +229,6 @@ fn with_file<'a>(word: &str, file: &'a str) -> Option<ControlCommand<'a>>
     }
 }
 
-// Whether the command of this word takes a file; none where there is no such command.
-fn takes_file(word: &str) -> Option<bool>
-    ensures value { result ≡ controls.takes_file word.now }
-{
-    match word {
-        "status" | "reload" | "reopen-log" | "stop" => Some(false),
-        "compact" => Some(true),
-        _ => None,
-    }
-}
-
-// Whether `client` is to ask in the earlier protocol, and has a target.
-fn aims_old(options: &ArgMatches<'_>) -> bool
-    ensures aims { result ≡ true → AimsOld (rows_of (found_of options.now)) }
-    ensures own { Suits (filled (flag (codes "old"))) (rows_of (found_of options.now)) → result ≡ false
-        → AimsOld (rows_of (found_of options.now)) → ⊥ }
-{
-    is_given(options, "old") && text_of(options, "target").is_some()
-}
-
 #[tactic(auto, using(crate::proofs::NeedLemmas::required_there))]
 fn client_of<'a>(options: &ArgMatches<'a>) -> Option<Invocation<'a>>
     ensures asked { IfSome result (AsksFor (Some (codes "client", rows_of (found_of options.now)))) }
@@ -364,15 +278,16 @@ fn in_file<'a>(name: &'a str) -> PasswordSource<'a>
     }
 }
 
-// The value of an option.
-fn text_of<'a>(options: &ArgMatches<'a>, name: &str) -> Option<&'a str>
+/// The value of an option.
+pub(crate) fn text_of<'a>(options: &ArgMatches<'a>, name: &str) -> Option<&'a str>
     ensures value { option_map (λ s. s.now) result
         ≡ first_of name.now (rows_of (found_of options.now)) }
 {
     options.get_str(name)
 }
 
-fn is_given(options: &ArgMatches<'_>, name: &str) -> bool
+/// Whether a flag is given.
+pub(crate) fn is_given(options: &ArgMatches<'_>, name: &str) -> bool
     ensures given { IsGiven (rows_of (found_of options.now)) name.now result }
 {
     options.get_flag(name)

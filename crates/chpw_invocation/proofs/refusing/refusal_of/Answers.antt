@@ -2,7 +2,7 @@ use Rattle.std.proofs.Common.{codes}
 use Rattle.clap.specs.Words.{found_of, rows_of, subcommand_rows_of}
 use Rattle.chpw_invocation.proofs.NeedLemmas.{named_as}
 use Rattle.chpw_invocation.proofs.OwnLemmas.{client_refused, control_refused}
-use Rattle.chpw_invocation.proofs.matching.refusal_of.Goals as goal
+use Rattle.chpw_invocation.proofs.refusing.refusal_of.Goals as goal
 
 pub returns-in-client : goal.returns-in-client
 returns-in-client c = record {
