@@ -1,5 +1,5 @@
 -- What it comes to that an option is as its rule says.
-use Rattle.std.proofs.Common.{◌≡◌, ◌≢◌, ◌∙◌, ℕ, Bool, true, false, refl, sym, ap, List, codes, Option, Some, None, option_map, subst, true≢false, inl, inr}
+use Rattle.std.proofs.Common.{◌≡◌, ◌≢◌, ◌∙◌, ℕ, Bool, true, false, refl, sym, ap, List, codes, Option, Some, None, option_map, true≢false, inl, inr}
 use Rattle.std.specs.Prelude.{Box, find, slice_get}
 use Rattle.std.specs.Box.{box_value}
 use Rattle.std.specs.Option.{option_and_then}
@@ -13,9 +13,8 @@ use Rattle.clap.specs.declared.parser.matches.ArgMatches.TheViews.{out-ArgMatche
 use Rattle.clap.specs.declared.parser.matches.SubCommand.{SubCommand}
 use Rattle.clap.specs.Walk.{Row, Text, first_of, one_of, row_text}
 use Rattle.chpw_invocation.specs.Invocations.{AimsOld, HasTakenNumber, IsGiven}
-use Rattle.chpw_invocation.specs.Needs.{IsSuited, Meets, MeetsOne, Suits}
+use Rattle.chpw_invocation.specs.Needs.{Suits}
 use Rattle.chpw_invocation.specs.Options.{flag, may_be_numbered, numbered, required}
-use Rattle.chpw_invocation.specs.Program.{client, program}
 
 -- an option that has to be there is
 pub required_there : (name : Text) (options : List Row) → Suits (filled (required name)) options → first_of name options ≢ None

@@ -8,7 +8,7 @@ use Rattle.clap.specs.Walk.{Row, Text, first_of}
 use Rattle.clap.specs.declared.error.kind.ErrorKind.{ErrorKind}
 use Rattle.clap.specs.declared.error.kind.ErrorKind.TheVariants.{ArgumentConflict, InvalidValue, MissingRequiredArgument, UnknownArgument}
 use Rattle.chpw_invocation.specs.Controls.{takes_file}
-use Rattle.chpw_invocation.specs.Invocations.{AimsOld, HasNoPassword, HasTwoPasswords, IsGiven, IsOwnReason, IsOwnRefusal, RefusesClient, RefusesControl}
+use Rattle.chpw_invocation.specs.Invocations.{HasNoPassword, HasTwoPasswords, IsGiven, IsOwnReason, IsOwnRefusal, RefusesClient, RefusesControl}
 use Rattle.chpw_invocation.specs.Needs.{IsSuited, Meets, Suits}
 use Rattle.chpw_invocation.specs.Options.{flag}
 use Rattle.chpw_invocation.specs.Program.{client}

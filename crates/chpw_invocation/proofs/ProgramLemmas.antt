@@ -1,5 +1,5 @@
 -- Where clap finds no fault in the program's words, the command that is named has what it requires.
-use Rattle.std.proofs.Common.{◌≡◌, ◌≢◌, ◌∙◌, ◌&&◌, ℕ, Bool, cond, true, false, not, refl, sym, ap, subst, List, [], ◌∷◌, ◌++◌, codes, Option, Some, None, is_some, option_map, true≢false, inl, inr}
+use Rattle.std.proofs.Common.{◌≡◌, ◌≢◌, ◌∙◌, ◌&&◌, ℕ, Bool, cond, true, false, not, refl, sym, subst, List, [], ◌∷◌, ◌++◌, codes, Option, Some, None, is_some, option_map, true≢false, inl, inr}
 use Rattle.std.specs.Prelude.{IfSome, fold}
 use Rattle.std.specs.List.{AllByRecursion, find}
 use Rattle.std.specs.Option.{option_map_or}

@@ -1,6 +1,5 @@
 //! `control`: a command for a running service, and what the service answers.
-ghost use Rattle.std.specs.Prelude.{◌≡◌, ◌==◌, true, IfOk, IfSome, OnOk, string_bytes};
-ghost use Rattle.std.specs.List.{list_any};
+ghost use Rattle.std.specs.Prelude.{◌≡◌, ◌==◌, true, IfOk, IfSome, string_bytes};
 ghost use Rattle.std.specs.Io.KnownBytes.{Appends};
 ghost use Rattle.chpw_program.specs.Controlling as controlling;
 ghost use Rattle.chpw_program.specs.Controlling.{IsAnswered, ending_by, line_of, says_ok};

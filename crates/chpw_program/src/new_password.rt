@@ -1,7 +1,6 @@
 //! The new password that `client` sends: a text of the command line, or the one line of a file or of
 //! standard input.
-ghost use Rattle.std.specs.Prelude.{◌≡◌, ◌==◌, ℕ, List, false, true, IfErr, IfOk, IfSome};
-ghost use Rattle.std.specs.List.{list_any};
+ghost use Rattle.std.specs.Prelude.{◌≡◌, ◌==◌, ℕ, List, IfErr, IfOk, IfSome};
 ghost use Rattle.chpw_program.specs.Asking.{IsUnasked};
 ghost use Rattle.chpw_program.specs.NewPasswords.{IsOnlyLine, IsPassword, IsWithoutEnd, IsWithoutLast};
 
