@@ -13,7 +13,10 @@ use std::net::Net;
 use std::os::unix::net::UnixStream;
 
 /// Sends the command to the service that listens at the socket, prints what it answers, and ends by that.
-pub fn control<'a, R: Net + Print + AllocGlobal>(rt: &R, options: ControlOptions<'a>) -> Ending<'a>
+pub fn send_command<'a, R: Net + Print + AllocGlobal>(
+    rt: &R,
+    options: ControlOptions<'a>,
+) -> Ending<'a>
     ensures broken { controlling.is_broken options.command ≡ true → result ≡ Ending.BadArgument }
 {
     if is_broken(&options.command) {

@@ -14,6 +14,6 @@ mod running;
 pub use client::ask;
 pub use command_line::words;
 pub use commands::misused;
-pub use control::{control, tell_service};
+pub use control::{send_command, tell_service};
 pub use ending::{Ending, tell};
 pub use running::run_program;

@@ -2,7 +2,7 @@
 use crate::endings::Closed;
 use chpw_commands::DrillFault;
 use chpw_invocation::{ControlCommand, ControlOptions};
-use chpw_program::{Ending, control, tell_service};
+use chpw_program::{Ending, send_command, tell_service};
 use std::fs;
 use std::io::{self, ErrorKind, Read, Write};
 use std::os::unix::net::UnixListener;
@@ -70,11 +70,11 @@ fn control_of_a_socket(rt: HostRuntime) {
     let socket = "control-tests.socket";
     let _ = fs::remove_file(&rt, socket);
     let command = ControlCommand::Reload;
-    let ended = control(&rt, ControlOptions { socket, command });
+    let ended = send_command(&rt, ControlOptions { socket, command });
     assert!(rt; matches!(ended, Ending::Unconnected));
     let file = "two\nlines";
     let broken = ControlCommand::Compact { file };
-    let ended = control(
+    let ended = send_command(
         &rt,
         ControlOptions {
             socket,
@@ -93,7 +93,7 @@ fn control_of_a_socket(rt: HostRuntime) {
             assert!(&rt; (&mut &stream).write_all(b"ok\n").is_ok());
             line
         },
-        || control(&rt, ControlOptions { socket, command }),
+        || send_command(&rt, ControlOptions { socket, command }),
     );
     assert!(rt; line == *b"reload\n");
     assert!(rt; matches!(ended, Ending::Good));
