@@ -17,7 +17,7 @@ pub fn send_command<'a, R: Net + Print + AllocGlobal>(
     rt: &R,
     options: ControlOptions<'a>,
 ) -> Ending<'a>
-    ensures broken { controlling.is_broken options.command ≡ true → result ≡ Ending.BadArgument }
+    ensures broken { controlling.is_broken options.entry.command ≡ true → result ≡ Ending.BadArgument }
 {
     if is_broken(&options.command) {
         return Ending::BadArgument;
