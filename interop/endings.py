@@ -86,6 +86,7 @@ def command_lines(program):
     text = ("", "a text", 2)
     serve = "serve --config c --journal j --seed s --port 1 --workers 1 --connections 1"
     client = "client --config c --seed s --port 1 --client alice --password New-pass2"
+    control = "control --socket s status"
     program.tell("no command", text)
     program.tell("another command", text, "change")
     program.tell("help", text, "--help")
@@ -104,6 +105,13 @@ def command_lines(program):
         (client, "--port 1", "--port 0"),
         (client, "--client alice", ""),
         (client, "--client alice", "--client alice --old --target bob"),
+        (client, "--password New-pass2", ""),
+        (client, "--password", "--password-file password --password"),
+        (control, "--socket s", ""),
+        (control, "status", ""),
+        (control, "status", "start"),
+        (control, "status", "compact"),
+        (control, "status", "status file"),
     ]:
         words = line.replace(old, new).split()
         program.tell(f"{words[0]}, {old} now '{new}'", text, *words)
@@ -311,6 +319,60 @@ def client_alone(program):
     client.tell("the longest password", ("", "cannot connect", 1), password=long[1:])
 
 
+def passwords_read(program):
+    """`client` with the new password in a file, or on standard input."""
+    client = Client(program, program.server("alice"))
+    del client.options["--password"]
+    (program.folder / "empty").write_text("\r\n")
+    (program.folder / "lines").write_text("New-pass2\nNew-pass3\n")
+    for name, line in [
+        ("missing", "cannot read missing"),
+        ("empty", "empty: the password is empty"),
+        ("lines", "lines: more than one line"),
+    ]:
+        named = {"password-file": name}
+        client.tell(f"the password of a file: {name}", ("", line, 1), config="missing2", **named)
+    words = [f"{name}={value}" for name, value in client.options.items()]
+    words = ["client", *words, "--password-file", "-"]
+    empty = ("", "standard input: the password is empty", 1)
+    program.tell("client: no password on standard input", empty, *words, script="\n")
+    unconnected = ("", "cannot connect", 1)
+    program.tell("client: the password on standard input", unconnected, *words, script="New-pass2")
+
+
+def control(program):
+    """What `control` sends, prints and ends with, by what a service answers."""
+    path = program.folder / "control.socket"
+    words = ["control", "--socket", path]
+    program.tell("control: nobody there", ("", "cannot connect", 1), *words, "status")
+    program.tell("control: a file of two lines", ("", "bad argument", 2), *words, "compact", "two\nlines")
+    for what, command, answer, errors, status in [
+        ("done", ["reload"], "ok\n", "", 0),
+        ("told and done", ["status"], "entries 3\nok\n", "", 0),
+        ("with a file", ["compact", "a file"], "ok\n", "", 0),
+        ("refused", ["reopen-log"], "ok\nerror: cannot write log\n", "", 1),
+        ("ended without its newline", ["stop"], "ok", "", 1),
+        ("no answer", ["stop"], "", "connection ended", 1),
+    ]:
+        with socket.socket(socket.AF_UNIX) as listener:
+            listener.bind(str(path))
+            listener.listen()
+            heard = []
+            answering = threading.Thread(target=answer_line, args=(listener, answer, heard))
+            answering.start()
+            program.tell(f"control: {what}", (answer.strip(), errors, status), *words, *command)
+            answering.join()
+            program.report.tell(f"control: {what}: its line", heard, [" ".join(command) + "\n"])
+        path.unlink()
+
+
+def answer_line(listener, answer, heard):
+    connection, _ = listener.accept()
+    with connection:
+        heard.append(connection.makefile().readline())
+        connection.sendall(answer.encode())
+
+
 def client_unanswered(program):
     """A service that closes the connection, and one whose reply can't be read."""
     server = program.server("alice")
@@ -424,6 +486,8 @@ CASES = [
     client_alone,
     client_unanswered,
     client_answered,
+    passwords_read,
+    control,
     closed_descriptors,
     closed_under_a_change,
     closed_under_a_notice,

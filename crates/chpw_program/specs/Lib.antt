@@ -1,2 +1,4 @@
 pub mod Asking
+pub mod Controlling
 pub mod Endings
+pub mod NewPasswords
