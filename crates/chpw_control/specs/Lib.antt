@@ -1,0 +1,5 @@
+pub mod Commands
+pub mod Dialogs
+pub mod Faults
+pub mod FileNames
+pub mod Pieces
