@@ -5,7 +5,7 @@ use Rattle.std.specs.List.{list_any}
 use Rattle.std.specs.Str.{IsUtf8, is_utf8}
 use Rattle.std.proofs.lemmas.Str.{IsUtf8-from_is_utf8, is_utf8-from_IsUtf8}
 use Rattle.std.proofs.lemmas.List.Sums.{take_while-cons}
-use Rattle.std.proofs.lemmas.Bool.{and_from, and_parts, le-leb, leb-true, lt-leb, not-true}
+use Rattle.std.proofs.lemmas.Bool.{and_from, and_parts, le-leb, leb-true, leb-false, lt-leb, eqb-true, not-true}
 use Rattle.chpw_control.specs.declared.command.Command.{Command}
 use Rattle.chpw_control.specs.declared.fault.ControlFault.{ControlFault}
 use Rattle.chpw_control.specs.declared.fault.ControlFault.TheVariants.{LineTooLong}
@@ -176,3 +176,48 @@ pub told_unless : (state : State) (heard bytes : List ℕ) (result defined : Res
 told_unless state heard bytes result defined is told (inl memory) = inl (ap (λ (r : Result Command ControlFault). Some r) memory)
 told_unless state heard bytes result defined is told (inr as_defined) =
     inr (ap (λ (r : Result Command ControlFault). Some r) as_defined ∙ sym told ∙ ap (λ (s : State). told_by s bytes) (sym is))
+
+-- ---- the first line, and what stands behind it
+
+pub line_split : (bytes : List ℕ) → is_whole bytes ≡ true → (rest : List ℕ) × (bytes ≡ line_in bytes ++ 10 ∷ rest) × (is_whole (line_in bytes) ≡ false)
+line_split [] h = absurd (cc)
+line_split (byte ∷ bytes) h = by_byte (is_newline byte) refl (line_split bytes)
+  where
+    by_byte : (b : Bool) → is_newline byte ≡ b
+        → (is_whole bytes ≡ true → (rest : List ℕ) × (bytes ≡ line_in bytes ++ 10 ∷ rest) × (is_whole (line_in bytes) ≡ false))
+        → (rest : List ℕ) × (byte ∷ bytes ≡ line_in (byte ∷ bytes) ++ 10 ∷ rest) × (is_whole (line_in (byte ∷ bytes)) ≡ false)
+    by_byte true e more_so =
+        let same : line_in (byte ∷ bytes) ≡ [] = line_cons byte bytes ∙ ap (λ (b : Bool). cond (not b) (byte ∷ line_in bytes) []) e in
+        (bytes, ap (λ (x : ℕ). x ∷ bytes) (eqb-true byte 10 e) ∙ ap (λ (xs : List ℕ). xs ++ 10 ∷ bytes) (sym same), ap is_whole same)
+    by_byte false e more_so =
+        let same : line_in (byte ∷ bytes) ≡ byte ∷ line_in bytes = line_cons byte bytes ∙ ap (λ (b : Bool). cond (not b) (byte ∷ line_in bytes) []) e in
+        let rest : is_whole bytes ≡ true = sym (ap (λ (b : Bool). b || is_whole bytes) e) ∙ h in
+        let further = more_so rest in (
+          further.0,
+          ap (λ (xs : List ℕ). byte ∷ xs) further.1 ∙ ap (λ (xs : List ℕ). xs ++ 10 ∷ further.0) (sym same),
+          ap is_whole same ∙ ap (λ (b : Bool). b || is_whole (line_in bytes)) e ∙ further.2,
+        )
+
+and_true : (b : Bool) → (b && true) ≡ b
+and_true true = refl
+and_true false = refl
+
+-- ---- what was told stays so, whatever comes behind it
+
+pub settled : (bytes more : List ℕ) → goes_on bytes ≡ false → told_of (bytes ++ more) ≡ told_of bytes
+settled bytes more h = by_test (is_whole bytes) refl
+  where
+    by_test : (b : Bool) → is_whole bytes ≡ b → told_of (bytes ++ more) ≡ told_of bytes
+    by_test true e =
+        let same = line_front bytes more e in
+        let whole : is_whole (bytes ++ more) ≡ is_whole bytes = whole_append bytes more ∙ ap (λ (b : Bool). b || is_whole more) e ∙ sym e in
+        ap (λ (xs : List ℕ). cond (not (nat_le (length xs) 4200)) (Some (Err LineTooLong)) (cond (is_whole (bytes ++ more)) (Some (command_of xs)) None)) same
+        ∙ ap (λ (b : Bool). cond (not (is_short bytes)) (Some (Err LineTooLong)) (cond b (Some (command_of (line_in bytes))) None)) whole
+    by_test false e =
+        let long : is_short bytes ≡ false = sym (and_true (is_short bytes)) ∙ ap (λ (b : Bool). is_short bytes && not b) (sym e) ∙ h in
+        let many : 4200 < length (line_in bytes) = leb-false (length (line_in bytes)) 4200 long in
+        let more_still : is_short (bytes ++ more) ≡ false =
+        lt-leb (length (line_in (bytes ++ more))) 4200
+        (omega (arith, many, ap length (line_all bytes e), ap length (line_on bytes more e), length-append bytes (line_in more))) in
+        ap (λ (b : Bool). cond (not b) (Some (Err LineTooLong)) (cond (is_whole (bytes ++ more)) (Some (command_of (line_in (bytes ++ more)))) None)) more_still
+        ∙ sym (ap (λ (b : Bool). cond (not b) (Some (Err LineTooLong)) (cond (is_whole bytes) (Some (command_of (line_in bytes))) None)) long)

@@ -3,3 +3,4 @@ pub mod Dialogs
 pub mod Faults
 pub mod FileNames
 pub mod Pieces
+pub mod Connections

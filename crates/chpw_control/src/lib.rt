@@ -6,6 +6,7 @@ mod command;
 mod dialog;
 mod fault;
 mod file_name;
+pub mod laws;
 mod piece;
 
 pub use command::Command;
