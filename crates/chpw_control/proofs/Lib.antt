@@ -1,2 +1,3 @@
 pub mod ConnectionLemmas
 pub mod LineLemmas
+pub mod SeatLemmas

@@ -4,3 +4,5 @@ pub mod Faults
 pub mod FileNames
 pub mod Pieces
 pub mod Connections
+pub mod Callers
+pub mod Seats

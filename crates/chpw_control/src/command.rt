@@ -1,6 +1,8 @@
 //! Commands.
+ghost use Rattle.std.specs.Prelude.{◌≡◌};
 ghost use Rattle.chpw_control.specs.Commands.{command_of, compact_of, longer_of};
 ghost use Rattle.chpw_control.specs.Faults.{UnlessMemory};
+ghost use Rattle.chpw_control.specs.Seats.{is_order};
 
 use crate::fault::ControlFault;
 use crate::file_name::{FileName, text_of};
@@ -22,6 +24,16 @@ pub enum Command {
 }
 
 impl Command {
+    /// Whether it is carried out beside whoever has the sockets, one at a time.
+    pub fn is_order(&self) -> bool
+        ensures value { result ≡ is_order self.now }
+    {
+        match self {
+            Command::Status | Command::Stop => false,
+            Command::Reload | Command::ReopenLog | Command::Compact(_) => true,
+        }
+    }
+
     /// The command of a line, which is handed in without its newline.
     pub fn of(alloc: Global, line: &[u8]) -> Result<Command, ControlFault>
         ensures value { UnlessMemory result (command_of line.now) }

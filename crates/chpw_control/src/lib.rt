@@ -2,6 +2,8 @@
 //! or thread is in it: whoever has those hands in what came, and writes what is answered.
 #![tactic(auto)]
 
+mod caller;
+mod callers;
 mod command;
 mod dialog;
 mod fault;
@@ -9,6 +11,7 @@ mod file_name;
 pub mod laws;
 mod piece;
 
+pub use callers::Callers;
 pub use command::Command;
 pub use dialog::Dialog;
 pub use fault::ControlFault;
