@@ -6,3 +6,4 @@ pub mod Pieces
 pub mod Connections
 pub mod Callers
 pub mod Seats
+pub mod CallerLives
