@@ -1,0 +1,4 @@
+pub mod ConnectionLemmas
+pub mod LineLemmas
+pub mod SeatLemmas
+pub mod CallerLemmas
