@@ -4,3 +4,6 @@ pub mod Faults
 pub mod FileNames
 pub mod Pieces
 pub mod Connections
+pub mod Answers
+pub mod Endings
+pub mod Statuses
