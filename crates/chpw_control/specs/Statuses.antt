@@ -1,7 +1,8 @@
 -- The lines of a status: a name and a value each, in this order.
-use Rattle.std.specs.Prelude.{ℕ, List, [], ◌∷◌, ◌++◌, codes}
-use Rattle.std.specs.Option.{option_map_or}
+use Rattle.std.specs.Prelude.{ℕ, ◌<◌, List, [], ◌∷◌, ◌++◌, codes}
+use Rattle.std.specs.Option.{ForSome, option_map_or}
 use Rattle.std.specs.Fmt.{decimal}
+use Rattle.krb_elements.specs.Times.{IsWritable}
 use Rattle.chpw_printing.specs.Quoting.{words_text}
 use Rattle.chpw_times.specs.Printed.{time_text}
 use Rattle.chpw_control.specs.declared.status.FollowerState.{FollowerState}
@@ -13,6 +14,13 @@ use Rattle.chpw_control.specs.declared.time.Time.{Time}
 
 abbrev pub row : List ℕ → List ℕ → List ℕ
 row name value = name ++ codes " " ++ value
+
+-- a time that can be printed
+abbrev pub IsTold : Time → Type 0
+IsTold t = IsWritable t.seconds × (t.micros < 1000000)
+
+abbrev pub AreTold : Status → Type 0
+AreTold s = IsTold s.since × ForSome s.quiet_until IsTold
 
 abbrev pub text_of : Time → List ℕ
 text_of t = time_text t.seconds t.micros

@@ -1,10 +1,10 @@
 //! The lines of a status.
 ghost use Rattle.std.specs.Prelude.{◌≡◌, ◌++◌, ◌∷◌, [], codes, IfOk, OnOk};
 ghost use Rattle.std.specs.Fmt.{decimal};
-ghost use Rattle.std.specs.Option.{option_map_or};
+ghost use Rattle.std.specs.Option.{ForSome, option_map_or};
 ghost use Rattle.chpw_printing.specs.Quoting.{words_text};
 ghost use Rattle.chpw_control.specs.Answers.{lines_text, ok_line};
-ghost use Rattle.chpw_control.specs.Statuses.{connection_lines, history_lines, keeping_lines, row, service_lines, status_lines, text_of, worker_lines};
+ghost use Rattle.chpw_control.specs.Statuses.{AreTold, IsTold, connection_lines, history_lines, keeping_lines, row, service_lines, status_lines, text_of, worker_lines};
 
 use crate::answer::put_ok;
 use crate::status::Status;
@@ -15,6 +15,7 @@ use std::alloc::{AllocError, Global};
 
 /// The whole answer to `status`: the lines of the status, and `ok`.
 pub fn status_answer(alloc: Global, status: &Status<'_>) -> Result<Vec<u8>, AllocError>
+    requires times { AreTold status.now }
     ensures value { IfOk result (λ text. text.items ≡ lines_text (status_lines status.now ++ ok_line ∷ [])) }
 {
     let mut text = Vec::new(alloc);
@@ -28,11 +29,11 @@ pub fn status_answer(alloc: Global, status: &Status<'_>) -> Result<Vec<u8>, Allo
 }
 
 fn put_service(text: &mut Vec<u8>, status: &Status<'_>) -> Result<(), AllocError>
+    requires times { AreTold status.now }
     ensures value { OnOk result (text.new.items ≡ text.old.items ++ lines_text (service_lines status.now)) }
 {
     put_version(text, status.version)?;
-    text.extend_from_slice(b"since ")?;
-    put_time_line(text, status.since)?;
+    put_since(text, status.since)?;
     put_quiet(text, status.quiet_until)?;
     put_count(text, "principals", status.principals)?;
     put_count(text, "iterations", status.iterations)
@@ -86,24 +87,47 @@ fn put_version(text: &mut Vec<u8>, version: &str) -> Result<(), AllocError>
     Ok(())
 }
 
-// Puts a time and a newline at the end.
-fn put_time_line(text: &mut Vec<u8>, time: Time) -> Result<(), AllocError>
-    ensures value { OnOk result (text.new.items ≡ text.old.items ++ text_of time ++ codes "\n") }
+// Puts the line of the start at the end.
+fn put_since(text: &mut Vec<u8>, time: Time) -> Result<(), AllocError>
+    requires time { IsTold time }
+    ensures value { OnOk result (text.new.items
+        ≡ text.old.items ++ lines_text (row (codes "since") (text_of time) ∷ [])) }
 {
-    put_time(text, time.seconds, time.micros)?;
+    text.extend_from_slice(b"since ")?;
+    put_told(text, time)?;
     text.push(b'\n')?;
     Ok(())
 }
 
+// Puts the line of the quiet time at the end.
 fn put_quiet(text: &mut Vec<u8>, until: Option<Time>) -> Result<(), AllocError>
+    requires time { ForSome until IsTold }
     ensures value { OnOk result (text.new.items
         ≡ text.old.items ++ lines_text (row (codes "quiet-until") (option_map_or text_of until (codes "-")) ∷ [])) }
 {
     text.extend_from_slice(b"quiet-until ")?;
-    match until {
-        Some(time) => put_time_line(text, time),
-        None => text.extend_from_slice(b"-\n"),
+    put_until(text, until)?;
+    text.push(b'\n')?;
+    Ok(())
+}
+
+// Puts a time at the end, or `-`.
+fn put_until(text: &mut Vec<u8>, time: Option<Time>) -> Result<(), AllocError>
+    requires time { ForSome time IsTold }
+    ensures value { OnOk result (text.new.items ≡ text.old.items ++ option_map_or text_of time (codes "-")) }
+{
+    match time {
+        Some(time) => put_told(text, time),
+        None => text.extend_from_slice(b"-"),
     }
+}
+
+// Puts a time at the end.
+fn put_told(text: &mut Vec<u8>, time: Time) -> Result<(), AllocError>
+    requires time { IsTold time }
+    ensures value { OnOk result (text.new.items ≡ text.old.items ++ text_of time) }
+{
+    put_time(text, time.seconds, time.micros)
 }
 
 // Puts the line of a number at the end.
