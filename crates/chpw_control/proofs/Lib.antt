@@ -1,3 +1,4 @@
 pub mod AnswerLemmas
 pub mod ConnectionLemmas
+pub mod EndingLemmas
 pub mod LineLemmas

@@ -1,6 +1,7 @@
 -- An answer that ended well is told from one that was cut off, and from one with an error.
 use Rattle.std.specs.Prelude.{◌≡◌, ℕ, ◌<◌, Bool, true, false, not, ◌&&◌, bytes_eq, List, [], ◌∷◌, ◌++◌, length, take, codes}
 use Rattle.std.specs.List.{list_all}
+use Rattle.chpw_printing.specs.Quoting.{are_printed, words_text}
 use Rattle.chpw_control.specs.Answers.{lines_text, ok_line, error_line, ended_ok}
 use Rattle.chpw_control.specs.Dialogs.{is_whole}
 
@@ -24,5 +25,5 @@ CutOff =
 -- lines and an error, cut off or not
 abbrev pub EndsBadly : Type 0
 EndsBadly =
-    (lines : List (List ℕ)) (words : List ℕ) (n : ℕ) → are_lines lines ≡ true
+    (lines : List (List ℕ)) (words : List ℕ) (n : ℕ) → are_lines lines ≡ true → are_printed (words_text words) ≡ true
     → ended_ok (take n (lines_text (lines ++ error_line words ∷ []))) ≡ false

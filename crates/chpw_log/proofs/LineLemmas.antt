@@ -1,5 +1,5 @@
 -- Fields, and the line that they make.
-use Rattle.std.proofs.Common.{◌≡◌, ◌∙◌, ℕ, ◌<◌, true, List, [], ◌∷◌, ◌++◌, length, length-append, append_assoc, codes, map, refl, arith}
+use Rattle.std.proofs.Common.{◌≡◌, ◌∙◌, ℕ, ◌<◌, true, List, [], ◌∷◌, ◌++◌, length, length-append, append_assoc, codes, ap, map, refl, arith}
 use Rattle.std.specs.List.{join_with_byte}
 use Rattle.std.specs.Fmt.{decimal}
 use Rattle.std.proofs.lemmas.Bool.{and_from, and_parts}
@@ -90,3 +90,25 @@ words_printed a b c h k l =
     let r : are_printed (a ++ one ++ b ++ two) ≡ true = both_printed (a ++ one ++ b) two q refl in
     let s : are_printed (a ++ one ++ b ++ two ++ c) ≡ true = both_printed (a ++ one ++ b ++ two) c r l in
     both_printed (a ++ one ++ b ++ two ++ c) three s refl
+
+-- ---- the service's own events
+
+pub one_joined : (old words a : List ℕ) → old ++ words ++ a ≡ old ++ (words ++ a)
+one_joined old words a = append_assoc old words a
+
+pub both_joined : (old words a further b : List ℕ) → old ++ (words ++ a) ++ (further ++ b) ≡ old ++ (words ++ a ++ further ++ b)
+both_joined old words a further b = simp append_assoc refl
+
+pub start_joined : (old both quiet : List ℕ) → old ++ both ++ codes " quiet-until " ++ quiet ≡ old ++ (both ++ codes " quiet-until " ++ quiet)
+start_joined old both quiet = simp append_assoc refl
+
+pub both_printed_too : (words a further b : List ℕ) → are_printed (words ++ a) ≡ true → are_printed (further ++ b) ≡ true
+    → are_printed (words ++ a ++ further ++ b) ≡ true
+both_printed_too words a further b h k =
+    ap are_printed (append_assoc (words ++ a) further b) ∙ both_printed (words ++ a) (further ++ b) h k
+
+pub event_record : (moment words : List ℕ) → are_printed moment ≡ true → are_printed words ≡ true
+    → IsRecord (moment ++ codes " service " ++ words ++ codes "\n")
+event_record moment words h k =
+    (moment ++ codes " service " ++ words, refl,
+    both_printed (moment ++ codes " service ") words (both_printed moment (codes " service ") h refl) k)
