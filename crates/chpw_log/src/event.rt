@@ -80,7 +80,12 @@ fn put_event(text: &mut Vec<u8>, event: &ServiceEvent) -> Result<(), AllocError>
             principals,
             iterations,
             quiet_until,
-        } => put_start(text, principals, iterations, quiet_until),
+        } => put_start(
+            text,
+            u64::from(principals),
+            u64::from(iterations),
+            quiet_until,
+        ),
         ServiceEvent::Reloaded {
             principals,
             iterations,
@@ -118,8 +123,8 @@ fn put_event(text: &mut Vec<u8>, event: &ServiceEvent) -> Result<(), AllocError>
 // Puts the words of a start at the end.
 fn put_start(
     text: &mut Vec<u8>,
-    principals: u32,
-    iterations: u32,
+    principals: u64,
+    iterations: u64,
     quiet_until: Option<Moment>,
 ) -> Result<(), AllocError>
     requires quiet { ForSome quiet_until IsWholeMoment }
@@ -129,9 +134,9 @@ fn put_start(
     put_both(
         text,
         "started principals ",
-        u64::from(principals),
+        principals,
         " iterations ",
-        u64::from(iterations),
+        iterations,
     )?;
     text.extend_from_slice(b" quiet-until ")?;
     put_quiet(text, quiet_until)

@@ -1,7 +1,6 @@
-use Rattle.std.proofs.Common.{◌≡◌, ◌++◌, ◌∙◌, ◌<◌, ◌^◌, List, ℕ, OnOk, ap, arith, subst}
+use Rattle.std.proofs.Common.{◌≡◌, ◌++◌, ◌∙◌, List, ℕ, OnOk, ap, arith, subst}
 use Rattle.std.specs.Fmt.{decimal}
-use Rattle.chpw_printing.proofs.PrintedLemmas.{decimal_graphic, graphic_printed}
-use Rattle.chpw_log.proofs.LineLemmas.{both_printed, one_joined}
+use Rattle.chpw_log.proofs.LineLemmas.{number_printed, one_joined}
 use Rattle.chpw_log.proofs.event.put_one.Goals as goal
 
 pub returns-clause-value : goal.returns-clause-value
@@ -14,6 +13,7 @@ returns-clause-value c =
     (ap (λ (xs : List ℕ). xs ++ number) front ∙ one_joined old words number) c.put_number.ensures.value
 
 pub returns-clause-printed : goal.returns-clause-printed
-returns-clause-printed c h =
-    let small : c.args.number < 2 ^ 64 = omega arith in
-    both_printed c.args.words.now (decimal c.args.number) h (graphic_printed (decimal c.args.number) (decimal_graphic c.args.number small))
+returns-clause-printed c h = number_printed c.args.words.now c.args.number (omega arith) h
+
+pub returns-in_err-extend_from_slice-clause-printed : goal.returns-in_err-extend_from_slice-clause-printed
+returns-in_err-extend_from_slice-clause-printed c h = number_printed c.args.words.now c.args.number (omega arith) h

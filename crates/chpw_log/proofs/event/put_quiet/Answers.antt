@@ -3,6 +3,9 @@ use Rattle.chpw_printing.specs.Quoting.{are_printed}
 use Rattle.chpw_table.specs.declared.times.Moment.{Moment}
 use Rattle.chpw_log.specs.Lines.{or_dash}
 use Rattle.chpw_log.specs.Moments.{moment_text}
+use Rattle.std.proofs.lemmas.Bool.{and_parts}
+use Rattle.chpw_printing.proofs.PrintedLemmas.{graphic_printed}
+use Rattle.chpw_log.proofs.LineLemmas.{always}
 use Rattle.chpw_log.proofs.event.put_quiet.Goals as goal
 
 pub put_moment-requires : goal.put_moment-requires
@@ -16,4 +19,7 @@ returns-in-Some-clause-value c =
     (sym c.in-Some.is) c.put_moment.ensures.value
 
 pub returns-in-Some-clause-printed : goal.returns-in-Some-clause-printed
-returns-in-Some-clause-printed c = ?
+returns-in-Some-clause-printed c =
+    let text = moment_text c.in-Some.moment in
+    subst (λ (o : Option Moment). OnOk c.put_moment.result (are_printed (or_dash moment_text o) ≡ true))
+    (sym c.in-Some.is) (always c.put_moment.result (graphic_printed text (and_parts _ _ c.put_moment.ensures.field).1))
