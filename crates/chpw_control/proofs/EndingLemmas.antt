@@ -1,13 +1,20 @@
 -- How an answer ends.
-use Rattle.std.proofs.Common.{◌≡◌, ℕ, ◌+◌, ◌-◌, ◌<◌, ◌≤◌, List, [], ◌∷◌, ◌++◌, length, take, drop, Bool, true, false, ◌&&◌, ◌||◌, not, cond, inl, inr, ◌⊎◌, suc, zero, codes, refl, sym, ◌∙◌, ap, subst, append_assoc, arith, length-append, nat_eq}
-use Rattle.std.specs.List.{ends_with, list_all}
+use Rattle.std.proofs.Common.{◌≡◌, ℕ, ◌+◌, ◌-◌, ◌<◌, ◌≤◌, List, [], ◌∷◌, ◌++◌, length, take, drop, Bool, true, false, ◌&&◌, ◌||◌, not, cond, inl, inr, ◌⊎◌, suc, zero, codes, refl, sym, ◌∙◌, ap, subst, append_assoc, arith, length-append, nat_eq, Result, Ok, Err, OnOk, is_ok}
+use Rattle.std.specs.Prelude.{◌==◌}
+use Rattle.std.specs.List.{ends_with, list_all, list_any}
 use Rattle.std.specs.Str.{bytes_eq}
 use Rattle.std.proofs.lemmas.Bool.{and_parts, and_from, or_cases, not-true, eqb-true}
 use Rattle.std.proofs.lemmas.Bool.Decides.{Decides-eqb}
 use Rattle.std.proofs.lemmas.Slice.Eq.{bytes_eq-Decides, ends_is}
 use Rattle.std.proofs.lemmas.List.Folds.{list_all-append}
 use Rattle.chpw_rules.specs.Limits.{range, is_in}
-use Rattle.chpw_printing.specs.Quoting.{are_printed, words_text}
+use Rattle.chpw_printing.specs.Quoting.{are_printed, is_field, words_text}
+use Rattle.chpw_printing.proofs.PrintedLemmas.{graphic_printed}
+use Rattle.chpw_control.specs.declared.status.FollowerState.{FollowerState}
+use Rattle.chpw_control.specs.declared.status.FollowerState.TheVariants.{Absent, Confirmed, Unconfirmed}
+use Rattle.chpw_control.specs.declared.status.JournalState.{JournalState}
+use Rattle.chpw_control.specs.declared.status.JournalState.TheVariants.{Good, Failed}
+use Rattle.chpw_control.specs.Statuses.{follower_word, journal_word, row}
 use Rattle.chpw_control.specs.Answers.{lines_text, ok_line, error_line, ended_ok}
 use Rattle.chpw_control.specs.Dialogs.{is_newline, is_whole}
 use Rattle.chpw_control.specs.Endings.{is_line, are_lines, EndsWell, CutOff, EndsBadly}
@@ -187,7 +194,7 @@ not_ok text h = by_test (ended_ok text) refl
 pub cut_off : CutOff
 cut_off lines n h less = not_ok (take n (lines_text (lines ++ ok_line ∷ []))) (no_whole_ok lines n h less)
 
-printed_line : (text : List ℕ) → are_printed text ≡ true → is_whole text ≡ false
+pub printed_line : (text : List ℕ) → are_printed text ≡ true → is_whole text ≡ false
 printed_line [] h = refl
 printed_line (x ∷ text) h =
     let parts = and_parts (is_in (range 0x20 0x7e) x) (are_printed text) h in
@@ -230,3 +237,61 @@ ends_well (line ∷ lines) =
     lines_append (line ∷ lines) (ok_line ∷ []) ∙ ap (λ (xs : List ℕ). xs ++ codes "ok\n") all.1 ∙ append_assoc all.0 (10 ∷ []) (codes "ok\n") in
     subst (λ (xs : List ℕ). ended_ok xs ≡ true) (sym is)
     (or_so (bytes_eq (all.0 ++ codes "\nok\n") (codes "ok\n")) (ends_with nat_eq (all.0 ++ codes "\nok\n") (codes "\nok\n")) (ends_so all.0))
+
+-- ---- the lines of a status
+
+pub field_plain : (text : List ℕ) → is_field text ≡ true → is_whole text ≡ false
+field_plain text h = printed_line text (graphic_printed text (and_parts _ _ h).1)
+
+-- what has a space isn't `ok`
+has_space : (name value : List ℕ) → list_any (λ (byte : ℕ). byte == 32) (name ++ 32 ∷ value) ≡ true
+has_space [] value = refl
+has_space (x ∷ name) value = or_so (x == 32) (list_any (λ (byte : ℕ). byte == 32) (name ++ 32 ∷ value)) (has_space name value)
+
+no_ok_line : (name value : List ℕ) → bytes_eq (name ++ 32 ∷ value) (codes "ok") ≡ false
+no_ok_line name value = by_test (bytes_eq (name ++ 32 ∷ value) (codes "ok")) refl
+  where
+    by_test : (b : Bool) → bytes_eq (name ++ 32 ∷ value) (codes "ok") ≡ b → bytes_eq (name ++ 32 ∷ value) (codes "ok") ≡ false
+    by_test true e =
+        let same = (bytes_eq-Decides (name ++ 32 ∷ value) (codes "ok")).0 e in
+        absurd (let f : list_any (λ (byte : ℕ). byte == 32) (codes "ok") ≡ true = subst (λ (xs : List ℕ). list_any (λ (byte : ℕ). byte == 32) xs ≡ true) same (has_space name value) in cc)
+    by_test false e = e
+
+row_plain : (name value : List ℕ) → is_whole name ≡ false → is_whole value ≡ false → is_whole (name ++ 32 ∷ value) ≡ false
+row_plain name value h k = whole_append name (32 ∷ value) ∙ ap (λ (b : Bool). b || is_whole value) h ∙ k
+
+row_line : (name value : List ℕ) → is_whole name ≡ false → is_whole value ≡ false → is_line (row name value) ≡ true
+row_line name value h k =
+    let same : row name value ≡ name ++ 32 ∷ value = append_assoc name (32 ∷ []) value in
+    subst (λ (xs : List ℕ). is_line xs ≡ true) (sym same)
+    (and_from _ _ (ap not (row_plain name value h k)) (ap not (no_ok_line name value)))
+
+pub and_line : (name value : List ℕ) (more : List (List ℕ)) → is_whole name ≡ false → is_whole value ≡ false → are_lines more ≡ true
+    → are_lines (row name value ∷ more) ≡ true
+and_line name value more h k rest = and_from _ _ (row_line name value h k) rest
+
+pub and_lines : (lines more : List (List ℕ)) → are_lines lines ≡ true → are_lines more ≡ true → are_lines (lines ++ more) ≡ true
+and_lines lines more h k = list_all-append is_line lines more ∙ and_from _ _ h k
+
+pub journal_plain : (journal : JournalState) → is_whole (journal_word journal) ≡ false
+journal_plain Good = refl
+journal_plain Failed = refl
+
+pub follower_plain : (follower : FollowerState) → is_whole (follower_word follower) ≡ false
+follower_plain Absent = refl
+follower_plain Confirmed = refl
+follower_plain Unconfirmed = refl
+
+-- ---- what could be put
+
+pub always : {E : Type 0} {P : Type 0} (result : Result Unit E) → P → OnOk result P
+always (Ok done) p = p
+always (Err fault) p = tt
+
+pub on_ok : {E : Type 0} {P Q : Type 0} (result : Result Unit E) → OnOk result P → (P → Q) → OnOk result Q
+on_ok (Ok done) p f = f p
+on_ok (Err fault) p f = tt
+
+pub put_so : {E : Type 0} (result : Result Unit E) (new old words : List ℕ) → new ≡ cond (is_ok result) (old ++ words) old → OnOk result (new ≡ old ++ words)
+put_so (Ok done) new old words h = h
+put_so (Err fault) new old words h = tt

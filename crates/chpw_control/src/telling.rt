@@ -1,9 +1,11 @@
 //! The lines of a status.
-ghost use Rattle.std.specs.Prelude.{◌≡◌, ◌++◌, ◌∷◌, [], codes, IfOk, OnOk};
+ghost use Rattle.std.specs.Prelude.{◌≡◌, ◌++◌, ◌∷◌, [], codes, true, false, IfOk, OnOk};
 ghost use Rattle.std.specs.Fmt.{decimal};
 ghost use Rattle.std.specs.Option.{ForSome, option_map_or};
 ghost use Rattle.chpw_printing.specs.Quoting.{words_text};
 ghost use Rattle.chpw_control.specs.Answers.{lines_text, ok_line};
+ghost use Rattle.chpw_control.specs.Dialogs.{is_whole};
+ghost use Rattle.chpw_control.specs.Endings.{are_lines};
 ghost use Rattle.chpw_control.specs.Statuses.{AreTold, IsTold, connection_lines, history_lines, keeping_lines, row, service_lines, status_lines, text_of, worker_lines};
 
 use crate::answer::put_ok;
@@ -17,6 +19,7 @@ use std::alloc::{AllocError, Global};
 pub fn status_answer(alloc: Global, status: &Status<'_>) -> Result<Vec<u8>, AllocError>
     requires times { AreTold status.now }
     ensures value { IfOk result (λ text. text.items ≡ lines_text (status_lines status.now ++ ok_line ∷ [])) }
+    ensures lines { IfOk result (λ _. are_lines (status_lines status.now) ≡ true) }
 {
     let mut text = Vec::new(alloc);
     put_service(&mut text, status)?;
@@ -31,6 +34,7 @@ pub fn status_answer(alloc: Global, status: &Status<'_>) -> Result<Vec<u8>, Allo
 fn put_service(text: &mut Vec<u8>, status: &Status<'_>) -> Result<(), AllocError>
     requires times { AreTold status.now }
     ensures value { OnOk result (text.new.items ≡ text.old.items ++ lines_text (service_lines status.now)) }
+    ensures lines { OnOk result (are_lines (service_lines status.now) ≡ true) }
 {
     put_version(text, status.version)?;
     put_since(text, status.since)?;
@@ -41,6 +45,7 @@ fn put_service(text: &mut Vec<u8>, status: &Status<'_>) -> Result<(), AllocError
 
 fn put_history(text: &mut Vec<u8>, status: &Status<'_>) -> Result<(), AllocError>
     ensures value { OnOk result (text.new.items ≡ text.old.items ++ lines_text (history_lines status.now)) }
+    ensures lines { OnOk result (are_lines (history_lines status.now) ≡ true) }
 {
     put_count(text, "entries", status.entries)?;
     put_count(text, "changes", status.changes)?;
@@ -50,6 +55,7 @@ fn put_history(text: &mut Vec<u8>, status: &Status<'_>) -> Result<(), AllocError
 
 fn put_connections(text: &mut Vec<u8>, status: &Status<'_>) -> Result<(), AllocError>
     ensures value { OnOk result (text.new.items ≡ text.old.items ++ lines_text (connection_lines status.now)) }
+    ensures lines { OnOk result (are_lines (connection_lines status.now) ≡ true) }
 {
     put_count(text, "connections", status.connections)?;
     put_count(text, "reading", status.reading)?;
@@ -62,6 +68,7 @@ fn put_connections(text: &mut Vec<u8>, status: &Status<'_>) -> Result<(), AllocE
 
 fn put_workers(text: &mut Vec<u8>, status: &Status<'_>) -> Result<(), AllocError>
     ensures value { OnOk result (text.new.items ≡ text.old.items ++ lines_text (worker_lines status.now)) }
+    ensures lines { OnOk result (are_lines (worker_lines status.now) ≡ true) }
 {
     put_count(text, "workers", status.workers)?;
     put_count(text, "busy", status.busy)?;
@@ -70,6 +77,7 @@ fn put_workers(text: &mut Vec<u8>, status: &Status<'_>) -> Result<(), AllocError
 
 fn put_keeping(text: &mut Vec<u8>, status: &Status<'_>) -> Result<(), AllocError>
     ensures value { OnOk result (text.new.items ≡ text.old.items ++ lines_text (keeping_lines status.now)) }
+    ensures lines { OnOk result (are_lines (keeping_lines status.now) ≡ true) }
 {
     put_count(text, "journal-bytes", status.journal_bytes)?;
     put_word(text, "journal", status.journal.word())?;
@@ -80,6 +88,7 @@ fn put_keeping(text: &mut Vec<u8>, status: &Status<'_>) -> Result<(), AllocError
 fn put_version(text: &mut Vec<u8>, version: &str) -> Result<(), AllocError>
     ensures value { OnOk result (text.new.items
         ≡ text.old.items ++ lines_text (row (codes "version") (words_text version.now) ∷ [])) }
+    ensures plain { OnOk result (is_whole (words_text version.now) ≡ false) }
 {
     text.extend_from_slice(b"version ")?;
     put_words(text, version.as_bytes())?;
@@ -92,6 +101,7 @@ fn put_since(text: &mut Vec<u8>, time: Time) -> Result<(), AllocError>
     requires time { IsTold time }
     ensures value { OnOk result (text.new.items
         ≡ text.old.items ++ lines_text (row (codes "since") (text_of time) ∷ [])) }
+    ensures plain { OnOk result (is_whole (text_of time) ≡ false) }
 {
     text.extend_from_slice(b"since ")?;
     put_told(text, time)?;
@@ -104,6 +114,7 @@ fn put_quiet(text: &mut Vec<u8>, until: Option<Time>) -> Result<(), AllocError>
     requires time { ForSome until IsTold }
     ensures value { OnOk result (text.new.items
         ≡ text.old.items ++ lines_text (row (codes "quiet-until") (option_map_or text_of until (codes "-")) ∷ [])) }
+    ensures plain { OnOk result (is_whole (option_map_or text_of until (codes "-")) ≡ false) }
 {
     text.extend_from_slice(b"quiet-until ")?;
     put_until(text, until)?;
@@ -115,6 +126,7 @@ fn put_quiet(text: &mut Vec<u8>, until: Option<Time>) -> Result<(), AllocError>
 fn put_until(text: &mut Vec<u8>, time: Option<Time>) -> Result<(), AllocError>
     requires time { ForSome time IsTold }
     ensures value { OnOk result (text.new.items ≡ text.old.items ++ option_map_or text_of time (codes "-")) }
+    ensures plain { OnOk result (is_whole (option_map_or text_of time (codes "-")) ≡ false) }
 {
     match time {
         Some(time) => put_told(text, time),
@@ -126,6 +138,7 @@ fn put_until(text: &mut Vec<u8>, time: Option<Time>) -> Result<(), AllocError>
 fn put_told(text: &mut Vec<u8>, time: Time) -> Result<(), AllocError>
     requires time { IsTold time }
     ensures value { OnOk result (text.new.items ≡ text.old.items ++ text_of time) }
+    ensures plain { OnOk result (is_whole (text_of time) ≡ false) }
 {
     put_time(text, time.seconds, time.micros)
 }
@@ -134,6 +147,7 @@ fn put_told(text: &mut Vec<u8>, time: Time) -> Result<(), AllocError>
 fn put_count(text: &mut Vec<u8>, name: &str, number: u64) -> Result<(), AllocError>
     ensures value { OnOk result (text.new.items
         ≡ text.old.items ++ lines_text (row name.now (decimal number) ∷ [])) }
+    ensures plain { OnOk result (is_whole (decimal number) ≡ false) }
 {
     text.extend_from_slice(name.as_bytes())?;
     text.push(b' ')?;

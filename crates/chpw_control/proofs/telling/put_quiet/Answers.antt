@@ -4,14 +4,15 @@ use Rattle.chpw_control.specs.Statuses.{text_of}
 use Rattle.chpw_control.proofs.AnswerLemmas.{quiet_joined}
 use Rattle.chpw_control.proofs.telling.put_quiet.Goals as goal
 
-pub returns : goal.returns
-returns c =
+pub returns-clause-value : goal.returns-clause-value
+returns-clause-value c =
     let old = c.args.text.now.items in
     let time = option_map_or text_of c.args.until (codes "-") in
     let name = codes "quiet-until " in
     let front : c.extend_from_slice.new.self.items ≡ old ++ name = c.in_ok-extend_from_slice.ensures.items in
     let told : c.put_until.new.text.items ≡ c.extend_from_slice.new.self.items ++ time = c.in_ok-put_until.ensures.value in
     let pushed : c.push.new.self.items ≡ c.put_until.new.text.items ++ 10 ∷ [] = search rules in
-    record {
-      value = pushed ∙ (ap (λ (xs : List ℕ). xs ++ 10 ∷ []) (told ∙ ap (λ (xs : List ℕ). xs ++ time) front) ∙ quiet_joined old time);
-    }
+    pushed ∙ (ap (λ (xs : List ℕ). xs ++ 10 ∷ []) (told ∙ ap (λ (xs : List ℕ). xs ++ time) front) ∙ quiet_joined old time)
+
+pub returns-clause-plain : goal.returns-clause-plain
+returns-clause-plain c = always c.push.result c.in_ok-put_until.ensures.plain

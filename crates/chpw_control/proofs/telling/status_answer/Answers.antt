@@ -2,10 +2,11 @@ use Rattle.std.proofs.Common.{◌≡◌, ◌∷◌, [], ◌++◌, ◌∙◌, Lis
 use Rattle.chpw_control.specs.Answers.{lines_text, ok_line}
 use Rattle.chpw_control.specs.Statuses.{connection_lines, history_lines, keeping_lines, service_lines, status_lines, worker_lines}
 use Rattle.chpw_control.proofs.AnswerLemmas.{further}
+use Rattle.chpw_control.proofs.EndingLemmas.{and_lines}
 use Rattle.chpw_control.proofs.telling.status_answer.Goals as goal
 
-pub returns : goal.returns
-returns c =
+pub returns-clause-value : goal.returns-clause-value
+returns-clause-value c =
     let s = c.args.status.now in
     let old = c.new-text.result.items in
     let one = service_lines s in
@@ -23,4 +24,16 @@ returns c =
     let until_five = further old e f four (keeping_lines s) until_four c.in_ok-put_keeping.ensures.value in
     let all = further old f c.put_ok.new.text.items (status_lines s) (ok_line ∷ []) until_five c.in_ok-put_ok.ensures.value in
     let empty : old ≡ [] = search rules in
-    record { value = all ∙ ap (λ (xs : List ℕ). xs ++ lines_text (status_lines s ++ ok_line ∷ [])) empty }
+    all ∙ ap (λ (xs : List ℕ). xs ++ lines_text (status_lines s ++ ok_line ∷ [])) empty
+
+pub returns-clause-lines : goal.returns-clause-lines
+returns-clause-lines c =
+    let s = c.args.status.now in
+    let one = service_lines s in
+    let two = one ++ history_lines s in
+    let three = two ++ connection_lines s in
+    let four = three ++ worker_lines s in
+    let a = and_lines one (history_lines s) c.in_ok-put_service.ensures.lines c.in_ok-put_history.ensures.lines in
+    let b = and_lines two (connection_lines s) a c.in_ok-put_connections.ensures.lines in
+    let d = and_lines three (worker_lines s) b c.in_ok-put_workers.ensures.lines in
+    and_lines four (keeping_lines s) d c.in_ok-put_keeping.ensures.lines
