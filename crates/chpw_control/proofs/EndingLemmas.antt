@@ -1,7 +1,7 @@
 -- How an answer ends.
-use Rattle.std.proofs.Common.{◌≡◌, ℕ, ◌+◌, ◌-◌, ◌<◌, ◌≤◌, List, [], ◌∷◌, ◌++◌, length, take, drop, Bool, true, false, ◌&&◌, ◌||◌, not, cond, inl, inr, ◌⊎◌, suc, zero, codes, refl, sym, ◌∙◌, ap, subst, append_assoc, arith, length-append, nat_eq, Result, Ok, Err, OnOk, is_ok}
+use Rattle.std.proofs.Common.{◌≡◌, ℕ, ◌+◌, ◌-◌, ◌<◌, List, [], ◌∷◌, ◌++◌, length, take, Bool, true, false, ◌&&◌, ◌||◌, not, cond, inl, inr, ◌⊎◌, suc, zero, codes, refl, sym, ◌∙◌, ap, subst, append_assoc, arith, length-append, nat_eq, Result, Ok, Err, OnOk, is_ok}
 use Rattle.std.specs.Prelude.{◌==◌}
-use Rattle.std.specs.List.{ends_with, list_all, list_any}
+use Rattle.std.specs.List.{ends_with, list_any}
 use Rattle.std.specs.Str.{bytes_eq}
 use Rattle.std.proofs.lemmas.Bool.{and_parts, and_from, or_cases, not-true, eqb-true}
 use Rattle.std.proofs.lemmas.Bool.Decides.{Decides-eqb}

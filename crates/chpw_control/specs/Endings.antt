@@ -1,5 +1,5 @@
 -- An answer that ended well is told from one that was cut off, and from one with an error.
-use Rattle.std.specs.Prelude.{◌≡◌, ℕ, ◌<◌, Bool, true, false, not, ◌&&◌, bytes_eq, List, [], ◌∷◌, ◌++◌, length, take, codes}
+use Rattle.std.specs.Prelude.{◌≡◌, ℕ, ◌<◌, Bool, true, false, not, ◌&&◌, bytes_eq, List, [], ◌∷◌, ◌++◌, length, take}
 use Rattle.std.specs.List.{list_all}
 use Rattle.chpw_printing.specs.Quoting.{are_printed, words_text}
 use Rattle.chpw_control.specs.Answers.{lines_text, ok_line, error_line, ended_ok}

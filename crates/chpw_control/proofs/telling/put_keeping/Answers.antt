@@ -1,9 +1,8 @@
-use Rattle.std.proofs.Common.{◌≡◌, ◌++◌, ◌∷◌, [], ◌∙◌, List, ℕ, OnOk, ap, codes, subst, false, refl}
+use Rattle.std.proofs.Common.{◌≡◌, ◌++◌, ◌∷◌, [], ◌∙◌, List, ℕ, OnOk, ap, codes, subst, refl}
 use Rattle.std.specs.Fmt.{decimal}
 use Rattle.chpw_control.specs.Answers.{lines_text}
 use Rattle.chpw_control.specs.Statuses.{follower_word, journal_word, row}
 use Rattle.chpw_control.proofs.AnswerLemmas.{further, at_last}
-use Rattle.chpw_control.specs.Dialogs.{is_whole}
 use Rattle.chpw_control.proofs.EndingLemmas.{and_line, always, follower_plain, journal_plain}
 use Rattle.chpw_control.proofs.telling.put_keeping.Goals as goal
 

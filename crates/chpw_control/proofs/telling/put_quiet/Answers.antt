@@ -15,4 +15,4 @@ returns-clause-value c =
     pushed ∙ (ap (λ (xs : List ℕ). xs ++ 10 ∷ []) (told ∙ ap (λ (xs : List ℕ). xs ++ time) front) ∙ quiet_joined old time)
 
 pub returns-clause-plain : goal.returns-clause-plain
-returns-clause-plain c = always c.push.result c.in_ok-put_until.ensures.plain
+returns-clause-plain c = c.in_ok-put_until.ensures.plain
