@@ -54,7 +54,9 @@ fn raised(values: &[&str]) -> Result<ServiceEvent, Fault>
     let [iterations] = values else {
         return Err(Fault::NoSuchCase);
     };
-    Ok(ServiceEvent::Raised { iterations: number(iterations)? })
+    Ok(ServiceEvent::Raised {
+        iterations: number(iterations)?,
+    })
 }
 
 fn reloaded(values: &[&str]) -> Result<ServiceEvent, Fault>
