@@ -7,3 +7,6 @@ pub mod Connections
 pub mod Callers
 pub mod Seats
 pub mod CallerLives
+pub mod Answers
+pub mod Endings
+pub mod Statuses

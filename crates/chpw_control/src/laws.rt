@@ -1,6 +1,7 @@
-//! What holds of all that can happen on a connection.
+//! What holds of all that can happen on a connection, and of how an answer ends.
 ghost use Rattle.chpw_control.specs.CallerLives.{Served};
 ghost use Rattle.chpw_control.specs.Connections.{Once, Piecewise, OnlyItsLine};
+ghost use Rattle.chpw_control.specs.Endings.{CutOff, EndsBadly, EndsWell};
 
 /// No more than one command comes of a connection, or one fault.
 #[tactic(auto, using(crate::proofs::ConnectionLemmas::once))]
@@ -25,4 +26,22 @@ pub fn only_its_line()
 #[tactic(auto, using(crate::proofs::CallerLemmas::all_served))]
 pub fn one_answer()
     ensures { Served }
+{}
+
+/// An answer to what is done ends with `ok`.
+#[tactic(auto, using(crate::proofs::EndingLemmas::ends_well))]
+pub fn done()
+    ensures { EndsWell }
+{}
+
+/// It doesn't where it is cut off.
+#[tactic(auto, using(crate::proofs::EndingLemmas::cut_off))]
+pub fn cut_short()
+    ensures { CutOff }
+{}
+
+/// An answer that tells an error doesn't, nor a part of it.
+#[tactic(auto, using(crate::proofs::EndingLemmas::ends_badly))]
+pub fn not_done()
+    ensures { EndsBadly }
 {}

@@ -2,6 +2,7 @@
 //! or thread is in it: whoever has those hands in what came, and writes what is answered.
 #![tactic(auto)]
 
+mod answer;
 mod caller;
 mod callers;
 mod command;
@@ -10,9 +11,16 @@ mod fault;
 mod file_name;
 pub mod laws;
 mod piece;
+mod status;
+mod telling;
+mod time;
 
+pub use answer::{ended_ok, put_error, put_line, put_ok};
 pub use callers::Callers;
 pub use command::Command;
 pub use dialog::Dialog;
 pub use fault::ControlFault;
 pub use file_name::FileName;
+pub use status::{FollowerState, JournalState, Status};
+pub use telling::status_answer;
+pub use time::Time;

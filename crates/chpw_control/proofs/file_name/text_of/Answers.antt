@@ -1,4 +1,4 @@
-use Rattle.std.proofs.Common.{sym, ◌∙◌, rules}
+use Rattle.std.proofs.Common.{sym, ◌∙◌}
 use Rattle.chpw_control.proofs.LineLemmas.{named, unnamed}
 use Rattle.chpw_control.proofs.file_name.text_of.Goals as goal
 

@@ -1,4 +1,4 @@
-use Rattle.std.proofs.Common.{arith, ap, length, sym, ◌∙◌}
+use Rattle.std.proofs.Common.{arith, ap, length}
 use Rattle.chpw_control.proofs.LineLemmas.{piece_more, piece_whole}
 use Rattle.chpw_control.proofs.piece.piece_of.Goals as goal
 

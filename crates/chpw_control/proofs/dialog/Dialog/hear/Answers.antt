@@ -1,4 +1,4 @@
-use Rattle.std.proofs.Common.{◌≡◌, ◌+◌, ◌≤◌, ◌<◌, ◌++◌, length, true, Some, Err, refl, arith, ap, inr, sym, ◌∙◌, rules}
+use Rattle.std.proofs.Common.{◌≡◌, ◌+◌, ◌≤◌, ◌<◌, ◌++◌, length, true, Some, Err, refl, arith, inr, rules}
 use Rattle.chpw_control.specs.declared.fault.ControlFault.TheVariants.{LineTooLong}
 use Rattle.chpw_control.specs.Commands.{command_of}
 use Rattle.chpw_control.specs.Dialogs.{goes_on, line_in}
