@@ -1,0 +1,11 @@
+use Rattle.chpw_reload.proofs.ReloadLemmas.{later_starts_find, later_starts_read, starts_know_all}
+use Rattle.chpw_reload.proofs.laws.later_starts.Goals as goal
+
+pub returns-clause-find : goal.returns-clause-find
+returns-clause-find c = later_starts_find
+
+pub returns-clause-read : goal.returns-clause-read
+returns-clause-read c = later_starts_read
+
+pub returns-clause-known : goal.returns-clause-known
+returns-clause-known c = starts_know_all
