@@ -148,7 +148,7 @@ covers_next : (s t : State) (r : Record) → Covers s t → IsKnown s r → IsNe
 covers_next s t (record_of.Change c) co known n = record { keys = n.keys; held = co.keys c.name known ∙ n.held; next = n.next }
 covers_next s t (record_of.Raise count) co known n = tt
 
-known_after : (s : State) (r : Record) (rs : List Record) → AreKnown s rs → AreKnown (with_record r s) rs
+pub known_after : (s : State) (r : Record) (rs : List Record) → AreKnown s rs → AreKnown (with_record r s) rs
 known_after s r [] h = tt
 known_after s r ((record_of.Change c) ∷ rs) h = (record_some s r c.name h.0, known_after s r rs h.1)
 known_after s r ((record_of.Raise count) ∷ rs) h = (tt, known_after s r rs h.1)

@@ -6,3 +6,4 @@ pub mod PartsLemmas
 pub mod WalkLemmas
 pub mod RunLemmas
 pub mod StartingLemmas
+pub mod AlikeLemmas

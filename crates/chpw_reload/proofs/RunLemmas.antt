@@ -29,7 +29,8 @@ use Rattle.chpw_table.proofs.KeyLemmas.{keys_after, put, same_fixed}
 use Rattle.chpw_journal.specs.Runs.{IsSound, AreWhole, Run, last_state}
 use Rattle.chpw_journal.proofs.JoinedLemmas.{tables_may_open, histories_stay_sound, runs_are_last}
 use Rattle.chpw_reload.specs.ReloadRuns.{GoesOn, AreHistories}
-use Rattle.chpw_reload.specs.RunLaws.{RunsStaySound, UsedOverReloads, NamesOverReloads, CountOverReloads, QuietOverReloads, RunsBegin, RunsGoOn}
+use Rattle.chpw_reload.specs.RunLaws.{RunsStaySound, UsedOverReloads, NamesOverReloads, CountOverReloads, QuietOverReloads, RunsBegin, RunsGoOn, RunsReload, InARowFollowOn}
+use Rattle.chpw_reload.proofs.PartsLemmas.{reloaded_is_reload}
 use Rattle.chpw_reload.proofs.ReloadLemmas.{ids_stay, keys_stay, count_stays, times_stay, reloads_are_sound}
 
 -- ---- within the limits
@@ -237,3 +238,17 @@ runs_go_on opening next table last h goes g =
       follow = histories_more opening (first ∷ h.more) r h.follow (goes_on_from table.state (last_state opening (first ∷ h.more)) next h.leaves goes) g.legal g.whole;
       leaves = subst (λ (s : State). Agrees last.state s) (sym (runs_are_last opening (first ∷ h.more) r).0) g.agrees;
     }
+
+-- one history more after a reload
+pub reload_goes_on : RunsReload
+reload_goes_on opening table file journal rest renewal next last h p r g =
+    let made = reloaded_is_reload file journal rest renewal table next table.state p r (agrees_itself table.state) in
+    runs_go_on opening next.table.state table last h (inr (file, made.0, made.1)) g
+
+-- without a reload between them, histories follow on one another as the runs do that wrote one journal
+pub in_a_row_follow_on : InARowFollowOn
+in_a_row_follow_on s [] sound h = record { sound = sound; each = tt; counts = tt }
+in_a_row_follow_on s (r ∷ rs) sound h =
+    let opens = tables_may_open s [] r.opening (record { sound = sound; each = tt; counts = tt }) h.0 in
+    let rest = in_a_row_follow_on (outcome r.opening r.history) rs (histories_stay_sound r.opening r.history opens.sound h.1 h.2) h.3 in
+    record { sound = sound; each = (opens.left.keys, opens.sound, h.1, h.2, rest.each); counts = (opens.left.count, rest.counts) }

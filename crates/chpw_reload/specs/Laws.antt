@@ -17,7 +17,7 @@ use Rattle.chpw_journal.specs.Joined.{FollowOn}
 use Rattle.chpw_held.specs.Held.{opening}
 use Rattle.chpw_reload.specs.declared.renewal.Renewal.{Renewal}
 use Rattle.chpw_reload.specs.declared.reloading.Reloaded.{Reloaded}
-use Rattle.chpw_reload.specs.Comparing.{kept_by_both}
+use Rattle.chpw_reload.specs.Comparing.{kept_by_both, HoldAlike}
 use Rattle.chpw_reload.specs.Reloading.{IsPrepared, IsReloaded}
 use Rattle.chpw_reload.specs.Reloads.{IsReload, IsFoundAgain, AreKnown}
 
@@ -71,6 +71,17 @@ LaterStartsRead = (file : Config) (records : List Record) (left next : State) (r
 -- no start is possible where a change is of a principal that the file lacks
 abbrev pub StartsKnowAll : Type 0
 StartsKnowAll = (file : Config) (quiet : ℤ) (records : List Record) → AreNext (opening_of file quiet) records → AreKnown (opening file) records
+
+-- Where a start over the first file finds what was left, a new file is not refused for the journal or for keys: its
+-- principals have the same newest keys there, as many as both depths keep; it has those that a record is of; and of
+-- those that were left it has only such as the first file has too
+abbrev pub FilesGoOn : Type 0
+FilesGoOn = (first file : Config) (records : List Record) (left closed renewed : State) →
+    IsFoundAgain (opening first) records left → ((name : Name) → HoldAlike (opening first) (opening file) name) →
+    AreKnown (opening file) records →
+    ((name : Name) → IsSome (keys_held left name) → IsSome (keys_held (opening file) name) → IsSome (keys_held (opening first) name)) →
+    Agrees closed left → Agrees renewed (restored (opening file) records) →
+    AreNext (opening file) records × ((name : Name) → HoldAlike closed renewed name)
 
 -- a journal that is read in two parts, the second from behind the whole records of the first, is read as at once
 abbrev pub TwoPartsAreOne : Type 0

@@ -25,6 +25,12 @@ AreHistories s [] = Unit {0}
 AreHistories s (r ∷ rs) = GoesOn s r.opening × IsLegal r.opening r.history × AreWhole r.opening r.history
     × AreHistories (outcome r.opening r.history) rs
 
+-- histories with no reload between them: each opens with a table that agrees with what the one before it left
+abbrev pub AreInARow : State → List Run → Type 0
+AreInARow s [] = Unit {0}
+AreInARow s (r ∷ rs) = Agrees r.opening s × IsLegal r.opening r.history × AreWhole r.opening r.history
+    × AreInARow (outcome r.opening r.history) rs
+
 -- a history that the one-thread machine replays from this opening to this table
 pub record IsHistory (opening : State) (table : Held) : Type 0 where
   pub history : List Entry

@@ -1,6 +1,7 @@
 -- Laws of a run of a service that reloads.
-use Rattle.std.specs.Prelude.{◌≡◌, ◌≤◌, List, Bool, true, false, IsSome}
+use Rattle.std.specs.Prelude.{◌≡◌, ℕ, ◌≤◌, List, Bool, Option, true, false, IsSome}
 use Rattle.chpw_rules.specs.declared.name.Name.{Name}
+use Rattle.chpw_rules.specs.declared.config.Config.{Config}
 use Rattle.chpw_table.specs.declared.times.Moment.{Moment}
 use Rattle.chpw_table.specs.declared.request.Opened.{Opened}
 use Rattle.chpw_table.specs.Requests.{id_of}
@@ -9,7 +10,11 @@ use Rattle.chpw_table.specs.Agreement.{Held}
 use Rattle.chpw_table.specs.Verdicts.{adds_id}
 use Rattle.chpw_table.specs.Decision.{verdict}
 use Rattle.chpw_journal.specs.Runs.{IsSound, Run, last_state}
-use Rattle.chpw_reload.specs.ReloadRuns.{AreHistories, GoesOn, IsHistory, IsServiceRun}
+use Rattle.chpw_journal.specs.Joined.{FollowOn}
+use Rattle.chpw_reload.specs.declared.renewal.Renewal.{Renewal}
+use Rattle.chpw_reload.specs.declared.reloading.Reloaded.{Reloaded}
+use Rattle.chpw_reload.specs.Reloading.{IsPrepared, IsReloaded}
+use Rattle.chpw_reload.specs.ReloadRuns.{AreHistories, AreInARow, GoesOn, IsHistory, IsServiceRun}
 
 -- from an opening within the limits, all stays within them
 abbrev pub RunsStaySound : Type 0
@@ -41,3 +46,14 @@ RunsBegin = (opening : State) (table : Held) → IsHistory opening table → IsS
 abbrev pub RunsGoOn : Type 0
 RunsGoOn = (opening next : State) (table last : Held) → IsServiceRun opening table → GoesOn table.state next → IsHistory next last →
     IsServiceRun opening last
+
+-- so does one behind a reload
+abbrev pub RunsReload : Type 0
+RunsReload = (opening : State) (table : Held) (file : Config) (journal rest : Option (List ℕ)) (renewal : Renewal) (next : Reloaded) (last : Held) →
+    IsServiceRun opening table → IsPrepared file journal renewal → IsReloaded renewal rest table next →
+    IsHistory next.table.state last → IsServiceRun opening last
+
+-- from an opening within the limits, histories with no reload between them follow on one another as the runs do that
+-- wrote one journal, so that what is said of those holds of them
+abbrev pub InARowFollowOn : Type 0
+InARowFollowOn = (s : State) (runs : List Run) → IsSound s → AreInARow s runs → FollowOn s runs
