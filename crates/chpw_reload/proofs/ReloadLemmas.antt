@@ -11,7 +11,7 @@ use Rattle.chpw_journal.specs.declared.record.Record.{Record}
 use Rattle.chpw_journal.specs.declared.record.Record.TheVariants as record_of
 use Rattle.chpw_journal.specs.Records.{records_text}
 use Rattle.chpw_journal.specs.JournalText.{restored, AreNext, Begins}
-use Rattle.chpw_journal.specs.Runs.{IsSound, Run, journals, records_in, last_state}
+use Rattle.chpw_journal.specs.Runs.{SameKeys, IsSound, Run, journals, records_in, last_state}
 use Rattle.chpw_journal.specs.Joined.{FollowOn}
 use Rattle.chpw_journal.proofs.RecordsLemmas.{records_joined, restored_joined, next_joined}
 use Rattle.chpw_journal.proofs.OpeningLemmas.{openings_are_sound}
@@ -23,7 +23,7 @@ use Rattle.chpw_held.specs.Held.{opening}
 use Rattle.chpw_reload.specs.Next.{settings_of, next_config, next_state}
 use Rattle.chpw_reload.specs.Comparing.{kept_by_both}
 use Rattle.chpw_reload.specs.Reloads.{IsRenewed, IsReload, AreKnown}
-use Rattle.chpw_reload.specs.Laws.{IdsStay, KeysStay, KeysAreGiven, CountStays, TimesStay, ReloadsAreSound, LaterStartsFind, LaterStartsRead, StartsKnowAll}
+use Rattle.chpw_reload.specs.Laws.{IdsStay, KeysStay, KeysAreGiven, CountStays, TimesStay, ReloadsAreSound, LaterStartsFind, LaterStartsRead, StartsKnowAll, StartsFindAgain}
 use Rattle.chpw_reload.proofs.KeyLemmas.{chosen, next_keys}
 use Rattle.chpw_reload.proofs.CoverLemmas.{Covers, restored_kept, restored_alike, restored_some, restored_was, restored_none, restored_few, restored_count, opening_few, known_restored, next_covered, next_are_known}
 
@@ -192,3 +192,31 @@ later_starts_read file records left next runs quiet cut h f known c =
     ap (λ (xs : List ℕ). xs ++ cut) (ap (λ (xs : List ℕ). records_text records ++ xs) (sym (records_are_journals runs)) ∙ sym (records_joined records (records_in runs))) in
     let begins : Begins start text all cut = record { text_is = is; next = all_next file records left next quiet h runs f known } in
     ((begins, c), λ reading g. reads_one start text all cut begins c reading g)
+
+-- the same without a reload
+pub starts_find_again : StartsFindAgain
+starts_find_again file records quiet s runs n a f =
+    let start : State = opening file in
+    let put : State = restored start records in
+    let began : State = restored (opening_of file quiet) records in
+    let more : List Record = records_in runs in
+    let joined : restored start (records ++ more) ≡ restored put more = restored_joined start records more in
+    let same : SameKeys put s = record {
+      kept = restored_kept start records ∙ (sym (restored_kept (opening_of file quiet) records) ∙ sym (ap (λ (f : Fixed). max f.policy.depth 1) a.fixed));
+      keys = λ name. restored_alike start (opening_of file quiet) records name refl refl ∙ sym (a.principals name);
+    } in
+    let follows : Follows put more (last_state s runs) = runs_next put s runs same f.each in
+    let low : new_count put ≤ new_count began = restored_count start (opening_of file quiet) records (omega arith) in
+    let high : new_count began ≤ new_count put = restored_count (opening_of file quiet) start records (omega arith) in
+    let is : new_count s ≡ new_count began = a.count in
+    let counts : new_count put ≡ new_count s = omega (arith, low, high, is) in
+    record {
+      next = next_joined start records more n follows.0;
+      kept = ap kept_count joined ∙ follows.1.kept;
+      keys = λ name some. ap (λ (u : State). keys_held u name) joined ∙ follows.1.keys name;
+      others = λ name none. restored_none start (records ++ more) name none;
+      count =
+          let b : new_count (restored start (records ++ more)) ≡ new_count (restored put more) = ap new_count joined in
+          let c : new_count (restored put more) ≡ new_count (last_state s runs) = count_runs put s runs f.each f.counts counts in
+          omega (arith, b, c);
+    }

@@ -72,6 +72,12 @@ LaterStartsRead = (file : Config) (records : List Record) (left next : State) (r
 abbrev pub StartsKnowAll : Type 0
 StartsKnowAll = (file : Config) (quiet : ℤ) (records : List Record) → AreNext (opening_of file quiet) records → AreKnown (opening file) records
 
+-- of a service that began with a file and these records, a start over the file finds the same again
+abbrev pub StartsFindAgain : Type 0
+StartsFindAgain = (file : Config) (records : List Record) (quiet : ℤ) (s : State) (runs : List Run) →
+    AreNext (opening file) records → Agrees s (restored (opening_of file quiet) records) → FollowOn s runs →
+    IsFoundAgain (opening file) (records ++ records_in runs) (last_state s runs)
+
 -- Where a start over the first file finds what was left, a new file is not refused for the journal or for keys: its
 -- principals have the same newest keys there, as many as both depths keep; it has those that a record is of; and of
 -- those that were left it has only such as the first file has too

@@ -1,5 +1,5 @@
 //! Laws of a reload, over its definitions alone.
-ghost use Rattle.chpw_reload.specs.Laws.{IdsStay, KeysStay, KeysAreGiven, CountStays, TimesStay, ReloadsAreSound, LaterStartsFind, LaterStartsRead, StartsKnowAll, FilesGoOn, TwoPartsAreOne, ReloadedIsReload};
+ghost use Rattle.chpw_reload.specs.Laws.{IdsStay, KeysStay, KeysAreGiven, CountStays, TimesStay, ReloadsAreSound, LaterStartsFind, LaterStartsRead, StartsKnowAll, StartsFindAgain, FilesGoOn, TwoPartsAreOne, ReloadedIsReload};
 ghost use Rattle.chpw_reload.specs.RunLaws.{RunsStaySound, UsedOverReloads, NamesOverReloads, CountOverReloads, QuietOverReloads, RunsBegin, RunsGoOn, RunsReload, InARowFollowOn};
 
 /// What a reload keeps of what the history before it left: an id that was used is used; each name that was held is
@@ -25,11 +25,13 @@ pub fn parts()
 
 /// What a start over the new file finds in the journal of all that was before a reload and of the runs behind it:
 /// each of the file's names with the keys that were held at last, and no other name, provided that no record behind
-/// the reload is of a name that the file lacks. Where one is, no start is possible.
+/// the reload is of a name that the file lacks. Where one is, no start is possible. Without a reload a start finds
+/// what the runs left that began with the same file.
 pub fn later_starts()
     ensures find { LaterStartsFind }
     ensures read { LaterStartsRead }
     ensures known { StartsKnowAll }
+    ensures again { StartsFindAgain }
 {}
 
 /// A new file is not refused for the journal or for keys where its principals have the same newest keys as in a file

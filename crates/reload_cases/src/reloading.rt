@@ -5,7 +5,7 @@ use crate::refusal::Refusal;
 use chpw_journal::restore;
 use chpw_printing::{put_behind_space, put_name};
 use chpw_reload::{Refused, ReloadFault, Reloaded, finish, prepare, put_fault};
-use chpw_rules::{Config, Name};
+use chpw_rules::Name;
 use chpw_table::{KeyRow, Table};
 use std::alloc::Global;
 
@@ -32,7 +32,7 @@ fn reload(
     journal: &[u8],
     end: usize,
 ) -> Result<(), Refusal> {
-    let closed = closed(alloc, config_of(alloc, old)?, journal)?;
+    let closed = closed(alloc, old, journal)?;
     let file = config_of(alloc, new)?;
     let Some(front) = journal.get(..end) else {
         return Err(Refusal::NoSuchCase);
@@ -49,8 +49,9 @@ fn reload(
     }
 }
 
-// The table with which a desk was closed, quiet until the second 300.
-fn closed(alloc: Global, config: Config, mut journal: &[u8]) -> Result<Table, Refusal> {
+// The table with which a desk was closed: that of a configuration with a journal, quiet until the second 300.
+fn closed(alloc: Global, words: &str, mut journal: &[u8]) -> Result<Table, Refusal> {
+    let config = config_of(alloc, words)?;
     let table = Table::start(alloc, config, 300)?;
     match restore(alloc, table, &mut journal) {
         Ok(restored) => Ok(restored.table),
