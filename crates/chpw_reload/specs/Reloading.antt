@@ -48,7 +48,7 @@ pub record IsReloaded (r : Renewal) (rest : Option (List ℕ)) (closed : Held) (
 abbrev pub IsRefused : Renewal → Option (List ℕ) → Held → ReloadFault → Type 0
 IsRefused r rest closed Realm = closed.state.fixed.realm ≢ r.settings.realm
 IsRefused r rest closed (Journal fault) = (closed.state.fixed.realm ≡ r.settings.realm)
-    × (found : RestoreFault) × IsRefusedFrom r.table rest found × (fault ≡ fault_behind r.records found)
+    × (found : RestoreFault) × IsRefusedFrom r.table rest found × (Journal fault ≡ fault_of (fault_behind r.records found))
 IsRefused r rest closed (Keys name) = (closed.state.fixed.realm ≡ r.settings.realm)
     × (renewed : Restored) × IsReadFrom r.table rest renewed × HoldApart closed.state renewed.table.state name
 IsRefused r rest closed Limits = (closed.state.fixed.realm ≡ r.settings.realm)
