@@ -9,7 +9,7 @@ import realms
 from cases import Cases
 from daemons import comes, daemon
 from ports import free_ports
-from realm import REALM, Project, packages_folder
+from realm import REALM, Failed, Project, packages_folder
 
 # the replica's KDC has an address of its own: clients tell the primary from it by that
 REPLICA = "127.0.0.2"
@@ -45,19 +45,14 @@ class ReplicaCases(Cases):
         )
 
     def tries(self):
-        with self.primary.receiving("first"), self.primary.kdc():
+        with self.primary.receiving("first"):
+            # a KDC that finds half a database ends
             first = comes(lambda: self.primary.replica_kvno(self.user) == 1)
             self.tell("replica: it gets the whole database", first)
             whole = self.primary.whole()
             self.tell("  as its log says", whole > 0)
-            for number in range(3):
-                told = self.write(f"Each-pass{number}"), comes(self.is_there)
-                self.tell("replica: a change, at the primary and there", told, (True, True))
-            # its KDC refuses for a moment where it meets the write itself
-            comes(lambda: self.tickets("Each-pass2") == self.primary.ALL, 10)
-            self.tell("  tickets", self.tickets("Each-pass2"), self.primary.ALL)
-            answers = [self.write(f"Many-pass{number}") for number in range(20)]
-            self.tell("replica: 20 changes at once", (all(answers), comes(self.is_there)), (True, True))
+            with self.primary.kdc():
+                self.changes_arrive()
         with self.primary.kdc():
             self.tell("replica: a change while it is cut off", self.write("Late-pass1"))
             self.tell("  the new password: tickets", self.tickets("Late-pass1"), self.primary.LATE)
@@ -69,6 +64,16 @@ class ReplicaCases(Cases):
         found, wanted = self.primary.keys(self.user), self.files.keys([self.user])
         missing, other = len(wanted - found), len(found - wanted)
         self.tell("replica: the table's keys, missing and others", (missing, other), (0, 0))
+
+    def changes_arrive(self):
+        for number in range(3):
+            told = self.write(f"Each-pass{number}"), comes(self.is_there)
+            self.tell("replica: a change, at the primary and there", told, (True, True))
+        # its KDC refuses for a moment where it meets the write itself
+        comes(lambda: self.tickets("Each-pass2") == self.primary.ALL, 10)
+        self.tell("  tickets", self.tickets("Each-pass2"), self.primary.ALL)
+        answers = [self.write(f"Many-pass{number}") for number in range(20)]
+        self.tell("replica: 20 changes at once", (all(answers), comes(self.is_there)), (True, True))
 
 
 class Mit:
@@ -153,11 +158,11 @@ kadmind_listen = 127.0.0.3:{realm.kadmind_port}
 
     @contextlib.contextmanager
     def kdc(self):
-        # it needs the database, which comes from the primary
-        comes((self.folder / "principal").exists)
         command = [self.realm.mit.program("krb5kdc"), "-n"]
-        with daemon(command, self.environment("replica.conf"), self.folder / "kdc.out"):
-            comes(lambda: "starting" in (self.folder / "kdc.out").read_text())
+        out = self.folder / "kdc.out"
+        with daemon(command, self.environment("replica.conf"), out):
+            if not comes(lambda: "starting" in out.read_text()):
+                raise Failed(f"the replica's KDC doesn't start: {out.read_text()}")
             yield
 
     def kadmin(self, *words):
