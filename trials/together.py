@@ -8,7 +8,9 @@ from typing import NamedTuple
 
 FUNCTION = re.compile(r"( *)(?:pub(?:\(\w+\))? )?(?:const )?(?:unsafe )?fn (\w+)")
 # What methods stand in: an impl of a trait, an impl of a type alone, or a trait.
-BLOCK = re.compile(r"(?:pub(?:\(\w+\))? )?(?:impl(?:<.*?>)? (?:(?:\w+::)*(\w+)(?:<.*>)? for )?(?:\w+::)*(\w+)|trait (\w+))")
+BLOCK = re.compile(r"(?:pub(?:\(\w+\))? )?(?:impl(?:<.*?>)? (?:(?:\w+::)*(\w+)(<.*>)? for )?(?:\w+::)*(\w+)|trait (\w+))")
+# The types that stand behind a trait's name: the prover writes them there too, but for a parameter.
+TYPE = re.compile(r"\b[A-Z]\w+")
 # What is said of a function whose own proof fails.
 FAILED = re.compile(r"not proved|no proof: expected answers in ")
 # What is said of a goal of it.
@@ -33,8 +35,8 @@ def functions_of(text):
     lines, found, block = text.split("\n"), [], ""
     for at, line in enumerate(lines):
         if BLOCK.match(line):
-            of_trait, of_type, trait = BLOCK.match(line).groups()
-            block = f"{trait or of_type + (of_trait or '')}::"
+            of_trait, of_what, of_type, trait = BLOCK.match(line).groups()
+            block = f"{trait or of_type + (of_trait or '') + ''.join(TYPE.findall(of_what or ''))}::"
         head = FUNCTION.match(line)
         if not head:
             continue
