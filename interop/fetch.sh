@@ -2,14 +2,9 @@
 # Unpacks MIT Kerberos and Heimdal (of both KDC, kadmin, clients, libraries and headers) from
 # Debian's packages into FOLDER/mit and FOLDER/heimdal, into FOLDER/kpropd what a replica of MIT's
 # runs, and into FOLDER/pam, FOLDER/pam-heimdal and FOLDER/sssd what logs
-# users in. Nothing is installed: the two conflict as packages, and not as folders. The packages are those
-# of the lists that `apt-get update` fetched; where it hasn't, the lists are fetched into FOLDER too.
+# users in. Nothing is installed: the two conflict as packages, and not as folders (unpack.sh).
 set -euo pipefail
-
-if [[ $# -ne 1 ]]; then
-    echo "usage: fetch.sh FOLDER" >&2
-    exit 2
-fi
+. "$(dirname "$0")/unpack.sh"
 
 # each with the libraries that a plain Debian doesn't have
 mit=(krb5-kdc krb5-admin-server krb5-user krb5-multidev libkrb5-3 libk5crypto3 libkrb5support0
@@ -26,42 +21,7 @@ sssd=(sssd-common sssd-krb5-common sssd-krb5 sssd-proxy libpam-sss libnss-sss li
     libref-array1 libini-config5 liblmdb0 libtalloc2 libtdb1 libtevent0 libldb2 libnl-3-200
     libnl-route-3-200 libpopt0 libc-ares2 libdbus-1-3 libjansson4 libkeyutils1)
 
-# an unreachable server isn't waited for
-apt=(-qq -o APT::Sandbox::User=root -o Acquire::http::Timeout=20 -o Acquire::https::Timeout=20
-    -o Acquire::Retries=1)
-lists=()
-
-# have_lists: those of the system, or some in FOLDER
-have_lists() {
-    if [[ ${#lists[@]} -eq 0 && -z $(apt-cache policy krb5-kdc) ]]; then
-        lists=(-o Dir::State::lists="$folder/lists")
-        mkdir -p "$folder/lists/partial"
-        apt-get update "${apt[@]}" "${lists[@]}"
-    fi
-}
-
-# unpack NAME PACKAGE..: into FOLDER/NAME, unless these are there already
-unpack() {
-    local place=$folder/$1
-    shift
-    if [[ -f $place/unpacked && $(<"$place/unpacked") == "$*" ]]; then
-        return
-    fi
-    rm -rf "$place.new"
-    mkdir -p "$place.new/packages"
-    have_lists
-    (cd "$place.new/packages" && apt-get download "${apt[@]}" "${lists[@]}" "$@")
-    local package
-    for package in "$place.new/packages"/*.deb; do
-        dpkg -x "$package" "$place.new"
-    done
-    echo "$*" > "$place.new/unpacked"
-    rm -rf "$place"
-    mv "$place.new" "$place"
-}
-
-mkdir -p "$1"
-folder=$(cd "$1" && pwd)
+begin "$@"
 unpack mit "${mit[@]}"
 unpack heimdal "${heimdal[@]}"
 unpack kpropd krb5-kpropd

@@ -37,12 +37,13 @@ class User:
 class ClientCases(Cases):
     """The first user is the administrator; the others take their turns, one for a client's case."""
 
+    KINDS = [MitClient, HeimdalClient, HeimdalOverUdp, MitPam, HeimdalPam, HeimdalPamOverUdp, Sssd]
+
     def run(self, rounds):
-        kinds = [MitClient, HeimdalClient, HeimdalOverUdp, MitPam, HeimdalPam, HeimdalPamOverUdp]
-        if Sssd.is_possible():
-            kinds.append(Sssd)
-        else:
-            print("sssd wants root and a mount namespace: it isn't tried", flush=True)
+        kinds = [kind for kind in self.KINDS if kind.is_possible()]
+        for kind in self.KINDS:
+            if kind not in kinds:
+                print(f"{kind.NAME} wants {kind.WANTS}: it isn't tried", flush=True)
         cases = sum(len(kind.CASES) + 2 for kind in kinds)
         self.admin, *users = [User(self.name()) for _ in range(1 + cases)]
         with self.serving([self.admin, *users]), contextlib.ExitStack() as stack:

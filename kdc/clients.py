@@ -46,6 +46,11 @@ class Client:
     # whether a change is one to it only if the new password gives a ticket at once
     ASKS_FOR_TICKET = False
 
+    @staticmethod
+    def is_possible():
+        """Whether it can run here; a kind that can't everywhere has `WANTS`, what it wants for that."""
+        return True
+
     def __init__(self, folder, kdc_port, port):
         self.folder = folder
         self.project = Project(packages_folder() / self.PACKAGE)

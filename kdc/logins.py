@@ -105,6 +105,7 @@ class Sssd(Client):
     SHOWS_REASONS = True
     ASKS_FOR_TICKET = True
     TWICE = ("New Password", "Reenter new Password")
+    WANTS = "root and a mount namespace"
 
     @staticmethod
     def is_possible():
