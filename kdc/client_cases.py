@@ -66,10 +66,10 @@ class ClientCases(Cases):
         self.tell("each change was confirmed: those that weren't", self.files.unconfirmed(), 0)
 
     @contextlib.contextmanager
-    def serving(self, users):
+    def serving(self, users, folder="clients", options=("--udp",)):
         """The service and a follower; at the end the KDC's keys are the table's."""
         names = [user.name for user in users]
-        self.files = Confirmed(self.realm.folder / "clients", self.program, WAIT, options=["--udp"])
+        self.files = Confirmed(self.realm.folder / folder, self.program, WAIT, options=options)
         self.files.configure(configuration.configuration(self.realm.keytab(names), [(self.admin.name, "*")]))
         self.files.start()
         try:

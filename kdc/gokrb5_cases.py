@@ -3,7 +3,7 @@
 import os
 import subprocess
 
-from client_cases import ClientCases
+from client_cases import ClientCases, User
 from clients import Client, Seen
 from realm import REALM, packages_folder
 from realms import HERE
@@ -29,6 +29,7 @@ class Gokrb5(Client):
     SHOWS_REASONS = True
     # who asks for a new password is the program that calls it
     TWICE = ()
+    NEEDS_UDP = True
 
     def __init__(self, folder, kdc_port, port):
         super().__init__(folder, kdc_port, port)
@@ -77,9 +78,31 @@ class Gokrb5(Client):
 class Gokrb5OverTcp(Gokrb5):
     NAME = "gokrb5 over TCP"
     DEFAULTS = "    udp_preference_limit = 1\n"
+    NEEDS_UDP = False
 
 
 class Gokrb5Cases(ClientCases):
     KINDS = [Gokrb5, Gokrb5OverTcp]
     # what they need besides
     FETCH = HERE / "gokrb5/fetch.sh"
+
+    def run(self, rounds):
+        super().run(rounds)
+        users = [User(self.name()) for _ in self.KINDS]
+        with self.serving([self.admin, *users], "without-udp", ()):
+            for kind, user in zip(self.KINDS, users):
+                client = kind(self.files.folder, self.realm.kdc_port, self.files.server.port)
+                client.build([user.name])
+                self.without_udp(client, user)
+
+    def without_udp(self, client, user):
+        """The service has no `--udp`: who asks over it is told so at once, and keeps the former password."""
+        former, user.password = user.password, user.next()
+        seen = client.kpasswd(user.name, former, user.password)
+        self.show(client, "a change, no --udp", seen)
+        if client.NEEDS_UDP:
+            user.password, user.count = former, 0
+        found = seen.is_done, "connection refused" in seen
+        wanted = not client.NEEDS_UDP, client.NEEDS_UDP
+        self.tell(f"{client.NAME}: a change, no --udp: done, refused by the port", found, wanted)
+        self.tell("  a ticket by the password that is the user's now", self.gives_ticket(client, user))
