@@ -3,8 +3,8 @@
 //	change CONFIGURATION NAME
 //
 // reads the password and then, where it is to be changed, the new one, a line each. It prints a line for
-// each call of the library, with what it returned; the last login also asks for a ticket. The status is 0
-// where that was given. A change is asked for though the first login fails, since the password may have
+// each of the library's calls, with what it returned; a login asks for a ticket too. The status is 0 where
+// the last one gave that. A change is asked for though the first login fails, since the password may have
 // expired.
 package main
 
@@ -39,6 +39,7 @@ func change(user *client.Client, password string) bool {
 	return done
 }
 
+// run is whether the last login gave a ticket.
 func run() bool {
 	configuration, err := config.Load(os.Args[1])
 	if err != nil {

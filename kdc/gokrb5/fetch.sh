@@ -1,6 +1,6 @@
 #!/usr/bin/env bash
-# Unpacks gokrb5 with all that it needs, and the Go compiler, from Debian's packages into FOLDER/go: 80 MB to
-# fetch, 500 MB on the disk. Nothing is installed (interop/unpack.sh).
+# Unpacks gokrb5 with all that it needs, and the Go compiler, from Debian's packages into FOLDER/go: 80 MB are
+# fetched, and 570 MB of the disk taken. Nothing is installed (interop/unpack.sh).
 set -euo pipefail
 . "$(dirname "$0")/../../interop/unpack.sh"
 
