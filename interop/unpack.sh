@@ -1,3 +1,4 @@
+# shellcheck shell=bash
 # What a script has that unpacks Debian's packages into `$folder`, where nothing is installed. The packages
 # are those of the lists that `apt-get update` fetched; where it hasn't, the lists are fetched into the folder
 # too. To be sourced.
