@@ -1,15 +1,18 @@
 //! What the reactor and the workers share.
-ghost use Rattle.std.specs.Prelude.{◌≡◌, ◌<◌, ◌≤◌, ◌/◌, ◌^◌, vec_len, IfOk, IfErr};
+ghost use Rattle.std.specs.Prelude.{◌≡◌, ◌<◌, ◌≤◌, ◌/◌, ◌^◌, vec_len, IfOk, IfErr, IfSome, true};
 ghost use Rattle.std.specs.Duration.{as_nanos};
+ghost use Rattle.chpw_control.specs.Seats.{is_order};
 ghost use Rattle.chpw_pool.specs.Engines.{workers_at};
 ghost use Rattle.chpw_pool.specs.Pools.{Ends, IsUnmade};
 
+use crate::control::Control;
 use crate::hub::Hub;
 use crate::pool::{Pool, PoolFault};
 use crate::sockets::{Selector, Sockets};
 use crate::state::State;
 use crate::worker::Reply;
 use chpw_connections::{Bounds, Connections, Taken};
+use chpw_control::Command;
 use chpw_serve::WorkerWords;
 use mio::Waker;
 use std::alloc::{AllocError, Global};
@@ -36,6 +39,9 @@ pub struct Engine<G> {
     pub(crate) hub: Mutex<Hub>,
     pub(crate) selector: Mutex<Selector>,
     waker: Waker,
+    pub(crate) control: Mutex<Control>,
+    /// Where whoever carries out orders waits for them.
+    ordered: Condvar,
 }
 
 impl<G: Drop> Engine<G> {
@@ -61,6 +67,9 @@ impl<G: Drop> Engine<G> {
         let Ok(workers) = worker_slots(alloc, gates) else {
             return Err(PoolFault::Memory);
         };
+        let Ok(control) = Control::new(alloc) else {
+            return Err(PoolFault::Memory);
+        };
         let (selector, waker) = Selector::new(rt, alloc)?;
         let sockets = Sockets::new(alloc, &selector, bounds.connections, datagrams)?;
         Ok(Engine {
@@ -73,6 +82,8 @@ impl<G: Drop> Engine<G> {
             }),
             selector: Mutex::new(selector),
             waker,
+            control: Mutex::new(control),
+            ordered: Condvar::new(),
         })
     }
 }
@@ -166,12 +177,12 @@ impl<G> Engine<G> {
     }
 
     /// The workers take messages.
-    pub(crate) fn start<R: Wait>(&self, rt: &R) {
+    pub fn start<R: Wait>(&self, rt: &R) {
         self.hub.lock(rt).state.is_stopped = false;
     }
 
     /// The workers take no more messages until the next start.
-    pub(crate) fn stop<R: Wait>(&self, rt: &R) {
+    pub fn stop<R: Wait>(&self, rt: &R) {
         self.hub.lock(rt).state.is_stopped = true;
         self.call_all();
     }
@@ -180,6 +191,44 @@ impl<G> Engine<G> {
     pub(crate) fn finish<R: Wait>(&self, rt: &R) {
         self.hub.lock(rt).state.is_over = true;
         self.call_all();
+        self.control.lock(rt).is_over = true;
+        self.call_for_order();
+    }
+
+    /// Whoever carries out orders looks up.
+    pub(crate) fn call_for_order(&self) {
+        self.ordered.notify_one();
+    }
+
+    /// The next order of those at the control socket, as soon as there is one and the one before it was answered. It is to be
+    /// answered by `answer_order`. None where no more is carried out.
+    pub fn next_order<R: Wait>(&self, rt: &R) -> Option<Command>
+        ensures order { IfSome result (λ command. is_order command ≡ true) }
+    {
+        for _ in rt.forever() {
+            let mut control = self
+                .ordered
+                .wait_while(rt, self.control.lock(rt), |control| control.is_idle());
+            if let Some(command) = control.callers.next_order() {
+                return Some(command);
+            }
+            if control.is_over {
+                return None;
+            }
+        }
+        None
+    }
+
+    /// What came of the order that is carried out.
+    pub fn answer_order<R: Wait>(&self, rt: &R, answer: Vec<u8>) {
+        self.control.lock(rt).callers.answer_order(answer);
+        self.wake();
+        self.call_for_order();
+    }
+
+    /// Whether it ended since somebody at the control socket asked for that.
+    pub fn was_stopped<R: Wait>(&self, rt: &R) -> bool {
+        self.control.lock(rt).is_stopping
     }
 
     /// Nobody answers any more: the reactor ends, and with it all connections.

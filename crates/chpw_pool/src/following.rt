@@ -3,7 +3,7 @@
 use crate::engine::milliseconds;
 use crate::follower::Follower;
 use crate::reactor::Reactor;
-use crate::sockets::FOLLOWER;
+use crate::tokens::FOLLOWER;
 use chpw_follower::ask_line;
 use mio::net::UnixStream;
 use mio::{Interest, Registry};

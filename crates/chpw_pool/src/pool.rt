@@ -206,10 +206,11 @@ fn run_gated<
 #[derive(Clone, Copy, PartialEq, Eq, Debug, Drop)]
 pub struct NotStarted;
 
-/// Answers the messages of an engine's connections at a desk, until no more come, or until the desk's history has no
-/// room for one more entry: it has room for so many. The workers then finish the messages that they have, and the
-/// others wait for the next desk. The reply to a change waits for the follower where `journal` says how long the journal
-/// is. After `NotStarted` the workers that had started may have answered some.
+/// Answers the messages of an engine's connections at a desk, until no more come, the workers are to take none (`Engine::stop`),
+/// or the desk's history has no room for one more entry: it has room for so many. They take some only once `Engine::start` was
+/// called behind a stop. The workers then finish the messages that they have, and the others wait for the next desk. The reply
+/// to a change waits for the follower where `journal` says how long the journal is. After `NotStarted` the workers that had
+/// started may have answered some.
 pub fn run_shift<
     R: Threads + Wait + time::Clock + Sync,
     T: time::Clock + Sync,
@@ -239,7 +240,6 @@ pub fn run_shift<
         journal,
         room: Some(room),
     };
-    engine.start(rt);
     run_workers::<R, T, TcpListener, M, D, S, G, J>(rt, &shared, engine, passes, None)
 }
 

@@ -1,7 +1,7 @@
 //! The connections, as reactor and workers see them under their lock.
 
 ghost use Rattle.std.specs.Prelude.{◌≡◌, ◌⊎◌, ◌||◌, ◌&&◌, not, IfOk, IfSome, OnOk, OnErr, is_some, Some, None, true, false, if◌then◌else◌};
-ghost use Rattle.slab.specs.Slab.{get};
+ghost use Rattle.slab.specs.Slab.{get, slab_len};
 ghost use Rattle.chpw_connections.specs.Held.{slots_of, bounds_of};
 ghost use Rattle.chpw_connections.specs.Todos.{todo_in};
 ghost use Rattle.chpw_connections.specs.Sets.{Happens, queued_at, is_late_in, wanted_at};
@@ -10,12 +10,14 @@ ghost use Rattle.chpw_connections.specs.Room.{HappensWithRoom, for_message, is_l
 ghost use Rattle.chpw_follower.specs.Asks.{at_start, behind_bytes, behind_loss, confirmed_by};
 ghost use Rattle.chpw_pool.specs.Following.{awaited, asking_behind, Releases, ReleasesOne, is_waited_for as is_waited};
 ghost use Rattle.chpw_pool.specs.Steps.{IsAnswered, Takes, TakesNone, LetsGo, Gives, GivesNone, is_short_for, short_of};
-ghost use Rattle.chpw_pool.specs.Rounds.{is_finished, is_looked_at, milliseconds_to_wait, wants_reactor};
+ghost use Rattle.chpw_pool.specs.Controlling.{IsCounted, sum_of};
+ghost use Rattle.chpw_pool.specs.Rounds.{is_done, is_finished, is_looked_at, is_reading, milliseconds_to_wait, wants_reactor};
 ghost use Rattle.chpw_pool.specs.declared.state.Progress.TheVariants as progress;
 
 use crate::accepting::Accepting;
+use crate::attendant::Standing;
 use crate::worker::Reply;
-use chpw_connections::{Connections, Taken, Todo, Unconfirmed};
+use chpw_connections::{Connections, Counted, Taken, Todo, Unconfirmed};
 use chpw_follower::{Asking, Misspoken};
 use std::io::{ErrorKind, Read, Write};
 
@@ -365,6 +367,42 @@ impl State {
     {
         let has_all = self.connections.accepted() >= wanted || accepting.has_failed();
         self.is_deserted || (has_all && self.connections.is_empty())
+    }
+
+    /// Whether the reactor has nothing left to do: nothing is left of the connections, and no order is carried out or waits; or
+    /// nobody is there to answer.
+    pub fn is_done(&self, wanted: u32, accepting: Accepting, has_orders: bool) -> bool
+        ensures value { result ≡ is_done wanted accepting has_orders self.now }
+    {
+        self.is_deserted || (self.is_finished(wanted, accepting) && !has_orders)
+    }
+
+    /// Ends a connection that waits for its client's next bytes.
+    pub fn end_if_reading(&mut self, slot: usize)
+        ensures reading { is_reading (todo_in (get (slots_of self.old.connections) slot)) ≡ true → Happens 0 (slots_of self.old.connections) (slots_of self.new.connections) slot failed }
+        ensures others { is_reading (todo_in (get (slots_of self.old.connections) slot)) ≡ false → self.new ≡ self.old }
+    {
+        if matches!(self.todo(slot), Todo::Read(_)) {
+            self.connections.fail(slot);
+        }
+    }
+
+    /// How the connections stand, and whether the follower is asked about a change.
+    #[tactic(auto, using(crate::proofs::ControlLemmas::all_counted))]
+    pub fn standing(&self) -> Standing
+        ensures value { IsCounted self.now result }
+        ensures all { sum_of result ≡ slab_len (slots_of self.now.connections) }
+        ensures behind { result.is_behind ≡ is_waited self.now.asking }
+    {
+        Standing {
+            reading: self.connections.count(Counted::Reading),
+            waiting: self.connections.count(Counted::Waiting),
+            answering: self.connections.count(Counted::Answering),
+            confirming: self.connections.count(Counted::Confirming),
+            writing: self.connections.count(Counted::Writing),
+            ending: self.connections.count(Counted::Ending),
+            is_behind: self.is_waited_for(),
+        }
     }
 
     /// How many milliseconds to wait for the next event: none where there is something to do at once.

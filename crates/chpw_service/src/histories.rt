@@ -5,7 +5,7 @@ ghost use Rattle.chpw_book.specs.Starting.{IsNamed, table_of, workers_of};
 ghost use Rattle.chpw_pool.specs.Engines.{workers_at};
 ghost use Rattle.chpw_service.specs.Faults.{IsLate};
 ghost use Rattle.chpw_service.specs.Following.{reopened};
-ghost use Rattle.chpw_service.specs.ServiceRuns.{IsHistory, IsServiceRun};
+ghost use Rattle.chpw_reload.specs.ReloadRuns.{GoesOn, IsHistory, IsServiceRun};
 ghost use Rattle.chpw_service.specs.Serving.{is_full_with};
 ghost use Rattle.chpw_service.specs.declared.fault.ServeFault.TheVariants.{CannotPrint, Memory};
 
@@ -15,10 +15,14 @@ use crate::followed::{FollowerTerms, JournalLength};
 use crate::gates::Logging;
 use crate::logging::{Log, LogLines};
 use crate::notices::{Notice, is_first, unreported};
+use crate::orders::Orders;
+use crate::reloading::reload;
 use chpw_book::{Desk, DeskName, Pass, StartFault, UnnamedDesk};
+use chpw_invocation::ServeOptions;
 use chpw_journal::FileSink;
 use chpw_messages::Service;
-use chpw_pool::{Engine, NotStarted, run_shift};
+use chpw_pool::{Engine, MachineClock, NotStarted, run_shift};
+use chpw_serve::Clock as _;
 use chpw_table::{JournalSink, Table};
 use std::fs::File;
 use std::marker::Brand;
@@ -26,18 +30,27 @@ use std::sync::Wait;
 use std::thread::Threads;
 use std::time::Clock;
 
+/// What messages are answered by, until the configuration is read anew.
+#[derive(Drop)]
+pub struct Rules {
+    pub service: Service,
+    /// How many entries a history has at the most.
+    pub max_entries: u32,
+}
+
 /// What is served with, at all desks.
 #[derive(Drop)]
 pub struct Hall<'l, R: Wait + Eprint> {
-    pub service: Service,
     pub engine: Engine<Logging<LogLines<'l, R>>>,
     pub workers: u8,
-    /// How many entries a history has at the most.
-    pub max_entries: u32,
     pub log: &'l Log<'l, R>,
     /// How long the journal is, where replies wait for a follower.
     pub journal: JournalLength,
     pub follower: FollowerTerms<'l>,
+    pub options: &'l ServeOptions<'l>,
+    /// Whether there is a control socket.
+    pub has_control: bool,
+    pub orders: Orders,
     ghost some_workers: { (1 ≤ workers) × (workers ≤ 16) },
     ghost queues: { workers_at engine ≡ workers },
 }
@@ -65,8 +78,8 @@ pub(crate) fn first_opening(table: Table, sink: FileSink<File>, workers: u8) -> 
 }
 
 /// Answers the messages of the engine's connections at this desk, and then at one after the other, until no more come.
-/// Where a history is full, its desk is closed and the next one opens with the table that was closed. The table of the
-/// last desk is given back.
+/// Where a history is full, its desk is closed and the next one opens with the table that was closed; where the
+/// configuration was read anew, with what that makes of it. The table of the last desk is given back.
 #[tactic(auto, using(crate::proofs::ServiceRunLemmas::first_history, crate::proofs::ServiceRunLemmas::next_history))]
 pub fn serve_histories<
     'a,
@@ -74,7 +87,13 @@ pub fn serve_histories<
     D: DeskName + Send + Sync,
     R: Threads + Wait + Clock + Print + Eprint + AllocGlobal + Sync,
     T: Clock + Sync,
->(rt: &R, time: &T, hall: &Hall<'l, R>, first: Opened<D>) -> Result<Table, ServeFault<'a>>
+>(
+    rt: &R,
+    time: &T,
+    hall: &Hall<'l, R>,
+    mut rules: Rules,
+    first: Opened<D>,
+) -> Result<Table, ServeFault<'a>>
     requires passes { length first.passes.items ≡ hall.now.workers }
     ensures served { IfOk result (λ table. IsServiceRun (opening_state D.root) table) }
     ensures fault { IfErr result IsLate }
@@ -83,15 +102,39 @@ pub fn serve_histories<
         is_lost: false,
         expired: 0,
     };
-    let mut served = serve_desk(rt, time, hall, first, &mut reported)?;
+    let mut served = serve_desk(rt, time, hall, &rules, first, &mut reported)?;
     for _ in rt.forever() {
         if served.is_over {
             return Ok(served.table);
         }
-        let opening = next_opening(served.table, served.sink, hall.workers)?;
-        served = serve_history::<Brand, R, T>(rt, time, hall, opening, &mut reported)?;
+        let opening = further_opening(rt, time, hall, &mut rules, served)?;
+        served = serve_history::<Brand, R, T>(rt, time, hall, &rules, opening, &mut reported)?;
     }
     Ok(served.table)
+}
+
+// What the next desk opens with: the table that was closed, or what is made of that where the configuration was read anew.
+#[tactic(auto, using(crate::proofs::ServiceRunLemmas::goes_on_itself))]
+fn further_opening<'a, 'l, R: Wait + Clock + Eprint + AllocGlobal, T: Clock>(
+    rt: &R,
+    time: &T,
+    hall: &Hall<'l, R>,
+    rules: &mut Rules,
+    served: Served,
+) -> Result<Opening, ServeFault<'a>>
+    ensures goes_on { IfOk result (λ next. GoesOn served.table.state (table_of next.unnamed).state) }
+    ensures workers { IfOk result (λ next. workers_of next.unnamed ≡ hall.now.workers) }
+    ensures fault { IfErr result (λ fault. fault ≡ Memory) }
+{
+    let Served { table, sink, .. } = served;
+    match hall.orders.take(rt) {
+        None => {
+            hall.log
+                .tell_rollover(MachineClock::new(time).now(), &table);
+            next_opening(table, sink, hall.workers)
+        }
+        Some(anew) => reload(rt, time, hall, rules, anew, table, sink),
+    }
 }
 
 // What a desk left that was closed, and whether no more messages come. The sink has room for one failure more, or the
@@ -125,6 +168,7 @@ fn serve_history<
     rt: &R,
     time: &T,
     hall: &Hall<'l, R>,
+    rules: &Rules,
     opening: Opening,
     reported: &mut Reported,
 ) -> Result<Served, ServeFault<'a>>
@@ -135,7 +179,7 @@ fn serve_history<
 {
     match start_desk::<D, R>(rt, opening) {
         Err(_) => Err(ServeFault::Memory),
-        Ok(opened) => serve_desk(rt, time, hall, opened, reported),
+        Ok(opened) => serve_desk(rt, time, hall, rules, opened, reported),
     }
 }
 
@@ -150,6 +194,7 @@ fn serve_desk<
     rt: &R,
     time: &T,
     hall: &Hall<'l, R>,
+    rules: &Rules,
     opened: Opened<D>,
     reported: &mut Reported,
 ) -> Result<Served, ServeFault<'a>>
@@ -158,7 +203,7 @@ fn serve_desk<
     ensures fault { IfErr result IsLate }
 {
     let Opened { desk, mut passes } = opened;
-    let served = serve_shift(rt, time, hall, &desk, &mut passes);
+    let served = serve_shift(rt, time, hall, rules, &desk, &mut passes);
     let Left { tally, table, sink } = close_desk(rt, desk, passes)?;
     let over = hall.engine.is_over(rt);
     report_expired(hall.log, hall.engine.expired(rt), &mut reported.expired);
@@ -184,24 +229,25 @@ fn serve_shift<
     rt: &R,
     time: &T,
     hall: &Hall<'l, R>,
+    rules: &Rules,
     desk: &Desk<D, FileSink<File>>,
     passes: &mut [Pass<D>],
 ) -> Result<(), NotStarted>
     requires passes { length passes.old ≡ hall.now.workers }
 {
-    if is_full(passes, hall.max_entries) {
+    if is_full(passes, rules.max_entries) {
         return Ok(());
     }
-    let room = hall.max_entries;
+    hall.orders.start(rt, &hall.engine);
     run_shift(
         rt,
         rt.alloc(),
         time,
         &hall.engine,
-        &hall.service,
+        &rules.service,
         desk,
         passes,
-        room,
+        rules.max_entries,
         &hall.journal,
     )
 }

@@ -3,17 +3,21 @@
 #![tactic(auto)]
 
 mod closing;
+mod control_socket;
+mod facts;
 mod fault;
 mod files;
 mod followed;
 mod gates;
 mod histories;
-pub mod laws;
 mod logging;
 mod notices;
+mod orders;
 mod places;
 mod raising;
 mod readiness;
+mod reloading;
+mod renewed;
 mod serving;
 mod sheets;
 mod starting;
@@ -23,7 +27,8 @@ pub use fault::ServeFault;
 pub use files::{read_seed, read_settings};
 pub use followed::{FollowerTerms, JournalLength};
 pub use gates::{Lines, Logging};
-pub use histories::{Hall, Opened, serve_histories};
+pub use histories::{Hall, Opened, Rules, serve_histories};
 pub use logging::{Log, LogLines};
+pub use orders::Orders;
 pub use serving::{serve, serve_by};
 pub use table::{tell_table, write_table};

@@ -8,26 +8,29 @@ ghost use Rattle.chpw_service.specs.Raised.{IsRaisedWhereAsked};
 ghost use Rattle.chpw_service.specs.Serving.{IsAskedFor};
 ghost use Rattle.chpw_service.specs.declared.fault.ServeFault.TheVariants.{CannotListen};
 
+use crate::control_socket::{control_socket, take_away};
+use crate::facts::time_of;
 use crate::fault::{LateFault, ServeFault};
-use crate::files::{read_seed, read_settings};
-use crate::followed::{Followed, FollowerTerms, JournalLength, journal_length};
+use crate::files::{is_shared, read_seed, read_settings};
+use crate::followed::{ControlTerms, Followed, FollowerTerms, JournalLength, journal_length};
 use crate::gates::{Logging, log_gates};
-use crate::histories::{Hall, Opened, Opening, first_opening, serve_histories, start_desk};
+use crate::histories::{Hall, Opened, Opening, Rules, first_opening, serve_histories, start_desk};
 use crate::logging::{Log, LogLines, log_of};
 use crate::notices::Notice;
+use crate::orders::{Orders, carry_out};
 use crate::raising::raise_where_asked;
 use crate::starting::open_table;
 use chpw_book::{Desk, DeskName, Pass};
 use chpw_invocation::ServeOptions;
 use chpw_journal::{FileSink, Journal};
 use chpw_messages::Service;
-use chpw_pool::{Engine, Follower, MachineClock, Pool, PoolFault, Terms};
+use chpw_pool::{Attendant, Engine, Follower, MachineClock, Pool, PoolFault, Terms};
 use chpw_serve::Clock as _;
 use std::alloc::Global;
 use std::fs::{File, Files};
 use std::marker::Brand;
 use std::net::{Ipv4Addr, Net, TcpListener, TcpStream, UdpSocket};
-use std::sync::Wait;
+use std::sync::{Mutex, Wait};
 use std::thread::{self, Threads};
 use std::time::Clock;
 
@@ -37,7 +40,8 @@ use std::time::Clock;
 /// that is asked for, and then the port is listened at. A torn tail that was cut off the journal is told in a
 /// line on standard error. Printed are what came of the raise, `listening on 127.0.0.1:N` before a
 /// connection is accepted, and `entries N changes N` for each history: where one is full, its desk is
-/// closed, and the next one opens with the table that was closed, its used ids kept.
+/// closed, and the next one opens with the table that was closed, its used ids kept. With a control socket it does what
+/// it is told there, and ends where it is told to.
 pub fn serve<
     'a,
     R: Files<File = File>
@@ -90,43 +94,52 @@ pub fn serve_by<
     if let Some(kept) = cut_at {
         log.tell(Notice::TailCut(options.journal, kept));
     }
+    for file in [options.config, options.seed, options.journal] {
+        if is_shared(rt, file) {
+            log.tell(Notice::Shared(file));
+        }
+    }
+    let listener = control_socket(rt, options.control)?;
+    let since = clock.now();
+    log.tell_start(since, &table);
     let opening = first_opening(table, sink, options.workers);
     let start = Start {
         options: &options,
-        service,
         terms: terms_of(&options, seed),
-        max_entries,
         log: &log,
         journal,
-        follower: FollowerTerms {
-            socket: options.follower,
-            wait: options.follower_wait,
-        },
     };
-    let ended = serve_opened::<Brand, R, T>(rt, time, start, opening, &mut clock);
+    let control = ControlTerms {
+        listener,
+        since: time_of(since),
+        workers: options.workers,
+    };
+    let rules = Rules {
+        service,
+        max_entries,
+    };
+    let ended = serve_opened::<Brand, R, T>(rt, time, start, control, rules, opening, &mut clock);
+    take_away(rt, options.control);
     log.end(clock.now());
     ended
 }
 
-/// What a service starts with, beside its table.
+/// What a service starts with, beside its table and its rules.
 #[derive(Drop)]
-struct Start<'o, 'l, R> {
-    options: &'o ServeOptions<'o>,
-    service: Service,
+struct Start<'l, R> {
+    options: &'l ServeOptions<'l>,
     terms: Terms,
-    max_entries: u32,
     log: &'l Log<'l, R>,
     journal: JournalLength,
-    follower: FollowerTerms<'l>,
 }
 
 // Serves what is opened: at the first desk the count is raised where that is asked for, and then the port is listened at.
 fn serve_opened<
     'a,
-    'o,
     'l,
     D: DeskName + Send + Sync,
-    R: Net<Listener = TcpListener, Stream = TcpStream>
+    R: Files<File = File>
+        + Net<Listener = TcpListener, Stream = TcpStream>
         + Threads
         + Wait
         + Clock
@@ -138,7 +151,9 @@ fn serve_opened<
 >(
     rt: &R,
     time: &T,
-    start: Start<'o, 'l, R>,
+    start: Start<'l, R>,
+    control: ControlTerms,
+    rules: Rules,
     opening: Opening,
     clock: &mut MachineClock<'_, T>,
 ) -> Result<(), ServeFault<'a>>
@@ -150,10 +165,19 @@ fn serve_opened<
         return Err(ServeFault::Memory);
     };
     let connections = start.terms.connections;
-    match prepared(rt, start, &desk, &mut passes, clock) {
+    match prepared(rt, time, start, &desk, &mut passes, clock) {
         Ok((listener, hall)) => {
             let first = Opened { desk, passes };
-            serve_from(rt, time, &listener, &hall, first, connections)
+            serve_from(
+                rt,
+                time,
+                &listener,
+                &hall,
+                control,
+                rules,
+                first,
+                connections,
+            )
         }
         Err(fault) => {
             desk.abandon(rt);
@@ -165,14 +189,15 @@ fn serve_opened<
 // The count is raised where that is asked for, and then the port is listened at.
 fn prepared<
     'a,
-    'o,
     'l,
     D: DeskName,
     R: Net<Listener = TcpListener, Stream = TcpStream> + Wait + Print + Eprint + AllocGlobal,
+    T: Clock,
     C: chpw_serve::Clock,
 >(
     rt: &R,
-    start: Start<'o, 'l, R>,
+    time: &T,
+    start: Start<'l, R>,
     desk: &Desk<D, FileSink<File>>,
     passes: &mut [Pass<D>],
     clock: &mut C,
@@ -183,7 +208,9 @@ fn prepared<
     ensures passes { length passes.new ≡ length passes.old }
     ensures fault { IfErr result IsLate }
 {
-    raise_where_asked(rt, desk, passes, clock, start.options.raise)?;
+    if let Some(told) = raise_where_asked(rt, desk, passes, clock, start.options.raise)? {
+        start.log.tell_raise(MachineClock::new(time).now(), told);
+    }
     listening(rt, start)
 }
 
@@ -192,7 +219,8 @@ fn serve_from<
     'a,
     'l,
     D: DeskName + Send + Sync,
-    R: Net<Listener = TcpListener, Stream = TcpStream>
+    R: Files<File = File>
+        + Net<Listener = TcpListener, Stream = TcpStream>
         + Threads
         + Wait
         + Clock
@@ -206,6 +234,8 @@ fn serve_from<
     time: &T,
     listener: &TcpListener,
     hall: &Hall<'l, R>,
+    control: ControlTerms,
+    rules: Rules,
     first: Opened<D>,
     connections: u32,
 ) -> Result<(), ServeFault<'a>>
@@ -213,8 +243,17 @@ fn serve_from<
     ensures fault { IfErr result IsLate }
 {
     let mut first = Some(first);
-    let followed = Followed::of(rt, time, hall.log, hall.follower);
-    let ended = serve_all(rt, time, listener, hall, followed, &mut first, connections);
+    let followed = Followed::of(rt, time, hall.log, &hall.journal, hall.follower, control);
+    let ended = serve_all(
+        rt,
+        time,
+        listener,
+        hall,
+        followed,
+        rules,
+        &mut first,
+        connections,
+    );
     match first {
         None => {}
         Some(Opened { desk, passes }) => {
@@ -228,33 +267,33 @@ fn serve_from<
 // Listens at the port, and tells that.
 fn listening<
     'a,
-    'o,
     'l,
     R: Net<Listener = TcpListener, Stream = TcpStream> + Wait + Print + Eprint + AllocGlobal,
->(rt: &R, start: Start<'o, 'l, R>) -> Result<(TcpListener, Hall<'l, R>), ServeFault<'a>>
+>(rt: &R, start: Start<'l, R>) -> Result<(TcpListener, Hall<'l, R>), ServeFault<'a>>
     ensures workers { IfOk result (λ r. r.1.workers ≡ start.entry.options.now.workers) }
     ensures fault { IfErr result IsLate }
 {
     let Start {
         options,
-        service,
         terms,
-        max_entries,
         log,
         journal,
-        follower,
     } = start;
     let listener = listen(rt, options.port)?;
     let datagrams = datagrams_of(rt, options)?;
     let engine = engine_of(rt, rt.alloc(), options.workers, &terms, log, datagrams)?;
     let hall = Hall {
-        service,
         engine,
         workers: options.workers,
-        max_entries,
         log,
         journal,
-        follower,
+        follower: FollowerTerms {
+            socket: options.follower,
+            wait: options.follower_wait,
+        },
+        options,
+        has_control: options.control.is_some(),
+        orders: Orders::new(),
     };
     match println!(rt; "listening on 127.0.0.1:{}", options.port) {
         Ok(()) => Ok((listener, hall)),
@@ -327,12 +366,15 @@ fn engine_of<'a, 'l, R: Net + Wait + Eprint>(
     }
 }
 
-// The reactor in a thread of its own, while the messages are answered at one desk after the other.
+// The reactor in a thread of its own, while the messages are answered at one desk after the other: by this thread, or by a
+// further one where this one carries out orders.
 fn serve_all<
     'a,
     'l,
+    's,
     D: DeskName + Send + Sync,
-    R: Net<Listener = TcpListener, Stream = TcpStream>
+    R: Files<File = File>
+        + Net<Listener = TcpListener, Stream = TcpStream>
         + Threads
         + Wait
         + Clock
@@ -341,24 +383,28 @@ fn serve_all<
         + AllocGlobal
         + Sync,
     T: Clock + Sync,
-    F: Follower + Send + Drop,
+    F: Follower + Attendant + Send + Drop,
 >(
-    rt: &R,
-    time: &T,
-    listener: &TcpListener,
-    hall: &Hall<'l, R>,
+    rt: &'s R,
+    time: &'s T,
+    listener: &'s TcpListener,
+    hall: &'s Hall<'l, R>,
     followed: F,
+    rules: Rules,
     first: &mut Option<Opened<D>>,
     connections: u32,
 ) -> Result<(), ServeFault<'a>>
     requires passes { IfSome first.old (λ opened. length opened.passes.items ≡ hall.now.workers) }
     ensures fault { IfErr result IsLate }
 {
+    let lent = &mut *first;
+    let fault = Mutex::new(None);
+    let told = &fault;
     let ended = thread::scope(
         thread::scope_env(),
         rt,
         move |scope| -> Result<(), LateFault>
-            requires { IfSome first.now (λ opened. length opened.passes.items ≡ hall.now.workers) }
+            requires { IfSome lent.now (λ opened. length opened.passes.items ≡ hall.now.workers) }
         {
             let engine = &hall.engine;
             if scope
@@ -367,10 +413,34 @@ fn serve_all<
             {
                 return Err(LateFault::Memory);
             }
-            serve_or_desert(rt, time, hall, first)
+            if !hall.has_control {
+                return serve_or_desert(rt, time, hall, rules, lent);
+            }
+            let is_serving = scope
+                .spawn(
+                    move ||
+                        requires { IfSome lent.now (λ opened. length opened.passes.items ≡ hall.now.workers) }
+                    {
+                        if let Err(late) = serve_or_desert(rt, time, hall, rules, lent) {
+                            *told.lock(rt) = Some(late);
+                        }
+                    },
+                )
+                .is_ok();
+            if !is_serving {
+                engine.desert(rt);
+                return Err(LateFault::Memory);
+            }
+            carry_out(rt, time, hall);
+            Ok(())
         },
     );
+    let ended = match fault.into_inner() {
+        Some(late) => Err(late),
+        None => ended,
+    };
     match ended {
+        Ok(()) if hall.engine.was_stopped(rt) => Ok(()),
         Ok(()) => end(hall.engine.outcome(rt, connections)),
         Err(late) => Err(late.fault()),
     }
@@ -395,13 +465,19 @@ fn serve_or_desert<
     D: DeskName + Send + Sync,
     R: Threads + Wait + Clock + Print + Eprint + AllocGlobal + Sync,
     T: Clock + Sync,
->(rt: &R, time: &T, hall: &Hall<'l, R>, first: &mut Option<Opened<D>>) -> Result<(), LateFault>
+>(
+    rt: &R,
+    time: &T,
+    hall: &Hall<'l, R>,
+    rules: Rules,
+    first: &mut Option<Opened<D>>,
+) -> Result<(), LateFault>
     requires passes { IfSome first.old (λ opened. length opened.passes.items ≡ hall.now.workers) }
 {
     let Some(opened) = first.take() else {
         return Ok(());
     };
-    match serve_histories(rt, time, hall, opened) {
+    match serve_histories(rt, time, hall, rules, opened) {
         Ok(_) => Ok(()),
         Err(fault) => {
             hall.engine.desert(rt);

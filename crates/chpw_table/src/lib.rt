@@ -31,6 +31,6 @@ pub use raising::{Full, Raise, RaiseVerdict};
 pub use request::{Body, Opened, RequestId, Target};
 pub use sink::{JournalSink, SinkFault};
 pub use standing::StandingRules;
-pub use table::{KeyFault, Lookup, Prepared, Principal, RowChange, Table};
+pub use table::{KeyFault, Lookup, MOST_CARRIED, Prepared, Principal, RowChange, Table};
 pub use times::{CLOCK_SKEW, LAST_SECOND, Moment};
 pub use verdict::Verdict;

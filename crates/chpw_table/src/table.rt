@@ -31,6 +31,7 @@ use chpw_rules::{Config, Items, Name, Policy};
 use opening::opening_table;
 use ordered_keys::{KeyTree, Keyed};
 pub use preparing::{Prepared, RowChange};
+pub use reopening::MOST_CARRIED;
 pub use restoring::KeyFault;
 use std::alloc::{AllocError, Global};
 use std::marker::Model;
@@ -237,6 +238,27 @@ impl Table {
         ensures iterations { 1 ≤ result.iterations }
     {
         self.standing.policy()
+    }
+
+    /// How many principals it has.
+    pub fn principals(&self) -> usize
+        ensures value { result ≡ length self.now.state.principals }
+    {
+        self.principals.len()
+    }
+
+    /// The realm of its principals.
+    pub fn realm(&self) -> &[u8]
+        ensures value { result.now ≡ self.now.state.fixed.realm }
+    {
+        self.standing.realm()
+    }
+
+    /// Until when it is quiet, seconds since 1970: a request whose ctime is not after that is refused.
+    pub fn quiet_until(&self) -> i64
+        ensures value { result ≡ self.now.state.fixed.quiet_until }
+    {
+        self.standing.quiet_until()
     }
 
     /// A copy of what no event changes of it.

@@ -1,0 +1,10 @@
+pub mod WorkedReload
+pub mod KeyLemmas
+pub mod CoverLemmas
+pub mod ReloadLemmas
+pub mod PartsLemmas
+pub mod WalkLemmas
+pub mod RunLemmas
+pub mod StartingLemmas
+pub mod AlikeLemmas
+pub mod OnceLemmas

@@ -1,0 +1,64 @@
+//! A journal's bytes, put together from pieces.
+use crate::refusal::Refusal;
+use chpw_rules::Name;
+use chpw_table::{KeyRow, raise_bytes, record_bytes};
+use std::alloc::Global;
+
+/// The journal with these pieces: `nothing`; `NAME KVNO`, the record of a change, its keys' bytes of that number;
+/// `raise COUNT`, that of a raise.
+pub fn journal_of(alloc: Global, pieces: &str) -> Result<Vec<u8>, Refusal> {
+    let mut journal = Vec::new(alloc);
+    match add_pieces(alloc, &mut journal, pieces) {
+        Ok(()) => Ok(journal),
+        Err(refusal) => Err(refusal),
+    }
+}
+
+fn add_pieces(alloc: Global, journal: &mut Vec<u8>, pieces: &str) -> Result<(), Refusal> {
+    if pieces == "nothing" {
+        return Ok(());
+    }
+    for piece in pieces.split(", ") {
+        add_piece(alloc, journal, piece)?;
+    }
+    Ok(())
+}
+
+fn add_piece(alloc: Global, journal: &mut Vec<u8>, piece: &str) -> Result<(), Refusal> {
+    match piece.split_once(' ') {
+        None => Err(Refusal::NoSuchCase),
+        Some(("raise", count)) => {
+            journal
+                .extend_from_slice(&raise_bytes(number(count)?))
+                .map_err(Refusal::from)
+        }
+        Some((name, kvno)) => add_change(alloc, journal, name, number(kvno)?),
+    }
+}
+
+fn add_change(alloc: Global, journal: &mut Vec<u8>, name: &str, kvno: u32) -> Result<(), Refusal> {
+    let Some(name) = Name::parse(alloc, name)? else {
+        return Err(Refusal::NoSuchCase);
+    };
+    let key = key(kvno);
+    let record = record_bytes(alloc, &name, &key)?;
+    journal.extend_from_slice(&record).map_err(Refusal::from)
+}
+
+fn key(kvno: u32) -> KeyRow {
+    let byte = (kvno % 256) as u8;
+    KeyRow {
+        kvno,
+        count: 4096,
+        aes128: [byte; 16],
+        aes256: [byte; 32],
+    }
+}
+
+/// The number that a word is.
+pub fn number(word: &str) -> Result<u32, Refusal> {
+    match word.parse::<u32>() {
+        Ok(number) => Ok(number),
+        Err(_) => Err(Refusal::NoSuchCase),
+    }
+}
