@@ -168,6 +168,7 @@ fn named<'a>(invocation: &Invocation<'a>) -> &'a str {
         Invocation::Import(options) => options.keytab,
         Invocation::Key(options) => options.name,
         Invocation::Serve(options) => options.journal,
+        Invocation::Control(options) => options.socket,
         Invocation::Client(options) => options.client,
     }
 }

@@ -16,9 +16,9 @@ use Rattle.chpw_table.specs.History.{IsDecided}
 use Rattle.chpw_table.proofs.DoneLemmas.{done_held}
 use Rattle.chpw_table.proofs.KeyLemmas.{put, kept_some}
 use Rattle.chpw_table.proofs.NameLemmas.{is_same_name-itself}
-use Rattle.chpw_journal.specs.Runs.{BringsWhole}
+use Rattle.chpw_journal.specs.Runs.{IsWholeKey, BringsWhole}
 use Rattle.chpw_journal.proofs.RunLemmas.{accepted_row, some_keys, after_decision}
-use Rattle.chpw_book.specs.Wholeness.{IsWholeKey, FirstIsWhole, NewestIsWhole}
+use Rattle.chpw_book.specs.Wholeness.{FirstIsWhole, NewestIsWhole}
 
 -- the first of the keys kept is the one that was put in front
 first_put : (kept k : ℕ) (key : KeyRow) (keys : List KeyRow) → kept ≡ suc k → FirstIsWhole (put kept key keys) → IsWholeKey key

@@ -16,9 +16,10 @@ ghost use Rattle.chpw_table.specs.Completing.{salt_of, completed};
 ghost use Rattle.chpw_table.specs.Refusals.{IsRefused};
 ghost use Rattle.chpw_table.specs.Verdicts.{is_done};
 ghost use Rattle.chpw_decider.specs.Deciding.{IsCompletedFrom, IsFinal};
+ghost use Rattle.chpw_journal.specs.Runs.{IsWholeKey};
 ghost use Rattle.chpw_book.specs.Stored.{Replays};
 ghost use Rattle.chpw_book.specs.Publishing.{IsStored, Publishes, with_waiting};
-ghost use Rattle.chpw_book.specs.Wholeness.{IsWholeKey, FirstIsWhole, NewestIsWhole};
+ghost use Rattle.chpw_book.specs.Wholeness.{FirstIsWhole, NewestIsWhole};
 
 use crate::naming::DeskName;
 use crate::pass::Pass;

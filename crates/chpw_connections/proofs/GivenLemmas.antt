@@ -5,7 +5,7 @@ use Rattle.std.proofs.Math.Logic.{⊎_elim}
 use Rattle.std.proofs.lemmas.Bool.{cases_lt}
 use Rattle.std.proofs.lemmas.Bool.Decides.{nat_tests}
 use Rattle.std.proofs.lemmas.List.{get_or_past, take_all}
-use Rattle.std.proofs.lemmas.List.Sums.{sum_by-cons, sum_by_more, sum_by-take-le, get_or-le-sum_by, sum_by-le-sum_by}
+use Rattle.std.proofs.lemmas.List.Sums.{sum_by-cons, sum_by-take-le, get_or-le-sum_by, sum_by-le-sum_by}
 use Rattle.slab.specs.Slab.{Slab, get}
 use Rattle.chpw_connections.specs.Stages.{failed, stage, stage_of, ended}
 use Rattle.chpw_connections.specs.Holding.{held_by, held_at, held_in, begun_of}
@@ -15,6 +15,7 @@ use Rattle.chpw_connections.specs.declared.connection.Phase.{Phase}
 use Rattle.chpw_connections.specs.declared.connection.Phase.TheVariants as phase
 use Rattle.chpw_connections.specs.declared.connection.Connection.{Connection}
 use Rattle.chpw_connections.specs.declared.room.Candidates.{Candidates}
+use Rattle.chpw_connections.proofs.CountLemmas.{below_next}
 use Rattle.chpw_connections.proofs.HeldLemmas.{changed_sum}
 use Rattle.chpw_connections.proofs.RoomLemmas.{waits_from, ends_waiting, and_left, besides_other, besides_same}
 
@@ -32,16 +33,7 @@ abbrev pub given_below : Candidates → Slab Connection → ℕ → ℕ
 given_below who slots n = sum_by (given_at who) (take n slots.slots)
 
 pub given_next : (who : Candidates) (slots : Slab Connection) (n : ℕ) → given_below who slots (n + 1) ≡ given_below who slots n + given_at who (get slots n)
-given_next who slots n =
-    ⊎_elim
-    (λ (lt : n < length slots.slots). sum_by_more (given_at who) slots.slots n None lt)
-    (λ (past : length slots.slots ≤ n).
-    let over : length slots.slots ≤ n + 1 = omega arith in
-    let none : given_at who (get slots n) ≡ 0 = ap (given_at who) (get_or_past slots.slots n None past) in
-    let whole = ap (sum_by (given_at who)) (take_all (n + 1) slots.slots over) in
-    let before = ap (sum_by (given_at who)) (take_all n slots.slots past) in
-    omega arith)
-    (cases_lt n (length slots.slots))
+given_next who slots n = below_next (given_at who) slots n refl
 
 pub given_all : (who : Candidates) (slots : Slab Connection) (n : ℕ) → length slots.slots ≤ n → given_below who slots n ≡ given_in who slots
 given_all who slots n few = ap (sum_by (given_at who)) (take_all n slots.slots few)

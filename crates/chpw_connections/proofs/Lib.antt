@@ -1,5 +1,6 @@
 pub mod ComesLemmas
 pub mod ConfirmLemmas
+pub mod CountLemmas
 pub mod ExpiryLemmas
 pub mod GivenLemmas
 pub mod HeldLemmas

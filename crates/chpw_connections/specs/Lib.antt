@@ -1,4 +1,5 @@
 pub mod Confirming
+pub mod Counting
 pub mod Expiry
 pub mod Held
 pub mod Holding

@@ -1,4 +1,5 @@
 //! What holds of each connection, whatever happens to it and in whatever order.
+ghost use Rattle.chpw_connections.specs.Counting.{CountedOnce};
 ghost use Rattle.chpw_connections.specs.Lives.{Orderly, Final};
 ghost use Rattle.chpw_connections.specs.Orders.{FirstInFirstOut};
 ghost use Rattle.chpw_connections.specs.Times.{AllEndInTime, AllGoOnByTheirWorker, AllGoOnReleased, NoneStays};
@@ -57,4 +58,10 @@ pub fn unchanged_by_a_follower()
 #[tactic(auto, using(crate::proofs::OrderLemmas::first_in_first_out))]
 pub fn first_in_first_out()
     ensures { FirstInFirstOut }
+{}
+
+/// Each connection is counted in one stage (`Connections::count`), and in no other.
+#[tactic(auto, using(crate::proofs::CountLemmas::counted_once))]
+pub fn counted_once()
+    ensures { CountedOnce }
 {}

@@ -20,7 +20,7 @@ pub fn held_config(alloc: Global, config: Config, table: &Table) -> Result<Confi
     let mut rows = Vec::new(alloc);
     let mut place = 0u32;
     while let Some(name) = table.name_at(place) {
-        rows.push(row(alloc, table, name)?)?;
+        rows.push(held_row(alloc, table, name)?)?;
         // More names than that no memory holds.
         let Some(next) = place.checked_add(1) else {
             return Err(AllocError);
@@ -38,8 +38,8 @@ pub fn held_config(alloc: Global, config: Config, table: &Table) -> Result<Confi
     })
 }
 
-// A principal with the keys that the table holds.
-fn row(alloc: Global, table: &Table, name: &Name) -> Result<PrincipalRow, AllocError>
+/// A principal with the keys that the table holds; with none, where the table has no such principal.
+pub fn held_row(alloc: Global, table: &Table, name: &Name) -> Result<PrincipalRow, AllocError>
     ensures value { IfOk result (λ row. row ≡ row_of table.now.state name.now) }
 {
     let keys = match table.keys_of(name) {

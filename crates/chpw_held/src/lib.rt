@@ -5,5 +5,5 @@
 mod configuration;
 mod holding;
 
-pub use configuration::{held_config, write_configuration};
+pub use configuration::{held_config, held_row, write_configuration};
 pub use holding::{HeldTable, held_from};

@@ -1,6 +1,6 @@
 -- The keys of a password (RFC 3962 section 4), and the password that a file holds.
-use Rattle.std.specs.Prelude.{◌≡◌, ◌⊎◌, ◌<◌, ℕ, List, [], ◌∷◌, ◌++◌, length}
-use Rattle.std.specs.List.{flat_map}
+use Rattle.std.specs.Prelude.{◌≡◌, ◌⊎◌, ◌<◌, ℕ, List, [], ◌∷◌, ◌++◌, length, Bool, nat_eq}
+use Rattle.std.specs.List.{flat_map, ends_with}
 use Rattle.krb_keys.specs.declared.etype.Etype.TheVariants as etype
 use Rattle.krb_keys.specs.Keys.{bytes_of, s2k}
 use Rattle.chpw_rules.specs.declared.name.Name.{Name}
@@ -8,18 +8,26 @@ use Rattle.chpw_rules.specs.declared.config.KeyBytes.{KeyBytes}
 use Rattle.chpw_rules.specs.declared.config.PrincipalRow.{PrincipalRow}
 use Rattle.chpw_import.specs.declared.numbers.KeyNumbers.{KeyNumbers}
 
--- a newline (10) stands at the end
-abbrev pub EndsInNewline : List ℕ → Type 0
-EndsInNewline bytes = (front : List ℕ) × (bytes ≡ front ++ 10 ∷ [])
+-- the last byte is this one
+abbrev pub EndsIn : ℕ → List ℕ → Type 0
+EndsIn byte bytes = (front : List ℕ) × (bytes ≡ front ++ byte ∷ [])
 
--- the file's bytes without one newline at their end, where there are any
+-- a newline (10), alone or behind a carriage return (13), is the end of a file's line
+abbrev pub IsWithoutEnd : List ℕ → List ℕ → Type 0
+IsWithoutEnd file line = (file ≡ line ++ 13 ∷ 10 ∷ [])
+    ⊎ (((file ≡ line ++ 10 ∷ []) × ¬ (EndsIn 13 line)) ⊎ ((file ≡ line) × ¬ (EndsIn 10 file)))
+
+-- the file's bytes without one such end, where there are any
 abbrev pub IsPasswordOf : List ℕ → List ℕ → Type 0
-IsPasswordOf file password =
-    (0 < length password) × ((file ≡ password ++ 10 ∷ []) ⊎ ((file ≡ password) × ¬ (EndsInNewline file)))
+IsPasswordOf file password = (0 < length password) × IsWithoutEnd file password
 
--- nothing, or a newline
+-- nothing, or such an end
 abbrev pub HoldsNoPassword : List ℕ → Type 0
-HoldsNoPassword file = (file ≡ []) ⊎ (file ≡ 10 ∷ [])
+HoldsNoPassword file = IsWithoutEnd file []
+
+-- whether the end has a carriage return
+abbrev pub has_carriage_return : List ℕ → Bool
+has_carriage_return file = ends_with nat_eq file (13 ∷ 10 ∷ [])
 
 -- the default salt (RFC 4120 section 4): the realm, then the name's components
 abbrev pub salt_of : List ℕ → Name → List ℕ

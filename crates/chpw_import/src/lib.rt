@@ -15,4 +15,4 @@ mod table;
 pub use keytab::{Brought, ImportFault, bring_in};
 pub use left::{Left, Reason, left_text};
 pub use numbers::KeyNumbers;
-pub use password::{default_salt, password_in, password_row};
+pub use password::{default_salt, has_carriage_return, password_in, password_row};

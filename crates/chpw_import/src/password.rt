@@ -5,19 +5,21 @@ ghost use Rattle.krb_keys.specs.Keys.{bytes_of, etype_of};
 ghost use Rattle.chpw_rules.specs.Fitting.{principal_fits};
 ghost use Rattle.chpw_rules.specs.Limits.{is_in, iteration_counts, kvnos};
 ghost use Rattle.chpw_rules.specs.Names.{is_name};
-ghost use Rattle.chpw_import.specs.Passwords.{IsPasswordOf, HoldsNoPassword, row_of, salt_of};
+ghost use Rattle.chpw_import.specs.Passwords.{IsPasswordOf, HoldsNoPassword, has_carriage_return, row_of, salt_of};
 
 use crate::numbers::KeyNumbers;
 use chpw_rules::{AES128_LENGTH, AES256_LENGTH, Items, KeyBytes, Name, PrincipalRow};
 use krb_keys::{Etype, Key, string_to_keys};
 use std::alloc::{AllocError, Global};
 
-/// The password that a file holds: its bytes, but for one newline at its end; none where nothing is left.
+/// The password that a file holds: its bytes, but for one newline at its end, alone or behind a carriage return; none
+/// where nothing is left.
 pub fn password_in(bytes: &[u8]) -> Option<&[u8]>
     ensures value { IfSome result (λ password. IsPasswordOf bytes.now password.now) }
     ensures none { result ≡ None → HoldsNoPassword bytes.now }
 {
     let password = match bytes {
+        [front @ .., b'\r', b'\n'] => front,
         [front @ .., b'\n'] => front,
         _ => bytes,
     };
@@ -26,6 +28,13 @@ pub fn password_in(bytes: &[u8]) -> Option<&[u8]>
     } else {
         Some(password)
     }
+}
+
+/// Whether the newline at the end of these bytes stands behind a carriage return.
+pub fn has_carriage_return(bytes: &[u8]) -> bool
+    ensures value { result ≡ has_carriage_return bytes.now }
+{
+    bytes.ends_with(b"\r\n")
 }
 
 /// The default salt of a principal's keys (RFC 4120 section 4): the realm, then the name's components, with

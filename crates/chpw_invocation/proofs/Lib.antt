@@ -1,5 +1,6 @@
 pub mod LevelLemmas
 pub mod NeedLemmas
+pub mod OwnLemmas
 pub mod PortLemmas
 pub mod ProgramLemmas
 pub mod ShapeLemmas

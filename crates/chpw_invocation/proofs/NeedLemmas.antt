@@ -1,5 +1,5 @@
 -- What it comes to that an option is as its rule says.
-use Rattle.std.proofs.Common.{◌≡◌, ◌≢◌, ◌∙◌, ℕ, Bool, true, false, refl, sym, ap, List, codes, Option, Some, None, option_map, subst, true≢false, inl, inr}
+use Rattle.std.proofs.Common.{◌≡◌, ◌≢◌, ◌∙◌, ℕ, Bool, true, false, refl, sym, ap, List, codes, Option, Some, None, option_map, true≢false, inl, inr}
 use Rattle.std.specs.Prelude.{Box, find, slice_get}
 use Rattle.std.specs.Box.{box_value}
 use Rattle.std.specs.Option.{option_and_then}
@@ -13,9 +13,8 @@ use Rattle.clap.specs.declared.parser.matches.ArgMatches.TheViews.{out-ArgMatche
 use Rattle.clap.specs.declared.parser.matches.SubCommand.{SubCommand}
 use Rattle.clap.specs.Walk.{Row, Text, first_of, one_of, row_text}
 use Rattle.chpw_invocation.specs.Invocations.{AimsOld, HasTakenNumber, IsGiven}
-use Rattle.chpw_invocation.specs.Needs.{IsSuited, Meets, MeetsOne, Suits}
+use Rattle.chpw_invocation.specs.Needs.{Suits}
 use Rattle.chpw_invocation.specs.Options.{flag, may_be_numbered, numbered, required}
-use Rattle.chpw_invocation.specs.Program.{client, program}
 
 -- an option that has to be there is
 pub required_there : (name : Text) (options : List Row) → Suits (filled (required name)) options → first_of name options ≢ None
@@ -75,24 +74,12 @@ matched_as m name options named rows = go (out-ArgMatches m).subcommand named ro
     go None named rows = cc
     go (Some b) named rows = cc
 
--- a request of the earlier protocol that was matched has the flag
-pub not_aimed : (asked : Option (Text × List Row)) (name : Text) (options : List Row) (given : Bool) → asked ≡ Some (name, options) → IsSuited asked
-    → IsGiven options (codes "old") given → given ≡ false → AimsOld asked → ⊥
-not_aimed asked name options given matched suited is none aims =
-    let own : AimsOld (Some (name, options)) = subst AimsOld matched aims in
-    let whole : Meets client options =
-    subst (λ (n : Text). MeetsOne (find (λ command. bytes_eq n command.name) program.subs) options) own.0 (subst IsSuited matched suited) in
-    true≢false (given_once (codes "old") options true given whole.1.1.1.1.1.1.1.0 own.1 is ∙ none)
-
--- nor is a command of another name one
-pub other_aimed : (asked : Option (Text × List Row)) (name : Text) (options : List Row) → asked ≡ Some (name, options)
-    → bytes_eq name (codes "client") ≡ false → AimsOld asked → ⊥
-other_aimed asked name options matched differs aims =
-    let own : AimsOld (Some (name, options)) = subst AimsOld matched aims in
-    true≢false (sym ((bytes_eq-Decides name (codes "client")).1 own.0) ∙ differs)
+-- a request of the earlier protocol has the flag
+pub not_aimed : (options : List Row) (given : Bool) → Suits (filled (flag (codes "old"))) options → IsGiven options (codes "old") given → given ≡ false
+    → AimsOld options → ⊥
+not_aimed options given suits is none aims = true≢false (given_once (codes "old") options true given suits aims.0 is ∙ none)
 
 -- the same, of a command that is known by name
 pub named_as : (m : ArgMatches) (name target : Text) (options : List Row) → Some name ≡ subcommand_name_of m
-    → Some options ≡ option_map (λ p. p.1) (subcommand_rows_of m) → bytes_eq name target ≡ true → subcommand_rows_of m ≡ Some (target, options)
-named_as m name target options named rows is =
-    matched_as m name options named rows ∙ ap (λ (n : Text). Some (n, options)) ((bytes_eq-Decides name target).0 is)
+    → Some options ≡ option_map (λ p. p.1) (subcommand_rows_of m) → name ≡ target → subcommand_rows_of m ≡ Some (target, options)
+named_as m name target options named rows is = matched_as m name options named rows ∙ ap (λ (n : Text). Some (n, options)) is

@@ -1,14 +1,14 @@
 -- Where clap finds no fault in the program's words, the command that is named has what it requires.
-use Rattle.std.proofs.Common.{◌≡◌, ◌≢◌, ◌∙◌, ◌&&◌, ℕ, Bool, cond, true, false, not, refl, sym, ap, subst, List, [], ◌∷◌, ◌++◌, codes, Option, Some, None, is_some, option_map, true≢false, inl, inr}
+use Rattle.std.proofs.Common.{◌≡◌, ◌≢◌, ◌∙◌, ◌&&◌, ℕ, Bool, cond, true, false, not, refl, sym, subst, List, [], ◌∷◌, ◌++◌, codes, Option, Some, None, is_some, option_map, true≢false, inl, inr}
 use Rattle.std.specs.Prelude.{IfSome, fold}
-use Rattle.std.specs.List.{AllByRecursion, find, list_all}
+use Rattle.std.specs.List.{AllByRecursion, find}
 use Rattle.std.specs.Option.{option_map_or}
 use Rattle.std.specs.Str.{bytes_eq}
 use Rattle.std.proofs.lemmas.Slice.Eq.{bytes_eq-Decides}
-use Rattle.std.proofs.lemmas.Bool.{and_parts, cond_both, or_cases}
+use Rattle.std.proofs.lemmas.Bool.{cond_both, or_cases}
 use Rattle.clap.specs.Lexer.{long_of, short_of}
-use Rattle.clap.specs.Walk.{Held, Names, Outcome, Rule, Step, Text, Waiting, Walk, after_flag, after_step, answers_to, arg_by_index, arg_by_long, bundle, done, idle, long_met, long_or_other, next, nothing_held, option, plain, plain_word, positional, refused, rows_after, short_or_plain, stop_after, subcommand, subcommand_met, subcommand_or_other, to_positional, trailing, value, waits, walk_from, walked, walked_from, word_met}
-use Rattle.clap.specs.Simple.{Shape, argument_words, built, built_leaf, entered, filled, filled_from, help_rule, inherited, label_of, marked_built, names_of, rows_at, subcommand_of, wants_index, with_index, with_leaf_noted}
+use Rattle.clap.specs.Walk.{Held, Names, Outcome, Row, Rule, Step, Text, Waiting, Walk, after_flag, after_step, answers_to, arg_by_index, arg_by_long, bundle, done, idle, long_met, long_or_other, next, nothing_held, option, plain, plain_word, positional, refused, rows_after, short_or_plain, stop_after, subcommand, subcommand_met, subcommand_or_other, to_positional, trailing, value, waits, walk_from, walked, walked_from, word_met}
+use Rattle.clap.specs.Simple.{Shape, argument_words, built, built_leaf, entered, filled, filled_from, help_rule, inherited, label_of, marked_built, names_of, rows_at, subcommand_of, with_leaf_noted}
 use Rattle.clap.specs.Kinds.{or_else}
 use Rattle.clap.specs.Faults.{entered_fault, fault_of, level_fault, other_fault, step_fault, turn_fault, walk_fault, word_fault}
 use Rattle.clap.specs.declared.error.kind.ErrorKind.TheVariants.{DisplayHelp, InvalidSubcommand}
@@ -98,19 +98,11 @@ module _ (s : Shape) (names : Names) (enabled : s.disable_help_subcommand ≡ fa
 
 -- ---- the commands below the program
 
--- an option with a long name is no positional
-long_stays : (i : ℕ) (a : Rule) → is_some a.long ≡ true → with_index i (filled a) ≡ filled a
-long_stays i a long =
-    let wants : wants_index (filled a) ≡ false = rw long refl in
-    ap (λ (b : Bool). record (filled a) { index = cond b (Some i) (filled a).index }) wants
-
--- what holds of the options of a built command holds of those that it was given
-unbuilt : (P : Rule → Type 0) (options more : List Rule) (i : ℕ) → list_all (λ a. is_some a.long) options ≡ true
-    → AllByRecursion P (filled_from i (options ++ more)) → AllByRecursion (λ a. P (filled a)) options
-unbuilt P [] more i long all = tt
-unbuilt P (a ∷ rest) more i long all =
-    let parts = and_parts (is_some a.long) _ long in
-    (subst P (long_stays i a parts.0) all.0, unbuilt P rest more _ parts.1 all.1)
+-- what holds of the options of a built command holds of those that it was given: no place of a word matters
+unbuilt : (rows : List Row) (options more : List Rule) (i : ℕ) → AllByRecursion (λ a. Suits a rows) (filled_from i (options ++ more))
+    → AllByRecursion (λ a. Suits (filled a) rows) options
+unbuilt rows [] more i all = tt
+unbuilt rows (a ∷ rest) more i all = (record { there = all.0.there; taken = all.0.taken }, unbuilt rows rest more _ all.1)
 
 abbrev leaf : Shape → Shape
 leaf s = built_leaf (inherited (with_leaf_noted (marked_built program.program.top)) s)
@@ -118,11 +110,11 @@ leaf s = built_leaf (inherited (with_leaf_noted (marked_built program.program.to
 abbrev rules_of : List Rule → List Rule
 rules_of options = filled_from 1 (options ++ help_rule ∷ [])
 
-pub leaf_meets : (name : Text) (options : List Rule) (words : List Text) → list_all (λ a. is_some a.long) options ≡ true
+pub leaf_meets : (name : Text) (options : List Rule) (words : List Text)
     → AllByRecursion (IsFound (rules_of options)) (rules_of options) → level_fault (leaf (program.command name options)) [] nothing_held words false [] ≡ []
     → Meets (program.command name options) (rows_after (rules_of options) [] words)
-leaf_meets name options words long found e =
-    unbuilt (λ a. Suits a (rows_after (rules_of options) [] words)) options (help_rule ∷ []) 1 long (level_suits (leaf (program.command name options)) words found e)
+leaf_meets name options words found e =
+    unbuilt (rows_after (rules_of options) [] words) options (help_rule ∷ []) 1 (level_suits (leaf (program.command name options)) words found e)
 
 -- ---- the command that is named
 
@@ -149,10 +141,13 @@ key_found : AllByRecursion (IsFound (rules_of program.key.rules)) (rules_of prog
 key_found = ((refl, refl), ((refl, refl), ((refl, refl), ((refl, refl), ((refl, refl), ((refl, refl), tt))))))
 
 serve_found : AllByRecursion (IsFound (rules_of program.serve.rules)) (rules_of program.serve.rules)
-serve_found = ((refl, refl), ((refl, refl), ((refl, refl), ((refl, refl), ((refl, refl), ((refl, refl), ((refl, refl), ((refl, refl), ((refl, refl), ((refl, refl), ((refl, refl), ((refl, refl), ((refl, refl), ((refl, refl), ((refl, refl), tt)))))))))))))))
+serve_found = ((refl, refl), ((refl, refl), ((refl, refl), ((refl, refl), ((refl, refl), ((refl, refl), ((refl, refl), ((refl, refl), ((refl, refl), ((refl, refl), ((refl, refl), ((refl, refl), ((refl, refl), ((refl, refl), ((refl, refl), ((refl, refl), tt))))))))))))))))
+
+control_found : AllByRecursion (IsFound (rules_of program.control.rules)) (rules_of program.control.rules)
+control_found = ((refl, refl), ((refl, refl), ((refl, refl), ((refl, refl), tt))))
 
 client_found : AllByRecursion (IsFound (rules_of program.client.rules)) (rules_of program.client.rules)
-client_found = ((refl, refl), ((refl, refl), ((refl, refl), ((refl, refl), ((refl, refl), ((refl, refl), ((refl, refl), ((refl, refl), ((refl, refl), tt)))))))))
+client_found = ((refl, refl), ((refl, refl), ((refl, refl), ((refl, refl), ((refl, refl), ((refl, refl), ((refl, refl), ((refl, refl), ((refl, refl), ((refl, refl), tt))))))))))
 
 -- a built command that a word names has what it requires, where its words have no fault
 abbrev SuitsWhenNamed : Text → List Text → Shape → Type 0
@@ -161,22 +156,25 @@ SuitsWhenNamed name words s =
 
 each_suits : (name : Text) (words : List Text) → IsNoHelp name → AllByRecursion (SuitsWhenNamed name words) (built program.program).subs
 each_suits name words no_help = (
-  λ is e. leaf_meets (codes "drill") program.drill.rules words refl drill_found e,
+  λ is e. leaf_meets (codes "drill") program.drill.rules words drill_found e,
   (
-    λ is e. leaf_meets (codes "check") program.check.rules words refl check_found e,
+    λ is e. leaf_meets (codes "check") program.check.rules words check_found e,
     (
-      λ is e. leaf_meets (codes "table") program.table.rules words refl table_found e,
+      λ is e. leaf_meets (codes "table") program.table.rules words table_found e,
       (
-        λ is e. leaf_meets (codes "import") program.import_keytab.rules words refl import_keytab_found e,
+        λ is e. leaf_meets (codes "import") program.import_keytab.rules words import_keytab_found e,
         (
-          λ is e. leaf_meets (codes "key") program.key.rules words refl key_found e,
+          λ is e. leaf_meets (codes "key") program.key.rules words key_found e,
           (
-            λ is e. leaf_meets (codes "serve") program.serve.rules words refl serve_found e,
+            λ is e. leaf_meets (codes "serve") program.serve.rules words serve_found e,
             (
-              λ is e. leaf_meets (codes "client") program.client.rules words refl client_found e,
+              λ is e. leaf_meets (codes "control") program.control.rules words control_found e,
               (
-                λ is e. absurd (true≢false (sym (named is) ∙ no_help)),
-                tt,
+                λ is e. leaf_meets (codes "client") program.client.rules words client_found e,
+                (
+                  λ is e. absurd (true≢false (sym (named is) ∙ no_help)),
+                  tt,
+                ),
               ),
             ),
           ),

@@ -10,13 +10,17 @@ use Rattle.clap.specs.Walk.{Row, Text, first_of, one_of}
 use Rattle.clap.specs.declared.builder.value_parser.Reading.TheVariants.{WithoutMinus}
 use Rattle.clap.specs.declared.error.Error.{Error}
 use Rattle.clap.specs.declared.error.kind.ErrorKind.{ErrorKind}
-use Rattle.clap.specs.declared.error.kind.ErrorKind.TheVariants.{ArgumentConflict, InvalidValue}
+use Rattle.clap.specs.declared.error.kind.ErrorKind.TheVariants.{ArgumentConflict, InvalidValue, MissingRequiredArgument, UnknownArgument}
+use Rattle.chpw_invocation.specs.Controls.{file_of, takes_file, word_of}
 use Rattle.chpw_invocation.specs.declared.invocation.ClientOptions.{ClientOptions}
+use Rattle.chpw_invocation.specs.declared.invocation.ControlOptions.{ControlOptions}
 use Rattle.chpw_invocation.specs.declared.invocation.ServeOptions.{ServeOptions}
 use Rattle.chpw_invocation.specs.declared.invocation.ImportOptions.{ImportOptions}
 use Rattle.chpw_invocation.specs.declared.invocation.KeyOptions.{KeyOptions}
 use Rattle.chpw_invocation.specs.declared.invocation.Invocation.{Invocation}
-use Rattle.chpw_invocation.specs.declared.invocation.Invocation.TheVariants.{Drill, Check, Table, Import, Key, Serve, Client}
+use Rattle.chpw_invocation.specs.declared.invocation.Invocation.TheVariants.{Drill, Check, Table, Import, Key, Serve, Control, Client}
+use Rattle.chpw_invocation.specs.declared.invocation.PasswordSource.{PasswordSource}
+use Rattle.chpw_invocation.specs.declared.invocation.PasswordSource.TheVariants as source
 use Rattle.chpw_invocation.specs.declared.invocation.TableForm.{TableForm}
 use Rattle.chpw_invocation.specs.declared.invocation.TableForm.TheVariants.{Lines, Configuration, Keys}
 use Rattle.chpw_invocation.specs.declared.invocation.TableOptions.{TableOptions}
@@ -111,14 +115,42 @@ pub record AsksServe (options : List Row) (asked : ServeOptions) : Type 0 where
   pub log : option_map (λ file. file.now) asked.log ≡ first_of (codes "log") options
   pub follower : option_map (λ socket. socket.now) asked.follower ≡ first_of (codes "follower") options
   pub follower_wait : HasNumberOr 2000 1 60000 options (codes "follower-wait") asked.follower_wait
+  pub control : option_map (λ socket. socket.now) asked.control ≡ first_of (codes "control") options
   pub udp : IsGiven options (codes "udp") asked.udp
+
+pub record AsksControl (options : List Row) (asked : ControlOptions) : Type 0 where
+  pub socket : HasText options (codes "socket") asked.socket.now
+  pub command : HasText options (codes "command") (word_of asked.command)
+  pub file : file_of asked.command ≡ first_of (codes "file") options
+
+-- two passwords, or none
+abbrev pub HasTwoPasswords : List Row → Type 0
+HasTwoPasswords options =
+    (first_of (codes "password") options ≢ None) × (first_of (codes "password-file") options ≢ None)
+
+abbrev pub HasNoPassword : List Row → Type 0
+HasNoPassword options =
+    (first_of (codes "password") options ≡ None) × (first_of (codes "password-file") options ≡ None)
+
+-- the password comes from this file; from standard input, where its name is `-`
+abbrev pub IsInFile : Text → PasswordSource → Type 0
+IsInFile name (source.Text text) = ⊥
+IsInFile name (source.File file) = (file.now ≡ name) × (name ≢ codes "-")
+IsInFile name source.StandardInput = name ≡ codes "-"
+
+-- one password is given, as a text or in a file
+abbrev pub HasPassword : List Row → PasswordSource → Type 0
+HasPassword options (source.Text text) =
+    HasText options (codes "password") text.now × (first_of (codes "password-file") options ≡ None)
+HasPassword options other = (first_of (codes "password") options ≡ None)
+    × ((name : Text) × HasText options (codes "password-file") name × IsInFile name other)
 
 pub record AsksClient (options : List Row) (asked : ClientOptions) : Type 0 where
   pub config : HasText options (codes "config") asked.config.now
   pub seed : HasText options (codes "seed") asked.seed.now
   pub port : HasNumber 1 65535 options (codes "port") asked.port
   pub client : HasText options (codes "client") asked.client.now
-  pub password : HasText options (codes "password") asked.password.now
+  pub password : HasPassword options asked.password
   pub target : option_map (λ name. name.now) asked.target
       ≡ first_of (codes "target") options
   pub no_initial : IsGiven options (codes "no-initial") asked.no_initial
@@ -135,34 +167,54 @@ AsksFor (Some p) (Table asked) = (p.0 ≡ codes "table") × AsksTable p.1 asked
 AsksFor (Some p) (Import asked) = (p.0 ≡ codes "import") × AsksImport p.1 asked
 AsksFor (Some p) (Key asked) = (p.0 ≡ codes "key") × AsksKey p.1 asked
 AsksFor (Some p) (Serve asked) = (p.0 ≡ codes "serve") × AsksServe p.1 asked
+AsksFor (Some p) (Control asked) = (p.0 ≡ codes "control") × AsksControl p.1 asked
 AsksFor (Some p) (Client asked) = (p.0 ≡ codes "client") × AsksClient p.1 asked
 
 -- a request of the earlier protocol with a target, which it has none of
-abbrev pub AimsOld : Option (Text × List Row) → Type 0
-AimsOld None = ⊥
-AimsOld (Some p) = (p.0 ≡ codes "client") × IsGiven p.1 (codes "old") true × (first_of (codes "target") p.1 ≢ None)
+abbrev pub AimsOld : List Row → Type 0
+AimsOld options = IsGiven options (codes "old") true × (first_of (codes "target") options ≢ None)
 
--- a table in a form that there isn't
-abbrev pub NamesNoForm : Option (Text × List Row) → Type 0
-NamesNoForm None = ⊥
-NamesNoForm (Some p) = (p.0 ≡ codes "table") × (form_asked p.1 ≡ None)
+-- Why a request is refused: a target in the earlier protocol, two passwords, or none.
+abbrev pub RefusesClient : List Row → ErrorKind → Type 0
+RefusesClient options kind =
+    ((kind ≡ ArgumentConflict) × AimsOld options)
+    ⊎ (((kind ≡ ArgumentConflict) × HasTwoPasswords options)
+    ⊎ ((kind ≡ MissingRequiredArgument) × HasNoPassword options))
 
--- a keytab or a password of a realm that is empty or too long
-abbrev pub NamesNoRealm : Option (Text × List Row) → Type 0
-NamesNoRealm None = ⊥
-NamesNoRealm (Some p) = ((p.0 ≡ codes "import") ⊎ (p.0 ≡ codes "key")) × LacksRealm p.1
+-- a word that names no command
+abbrev pub NamesNoCommand : List Row → Type 0
+NamesNoCommand options = (word : Text) × HasText options (codes "command") word × (takes_file word ≡ None)
+
+-- a command that takes a file, and no file
+abbrev pub LacksFile : List Row → Type 0
+LacksFile options = (word : Text) × HasText options (codes "command") word × (takes_file word ≡ Some true)
+    × (first_of (codes "file") options ≡ None)
+
+-- a command that takes none, and a file
+abbrev pub HasSpareFile : List Row → Type 0
+HasSpareFile options = (word : Text) × HasText options (codes "command") word × (takes_file word ≡ Some false)
+    × (first_of (codes "file") options ≢ None)
+
+-- Why a command for a running service is refused: there is no such command, it wants a file, or it wants none.
+abbrev pub RefusesControl : List Row → ErrorKind → Type 0
+RefusesControl options kind =
+    ((kind ≡ InvalidValue) × NamesNoCommand options)
+    ⊎ (((kind ≡ MissingRequiredArgument) × LacksFile options)
+    ⊎ ((kind ≡ UnknownArgument) × HasSpareFile options))
+
+-- Why words in which clap finds no fault are refused: those two, a table in a form that there isn't, or a keytab or
+-- a password of a realm of 0 or more than 255 bytes.
+abbrev pub IsOwnRefusal : Option (Text × List Row) → ErrorKind → Type 0
+IsOwnRefusal None kind = ⊥
+IsOwnRefusal (Some p) kind =
+    ((p.0 ≡ codes "client") × RefusesClient p.1 kind)
+    ⊎ (((p.0 ≡ codes "control") × RefusesControl p.1 kind)
+    ⊎ (((p.0 ≡ codes "table") × (kind ≡ InvalidValue) × (form_asked p.1 ≡ None))
+    ⊎ (((p.0 ≡ codes "import") ⊎ (p.0 ≡ codes "key")) × (kind ≡ InvalidValue) × LacksRealm p.1)))
 
 -- what the program itself refuses of words in which clap finds no fault
 abbrev pub IsOwnReason : Option (Text × List Row) → Type 0
-IsOwnReason asked = AimsOld asked ⊎ (NamesNoForm asked ⊎ NamesNoRealm asked)
-
--- Why words in which clap finds no fault are refused: a target in the earlier protocol, a form that
--- there isn't, or a realm of 0 or more than 255 bytes.
-abbrev pub IsOwnRefusal : Option (Text × List Row) → ErrorKind → Type 0
-IsOwnRefusal asked kind =
-    ((kind ≡ ArgumentConflict) × AimsOld asked)
-    ⊎ (((kind ≡ InvalidValue) × NamesNoForm asked)
-    ⊎ ((kind ≡ InvalidValue) × NamesNoRealm asked))
+IsOwnReason asked = (kind : ErrorKind) × IsOwnRefusal asked kind
 
 -- Why words are refused, of the kinds of fault that clap may find in them: one of these, or memory
 -- ran out; or for want of those a reason of the program's own.

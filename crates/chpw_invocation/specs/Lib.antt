@@ -1,3 +1,4 @@
+pub mod Controls
 pub mod Invocations
 pub mod Needs
 pub mod Options

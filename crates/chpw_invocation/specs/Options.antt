@@ -5,7 +5,7 @@ use Rattle.clap.specs.Simple.{new_rule}
 use Rattle.clap.specs.declared.builder.action.ArgAction.TheVariants.{Set, SetTrue}
 use Rattle.clap.specs.declared.builder.value_parser.ValueParser.TheVariants as parser
 use Rattle.chpw_invocation.specs.declared.options.OptionKind.{OptionKind}
-use Rattle.chpw_invocation.specs.declared.options.OptionKind.TheVariants.{Required, Optional, Number, OptionalNumber, Flag}
+use Rattle.chpw_invocation.specs.declared.options.OptionKind.TheVariants.{Required, Optional, Number, OptionalNumber, Flag, Word, OptionalWord}
 use Rattle.chpw_invocation.specs.declared.options.OptionLine.{OptionLine}
 
 -- `--NAME VALUE`
@@ -28,6 +28,14 @@ numbered name limit = record (required name) { parser = Some (parser.Signed (pos
 abbrev pub may_be_numbered : Text → ℕ → Rule
 may_be_numbered name limit = record (optional name) { parser = Some (parser.Signed (pos 1) (pos limit)) }
 
+-- `VALUE`, a word without a name before it
+abbrev pub optional_word : Text → Rule
+optional_word name = record (new_rule name) { action = Some Set; value_names = 1 }
+
+-- the same, where it has to be there
+abbrev pub required_word : Text → Rule
+required_word name = record (optional_word name) { required = true }
+
 -- the rule of an option of the program's lists
 abbrev pub rule_by : OptionKind → Text → Rule
 rule_by Required name = required name
@@ -35,6 +43,8 @@ rule_by Optional name = optional name
 rule_by (Number limit) name = numbered name limit
 rule_by (OptionalNumber limit) name = may_be_numbered name limit
 rule_by Flag name = flag name
+rule_by Word name = required_word name
+rule_by OptionalWord name = optional_word name
 
 abbrev pub rule_for : OptionLine → Rule
 rule_for line = rule_by line.kind line.name.now

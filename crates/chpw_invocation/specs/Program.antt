@@ -4,7 +4,7 @@ use Rattle.clap.specs.Walk.{Rule, Text}
 use Rattle.clap.specs.Simple.{App, Shape, app_of, new_shape}
 use Rattle.clap.specs.declared.builder.command.Command.{Command}
 use Rattle.clap.specs.declared.builder.command.Command.TheViews.{out-Command}
-use Rattle.chpw_invocation.specs.Options.{required, optional, flag, port, workers, connections, idle, clients, buffers, raise, follower_wait, iterations, kvno}
+use Rattle.chpw_invocation.specs.Options.{required, optional, flag, required_word, optional_word, port, workers, connections, idle, clients, buffers, raise, follower_wait, iterations, kvno}
 
 abbrev pub command : Text → List Rule → Shape
 command name options = record (new_shape name) { rules = options }
@@ -57,7 +57,7 @@ key = command (codes "key")
 
 -- serve --config FILE --journal FILE --seed FILE --port N --workers N --connections N [--idle SECONDS]
 -- [--clients N] [--buffers MEBIBYTES] [--raise COUNT] [--log FILE] [--follower SOCKET] [--follower-wait MILLISECONDS]
--- [--udp]
+-- [--control SOCKET] [--udp]
 abbrev pub serve : Shape
 serve = command (codes "serve")
     (required (codes "config")
@@ -73,10 +73,19 @@ serve = command (codes "serve")
     ∷ optional (codes "log")
     ∷ optional (codes "follower")
     ∷ follower_wait
+    ∷ optional (codes "control")
     ∷ flag (codes "udp")
     ∷ [])
 
--- client --config FILE --seed FILE --port N --client NAME --password TEXT [--target NAME]
+-- control --socket SOCKET COMMAND [FILE]
+abbrev pub control : Shape
+control = command (codes "control")
+    (required (codes "socket")
+    ∷ required_word (codes "command")
+    ∷ optional_word (codes "file")
+    ∷ [])
+
+-- client --config FILE --seed FILE --port N --client NAME [--password TEXT] [--password-file FILE] [--target NAME]
 -- [--no-initial] [--old]
 abbrev pub client : Shape
 client = command (codes "client")
@@ -84,7 +93,8 @@ client = command (codes "client")
     ∷ required (codes "seed")
     ∷ port
     ∷ required (codes "client")
-    ∷ required (codes "password")
+    ∷ optional (codes "password")
+    ∷ optional (codes "password-file")
     ∷ optional (codes "target")
     ∷ flag (codes "no-initial")
     ∷ flag (codes "old")
@@ -102,5 +112,5 @@ leading a = record a {
 
 abbrev pub program : App
 program = record (leading (alone (record (new_shape (codes "chpw_server")) { is_leaf = false }))) {
-  subs = drill ∷ check ∷ table ∷ import_keytab ∷ key ∷ serve ∷ client ∷ [];
+  subs = drill ∷ check ∷ table ∷ import_keytab ∷ key ∷ serve ∷ control ∷ client ∷ [];
 }

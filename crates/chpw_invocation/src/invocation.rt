@@ -1,5 +1,6 @@
 //! What a user asks the program for.
-ghost use Rattle.std.specs.Prelude.{◌≡◌, ◌≤◌, ℕ, Some, true, None, length};
+ghost use Rattle.std.specs.Prelude.{◌≡◌, ◌≤◌, ℕ, Some, true, None, length, option_map};
+ghost use Rattle.chpw_invocation.specs.Controls.{file_of, word_of};
 
 /// The greatest `--port`.
 pub const GREATEST_PORT: u16 = 65_535;
@@ -50,6 +51,17 @@ pub const USUAL_KVNO: u32 = 1;
 /// The most bytes in a realm.
 pub const LONGEST_REALM: usize = 255;
 
+/// Where the new password comes from.
+#[derive(Clone, Copy, Drop)]
+pub enum PasswordSource<'a> {
+    /// This text.
+    Text(&'a str),
+    /// This file.
+    File(&'a str),
+    /// Standard input.
+    StandardInput,
+}
+
 /// What `client` sends, and where.
 #[derive(Clone, Copy, Drop)]
 pub struct ClientOptions<'a> {
@@ -62,7 +74,7 @@ pub struct ClientOptions<'a> {
     /// Who asks.
     pub client: &'a str,
     /// The new password.
-    pub password: &'a str,
+    pub password: PasswordSource<'a>,
     /// Whose password is set, where that isn't the client's own.
     pub target: Option<&'a str>,
     /// Whether the ticket is made without the flag initial.
@@ -105,6 +117,8 @@ pub struct ServeOptions<'a> {
     /// How many milliseconds the reply to a change waits for the follower, 1 to [`LONGEST_FOLLOWER_WAIT`];
     /// [`USUAL_FOLLOWER_WAIT`], where none is given.
     pub follower_wait: u32,
+    /// The socket at which it is told what to do while it runs; none where it isn't.
+    pub control: Option<&'a str>,
     /// Whether it takes messages over UDP too.
     pub udp: bool,
     ghost some_workers: { (1 ≤ workers) × (workers ≤ 16) },
@@ -113,6 +127,55 @@ pub struct ServeOptions<'a> {
     ghost some_buffers: { (1 ≤ buffers) × (buffers ≤ 1024) },
     ghost some_follower_wait: { (1 ≤ follower_wait) × (follower_wait ≤ 60000) },
     ghost some_count: { (count : ℕ) → raise ≡ Some count → (1 ≤ count) × (count ≤ 16777216) },
+}
+
+/// What a running service is told to do.
+#[derive(Clone, Copy, Drop)]
+pub enum ControlCommand<'a> {
+    /// To say how it goes.
+    Status,
+    /// To read its configuration anew.
+    Reload,
+    /// To open the file of its log anew.
+    ReopenLog,
+    /// To end.
+    Stop,
+    /// To write a shorter journal to this file.
+    Compact { file: &'a str },
+}
+
+impl<'a> ControlCommand<'a> {
+    /// The word that names it.
+    pub fn word(&self) -> &'static str
+        ensures value { result.now ≡ word_of self.now }
+    {
+        match self {
+            ControlCommand::Status => "status",
+            ControlCommand::Reload => "reload",
+            ControlCommand::ReopenLog => "reopen-log",
+            ControlCommand::Stop => "stop",
+            ControlCommand::Compact { .. } => "compact",
+        }
+    }
+
+    /// The file that it comes with.
+    pub fn file(&self) -> Option<&'a str>
+        ensures value { option_map (λ file. file.now) result ≡ file_of self.now }
+    {
+        match self {
+            ControlCommand::Compact { file } => Some(file),
+            _ => None,
+        }
+    }
+}
+
+/// What a running service is told, and where.
+#[derive(Clone, Copy, Drop)]
+pub struct ControlOptions<'a> {
+    /// The service's control socket.
+    pub socket: &'a str,
+    /// What it is told to do.
+    pub command: ControlCommand<'a>,
 }
 
 /// The forms in which the table that is held is told.
@@ -183,6 +246,8 @@ pub enum Invocation<'a> {
     Key(KeyOptions<'a>),
     /// The service.
     Serve(ServeOptions<'a>),
+    /// A command for a running service.
+    Control(ControlOptions<'a>),
     /// One request.
     Client(ClientOptions<'a>),
 }

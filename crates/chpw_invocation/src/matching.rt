@@ -5,28 +5,25 @@ ghost use Rattle.clap.specs.Words.{first_of, found_of, rows_of, subcommand_of, s
 ghost use Rattle.clap.specs.Simple.{filled};
 ghost use Rattle.chpw_invocation.specs.Needs.{IsSuited, Meets, Suits};
 ghost use Rattle.chpw_invocation.specs.Options as options_of;
-ghost use Rattle.chpw_invocation.specs.Options.{may_be_numbered, required};
+ghost use Rattle.chpw_invocation.specs.Options.{may_be_numbered, required, required_word};
 ghost use Rattle.chpw_invocation.specs.Program as specs_of;
 ghost use Rattle.chpw_invocation.specs.Program.{program};
-ghost use Rattle.chpw_invocation.specs.Invocations.{AimsOld, AsksFor, HasNumber, HasNumberOr, HasRealm, HasTakenNumber, IsGiven, IsOwnReason, IsOwnRefusal, IsRefusal, LacksGiven, LacksNumber, LacksRealm, MayHaveNumber, NamesNoForm, form_asked, form_of_name};
+ghost use Rattle.chpw_invocation.specs.Invocations.{AsksFor, HasNoPassword, HasNumber, HasNumberOr, HasPassword, HasRealm, HasTakenNumber, HasText, HasTwoPasswords, IsGiven, IsInFile, IsOwnReason, IsRefusal, LacksGiven, LacksNumber, LacksRealm, MayHaveNumber, RefusesClient, RefusesControl, form_asked, form_of_name};
+ghost use Rattle.chpw_invocation.specs.Controls as controls;
+ghost use Rattle.chpw_invocation.specs.Controls.{file_of, word_of};
 
 use crate::invocation::{
-    ClientOptions, GREATEST_CONNECTIONS, GREATEST_COUNT, GREATEST_KVNO, GREATEST_PORT,
-    ImportOptions, Invocation, KeyOptions, LONGEST_FOLLOWER_WAIT, LONGEST_IDLE, LONGEST_REALM,
-    MOST_BUFFERS, MOST_CLIENTS, MOST_WORKERS, ServeOptions, TableForm, TableOptions, USUAL_BUFFERS,
-    USUAL_CLIENTS, USUAL_COUNT, USUAL_FOLLOWER_WAIT, USUAL_IDLE, USUAL_KVNO,
+    ClientOptions, ControlCommand, ControlOptions, GREATEST_CONNECTIONS, GREATEST_COUNT,
+    GREATEST_KVNO, GREATEST_PORT, ImportOptions, Invocation, KeyOptions, LONGEST_FOLLOWER_WAIT,
+    LONGEST_IDLE, LONGEST_REALM, MOST_BUFFERS, MOST_CLIENTS, MOST_WORKERS, PasswordSource,
+    ServeOptions, TableForm, TableOptions, USUAL_BUFFERS, USUAL_CLIENTS, USUAL_COUNT,
+    USUAL_FOLLOWER_WAIT, USUAL_IDLE, USUAL_KVNO,
 };
 use crate::program::program as new_program;
+use crate::refusing::refusal_of;
 use clap::error::ErrorKind;
 use clap::{ArgMatches, Error};
 use std::alloc::Global;
-
-// In clap's own words for two options that exclude one another.
-const OLD_TARGET: &str = "the argument '--old' cannot be used with '--target <NAME>'";
-
-const NO_FORM: &str = "a value for '--as <FORM>' is one of: lines, configuration, keys";
-
-const NO_REALM: &str = "a value for '--realm <REALM>' has 1 to 255 bytes";
 
 /// The command that the words ask for, the first of them the program's name.
 ///
@@ -50,46 +47,24 @@ pub fn command_of<'a>(alloc: Global, words: &'a [String]) -> Result<Invocation<'
     }
 }
 
-// Why the words that clap matched ask for nothing, and the text that says so. Without a fault there
-// are three reasons, so the last of them needs no test.
-fn refusal_of(matches: &ArgMatches<'_>) -> (ErrorKind, &'static str)
-    ensures why { IsSuited (subcommand_rows_of matches.now) → IsOwnReason (subcommand_rows_of matches.now)
-        → IsOwnRefusal (subcommand_rows_of matches.now) result.0 }
-{
-    if aims_old(matches) {
-        (ErrorKind::ArgumentConflict, OLD_TARGET)
-    } else if names_no_form(matches) {
-        (ErrorKind::InvalidValue, NO_FORM)
-    } else {
-        (ErrorKind::InvalidValue, NO_REALM)
-    }
-}
-
 // The command that was matched; always one after a parse, since the program wants one and each
-// command its options, but where a request of the earlier protocol has a target, a table is to be told
-// in a form that there isn't, or a realm is empty or too long.
+// command its options, but for the reasons of the program's own.
 fn asked_of<'a>(matches: &ArgMatches<'a>) -> Option<Invocation<'a>>
     ensures asked { IfSome result (AsksFor (subcommand_rows_of matches.now)) }
     ensures none { IsSuited (subcommand_rows_of matches.now) → result ≡ None
         → IsOwnReason (subcommand_rows_of matches.now) }
 {
     let (name, options) = matches.subcommand()?;
-    if name == "drill" {
-        Some(Invocation::Drill)
-    } else if name == "check" {
-        check_of(options)
-    } else if name == "table" {
-        table_of(options)
-    } else if name == "import" {
-        import_of(options)
-    } else if name == "key" {
-        key_of(options)
-    } else if name == "serve" {
-        serve_of(options)
-    } else if name == "client" {
-        client_of(options)
-    } else {
-        None
+    match name {
+        "drill" => Some(Invocation::Drill),
+        "check" => check_of(options),
+        "table" => table_of(options),
+        "import" => import_of(options),
+        "key" => key_of(options),
+        "serve" => serve_of(options),
+        "control" => control_of(options),
+        "client" => client_of(options),
+        _ => None,
     }
 }
 
@@ -133,17 +108,6 @@ fn form_named(name: &str) -> Option<TableForm>
         "configuration" => Some(TableForm::Configuration),
         "keys" => Some(TableForm::Keys),
         _ => None,
-    }
-}
-
-// Whether `table` is to tell in a form that there isn't.
-fn names_no_form(matches: &ArgMatches<'_>) -> bool
-    ensures names { result ≡ true → NamesNoForm (subcommand_rows_of matches.now) }
-    ensures form { result ≡ false → NamesNoForm (subcommand_rows_of matches.now) → ⊥ }
-{
-    match matches.subcommand() {
-        None => false,
-        Some((name, options)) => name == "table" && form_of(options).is_none(),
     }
 }
 
@@ -208,21 +172,60 @@ fn serve_of<'a>(options: &ArgMatches<'a>) -> Option<Invocation<'a>>
         log: text_of(options, "log"),
         follower: text_of(options, "follower"),
         follower_wait: follower_wait_of(options)?,
+        control: text_of(options, "control"),
         udp: is_given(options, "udp"),
     }))
 }
 
-// Whether `client` is to ask in the earlier protocol, and has a target.
-fn aims_old(matches: &ArgMatches<'_>) -> bool
-    ensures aims { result ≡ true → AimsOld (subcommand_rows_of matches.now) }
-    ensures own { IsSuited (subcommand_rows_of matches.now) → result ≡ false
-        → AimsOld (subcommand_rows_of matches.now) → ⊥ }
+// What a running service is told.
+#[tactic(auto, using(crate::proofs::NeedLemmas::required_there))]
+fn control_of<'a>(options: &ArgMatches<'a>) -> Option<Invocation<'a>>
+    ensures asked { IfSome result (AsksFor (Some (codes "control", rows_of (found_of options.now)))) }
+    ensures none { Meets specs_of.control (rows_of (found_of options.now)) → result ≡ None
+        → (kind : ErrorKind) × RefusesControl (rows_of (found_of options.now)) kind }
 {
-    match matches.subcommand() {
-        None => false,
-        Some((name, options)) => {
-            name == "client" && is_given(options, "old") && text_of(options, "target").is_some()
-        }
+    Some(Invocation::Control(ControlOptions {
+        socket: text_of(options, "socket")?,
+        command: told_of(options)?,
+    }))
+}
+
+// The command for a running service, with its file where it takes one.
+fn told_of<'a>(options: &ArgMatches<'a>) -> Option<ControlCommand<'a>>
+    ensures word { IfSome result (λ c. HasText (rows_of (found_of options.now)) (codes "command") (word_of c)) }
+    ensures file { IfSome result (λ c. file_of c ≡ first_of (codes "file") (rows_of (found_of options.now))) }
+    ensures none { Suits (filled (required_word (codes "command"))) (rows_of (found_of options.now))
+        → result ≡ None → (kind : ErrorKind) × RefusesControl (rows_of (found_of options.now)) kind }
+{
+    let word = text_of(options, "command")?;
+    match text_of(options, "file") {
+        None => without_file(word),
+        Some(file) => with_file(word, file),
+    }
+}
+
+fn without_file<'a>(word: &str) -> Option<ControlCommand<'a>>
+    ensures word { IfSome result (λ c. word_of c ≡ word.now) }
+    ensures file { IfSome result (λ c. file_of c ≡ None) }
+    ensures none { result ≡ None → controls.takes_file word.now ≢ Some false }
+{
+    match word {
+        "status" => Some(ControlCommand::Status),
+        "reload" => Some(ControlCommand::Reload),
+        "reopen-log" => Some(ControlCommand::ReopenLog),
+        "stop" => Some(ControlCommand::Stop),
+        _ => None,
+    }
+}
+
+fn with_file<'a>(word: &str, file: &'a str) -> Option<ControlCommand<'a>>
+    ensures word { IfSome result (λ c. word_of c ≡ word.now) }
+    ensures file { IfSome result (λ c. file_of c ≡ Some file.now) }
+    ensures none { result ≡ None → controls.takes_file word.now ≢ Some true }
+{
+    match word {
+        "compact" => Some(ControlCommand::Compact { file }),
+        _ => None,
     }
 }
 
@@ -230,7 +233,7 @@ fn aims_old(matches: &ArgMatches<'_>) -> bool
 fn client_of<'a>(options: &ArgMatches<'a>) -> Option<Invocation<'a>>
     ensures asked { IfSome result (AsksFor (Some (codes "client", rows_of (found_of options.now)))) }
     ensures none { Meets specs_of.client (rows_of (found_of options.now)) → result ≡ None
-        → AimsOld (Some (codes "client", rows_of (found_of options.now))) }
+        → (kind : ErrorKind) × RefusesClient (rows_of (found_of options.now)) kind }
 {
     let target = text_of(options, "target");
     let old = is_given(options, "old");
@@ -242,22 +245,49 @@ fn client_of<'a>(options: &ArgMatches<'a>) -> Option<Invocation<'a>>
         seed: text_of(options, "seed")?,
         port: port_of(options)?,
         client: text_of(options, "client")?,
-        password: text_of(options, "password")?,
+        password: password_of(options)?,
         target,
         no_initial: is_given(options, "no-initial"),
         old,
     }))
 }
 
-// The value of an option.
-fn text_of<'a>(options: &ArgMatches<'a>, name: &str) -> Option<&'a str>
+// Where the new password comes from; none where two are given, or none is.
+fn password_of<'a>(options: &ArgMatches<'a>) -> Option<PasswordSource<'a>>
+    ensures password { IfSome result (HasPassword (rows_of (found_of options.now))) }
+    ensures none { result ≡ None → HasTwoPasswords (rows_of (found_of options.now))
+        ⊎ HasNoPassword (rows_of (found_of options.now)) }
+{
+    match (
+        text_of(options, "password"),
+        text_of(options, "password-file"),
+    ) {
+        (Some(text), None) => Some(PasswordSource::Text(text)),
+        (None, Some(file)) => Some(in_file(file)),
+        _ => None,
+    }
+}
+
+// The password in the file of this name.
+fn in_file<'a>(name: &'a str) -> PasswordSource<'a>
+    ensures file { IsInFile name.now result }
+{
+    match name {
+        "-" => PasswordSource::StandardInput,
+        _ => PasswordSource::File(name),
+    }
+}
+
+/// The value of an option.
+pub(crate) fn text_of<'a>(options: &ArgMatches<'a>, name: &str) -> Option<&'a str>
     ensures value { option_map (λ s. s.now) result
         ≡ first_of name.now (rows_of (found_of options.now)) }
 {
     options.get_str(name)
 }
 
-fn is_given(options: &ArgMatches<'_>, name: &str) -> bool
+/// Whether a flag is given.
+pub(crate) fn is_given(options: &ArgMatches<'_>, name: &str) -> bool
     ensures given { IsGiven (rows_of (found_of options.now)) name.now result }
 {
     options.get_flag(name)

@@ -21,6 +21,10 @@ pub(crate) enum OptionKind {
     OptionalNumber(u32),
     /// No value.
     Flag,
+    /// A word without a name before it, which has to be there.
+    Word,
+    /// A word without a name before it, where it is given.
+    OptionalWord,
 }
 
 /// An option of a command.
@@ -108,6 +112,36 @@ pub(crate) fn flag(name: &'static str, help: &'static str) -> OptionLine
     }
 }
 
+/// A word without a name before it, which has to be there.
+pub(crate) fn word(name: &'static str, value: &'static str, help: &'static str) -> OptionLine
+    ensures rule { specs_of.rule_for result ≡ specs_of.required_word name.entry.now }
+{
+    let kind = OptionKind::Word;
+    OptionLine {
+        name,
+        kind,
+        value,
+        help,
+    }
+}
+
+/// A word without a name before it, which may be left out.
+pub(crate) fn optional_word(
+    name: &'static str,
+    value: &'static str,
+    help: &'static str,
+) -> OptionLine
+    ensures rule { specs_of.rule_for result ≡ specs_of.optional_word name.entry.now }
+{
+    let kind = OptionKind::OptionalWord;
+    OptionLine {
+        name,
+        kind,
+        value,
+        help,
+    }
+}
+
 /// The option as clap has it.
 pub(crate) fn argument_of<'a>(alloc: Global, line: &OptionLine) -> Arg<'a>
     ensures rule { rule_of result ≡ specs_of.rule_for line.now }
@@ -122,7 +156,21 @@ pub(crate) fn argument_of<'a>(alloc: Global, line: &OptionLine) -> Arg<'a>
             .long(line.name)
             .action(ArgAction::SetTrue)
             .help(line.help),
+        OptionKind::Word => unnamed(alloc, line, true),
+        OptionKind::OptionalWord => unnamed(alloc, line, false),
     }
+}
+
+// The word, which has to be there or may be left out.
+fn unnamed<'a>(alloc: Global, line: &OptionLine, is_required: bool) -> Arg<'a>
+    ensures rule { rule_of result ≡ record (specs_of.optional_word line.now.name.now) { required = is_required } }
+    ensures local { result.global ≡ false }
+{
+    Arg::new(alloc, line.name)
+        .required(is_required)
+        .action(ArgAction::Set)
+        .value_name(line.value)
+        .help(line.help)
 }
 
 // The option with a value, which has to be there or may be left out.

@@ -9,11 +9,13 @@ use crate::invocation::{
     GREATEST_CONNECTIONS, GREATEST_COUNT, GREATEST_KVNO, GREATEST_PORT, LONGEST_FOLLOWER_WAIT,
     LONGEST_IDLE, MOST_BUFFERS, MOST_CLIENTS, MOST_WORKERS,
 };
-use crate::options::{OptionLine, argument_of, flag, number, optional, optional_number, required};
+use crate::options::{
+    OptionLine, argument_of, flag, number, optional, optional_number, optional_word, required, word,
+};
 use clap::Command;
 use std::alloc::{AllocError, Global};
 
-const VERSION: &str = "0.1";
+pub const VERSION: &str = "0.1";
 
 const ABOUT: &str = "The Kerberos change-password service kadmin/changepw (RFC 3244).";
 
@@ -115,6 +117,9 @@ const FOLLOWER_HELP: &str =
 const FOLLOWER_WAIT_HELP: &str =
     "How many milliseconds a reply waits for the follower at the most, 1 to 60000 [default: 2000]";
 
+const CONTROL_HELP: &str =
+    "The socket at which the command control tells the service what to do [default: none]";
+
 const UDP_HELP: &str =
     "Takes messages over UDP too, at the same port, each in a datagram of its own";
 
@@ -154,6 +159,27 @@ const PASSWORD_FILE_HELP: &str = "The file with the password";
 
 const KVNO_HELP: &str = "The key version, 1 to 4294967295 [default: 1]";
 
+const CONTROL: &str = "Tells a running service what to do.";
+
+const CONTROL_MORE: &str = "\
+Sends a line to the socket that the service was started with (serve --control), and prints what comes back.
+The status is 0 only where the last line of that is 'ok'.
+
+  status         how it goes
+  reload         reads the configuration anew
+  reopen-log     opens the file of the log anew
+  stop           ends the service
+  compact FILE   writes a shorter journal to FILE
+
+Example:
+  chpw_server control --socket control.socket status";
+
+const SOCKET_HELP: &str = "The control socket of the service";
+
+const COMMAND_HELP: &str = "status, reload, reopen-log, stop or compact";
+
+const COMMAND_FILE_HELP: &str = "For compact alone: the file that it writes";
+
 const CLIENT: &str = "Sends one request to a service on this machine, with a ticket of its own.";
 
 const CLIENT_MORE: &str = "\
@@ -163,7 +189,7 @@ only for code 0, password changed.
 
 Example:
   chpw_server client --config samples/realm.toml --seed /dev/urandom --port 464 \\
-      --client alice --password 'New-pass2'";
+      --client alice --password-file new.password";
 
 const SEED_HELP: &str =
     "A file whose first 32 bytes seed the random words; a new seed for each run";
@@ -173,7 +199,10 @@ const PORT_HELP: &str = "The port on 127.0.0.1 where the service listens, 1 to 6
 const CLIENT_HELP: &str =
     "Who asks: 1 to 8 components of 1 to 128 bytes, with / between them, as alice or alice/admin";
 
-const PASSWORD_HELP: &str = "The new password, at most 60000 bytes";
+const PASSWORD_HELP: &str = "The new password, at most 60000 bytes; or --password-file";
+
+const NEW_PASSWORD_FILE_HELP: &str =
+    "The file with the new password in its only line, or - for standard input";
 
 const TARGET_HELP: &str = "Whose password is set, a name as for --client [default: the client]";
 
@@ -277,9 +306,22 @@ fn serve<'a>(alloc: Global) -> Result<Command<'a>, AllocError>
             LONGEST_FOLLOWER_WAIT,
             FOLLOWER_WAIT_HELP,
         ),
+        optional("control", "SOCKET", CONTROL_HELP),
         flag("udp", UDP_HELP),
     ];
     described(alloc, "serve", SERVE, SERVE_MORE, &options)
+}
+
+fn control<'a>(alloc: Global) -> Result<Command<'a>, AllocError>
+    ensures shape { IfOk result (λ c. app_of c ≡ specs_of.alone specs_of.control) }
+    ensures local { IfOk result specs_of.IsLocal }
+{
+    let options = [
+        required("socket", "SOCKET", SOCKET_HELP),
+        word("command", "COMMAND", COMMAND_HELP),
+        optional_word("file", "FILE", COMMAND_FILE_HELP),
+    ];
+    described(alloc, "control", CONTROL, CONTROL_MORE, &options)
 }
 
 fn client<'a>(alloc: Global) -> Result<Command<'a>, AllocError>
@@ -291,7 +333,8 @@ fn client<'a>(alloc: Global) -> Result<Command<'a>, AllocError>
         required("seed", "FILE", SEED_HELP),
         number("port", "N", GREATEST_PORT as u32, PORT_HELP),
         required("client", "NAME", CLIENT_HELP),
-        required("password", "TEXT", PASSWORD_HELP),
+        optional("password", "TEXT", PASSWORD_HELP),
+        optional("password-file", "FILE", NEW_PASSWORD_FILE_HELP),
         optional("target", "NAME", TARGET_HELP),
         flag("no-initial", NO_INITIAL_HELP),
         flag("old", OLD_HELP),
@@ -335,5 +378,6 @@ pub(crate) fn program<'a>(alloc: Global) -> Result<Command<'a>, AllocError>
     let program = with_command(program, import_keytab(alloc));
     let program = with_command(program, key(alloc));
     let program = with_command(program, serve(alloc));
+    let program = with_command(program, control(alloc));
     with_command(program, client(alloc))
 }

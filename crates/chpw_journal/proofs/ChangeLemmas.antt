@@ -1,5 +1,5 @@
 -- A change, put together from what was read of it.
-use Rattle.std.proofs.Common.{◌≡◌, ℕ, ◌≤◌, List, ◌++◌, length, take, drop, get_or, true, sym, ◌∙◌, ap, subst, arith, length-drop}
+use Rattle.std.proofs.Common.{◌≡◌, ℕ, ◌≤◌, List, ◌∷◌, ◌++◌, length, take, drop, get_or, true, sym, ◌∙◌, ap, subst, arith, length-drop}
 use Rattle.std.proofs.lemmas.List.{take-append-drop, length-take-le}
 use Rattle.chpw_rules.specs.declared.name.Name.{Name}
 use Rattle.chpw_rules.specs.Names.{is_name}
@@ -8,7 +8,7 @@ use Rattle.chpw_table.specs.Journal.{version_bytes, name_bytes}
 use Rattle.chpw_table.proofs.BoolLemmas.{and_left, and_right}
 use Rattle.chpw_journal.specs.declared.change.Change.{Change}
 use Rattle.chpw_journal.specs.RecordKeys.{key_at, key_fits}
-use Rattle.chpw_journal.specs.Records.{ChangeFits, change_text}
+use Rattle.chpw_journal.specs.Records.{ChangeFits, text_of_kind}
 use Rattle.chpw_journal.proofs.ListLemmas.{AreBytes, bytes_taken}
 use Rattle.chpw_journal.proofs.VersionLemmas.{version_whole, version_read}
 
@@ -25,23 +25,23 @@ keys_fit n v l f h = record {
 }
 
 -- a version and a name that were read make up the body
-pub change_whole : (body v left : List ℕ) (k : KeyRow) (n : Name) → 57 ≤ length body → AreBytes body → v ≡ take 57 body → left ≡ drop 57 body
-    → get_or v 0 0 ≡ 1 → k ≡ key_at v → key_fits k ≡ true → is_name n ≡ true → left ≡ name_bytes n
-    → ChangeFits (change_of n k) × (body ≡ change_text (change_of n k))
-change_whole body v left k n l b e d one at f h m =
+pub change_whole : (kind : ℕ) (body v left : List ℕ) (k : KeyRow) (n : Name) → 57 ≤ length body → AreBytes body → v ≡ take 57 body → left ≡ drop 57 body
+    → get_or v 0 0 ≡ kind → k ≡ key_at v → key_fits k ≡ true → is_name n ≡ true → left ≡ name_bytes n
+    → ChangeFits (change_of n k) × (body ≡ text_of_kind kind (change_of n k))
+change_whole kind body v left k n l b e d first at f h m =
     let size : length v ≡ 57 = ap length e ∙ length-take-le 57 body l in
     let bytes : AreBytes v = subst AreBytes (sym e) (bytes_taken 57 body b) in
     let fits : ChangeFits (change_of n (key_at v)) = keys_fit n v size (subst (λ (x : KeyRow). key_fits x ≡ true) at f) h in (
       subst (λ (x : KeyRow). ChangeFits (change_of n x)) (sym at) fits,
       sym (take-append-drop 57 body)
-          ∙ (ap (λ (xs : List ℕ). xs ++ drop 57 body) (sym e ∙ (version_whole v size bytes one ∙ ap version_bytes (sym at)))
-          ∙ ap (λ (xs : List ℕ). version_bytes k ++ xs) (sym d ∙ m)),
+          ∙ (ap (λ (xs : List ℕ). xs ++ drop 57 body) (sym e ∙ (version_whole kind v size bytes first ∙ ap (λ (x : KeyRow). kind ∷ drop 1 (version_bytes x)) (sym at)))
+          ∙ ap (λ (xs : List ℕ). (kind ∷ drop 1 (version_bytes k)) ++ xs) (sym d ∙ m)),
     )
 
--- where no name stands behind the version, the body is that of no change
-pub change_none : (body v left : List ℕ) (c : Change) → 57 ≤ length body → v ≡ take 57 body → left ≡ drop 57 body
-    → ((n : Name) → is_name n ≡ true → left ≡ name_bytes n → ⊥) → ChangeFits c → body ≡ change_text c → ⊥
-change_none body v left c l e d none fits h =
+-- where no name stands behind the version, the body is that of no change, of whatever kind
+pub change_none : (kind : ℕ) (body v left : List ℕ) (c : Change) → 57 ≤ length body → v ≡ take 57 body → left ≡ drop 57 body
+    → ((n : Name) → is_name n ≡ true → left ≡ name_bytes n → ⊥) → ChangeFits c → body ≡ text_of_kind kind c → ⊥
+change_none kind body v left c l e d none fits h =
     let size : length v ≡ 57 = ap length e ∙ length-take-le 57 body l in
     let whole : v ++ left ≡ body = ap (λ (xs : List ℕ). xs ++ left) e ∙ (ap (λ (xs : List ℕ). take 57 body ++ xs) d ∙ take-append-drop 57 body) in
-    none c.name fits.name (version_read v left (name_bytes c.name) c.key size fits.kvno fits.count fits.aes128 fits.aes256 (whole ∙ h)).2
+    none c.name fits.name (version_read kind v left (name_bytes c.name) c.key size fits.kvno fits.count fits.aes128 fits.aes256 (whole ∙ h)).2

@@ -112,14 +112,14 @@ runs_of_alike : (s t : State) (runs : List Run) → SameKeys t s → AreRuns s r
 runs_of_alike s t [] same h = tt
 runs_of_alike s t (r ∷ rs) same h = (same_next t s r.opening same h.0, h.1, h.2, h.3, h.4)
 
-abbrev records_read : Reading → List Record
+abbrev pub records_read : Reading → List Record
 records_read (whole records rest) = records
 records_read (bad_record n) = []
 records_read (unknown_principal n) = []
 records_read (wrong_version n) = []
 
 -- all that a reader had was read
-all_read : (text read : List ℕ) (new : Option (List ℕ)) → Consumes (Some text) new read → IsAtEnd new → read ≡ text
+pub all_read : (text read : List ℕ) (new : Option (List ℕ)) → Consumes (Some text) new read → IsAtEnd new → read ≡ text
 all_read text read None h e = absurd h
 all_read text read (Some ys) h e = sym (h ∙ (ap (λ (zs : List ℕ). read ++ zs) e ∙ append-nil read))
 

@@ -45,11 +45,13 @@ change_short c f =
 pub text_short : (r : Record) → RecordFits r → length (body_text r) ≤ 1090
 text_short (record_of.Change c) f = change_short c f
 text_short (record_of.Raise count) f = omega arith
+text_short (record_of.Base c) f = change_short c f
 
 -- a record is its text behind the text's length
 pub framed_is : (r : Record) → framed (body_text r) ≡ record_text r
 framed_is (record_of.Change c) = refl
 framed_is (record_of.Raise count) = refl
+framed_is (record_of.Base c) = refl
 
 -- two records that begin a text are the same
 pub framed_same : (a x b y : List ℕ) → length a < 2 ^ 16 → length b < 2 ^ 16 → framed a ++ x ≡ framed b ++ y → (a ≡ b) × (x ≡ y)

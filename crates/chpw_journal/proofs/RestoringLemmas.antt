@@ -3,10 +3,11 @@ use Rattle.std.proofs.Common.{◌≡◌, ◌≢◌, ℕ, ◌+◌, ◌^◌, ◌<�
 use Rattle.std.specs.Int.{from_be_bytes, to_be_bytes, w16}
 use Rattle.std.specs.Io.KnownBytes.{Consumes, IsAtEnd}
 use Rattle.std.proofs.lemmas.List.{take-append-le}
-use Rattle.chpw_table.specs.declared.table.restoring.KeyFault.{KeyFault}
+use Rattle.chpw_table.specs.declared.table.restoring.KeyFault.TheVariants as key
 use Rattle.chpw_table.specs.State.{State}
 use Rattle.chpw_table.specs.Agreement.{Held, Agrees}
 use Rattle.chpw_table.specs.Restoring.{IsKeyRefused}
+use Rattle.chpw_table.proofs.AgreementLemmas.{agrees_itself}
 use Rattle.chpw_journal.specs.declared.change.Change.{Change}
 use Rattle.chpw_journal.specs.declared.record.Record.{Record}
 use Rattle.chpw_journal.specs.declared.record.Record.TheVariants as record_of
@@ -14,7 +15,7 @@ use Rattle.chpw_journal.specs.declared.fault.RestoreFault.{RestoreFault}
 use Rattle.chpw_journal.specs.declared.fault.RestoreFault.TheVariants.{BadRecord, WrongVersion, UnknownPrincipal, CannotRead, Memory}
 use Rattle.chpw_journal.specs.declared.restoring.Restored.{Restored}
 use Rattle.chpw_journal.specs.Records.{ChangeFits, RecordFits, body_text, record_text, records_text, stated_length, is_record_length}
-use Rattle.chpw_journal.specs.JournalText.{restored, is_cut_off, HasBadLength, HasBadBody, Begins}
+use Rattle.chpw_journal.specs.JournalText.{restored, IsOfUnknown, is_cut_off, HasBadLength, HasBadBody, Begins}
 use Rattle.chpw_journal.specs.NextRecord.{framed}
 use Rattle.chpw_journal.specs.Restoring.{is_there, IsRestored, IsRefused}
 use Rattle.chpw_journal.specs.Taking.{IsRecordRefused, TakesRecord, IsRecordFault, IsSoFar}
@@ -116,11 +117,18 @@ of_record : (before : Held) (old now : Option (List ℕ)) (r : Restored) (h : Is
 of_record before old now r h s a body more c e =
     subst (λ (xs : List ℕ). Begins s ((records_text h.whole_records ++ framed body) ++ more) h.whole_records (xs ++ more)) (ap framed e ∙ framed_is c) (begins before old now r h s a (framed body) more)
 
--- a record that isn't put back is a change
-pub refused_change : (t : Held) (r : Record) (body : List ℕ) (fault : KeyFault) → RecordFits r → body ≡ body_text r → IsRecordRefused t r fault
-    → (c : Change) × ChangeFits c × (body ≡ body_text (record_of.Change c)) × ((s : State) → Agrees t.state s → IsKeyRefused s c.name c.key fault)
-refused_change t (record_of.Change c) body fault f e h = (c, f, e, h)
-refused_change t (record_of.Raise count) body fault f e h = absurd h
+-- a record that isn't put back, since there is no such principal
+pub refused_unknown : (t : Held) (r : Record) → IsRecordRefused t r key.UnknownPrincipal → (s : State) → Agrees t.state s → IsOfUnknown s r
+refused_unknown t (record_of.Change c) h s a = h s a
+refused_unknown t (record_of.Raise count) h s a = h
+refused_unknown t (record_of.Base c) h s a = h s a
+
+-- one of a wrong version is a change
+pub refused_version : (t : Held) (r : Record) (body : List ℕ) → RecordFits r → body ≡ body_text r → IsRecordRefused t r key.WrongVersion
+    → (c : Change) × ChangeFits c × (body ≡ body_text (record_of.Change c)) × ((s : State) → Agrees t.state s → IsKeyRefused s c.name c.key key.WrongVersion)
+refused_version t (record_of.Change c) body f e h = (c, f, e, h)
+refused_version t (record_of.Raise count) body f e h = absurd h
+refused_version t (record_of.Base c) body f e h = absurd (h t.state (agrees_itself t.state))
 
 -- a record's fault
 pub record_fault : (before : Held) (old now new : Option (List ℕ)) (r : Restored) (body : List ℕ) (fault : RestoreFault) → IsSoFar before old now r → Consumes now new (framed body) → is_record_length (length body) ≡ true → IsRecordFault r body fault → IsRefused before old new fault
@@ -132,7 +140,7 @@ record_fault before old now new r body (BadRecord n) h d range f = (
 record_fault before old now new r body (UnknownPrincipal n) h d range f = (
   records_text h.whole_records ++ framed body,
   consumes_more old now new (records_text h.whole_records) (framed body) h.read d,
-  λ s more a. (h.whole_records, f.1, record { left = more; begins = of_record before old now r h s a body more (record_of.Change f.1) f.3; fits = f.2 }, f.4 (restored s h.whole_records) (h.table s a).1, f.0 ∙ ap (λ k. k + 1) h.records),
+  λ s more a. (h.whole_records, f.1, record { left = more; begins = of_record before old now r h s a body more f.1 f.3; fits = f.2 }, f.4 (restored s h.whole_records) (h.table s a).1, f.0 ∙ ap (λ k. k + 1) h.records),
 )
 record_fault before old now new r body (WrongVersion n) h d range f = (
   records_text h.whole_records ++ framed body,

@@ -1,6 +1,6 @@
 -- Where the records of a journal stop: a text comes to one thing.
-use Rattle.std.proofs.Common.{◌≡◌, ◌≢◌, ℕ, zero, suc, ◌+◌, ◌^◌, ◌≤◌, ◌<◌, List, [], ◌∷◌, ◌++◌, length, take, Bool, true, false, ◌&&◌, ⊎_elim, Some, None, refl, sym, ◌∙◌, ap, subst, arith, lit<, length-append, length-take, append_assoc}
-use Rattle.std.specs.Prelude.{◌⊎◌, nat_lt}
+use Rattle.std.proofs.Common.{◌≡◌, ◌≢◌, ℕ, zero, suc, ◌+◌, ◌^◌, ◌≤◌, ◌<◌, List, [], ◌∷◌, ◌++◌, length, take, drop, Bool, true, false, ◌&&◌, ⊎_elim, Option, Some, None, refl, sym, ◌∙◌, ap, subst, arith, lit<, length-append, length-take, append_assoc}
+use Rattle.std.specs.Prelude.{◌⊎◌, nat_eq, nat_lt, IsSome}
 use Rattle.std.specs.Int.{from_be_bytes, to_be_bytes, w16, w32}
 use Rattle.std.proofs.lemmas.Nat.{from_be_bytes-to_be_bytes_4}
 use Rattle.std.specs.List.{flat_map, list_all}
@@ -13,13 +13,14 @@ use Rattle.chpw_table.specs.declared.key.KeyRow.{KeyRow}
 use Rattle.chpw_table.specs.State.{State, keys_held}
 use Rattle.chpw_table.specs.Journal.{part_bytes, name_bytes, version_bytes}
 use Rattle.chpw_table.specs.Decision.{newest_kvno}
+use Rattle.chpw_table.specs.Restoring.{IsNextKey}
 use Rattle.chpw_table.proofs.BoolLemmas.{and_left, and_right}
 use Rattle.chpw_journal.specs.declared.change.Change.{Change}
 use Rattle.chpw_journal.specs.declared.record.Record.{Record}
 use Rattle.chpw_journal.specs.declared.record.Record.TheVariants as record_of
 use Rattle.chpw_journal.specs.RecordKeys.{key_at}
 use Rattle.chpw_journal.specs.Records.{ChangeFits, RecordFits, change_text, body_text, record_text, records_text, stated_length, change_lengths, is_record_length}
-use Rattle.chpw_journal.specs.JournalText.{restored, AreNext, IsNextRecord, with_record, is_cut_off, HasBadLength, HasBadBody, Begins, Reading, whole, bad_record, unknown_principal, wrong_version, IsReading}
+use Rattle.chpw_journal.specs.JournalText.{restored, AreNext, IsNextRecord, IsOfUnknown, with_record, is_cut_off, HasBadLength, HasBadBody, Begins, Reading, whole, bad_record, unknown_principal, wrong_version, IsReading}
 use Rattle.chpw_journal.specs.NextRecord.{framed}
 use Rattle.chpw_journal.specs.Laws.{FrontsAreCutOff}
 use Rattle.chpw_journal.proofs.ListLemmas.{front_same}
@@ -67,20 +68,34 @@ low_change c f =
 pub text_range : (r : Record) → RecordFits r → is_record_length (length (body_text r)) ≡ true
 text_range (record_of.Change c) f = of_change (length (change_text c)) (in_range (length (change_text c)) (low_change c f) (text_short (record_of.Change c) f))
 text_range (record_of.Raise count) f = refl
+text_range (record_of.Base c) f = of_change (length (change_text c)) (in_range (length (change_text c)) (low_change c f) (text_short (record_of.Change c) f))
 
 -- ---- a record's text is that of no other
 
 same_count : (m n : ℕ) → is_in iteration_counts m ≡ true → is_in iteration_counts n ≡ true → to_be_bytes w32 m ≡ to_be_bytes w32 n → m ≡ n
 same_count m n f g e = sym (from_be_bytes-to_be_bytes_4 m (count_short m f)) ∙ (ap (from_be_bytes w32) e ∙ from_be_bytes-to_be_bytes_4 n (count_short n g))
 
-apart_lengths : (c : Change) (count : ℕ) → ChangeFits c → change_text c ≡ body_text (record_of.Raise count) → ⊥
-apart_lengths c count f e = let low = low_change c f in let five : length (change_text c) ≡ 5 = ap length e in omega (arith, low, five)
+-- texts of two kinds aren't the same
+heads : (m n : ℕ) (xs ys : List ℕ) → m ∷ xs ≡ n ∷ ys → m ≡ n
+heads m n xs ys h = cc
+
+apart_kinds : (m n : ℕ) (xs ys : List ℕ) → nat_eq m n ≡ false → m ∷ xs ≡ n ∷ ys → ⊥
+apart_kinds m n xs ys d h = let same = heads m n xs ys h in grind (arith, nat_tests)
+
+-- a base's text is that of its change, but for the kind
+same_base : (c d : Change) → ChangeFits c → ChangeFits d → body_text (record_of.Base c) ≡ body_text (record_of.Base d) → c ≡ d
+same_base c d f g e = same_change c d f g (ap (λ (xs : List ℕ). 1 ∷ xs) (tails 3 3 (drop 1 (change_text c)) (drop 1 (change_text d)) e))
 
 same_body : (r q : Record) → RecordFits r → RecordFits q → body_text r ≡ body_text q → r ≡ q
 same_body (record_of.Change c) (record_of.Change d) f g e = ap record_of.Change (same_change c d f g e)
-same_body (record_of.Change c) (record_of.Raise n) f g e = absurd (apart_lengths c n f e)
-same_body (record_of.Raise m) (record_of.Change d) f g e = absurd (apart_lengths d m g (sym e))
+same_body (record_of.Change c) (record_of.Raise n) f g e = absurd (apart_kinds 1 2 _ _ refl e)
+same_body (record_of.Change c) (record_of.Base d) f g e = absurd (apart_kinds 1 3 _ _ refl e)
+same_body (record_of.Raise m) (record_of.Change d) f g e = absurd (apart_kinds 2 1 _ _ refl e)
 same_body (record_of.Raise m) (record_of.Raise n) f g e = ap record_of.Raise (same_count m n f g (tails 2 2 _ _ e))
+same_body (record_of.Raise m) (record_of.Base d) f g e = absurd (apart_kinds 2 3 _ _ refl e)
+same_body (record_of.Base c) (record_of.Change d) f g e = absurd (apart_kinds 3 1 _ _ refl e)
+same_body (record_of.Base c) (record_of.Raise n) f g e = absurd (apart_kinds 3 2 _ _ refl e)
+same_body (record_of.Base c) (record_of.Base d) f g e = ap record_of.Base (same_base c d f g e)
 
 small : (r : Record) → RecordFits r → length (body_text r) < 2 ^ 16
 small r f = omega (arith, text_short r f)
@@ -148,25 +163,26 @@ stops_bad s rest bad c left f k e =
     (λ (h : HasBadBody rest). h.1 c left f e)
     bad
 
-apart_kinds : (d : Change) (n : ℕ) → record_of.Change d ≡ record_of.Raise n → ⊥
-apart_kinds d n h = cc
+no_keys : (held : Option (List KeyRow)) → held ≡ None → IsSome held → ⊥
+no_keys None e h = cc
+no_keys (Some keys) e h = cc
 
-change_is : (d c : Change) → record_of.Change d ≡ record_of.Change c → d ≡ c
-change_is d c h = cc
+-- a record of a principal that isn't held doesn't come next
+unknown_next : (s : State) (r : Record) → IsOfUnknown s r → IsNextRecord s r → ⊥
+unknown_next s (record_of.Change c) none k = none-some k.keys (sym none ∙ k.held)
+unknown_next s (record_of.Raise n) none k = none
+unknown_next s (record_of.Base c) none k = no_keys (keys_held s c.name) none k
 
-stops_unknown : (s : State) (d : Change) (more : List ℕ) → ChangeFits d → keys_held s d.name ≡ None → Stops s (record_text (record_of.Change d) ++ more)
-stops_unknown s d more g none (record_of.Raise n) left f k e = absurd (apart_kinds d n (same_record (record_of.Change d) (record_of.Raise n) more left g f e).0)
-stops_unknown s d more g none (record_of.Change c) left f k e =
-    let same : d ≡ c = change_is d c (same_record (record_of.Change d) (record_of.Change c) more left g f e).0 in
-    none-some k.keys (sym none ∙ (ap (λ (x : Change). keys_held s x.name) same ∙ k.held))
+stops_unknown : (s : State) (q : Record) (more : List ℕ) → RecordFits q → IsOfUnknown s q → Stops s (record_text q ++ more)
+stops_unknown s q more g none r left f k e =
+    unknown_next s q none (subst (IsNextRecord s) (sym (same_record q r more left g f e).0) k)
 
 stops_version : (s : State) (d : Change) (more : List ℕ) (keys : List KeyRow) → ChangeFits d → keys_held s d.name ≡ Some keys → d.key.kvno ≢ newest_kvno keys + 1 → Stops s (record_text (record_of.Change d) ++ more)
-stops_version s d more keys g held wrong (record_of.Raise n) left f k e = absurd (apart_kinds d n (same_record (record_of.Change d) (record_of.Raise n) more left g f e).0)
-stops_version s d more keys g held wrong (record_of.Change c) left f k e =
-    let same : d ≡ c = change_is d c (same_record (record_of.Change d) (record_of.Change c) more left g f e).0 in
-    let both : Some keys ≡ Some k.keys = sym held ∙ (ap (λ (x : Change). keys_held s x.name) same ∙ k.held) in
-    let others : keys ≡ k.keys = cc in
-    wrong (ap (λ (x : Change). x.key.kvno) same ∙ (k.next ∙ ap (λ (ks : List KeyRow). newest_kvno ks + 1) (sym others)))
+stops_version s d more keys g held wrong r left f k e =
+    let n : IsNextKey s d.name d.key = subst (IsNextRecord s) (sym (same_record (record_of.Change d) r more left g f e).0) k in
+    let both : Some keys ≡ Some n.keys = sym held ∙ n.held in
+    let others : keys ≡ n.keys = cc in
+    wrong (n.next ∙ ap (λ (ks : List KeyRow). newest_kvno ks + 1) (sym others))
 
 same_stop : (s : State) (cs ds : List Record) (x y : List ℕ) → AreNext s cs → AreNext s ds → Stops (restored s cs) x → Stops (restored s ds) y → records_text cs ++ x ≡ records_text ds ++ y → (cs ≡ ds) × (x ≡ y)
 same_stop s [] [] x y h g p q e = (refl, e)
@@ -190,9 +206,9 @@ reads_one s text cs cut b c (bad_record n) h =
     let m = same_stop s h.0 cs h.1 cut h.2.next b.next (stops_bad (restored s h.0) h.1 h.3) (stops_cut (restored s cs) cut c) (sym h.2.text_is ∙ b.text_is) in
     absurd (not_bad h.1 (ap is_cut_off m.1 ∙ c) h.3)
 reads_one s text cs cut b c (unknown_principal n) h =
-    let rest = record_text (record_of.Change h.1) ++ h.2.left in
+    let rest = record_text h.1 ++ h.2.left in
     let m = same_stop s h.0 cs rest cut h.2.begins.next b.next (stops_unknown (restored s h.0) h.1 h.2.left h.2.fits h.3) (stops_cut (restored s cs) cut c) (sym h.2.begins.text_is ∙ b.text_is) in
-    absurd (apart (is_cut_off rest) (ap is_cut_off m.1 ∙ c) (not_cut (record_of.Change h.1) h.2.left h.2.fits))
+    absurd (apart (is_cut_off rest) (ap is_cut_off m.1 ∙ c) (not_cut h.1 h.2.left h.2.fits))
 reads_one s text cs cut b c (wrong_version n) h =
     let rest = record_text (record_of.Change h.1) ++ h.3.left in
     let m = same_stop s h.0 cs rest cut h.3.begins.next b.next (stops_version (restored s h.0) h.1 h.3.left h.2 h.3.fits h.4 h.5) (stops_cut (restored s cs) cut c) (sym h.3.begins.text_is ∙ b.text_is) in

@@ -1,30 +1,40 @@
 -- What a journal's text comes to: its whole records, in their order, and behind them one that is cut
 -- off; or its first fault. Records are counted from 1, and each is tested as J1, J3, J2.
-use Rattle.std.specs.Prelude.{◌≡◌, ◌≢◌, ℕ, ◌+◌, ◌≤◌, List, [], ◌∷◌, ◌++◌, length, Bool, true, false, ◌&&◌, ◌||◌, nat_lt, ◌⊎◌, Some, None}
+use Rattle.std.specs.Prelude.{◌≡◌, ◌≢◌, ℕ, ◌+◌, ◌≤◌, List, [], ◌∷◌, ◌++◌, length, Bool, true, false, ◌&&◌, ◌||◌, nat_lt, ◌⊎◌, Some, None, IsSome}
 use Rattle.chpw_table.specs.declared.key.KeyRow.{KeyRow}
 use Rattle.chpw_table.specs.State.{State, keys_held}
 use Rattle.chpw_table.specs.Decision.{newest_kvno}
 use Rattle.chpw_table.specs.Restoring.{with_kept_key, with_kept_count, IsNextKey}
+use Rattle.chpw_table.specs.BaseKeys.{with_base_key}
 use Rattle.chpw_journal.specs.declared.change.Change.{Change}
 use Rattle.chpw_journal.specs.declared.record.Record.{Record}
 use Rattle.chpw_journal.specs.declared.record.Record.TheVariants as record_of
-use Rattle.chpw_journal.specs.Records.{ChangeFits, RecordFits, record_text, records_text, stated_length, is_record_length}
+use Rattle.chpw_journal.specs.Records.{RecordFits, record_text, records_text, stated_length, is_record_length}
 
--- the state after a record: a change does to its principal what an accepted request did, and a raise
--- leaves no lower count
+-- the state after a record: a change does to its principal what an accepted request did, a raise leaves
+-- no lower count, and a base leaves its principal no other key
 abbrev pub with_record : Record → State → State
 with_record (record_of.Change c) s = with_kept_key c.name c.key s
 with_record (record_of.Raise count) s = with_kept_count count s
+with_record (record_of.Base c) s = with_base_key c.name c.key s
 
 -- and after these records
 abbrev pub restored : State → List Record → State
 restored s [] = s
 restored s (r ∷ rs) = restored (with_record r s) rs
 
--- a record may come next: a change's principal is held, and its version is the next; a raise may always
+-- a record may come next: a change's principal is held, and its version is the next; a raise may always;
+-- a base's principal is held, in whatever version
 abbrev pub IsNextRecord : State → Record → Type 0
 IsNextRecord s (record_of.Change c) = IsNextKey s c.name c.key
 IsNextRecord s (record_of.Raise count) = Unit {0}
+IsNextRecord s (record_of.Base c) = IsSome (keys_held s c.name)
+
+-- a record is of a principal that isn't held
+abbrev pub IsOfUnknown : State → Record → Type 0
+IsOfUnknown s (record_of.Change c) = keys_held s c.name ≡ None
+IsOfUnknown s (record_of.Raise count) = ⊥
+IsOfUnknown s (record_of.Base c) = keys_held s c.name ≡ None
 
 -- each record is within the limits and may come next
 abbrev pub AreNext : State → List Record → Type 0
@@ -48,11 +58,11 @@ pub record Begins (s : State) (text : List ℕ) (records : List Record) (rest : 
   pub text_is : text ≡ records_text records ++ rest
   pub next : AreNext s records
 
--- the text begins so, and then has the record of a change within the limits
-pub record BeginsWith (s : State) (text : List ℕ) (records : List Record) (c : Change) : Type 0 where
+-- the text begins so, and then has this record, which is within the limits
+pub record BeginsWith (s : State) (text : List ℕ) (records : List Record) (r : Record) : Type 0 where
   pub left : List ℕ
-  pub begins : Begins s text records (record_text (record_of.Change c) ++ left)
-  pub fits : ChangeFits c
+  pub begins : Begins s text records (record_text r ++ left)
+  pub fits : RecordFits r
 
 -- what a text comes to
 pub data Reading : Type 0 where
@@ -64,7 +74,7 @@ pub data Reading : Type 0 where
 abbrev pub IsReading : State → List ℕ → Reading → Type 0
 IsReading s text (whole records rest) = Begins s text records rest × (is_cut_off rest ≡ true)
 IsReading s text (bad_record n) = (records : List Record) × (rest : List ℕ) × Begins s text records rest × (HasBadLength rest ⊎ HasBadBody rest) × (n ≡ length records + 1)
-IsReading s text (unknown_principal n) = (records : List Record) × (c : Change) × BeginsWith s text records c
-    × (keys_held (restored s records) c.name ≡ None) × (n ≡ length records + 1)
-IsReading s text (wrong_version n) = (records : List Record) × (c : Change) × (keys : List KeyRow) × BeginsWith s text records c
+IsReading s text (unknown_principal n) = (records : List Record) × (r : Record) × BeginsWith s text records r
+    × IsOfUnknown (restored s records) r × (n ≡ length records + 1)
+IsReading s text (wrong_version n) = (records : List Record) × (c : Change) × (keys : List KeyRow) × BeginsWith s text records (record_of.Change c)
     × (keys_held (restored s records) c.name ≡ Some keys) × (c.key.kvno ≢ newest_kvno keys + 1) × (n ≡ length records + 1)

@@ -1,8 +1,9 @@
--- The journal's format, format 2: records one after the other, with no header. A record is its length,
--- two bytes, high byte first, and then a change or a raise. A change: kind 1, kvno and iteration count,
--- four bytes each, the keys of etype 17 and 18, and the name: how many components, and each behind its
--- length, one byte. A raise: kind 2 and the iteration count, four bytes. Format 1 had changes alone.
-use Rattle.std.specs.Prelude.{◌≡◌, ℕ, List, [], ◌∷◌, ◌++◌, length, take, Bool, true, ◌||◌, ◌==◌}
+-- The journal's format, format 3: records one after the other, with no header. A record is its length,
+-- two bytes, high byte first, and then a change, a raise or a base. A change: kind 1, kvno and iteration
+-- count, four bytes each, the keys of etype 17 and 18, and the name: how many components, and each behind
+-- its length, one byte. A raise: kind 2 and the iteration count, four bytes. A base: kind 3, and then what
+-- a change has behind its kind. Format 1 had changes alone, and format 2 changes and raises.
+use Rattle.std.specs.Prelude.{◌≡◌, ℕ, List, [], ◌∷◌, ◌++◌, length, take, drop, Bool, true, ◌||◌, ◌==◌}
 use Rattle.std.specs.Int.{from_be_bytes, to_be_bytes, w16, w32}
 use Rattle.chpw_rules.specs.declared.limits.Limits.{Limits}
 use Rattle.chpw_rules.specs.Limits.{range, is_in, kvnos, iteration_counts, aes128_length, aes256_length}
@@ -24,19 +25,26 @@ pub record ChangeFits (c : Change) : Type 0 where
 abbrev pub RecordFits : Record → Type 0
 RecordFits (record_of.Change c) = ChangeFits c
 RecordFits (record_of.Raise count) = is_in iteration_counts count ≡ true
+RecordFits (record_of.Base c) = ChangeFits c
 
 -- a change's text, from behind its length
 abbrev pub change_text : Change → List ℕ
 change_text c = change_bytes c.name c.key
 
+-- the same with this kind in front
+abbrev pub text_of_kind : ℕ → Change → List ℕ
+text_of_kind kind c = kind ∷ drop 1 (change_text c)
+
 -- a record's, and then its whole text
 abbrev pub body_text : Record → List ℕ
 body_text (record_of.Change c) = change_text c
 body_text (record_of.Raise count) = 2 ∷ to_be_bytes w32 count
+body_text (record_of.Base c) = text_of_kind 3 c
 
 abbrev pub record_text : Record → List ℕ
 record_text (record_of.Change c) = record_bytes c.name c.key
 record_text (record_of.Raise count) = raise_bytes count
+record_text (record_of.Base c) = to_be_bytes w16 (length (text_of_kind 3 c)) ++ text_of_kind 3 c
 
 -- the texts of records, joined
 abbrev pub records_text : List Record → List ℕ
@@ -47,10 +55,10 @@ records_text (r ∷ rs) = record_text r ++ records_text rs
 abbrev pub stated_length : List ℕ → ℕ
 stated_length text = from_be_bytes w16 (take 2 text)
 
--- the lengths of changes: 58 bytes, and 1 to 8 components of 1 to 128 bytes, each behind its length
+-- the lengths of changes and bases: 58 bytes, and 1 to 8 components of 1 to 128 bytes, each behind its length
 abbrev pub change_lengths : Limits
 change_lengths = range 60 1090
 
--- a record may have this length: 5 of a raise, or that of a change
+-- a record may have this length: 5 of a raise, or that of a change or a base
 abbrev pub is_record_length : ℕ → Bool
 is_record_length n = (n == 5) || is_in change_lengths n

@@ -6,6 +6,7 @@ use Rattle.chpw_rules.specs.Limits.{is_in, kvnos, iteration_counts, aes128_lengt
 use Rattle.chpw_table.specs.declared.history.Event.{Event}
 use Rattle.chpw_table.specs.declared.history.Event.TheVariants.{Ask, Raise}
 use Rattle.chpw_table.specs.declared.history.Entry.{Entry}
+use Rattle.chpw_table.specs.declared.key.KeyRow.{KeyRow}
 use Rattle.chpw_table.specs.Requests.{target_of}
 use Rattle.chpw_table.specs.State.{State, keys_held, kept_count, new_count}
 use Rattle.chpw_table.specs.Decision.{newest_kvno}
@@ -39,10 +40,13 @@ pub record IsSound (s : State) : Type 0 where
   pub names : (name : Name) → IsSome (keys_held s name) → is_name name ≡ true
   pub versions : (name : Name) → IfSome (keys_held s name) (λ keys. newest_kvno keys ≤ kvnos.high)
 
--- what an accepted event brings in is whole: its keys have as many bytes as the types of keys say, and
--- its count is one that a configuration takes
+-- both keys have as many bytes as their types say
+abbrev pub IsWholeKey : KeyRow → Type 0
+IsWholeKey key = (length key.aes128 ≡ aes128_length) × (length key.aes256 ≡ aes256_length)
+
+-- what an accepted event brings in is whole: its keys are, and its count is one that a configuration takes
 abbrev pub BringsWhole : State → Event → Type 0
-BringsWhole s (Ask o v) = (length (new_key s o).aes128 ≡ aes128_length) × (length (new_key s o).aes256 ≡ aes256_length)
+BringsWhole s (Ask o v) = IsWholeKey (new_key s o)
 BringsWhole s (Raise count v) = is_in iteration_counts count ≡ true
 
 abbrev pub AreWhole : State → List Entry → Type 0

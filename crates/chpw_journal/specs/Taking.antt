@@ -1,5 +1,5 @@
 -- For the proofs: what one record, from behind its length, does to a table that is being restored.
-use Rattle.std.specs.Prelude.{◌≡◌, ◌≢◌, ℕ, ◌+◌, List, length, false, Option, Some, None}
+use Rattle.std.specs.Prelude.{◌≡◌, ◌≢◌, ℕ, ◌+◌, List, length, false, Option, Some}
 use Rattle.std.specs.Io.KnownBytes.{Consumes}
 use Rattle.chpw_table.specs.declared.key.KeyRow.{KeyRow}
 use Rattle.chpw_table.specs.declared.table.restoring.KeyFault.{KeyFault}
@@ -7,6 +7,7 @@ use Rattle.chpw_table.specs.State.{State, keys_held}
 use Rattle.chpw_table.specs.Decision.{newest_kvno}
 use Rattle.chpw_table.specs.Agreement.{Held, Agrees}
 use Rattle.chpw_table.specs.Restoring.{IsKeyRefused}
+use Rattle.chpw_table.specs.BaseKeys.{IsBaseRefused}
 use Rattle.chpw_journal.specs.declared.change.Change.{Change}
 use Rattle.chpw_journal.specs.declared.record.Record.{Record}
 use Rattle.chpw_journal.specs.declared.record.Record.TheVariants as record_of
@@ -14,12 +15,13 @@ use Rattle.chpw_journal.specs.declared.fault.RestoreFault.{RestoreFault}
 use Rattle.chpw_journal.specs.declared.fault.RestoreFault.TheVariants.{BadRecord, WrongVersion, UnknownPrincipal, CannotRead, Memory}
 use Rattle.chpw_journal.specs.declared.restoring.Restored.{Restored}
 use Rattle.chpw_journal.specs.Records.{ChangeFits, RecordFits, body_text, records_text}
-use Rattle.chpw_journal.specs.JournalText.{IsNextRecord, AreNext, with_record, restored}
+use Rattle.chpw_journal.specs.JournalText.{IsNextRecord, IsOfUnknown, AreNext, with_record, restored}
 
--- why a record isn't put back: a change for what its key is refused; a raise never
+-- why a record isn't put back: a change or a base for what its key is refused; a raise never
 abbrev pub IsRecordRefused : Held → Record → KeyFault → Type 0
 IsRecordRefused before (record_of.Change c) fault = (s : State) → Agrees before.state s → IsKeyRefused s c.name c.key fault
 IsRecordRefused before (record_of.Raise count) fault = ⊥
+IsRecordRefused before (record_of.Base c) fault = (s : State) → Agrees before.state s → IsBaseRefused s c.name fault
 
 pub record TakesRecord (before later : Restored) (body : List ℕ) : Type 0 where
   pub taken : Record
@@ -35,8 +37,8 @@ pub record TakesRecord (before later : Restored) (body : List ℕ) : Type 0 wher
 
 abbrev pub IsRecordFault : Restored → List ℕ → RestoreFault → Type 0
 IsRecordFault before body (BadRecord n) = (n ≡ before.records + 1) × ((r : Record) → RecordFits r → body ≢ body_text r)
-IsRecordFault before body (UnknownPrincipal n) = (n ≡ before.records + 1) × (c : Change) × ChangeFits c × (body ≡ body_text (record_of.Change c))
-    × ((s : State) → Agrees before.table.state s → keys_held s c.name ≡ None)
+IsRecordFault before body (UnknownPrincipal n) = (n ≡ before.records + 1) × (r : Record) × RecordFits r × (body ≡ body_text r)
+    × ((s : State) → Agrees before.table.state s → IsOfUnknown s r)
 IsRecordFault before body (WrongVersion n) = (n ≡ before.records + 1) × (c : Change) × ChangeFits c × (body ≡ body_text (record_of.Change c))
     × ((s : State) → Agrees before.table.state s → (keys : List KeyRow) × (keys_held s c.name ≡ Some keys) × (c.key.kvno ≢ newest_kvno keys + 1))
 IsRecordFault before body CannotRead = ⊥

@@ -2,6 +2,7 @@
 #![tactic(auto)]
 
 mod change;
+mod compact;
 mod fault;
 mod file_sink;
 mod journal_file;
@@ -10,11 +11,14 @@ mod memory_sink;
 mod quiet;
 mod reading;
 mod record;
+mod replacing;
 mod restoring;
 
+pub use compact::compact_journal;
 pub use fault::RestoreFault;
 pub use file_sink::FileSink;
 pub use journal_file::{Journal, JournalFile, OpenFault, open_journal};
 pub use memory_sink::MemorySink;
 pub use quiet::quiet_after;
+pub use replacing::{Replacement, replace_journal, write_new};
 pub use restoring::{Restored, restore};

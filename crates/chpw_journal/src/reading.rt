@@ -13,7 +13,7 @@ use std::io::Read;
 /// Reads for a journal, at the most, interrupted ones counted.
 pub const MAX_READS: u64 = 4_294_967_296;
 
-/// The lengths of changes: 58 bytes, and 1 to 8 components of 1 to 128 bytes, each behind its length.
+/// The lengths of changes and bases: 58 bytes, and 1 to 8 components of 1 to 128 bytes, each behind its length.
 const CHANGE_LENGTHS: Limits = Limits {
     low: 60,
     high: 1090,

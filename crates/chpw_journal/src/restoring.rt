@@ -28,8 +28,9 @@ pub struct Restored {
 }
 
 /// Puts the records of a journal back into a table: a change as the accepted request did that made it,
-/// and the count of a raise where it is greater than the table's. What stands behind the last whole
-/// record is torn; it is dropped and not tested, but for its length.
+/// the count of a raise where it is greater than the table's, and a base in place of its principal's
+/// keys. What stands behind the last whole record is torn; it is dropped and not tested, but for its
+/// length.
 ///
 /// The journal is read to its end, in no more than 4,294,967,296 reads; an interrupted one is tried
 /// again. A fault in a record that was read whole comes before that of a later read.
@@ -98,6 +99,7 @@ fn put_back(table: &mut Table, taken: Record) -> Result<(), KeyFault>
 {
     match taken {
         Record::Change(change) => table.restore_key(&change.name, change.key),
+        Record::Base(base) => table.restore_base(&base.name, base.key),
         Record::Raise(count) => {
             table.restore_count(count);
             Ok(())

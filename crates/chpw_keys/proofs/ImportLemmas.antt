@@ -15,7 +15,7 @@ use Rattle.chpw_import.specs.LeftLines.{left_lines}
 use Rattle.chpw_import.specs.Passwords.{IsPasswordOf}
 use Rattle.chpw_invocation.specs.declared.invocation.KeyOptions.{KeyOptions}
 use Rattle.chpw_rules.specs.declared.name.Name.{Name}
-use Rattle.chpw_keys.specs.Stanzas.{Imports, WritesKey, key_row}
+use Rattle.chpw_keys.specs.Stanzas.{Imports, WritesKey, key_row, note_of}
 
 pub imported : (o : ImportOptions) (bytes : List ℕ) (b : Brought) (before behind untold told : Option (List ℕ)) (text t lines l : List ℕ) (s : List ServiceRow) (p : List PrincipalRow)
     → IsBrought bytes o.realm.now o.iterations b → (service_fits b.service.items ≡ true) × (principals_fit b.principals.items ≡ true) → s ≡ b.service.items → p ≡ b.principals.items
@@ -37,11 +37,11 @@ imported o bytes b before behind untold told text t lines l s p is fits e f line
   left = subst (λ (x : List ℕ). Appends untold told x) (i ∙ h) left;
 }
 
-pub keyed : (o : KeyOptions) (name : Name) (bytes password : List ℕ) (before behind : Option (List ℕ)) (text t : List ℕ) (row : PrincipalRow)
+pub keyed : (o : KeyOptions) (name : Name) (bytes password : List ℕ) (before behind untold told : Option (List ℕ)) (text t : List ℕ) (row : PrincipalRow)
     → IsPasswordOf bytes password → row ≡ key_row o name password → (is_name name ≡ true → principal_fits row ≡ true)
     → IsDocumentText false (stanzas_of [] (row ∷ [])) text → parse_document text ≡ Some (stanzas_of [] (row ∷ [])) → t ≡ text → Appends before behind t
-    → WritesKey o name bytes before behind
-keyed o name bytes password before behind text t row is e fits lines_of reads g written = record {
+    → Appends untold told (note_of o.password_file.now bytes) → WritesKey o name bytes before behind untold told
+keyed o name bytes password before behind untold told text t row is e fits lines_of reads g written note = record {
   password = password;
   is_password = is;
   fits = λ named. subst (λ (r : PrincipalRow). principal_fits r ≡ true) e (fits named);
@@ -52,4 +52,5 @@ keyed o name bytes password before behind text t row is e fits lines_of reads g 
         (subst (λ (x : PrincipalRow). IsDocumentText false (stanzas_of [] (x ∷ [])) text) e lines_of),
     ap parse_document g ∙ (reads ∙ ap (λ (x : PrincipalRow). Some (stanzas_of [] (x ∷ []))) e),
   );
+  note = note;
 }

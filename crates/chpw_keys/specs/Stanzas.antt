@@ -1,5 +1,5 @@
 -- What is written: the stanzas of rows.
-use Rattle.std.specs.Prelude.{◌≡◌, ℕ, true, false, List, [], ◌∷◌, Option, Some}
+use Rattle.std.specs.Prelude.{◌≡◌, ℕ, true, false, List, [], ◌∷◌, ◌++◌, Option, Some, codes, if◌then◌else◌}
 use Rattle.std.specs.Io.KnownBytes.{Appends}
 use Rattle.toml.specs.Parse.{parse_document}
 use Rattle.toml.specs.Text.{IsDocumentText}
@@ -15,7 +15,7 @@ use Rattle.chpw_import.specs.declared.keytab.Brought.{Brought}
 use Rattle.chpw_import.specs.declared.numbers.KeyNumbers.{KeyNumbers}
 use Rattle.chpw_import.specs.Keytabs.{IsBrought}
 use Rattle.chpw_import.specs.LeftLines.{left_lines}
-use Rattle.chpw_import.specs.Passwords.{IsPasswordOf, row_of}
+use Rattle.chpw_import.specs.Passwords.{IsPasswordOf, has_carriage_return, row_of}
 
 -- A text is added that is read as the stanzas of these rows. It is a document of lines, each table behind a header
 -- of its own and none inline, so that it can stand behind other tables.
@@ -45,17 +45,22 @@ numbers_of o = record { kvno = o.kvno; iterations = o.iterations; some_count = o
 abbrev pub key_row : KeyOptions → Name → List ℕ → PrincipalRow
 key_row o name password = row_of o.realm.now name password (numbers_of o)
 
+-- a carriage return at the end of a password's file is no part of it, and that is told
+abbrev pub note_of : List ℕ → List ℕ → List ℕ
+note_of file bytes = if has_carriage_return bytes then file ++ codes ": a carriage return at the end is left out\n" else []
+
 -- the stanza of this principal with the keys of the password that a file with these bytes holds; a configuration
 -- can have it where it can have the name
-pub record WritesKey (o : KeyOptions) (name : Name) (bytes : List ℕ) (before behind : Option (List ℕ)) : Type 0 where
+pub record WritesKey (o : KeyOptions) (name : Name) (bytes : List ℕ) (before behind untold told : Option (List ℕ)) : Type 0 where
   pub password : List ℕ
   pub is_password : IsPasswordOf bytes password
   pub fits : is_name name ≡ true → principal_fits (key_row o name password) ≡ true
   pub written : AppendsRows before behind [] (key_row o name password ∷ [])
+  pub note : Appends untold told (note_of o.password_file.now bytes)
 
 -- the same of the name on the command line
-pub record Keys (o : KeyOptions) (bytes : List ℕ) (before behind : Option (List ℕ)) : Type 0 where
+pub record Keys (o : KeyOptions) (bytes : List ℕ) (before behind untold told : Option (List ℕ)) : Type 0 where
   pub name : Name
   pub is_name : name_in o.name.now ≡ Some name
-  pub key : WritesKey o name bytes before behind
+  pub key : WritesKey o name bytes before behind untold told
   pub fits : principal_fits (key_row o name key.password) ≡ true

@@ -1,12 +1,12 @@
 -- Fields, and the line that they make.
-use Rattle.std.proofs.Common.{◌≡◌, ◌∙◌, ℕ, ◌<◌, true, List, [], ◌∷◌, ◌++◌, length, length-append, append_assoc, codes, map, refl, arith}
+use Rattle.std.proofs.Common.{◌≡◌, ◌∙◌, ℕ, ◌<◌, true, List, [], ◌∷◌, ◌++◌, length, length-append, append_assoc, codes, ap, map, Bool, cond, Result, Ok, Err, is_ok, OnOk, ◌^◌, refl, arith}
 use Rattle.std.specs.List.{join_with_byte}
 use Rattle.std.specs.Fmt.{decimal}
 use Rattle.std.proofs.lemmas.Bool.{and_from, and_parts}
 use Rattle.std.proofs.lemmas.List.Folds.{list_all-append}
 use Rattle.chpw_rules.specs.Limits.{range, is_in}
 use Rattle.chpw_printing.specs.Quoting.{are_graphic, are_printed, is_field}
-use Rattle.chpw_printing.proofs.PrintedLemmas.{field_of, graphic_printed}
+use Rattle.chpw_printing.proofs.PrintedLemmas.{decimal_graphic, field_of, graphic_printed}
 use Rattle.chpw_log.specs.Lines.{IsRecord, Outcome, address_text, are_fields, outcome_fields}
 
 pub address_field : (address : List ℕ) → length address ≡ 4 → are_graphic (address_text address) ≡ true → is_field (address_text address) ≡ true
@@ -90,3 +90,44 @@ words_printed a b c h k l =
     let r : are_printed (a ++ one ++ b ++ two) ≡ true = both_printed (a ++ one ++ b) two q refl in
     let s : are_printed (a ++ one ++ b ++ two ++ c) ≡ true = both_printed (a ++ one ++ b ++ two) c r l in
     both_printed (a ++ one ++ b ++ two ++ c) three s refl
+
+-- ---- the service's own events
+
+pub one_joined : (old words a : List ℕ) → old ++ words ++ a ≡ old ++ (words ++ a)
+one_joined old words a = append_assoc old words a
+
+pub both_joined : (old words a further b : List ℕ) → old ++ (words ++ a) ++ (further ++ b) ≡ old ++ (words ++ a ++ further ++ b)
+both_joined old words a further b = simp append_assoc refl
+
+pub start_joined : (old both quiet : List ℕ) → old ++ both ++ codes " quiet-until " ++ quiet ≡ old ++ (both ++ codes " quiet-until " ++ quiet)
+start_joined old both quiet = simp append_assoc refl
+
+pub both_printed_too : (words a further b : List ℕ) → are_printed (words ++ a) ≡ true → are_printed (further ++ b) ≡ true
+    → are_printed (words ++ a ++ further ++ b) ≡ true
+both_printed_too words a further b h k =
+    ap are_printed (append_assoc (words ++ a) further b) ∙ both_printed (words ++ a) (further ++ b) h k
+
+pub event_record : (moment words : List ℕ) → are_printed moment ≡ true → are_printed words ≡ true
+    → IsRecord (moment ++ codes " service " ++ words ++ codes "\n")
+event_record moment words h k = (
+  moment ++ codes " service " ++ words,
+  refl,
+  both_printed (moment ++ codes " service ") words (both_printed moment (codes " service ") h refl) k,
+)
+
+-- what was put, where it could be
+pub put_so : {E : Type 0} (result : Result Unit E) (new old words : List ℕ) → new ≡ cond (is_ok result) (old ++ words) old → OnOk result (new ≡ old ++ words)
+put_so (Ok done) new old words h = h
+put_so (Err fault) new old words h = tt
+
+pub always : {E : Type 0} {P : Type 0} (result : Result Unit E) → P → OnOk result P
+always (Ok done) p = p
+always (Err fault) p = tt
+
+pub with_quiet : {E : Type 0} (result : Result Unit E) (both quiet : List ℕ) → are_printed both ≡ true → OnOk result (are_printed quiet ≡ true)
+    → OnOk result (are_printed (both ++ codes " quiet-until " ++ quiet) ≡ true)
+with_quiet (Ok done) both quiet h k = both_printed (both ++ codes " quiet-until ") quiet (both_printed both (codes " quiet-until ") h refl) k
+with_quiet (Err fault) both quiet h k = tt
+
+pub number_printed : (words : List ℕ) (number : ℕ) → number < 2 ^ 64 → are_printed words ≡ true → are_printed (words ++ decimal number) ≡ true
+number_printed words number small h = both_printed words (decimal number) h (graphic_printed (decimal number) (decimal_graphic number small))

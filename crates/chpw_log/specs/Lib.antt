@@ -5,3 +5,4 @@ pub mod Limits
 pub mod Summaries
 pub mod Unconfirmed
 pub mod Laws
+pub mod Events

@@ -1,6 +1,7 @@
 //! The text of a line in the service's log: one record for one message, as printed ASCII.
 #![tactic(auto)]
 
+mod event;
 mod held;
 pub mod laws;
 mod limit;
@@ -11,6 +12,7 @@ mod summing;
 mod unconfirmed;
 mod writing;
 
+pub use event::{ServiceEvent, write_event};
 pub use held::Held;
 pub use limit::{Leave, Limit};
 pub use line::{Line, micros_of};

@@ -1,73 +1,21 @@
 //! Moments as they are printed (RFC 3339).
 ghost use Rattle.std.specs.Prelude.{◌≡◌, ◌++◌, ◌<◌, true, OnOk};
-ghost use Rattle.krb_elements.specs.Times.{pair, time_octets};
 ghost use Rattle.chpw_printing.specs.Quoting.{is_field};
-ghost use Rattle.chpw_table.specs.Times.{IsMoment, IsTime};
-ghost use Rattle.chpw_log.specs.Moments.{date_time, moment_text, six_digits};
+ghost use Rattle.chpw_table.specs.Times.{IsMoment};
+ghost use Rattle.chpw_log.specs.Moments.{moment_text};
 
 use chpw_table::Moment;
-use krb_elements::seconds_to_time;
+use chpw_times::put_time;
 use std::alloc::AllocError;
 
 /// Puts a moment at the end: `2026-11-25T06:31:50.123456Z`. Its seconds are 0 to
 /// `chpw_table::LAST_SECOND`, its microseconds below 1,000,000.
-#[tactic(auto, using(crate::proofs::MomentLemmas::moment_field))]
+#[tactic(auto, using(crate::proofs::MomentLemmas::writable))]
 pub(crate) fn put_moment(text: &mut Vec<u8>, moment: Moment) -> Result<(), AllocError>
     requires moment { IsMoment moment }
     requires micros { moment.micros < 1000000 }
     ensures value { OnOk result (text.new.items ≡ text.old.items ++ moment_text moment) }
     ensures field { is_field (moment_text moment) ≡ true }
 {
-    let time = time_of(moment.seconds);
-    put_date_time(text, &time, moment.micros)
-}
-
-// `YYYYMMDDHHMMSSZ` (RFC 4120 section 5.2.3).
-fn time_of(seconds: i64) -> [u8; 15]
-    requires { IsTime seconds }
-    ensures value { result ≡ time_octets seconds }
-{
-    seconds_to_time(seconds).unwrap()
-}
-
-// The same with RFC 3339's marks, and the second's fraction.
-fn put_date_time(text: &mut Vec<u8>, time: &[u8; 15], micros: u32) -> Result<(), AllocError>
-    requires { micros < 1000000 }
-    ensures value { OnOk result (text.new.items ≡ text.old.items ++ date_time time.now micros) }
-{
-    text.extend_from_slice(&time[..4])?;
-    text.push(b'-')?;
-    text.extend_from_slice(&time[4..6])?;
-    text.push(b'-')?;
-    text.extend_from_slice(&time[6..8])?;
-    text.push(b'T')?;
-    text.extend_from_slice(&time[8..10])?;
-    text.push(b':')?;
-    text.extend_from_slice(&time[10..12])?;
-    text.push(b':')?;
-    text.extend_from_slice(&time[12..14])?;
-    text.push(b'.')?;
-    put_fraction(text, micros)?;
-    text.push(b'Z')?;
-    Ok(())
-}
-
-// The six digits of a second's microseconds.
-fn put_fraction(text: &mut Vec<u8>, micros: u32) -> Result<(), AllocError>
-    requires { micros < 1000000 }
-    ensures value { OnOk result (text.new.items ≡ text.old.items ++ six_digits micros) }
-{
-    put_pair(text, (micros / 10_000) as u8)?;
-    put_pair(text, (micros / 100 % 100) as u8)?;
-    put_pair(text, (micros % 100) as u8)
-}
-
-// The two digits of a number.
-fn put_pair(text: &mut Vec<u8>, number: u8) -> Result<(), AllocError>
-    requires { number < 100 }
-    ensures value { OnOk result (text.new.items ≡ text.old.items ++ pair number) }
-{
-    text.push(b'0' + number / 10)?;
-    text.push(b'0' + number % 10)?;
-    Ok(())
+    put_time(text, moment.seconds, moment.micros)
 }

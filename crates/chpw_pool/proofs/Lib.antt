@@ -1,3 +1,4 @@
+pub mod ControlLemmas
 pub mod DatagramLemmas
 pub mod PlaceLemmas
 pub mod RunLemmas

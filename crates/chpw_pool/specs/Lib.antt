@@ -1,6 +1,7 @@
 pub mod Accepting
 pub mod Bounded
 pub mod Clocks
+pub mod Controlling
 pub mod Datagrams
 pub mod Deciding
 pub mod Engines
@@ -8,4 +9,5 @@ pub mod Following
 pub mod Pools
 pub mod Rounds
 pub mod Steps
+pub mod Tokens
 pub mod Turns

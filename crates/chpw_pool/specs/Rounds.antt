@@ -1,5 +1,5 @@
 -- When whoever has the sockets looks at which of them.
-use Rattle.std.specs.Prelude.{ℕ, Bool, true, false, ◌||◌, ◌&&◌, ◌==◌, nat_le, nat_lt, length, if◌then◌else◌}
+use Rattle.std.specs.Prelude.{ℕ, Bool, true, false, not, ◌||◌, ◌&&◌, ◌==◌, nat_le, nat_lt, length, if◌then◌else◌}
 use Rattle.slab.specs.Slab.{slab_len}
 use Rattle.chpw_connections.specs.Held.{slots_of, accepted_by, changed_of}
 use Rattle.chpw_connections.specs.declared.todo.Todo.{Todo}
@@ -28,6 +28,15 @@ has_all wanted accepting s = nat_le wanted (accepted_by s.connections) || has_fa
 -- and each has ended; or nobody is there to answer
 abbrev pub is_finished : ℕ → Accepting → State → Bool
 is_finished wanted accepting s = s.is_deserted || (has_all wanted accepting s && has_none s)
+
+-- and whoever is at the control socket has no order under way
+abbrev pub is_done : ℕ → Accepting → Bool → State → Bool
+is_done wanted accepting orders s = s.is_deserted || (has_all wanted accepting s && has_none s && not orders)
+
+-- it waits for its client's next bytes
+abbrev pub is_reading : Todo → Bool
+is_reading (todo.Read n) = true
+is_reading other = false
 
 -- connections have ended, or want to be looked at again; a client waits for room; or the follower is to be asked
 abbrev pub wants_reactor : State → Bool

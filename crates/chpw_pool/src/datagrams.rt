@@ -1,5 +1,6 @@
 //! What the reactor does for messages that come in datagrams.
 
+use crate::attendant::Attendant;
 use crate::engine::milliseconds;
 use crate::follower::Follower;
 use crate::reactor::Reactor;
@@ -17,7 +18,7 @@ impl<
     R: Wait + Clock,
     L: OpenListener<Stream = TcpStream> + AsRawFd,
     G,
-    F: Follower + Drop,
+    F: Follower + Attendant + Drop,
 > Reactor<'a, R, L, G, F> {
     /// Takes the datagrams that are there. Each that waits for a worker is a connection, of which no more are taken than are
     /// to be accepted.

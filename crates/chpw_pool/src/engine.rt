@@ -1,21 +1,28 @@
 //! What the reactor and the workers share.
-ghost use Rattle.std.specs.Prelude.{◌≡◌, ◌<◌, ◌≤◌, ◌/◌, ◌^◌, vec_len, IfOk, IfErr};
+ghost use Rattle.std.specs.Prelude.{◌≡◌, ◌<◌, ◌≤◌, ◌/◌, ◌^◌, vec_len, IfOk, IfErr, IfSome, true};
 ghost use Rattle.std.specs.Duration.{as_nanos};
+ghost use Rattle.chpw_control.specs.Seats.{is_order};
 ghost use Rattle.chpw_pool.specs.Engines.{workers_at};
 ghost use Rattle.chpw_pool.specs.Pools.{Ends, IsUnmade};
 
+use crate::control::Control;
 use crate::hub::Hub;
 use crate::pool::{Pool, PoolFault};
 use crate::sockets::{Selector, Sockets};
 use crate::state::State;
 use crate::worker::Reply;
 use chpw_connections::{Bounds, Connections, Taken};
+use chpw_control::Command;
 use chpw_serve::WorkerWords;
 use mio::Waker;
 use std::alloc::{AllocError, Global};
 use std::net::{Net, UdpSocket};
 use std::sync::{Condvar, Mutex, MutexGuard, Wait};
+use std::thread;
 use std::time::{Clock, Duration};
+
+/// Milliseconds between two looks at what waits for the follower.
+const PAUSE: u64 = 5;
 
 /// Where a worker waits for its messages, with its gate and its words. The words go on from one desk to the next,
 /// so that the worker draws each once; before the first desk there are none.
@@ -36,6 +43,9 @@ pub struct Engine<G> {
     pub(crate) hub: Mutex<Hub>,
     pub(crate) selector: Mutex<Selector>,
     waker: Waker,
+    pub(crate) control: Mutex<Control>,
+    /// Where whoever carries out orders waits for them.
+    ordered: Condvar,
 }
 
 impl<G: Drop> Engine<G> {
@@ -61,6 +71,9 @@ impl<G: Drop> Engine<G> {
         let Ok(workers) = worker_slots(alloc, gates) else {
             return Err(PoolFault::Memory);
         };
+        let Ok(control) = Control::new(alloc) else {
+            return Err(PoolFault::Memory);
+        };
         let (selector, waker) = Selector::new(rt, alloc)?;
         let sockets = Sockets::new(alloc, &selector, bounds.connections, datagrams)?;
         Ok(Engine {
@@ -73,6 +86,8 @@ impl<G: Drop> Engine<G> {
             }),
             selector: Mutex::new(selector),
             waker,
+            control: Mutex::new(control),
+            ordered: Condvar::new(),
         })
     }
 }
@@ -165,21 +180,87 @@ impl<G> Engine<G> {
         }
     }
 
-    /// The workers take messages.
-    pub(crate) fn start<R: Wait>(&self, rt: &R) {
+    /// The workers take messages, and orders are carried out.
+    pub fn start<R: Wait>(&self, rt: &R) {
         self.hub.lock(rt).state.is_stopped = false;
+        self.control.lock(rt).is_paused = false;
     }
 
-    /// The workers take no more messages until the next start.
-    pub(crate) fn stop<R: Wait>(&self, rt: &R) {
+    /// The workers take no more messages until the next start, and no more orders are carried out.
+    pub fn stop<R: Wait>(&self, rt: &R) {
         self.hub.lock(rt).state.is_stopped = true;
         self.call_all();
+        self.control.lock(rt).is_paused = true;
+        self.call_for_order();
     }
 
     /// No message comes any more.
     pub(crate) fn finish<R: Wait>(&self, rt: &R) {
         self.hub.lock(rt).state.is_over = true;
         self.call_all();
+        self.control.lock(rt).is_over = true;
+        self.call_for_order();
+    }
+
+    /// Whoever carries out orders looks up.
+    pub(crate) fn call_for_order(&self) {
+        self.ordered.notify_one();
+    }
+
+    /// The next order of those at the control socket, as soon as there is one and the one before it was answered. It is to be
+    /// answered by `answer_order`. None where no more is carried out, or none for now.
+    pub fn next_order<R: Wait>(&self, rt: &R) -> Option<Command>
+        ensures order { IfSome result (λ command. is_order command ≡ true) }
+    {
+        for _ in rt.forever() {
+            let mut control = self
+                .ordered
+                .wait_while(rt, self.control.lock(rt), |control| control.is_idle());
+            if control.is_paused {
+                return None;
+            }
+            if let Some(command) = control.callers.next_order() {
+                return Some(command);
+            }
+            if control.is_over {
+                return None;
+            }
+        }
+        None
+    }
+
+    /// What came of the order that is carried out.
+    pub fn answer_order<R: Wait>(&self, rt: &R, answer: Vec<u8>) {
+        self.control.lock(rt).callers.answer_order(answer);
+        self.wake();
+        self.call_for_order();
+    }
+
+    /// Whether no reply waits for the follower, at once or within so many milliseconds. No worker may answer meanwhile.
+    pub fn waits_for_none<R: Wait + Clock>(&self, rt: &R, most: u64) -> bool {
+        let begun = milliseconds(rt);
+        for _ in rt.forever() {
+            if !self.hub.lock(rt).state.has_waiting() {
+                return true;
+            }
+            if milliseconds(rt).saturating_sub(begun) >= most {
+                return false;
+            }
+            thread::sleep(rt, Duration::from_millis(PAUSE));
+        }
+        false
+    }
+
+    /// Another journal has taken the place of the one that the follower was asked of: its marks count from the beginning. No
+    /// reply may wait for the former one.
+    pub fn begin_marks_anew<R: Wait>(&self, rt: &R) {
+        self.hub.lock(rt).state.begin_marks_anew();
+        self.wake();
+    }
+
+    /// Whether it ended since somebody at the control socket asked for that.
+    pub fn was_stopped<R: Wait>(&self, rt: &R) -> bool {
+        self.control.lock(rt).is_stopping
     }
 
     /// Nobody answers any more: the reactor ends, and with it all connections.

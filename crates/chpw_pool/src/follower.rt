@@ -14,6 +14,9 @@ pub trait Follower {
     /// It has said that a change is in the KDC's database.
     fn confirmed(&mut self);
 
+    /// Whether the last change that went out was one that it hadn't confirmed.
+    fn is_behind(&self) -> bool;
+
     /// The reply to this change goes out though it hasn't said that the KDC has the journal up to it.
     fn unconfirmed(&mut self, change: Unconfirmed);
 }
@@ -38,6 +41,10 @@ impl Follower for NoFollower {
     }
 
     fn confirmed(&mut self) {}
+
+    fn is_behind(&self) -> bool {
+        false
+    }
 
     fn unconfirmed(&mut self, _change: Unconfirmed) {}
 }

@@ -3,7 +3,7 @@
 use crate::engine::milliseconds;
 use crate::follower::Follower;
 use crate::reactor::Reactor;
-use crate::sockets::FOLLOWER;
+use crate::tokens::FOLLOWER;
 use chpw_follower::ask_line;
 use mio::net::UnixStream;
 use mio::{Interest, Registry};
@@ -107,7 +107,7 @@ impl<
     // The follower said this. One that says anything but what it was asked isn't heard any more.
     fn heard(&mut self, bytes: &[u8]) {
         let now = milliseconds(self.rt);
-        let heard = self.engine.hub.lock(self.rt).state.hear(bytes, now);
+        let heard = self.engine.hub.lock(self.rt).state.heard(bytes, now);
         match heard {
             Ok(None) => {}
             Ok(Some(_)) => self.link.follower.confirmed(),
@@ -120,7 +120,10 @@ impl<
 
     // Asks what is to be asked.
     fn ask(&mut self, registry: &Registry) {
-        let asked = self.engine.hub.lock(self.rt).state.asking.ask();
+        let (is_of_former, asked) = self.engine.hub.lock(self.rt).state.ask();
+        if is_of_former {
+            self.link.stream = None;
+        }
         if let Some(mark) = asked {
             let is_sent = match ask_line(self.engine.alloc, mark) {
                 Ok(line) => self.link.send(registry, &line),

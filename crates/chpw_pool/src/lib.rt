@@ -3,7 +3,10 @@
 #![tactic(auto)]
 
 mod accepting;
+mod attendant;
+mod attending;
 mod clock;
+mod control;
 mod datagrams;
 mod engine;
 mod follower;
@@ -15,14 +18,17 @@ mod reactor;
 mod sockets;
 mod state;
 mod terms;
+mod tokens;
 mod udp;
 mod worker;
 
+pub use attendant::{Attendant, Standing};
 pub use chpw_connections::{Bounds, Unconfirmed};
 pub use clock::{MachineClock, machine_moment};
 pub use engine::Engine;
 pub use follower::{Follower, JournalEnd, NoFollower};
 pub use pool::{
-    NotStarted, Pool, PoolFault, no_gates, run_pool, run_pool_by, run_pool_with, run_shift,
+    Meanwhile, NotStarted, Pool, PoolFault, no_gates, run_pool, run_pool_by, run_pool_with,
+    run_shift,
 };
 pub use terms::Terms;

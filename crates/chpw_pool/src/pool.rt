@@ -194,7 +194,13 @@ fn run_gated<
     match Engine::of(rt, shared.alloc, terms.seed, terms.bounds(), gates, None) {
         Err(fault) => unserved(fault, connections),
         Ok(engine) => {
-            match run_workers(rt, shared, &engine, passes, Some((listener, connections))) {
+            let reacting = Reacting {
+                rt,
+                engine: &engine,
+                listener,
+                connections,
+            };
+            match run_workers(rt, shared, &engine, passes, reacting) {
                 Err(NotStarted) => unserved(PoolFault::Start, connections),
                 Ok(()) => engine.outcome(rt, connections),
             }
@@ -202,14 +208,43 @@ fn run_gated<
     }
 }
 
+/// What the thread that runs a shift does while the workers answer messages.
+pub trait Meanwhile {
+    /// What comes of it.
+    type Done;
+
+    /// Does it, and returns once there is no more to do until the workers end.
+    fn run(self) -> Self::Done;
+}
+
+// The reactor, for so many connections of a listener, with no follower.
+#[derive(Drop)]
+struct Reacting<'a, R, L, G> {
+    rt: &'a R,
+    engine: &'a Engine<G>,
+    listener: &'a L,
+    connections: u32,
+}
+
+impl<R: Wait + Net + time::Clock, L: OpenListener<Stream = TcpStream> + AsRawFd, G: Drop> Meanwhile
+    for Reacting<'_, R, L, G> {
+    type Done = ();
+
+    fn run(self) {
+        self.engine
+            .react(self.rt, self.listener, self.connections, NoFollower);
+    }
+}
+
 /// A worker's thread could not be started.
 #[derive(Clone, Copy, PartialEq, Eq, Debug, Drop)]
 pub struct NotStarted;
 
-/// Answers the messages of an engine's connections at a desk, until no more come, or until the desk's history has no
-/// room for one more entry: it has room for so many. The workers then finish the messages that they have, and the
-/// others wait for the next desk. The reply to a change waits for the follower where `journal` says how long the journal
-/// is. After `NotStarted` the workers that had started may have answered some.
+/// Answers the messages of an engine's connections at a desk, until no more come, the workers are to take none (`Engine::stop`),
+/// or the desk's history has no room for one more entry: it has room for so many. They take some only once `Engine::start` was
+/// called behind a stop. The workers then finish the messages that they have, and the others wait for the next desk. The reply
+/// to a change waits for the follower where `journal` says how long the journal is. This thread does
+/// something else meanwhile, and gives back what came of that. After `NotStarted` the workers that had started may have answered some.
 pub fn run_shift<
     R: Threads + Wait + time::Clock + Sync,
     T: time::Clock + Sync,
@@ -218,6 +253,7 @@ pub fn run_shift<
     S: JournalSink + Send,
     G: Gate + Send + Drop,
     J: JournalEnd + Sync,
+    W: Meanwhile + Drop,
 >(
     rt: &R,
     alloc: Global,
@@ -228,7 +264,8 @@ pub fn run_shift<
     passes: &mut [Pass<D>],
     room: u32,
     journal: &J,
-) -> Result<(), NotStarted>
+    meanwhile: W,
+) -> Result<W::Done, NotStarted>
     requires workers { workers_at engine.now ≡ length passes.old }
 {
     let shared = Shared {
@@ -239,31 +276,30 @@ pub fn run_shift<
         journal,
         room: Some(room),
     };
-    engine.start(rt);
-    run_workers::<R, T, TcpListener, M, D, S, G, J>(rt, &shared, engine, passes, None)
+    run_workers(rt, &shared, engine, passes, meanwhile)
 }
 
-// A thread for each worker, while this one is the reactor where there is a listener. It returns once they have ended.
+// A thread for each worker, while this one does something else. It returns once they have ended.
 fn run_workers<
     R: Threads + Wait + time::Clock + Sync,
     T: time::Clock + Sync,
-    L: OpenListener<Stream = TcpStream> + AsRawFd,
     M: Messages + Sync,
     D: DeskName + Send + Sync,
     S: JournalSink + Send,
     G: Gate + Send + Drop,
     J: JournalEnd + Sync,
+    W: Meanwhile + Drop,
 >(
     rt: &R,
     shared: &Shared<'_, T, M, D, S, J>,
     engine: &Engine<G>,
     passes: &mut [Pass<D>],
-    at: Option<(&L, u32)>,
-) -> Result<(), NotStarted> {
+    meanwhile: W,
+) -> Result<W::Done, NotStarted> {
     thread::scope(
         thread::scope_env(),
         rt,
-        move |scope| -> Result<(), NotStarted> {
+        move |scope| -> Result<W::Done, NotStarted> {
             for (number, pass) in passes.iter_mut().enumerate() {
                 if scope
                     .spawn(move || begin(rt, shared, engine, number, pass))
@@ -273,10 +309,7 @@ fn run_workers<
                     return Err(NotStarted);
                 }
             }
-            if let Some((listener, connections)) = at {
-                engine.react(rt, listener, connections, NoFollower);
-            }
-            Ok(())
+            Ok(meanwhile.run())
         },
     )
 }

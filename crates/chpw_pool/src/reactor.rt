@@ -2,16 +2,19 @@
 //! lie under the lock that it shares with the workers.
 
 use crate::accepting::{Accepting, is_passing};
+use crate::attendant::Attendant;
+use crate::attending::ControlPort;
 use crate::engine::{Engine, milliseconds};
 use crate::follower::Follower;
 use crate::following::Link;
 use crate::hub::STEPS;
-use crate::sockets::{DATAGRAMS, FOLLOWER, LISTENER, Selector, WAKER};
+use crate::sockets::Selector;
 use crate::state::{Progress, Shortage, TICK};
+use crate::tokens::{LISTENER, Reported};
 use crate::worker::peer_of;
 use mio::event::Event;
 use mio::unix::SourceFd;
-use mio::{Events, Interest, Registry, Token};
+use mio::{Events, Interest, Registry};
 use std::io::ErrorKind;
 use std::mem;
 use std::net::{OpenListener, SocketAddr, TcpStream};
@@ -30,7 +33,7 @@ pub(crate) struct Reactor<'a, R, L, G, F> {
     listener: &'a L,
     pub link: Link<F>,
     /// How many connections it accepts.
-    connections: u32,
+    pub connections: u32,
     /// How many there may be at a time: the slots are the numbers below.
     pub clients: usize,
     accepting: Accepting,
@@ -42,20 +45,26 @@ pub(crate) struct Reactor<'a, R, L, G, F> {
     first: usize,
     /// Whether datagrams may be there.
     pub has_datagrams: bool,
+    pub port: ControlPort,
+    /// Whether it ends once what is under way is finished.
+    pub is_stopping: bool,
 }
 
 impl<G> Engine<G> {
     /// Accepts so many connections, or as many as the listener can; reads their messages and hands them to the
     /// workers, connection i (from 0) to worker i modulo their number; and writes the replies. It returns once each
     /// connection has ended, or the engine is deserted. Then no message comes any more. Replies to changes wait for the
-    /// follower, as the workers ask for it.
+    /// follower, as the workers ask for it. Questions at the control socket it answers itself; orders are for whoever takes
+    /// them (`next_order`). Where it is to stop, it accepts no more, ends the connections that wait for their clients'
+    /// messages, and goes on until each reply is out and each order answered.
     pub fn react<
         R: Wait + Clock,
         L: OpenListener<Stream = TcpStream> + AsRawFd,
-        F: Follower + Drop,
-    >(&self, rt: &R, listener: &L, connections: u32, follower: F) {
+        F: Follower + Attendant + Drop,
+    >(&self, rt: &R, listener: &L, connections: u32, mut follower: F) {
         let clients = self.hub.lock(rt).sockets.by_slot.len();
         let mut selector = self.selector.lock(rt);
+        let port = ControlPort::open(follower.listener(), selector.poll.registry());
         let mut reactor = Reactor {
             rt,
             engine: self,
@@ -68,9 +77,12 @@ impl<G> Engine<G> {
             looked: milliseconds(rt),
             first: 0,
             has_datagrams: true,
+            port,
+            is_stopping: false,
         };
         reactor.listen(selector.poll.registry());
         reactor.run(&mut *selector);
+        reactor.tell_last();
         self.finish(rt);
     }
 }
@@ -80,7 +92,7 @@ impl<
     R: Wait + Clock,
     L: OpenListener<Stream = TcpStream> + AsRawFd,
     G,
-    F: Follower + Drop,
+    F: Follower + Attendant + Drop,
 > Reactor<'a, R, L, G, F> {
     // Has the listener reported.
     fn listen(&mut self, registry: &Registry) {
@@ -108,6 +120,7 @@ impl<
             }
             self.look_at_events(events);
             self.follow(poll.registry());
+            self.attend(poll.registry());
             self.look_at_changed();
             self.accept();
             self.take_datagrams();
@@ -117,8 +130,10 @@ impl<
 
     // Whether nothing is left to do, or nobody is there to answer.
     fn is_done(&self) -> bool {
+        let has_orders = self.engine.control.lock(self.rt).has_orders();
         let hub = self.engine.hub.lock(self.rt);
-        hub.state.is_finished(self.connections, self.accepting)
+        hub.state
+            .is_done(self.connections, self.accepting, has_orders)
     }
 
     // How long to wait for the next event.
@@ -126,7 +141,9 @@ impl<
         let hub = self.engine.hub.lock(self.rt);
         let accepted = hub.state.connections.accepted();
         let may_come = self.can_accept(accepted) || self.can_take_datagram(accepted);
-        hub.state.patience(may_come, self.accepting)
+        let patience = hub.state.patience(may_come, self.accepting);
+        MutexGuard::unlock(hub);
+        self.port_patience(patience)
     }
 
     // Whether a connection more may be there, where so many were accepted.
@@ -149,18 +166,17 @@ impl<
     }
 
     fn look_at(&mut self, event: &Event) {
-        let Token(slot) = event.token();
-        if event.token() == LISTENER {
-            self.accepting = self.accepting.reported();
-        } else if event.token() == FOLLOWER {
-            self.link.is_reported = true;
-        } else if event.token() == DATAGRAMS {
-            self.has_datagrams = true;
-        } else if event.token() != WAKER {
-            if event.is_error() {
-                self.engine.hub.lock(self.rt).look_for_error(slot);
+        match Reported::of(event.token(), self.clients) {
+            Reported::Listener => self.accepting = self.accepting.reported(),
+            Reported::Follower => self.link.is_reported = true,
+            Reported::Datagrams => self.has_datagrams = true,
+            Reported::Control => self.port.is_due = true,
+            Reported::Connection(slot) => {
+                if event.is_error() {
+                    self.engine.hub.lock(self.rt).look_for_error(slot);
+                }
+                self.drive(slot);
             }
-            self.drive(slot);
         }
     }
 
@@ -182,6 +198,7 @@ impl<
             return;
         }
         self.looked = now;
+        self.port.is_due = true;
         self.accepting = self.accepting.resumed(now);
         self.release_overdue();
         let had = self.pass(now);
@@ -220,8 +237,8 @@ impl<
         self.engine.hub.lock(self.rt).state.shortage.is_any()
     }
 
-    // Does what is to be done for a connection, as far as its socket goes along.
-    fn drive(&mut self, slot: usize) {
+    /// Does what is to be done for a connection, as far as its socket goes along.
+    pub fn drive(&mut self, slot: usize) {
         for _ in 0..STEPS {
             if self.step(slot) == Progress::None {
                 return;
@@ -299,6 +316,12 @@ impl<
                 true
             }
         }
+    }
+
+    /// The connection for which there is no room yet is let go.
+    pub fn drop_pending(&mut self) {
+        self.pending = None;
+        self.engine.hub.lock(self.rt).state.has_newcomer = false;
     }
 
     fn make_room(&self) -> bool {

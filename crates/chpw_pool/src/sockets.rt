@@ -12,6 +12,7 @@ ghost use Rattle.chpw_pool.specs.declared.state.Progress.TheVariants as progress
 
 use crate::pool::PoolFault;
 use crate::state::{Progress, State};
+use crate::tokens::WAKER;
 use crate::udp::{Datagram, Datagrams, LONGEST};
 use chpw_connections::Todo;
 use chpw_datagrams::Sender;
@@ -20,18 +21,6 @@ use mio::{Events, Interest, Poll, Registry, Token, Waker};
 use std::alloc::{AllocError, Global};
 use std::io::ErrorKind;
 use std::net::{self, Net, Shutdown};
-
-/// The listener's events.
-pub(crate) const LISTENER: Token = Token(usize::MAX);
-
-/// Those of a worker that has something for the reactor.
-pub(crate) const WAKER: Token = Token(usize::MAX - 1);
-
-/// The follower's.
-pub(crate) const FOLLOWER: Token = Token(usize::MAX - 2);
-
-/// Those of the socket for datagrams.
-pub(crate) const DATAGRAMS: Token = Token(usize::MAX - 3);
 
 /// How many events are taken at once.
 const EVENTS: usize = 256;

@@ -1,21 +1,25 @@
 //! The connections, as reactor and workers see them under their lock.
 
-ghost use Rattle.std.specs.Prelude.{◌≡◌, ◌⊎◌, ◌||◌, ◌&&◌, not, IfOk, IfSome, OnOk, OnErr, is_some, Some, None, true, false, if◌then◌else◌};
-ghost use Rattle.slab.specs.Slab.{get};
+ghost use Rattle.std.specs.Prelude.{◌≡◌, ◌⊎◌, ◌||◌, ◌&&◌, not, IfOk, IfSome, OnOk, OnErr, is_some, Some, None, true, false, if◌then◌else◌, nat_lt, Ok};
+ghost use Rattle.slab.specs.Slab.{get, slab_len};
 ghost use Rattle.chpw_connections.specs.Held.{slots_of, bounds_of};
 ghost use Rattle.chpw_connections.specs.Todos.{todo_in};
 ghost use Rattle.chpw_connections.specs.Sets.{Happens, queued_at, is_late_in, wanted_at};
 ghost use Rattle.chpw_connections.specs.Stages.{came, taken, failed};
 ghost use Rattle.chpw_connections.specs.Room.{HappensWithRoom, for_message, is_large_in, has_room_to_read};
-ghost use Rattle.chpw_follower.specs.Asks.{at_start, behind_bytes, behind_loss, confirmed_by};
+ghost use Rattle.chpw_connections.specs.Counting.{count_in};
+ghost use Rattle.chpw_connections.specs.declared.counting.Counted.TheVariants as counted;
+ghost use Rattle.chpw_follower.specs.Asks.{asked_by, at_start, behind_ask, behind_bytes, behind_loss, confirmed_by};
 ghost use Rattle.chpw_pool.specs.Following.{awaited, asking_behind, Releases, ReleasesOne, is_waited_for as is_waited};
 ghost use Rattle.chpw_pool.specs.Steps.{IsAnswered, Takes, TakesNone, LetsGo, Gives, GivesNone, is_short_for, short_of};
-ghost use Rattle.chpw_pool.specs.Rounds.{is_finished, is_looked_at, milliseconds_to_wait, wants_reactor};
+ghost use Rattle.chpw_pool.specs.Controlling.{IsCounted, sum_of};
+ghost use Rattle.chpw_pool.specs.Rounds.{is_done, is_finished, is_looked_at, is_reading, milliseconds_to_wait, wants_reactor};
 ghost use Rattle.chpw_pool.specs.declared.state.Progress.TheVariants as progress;
 
 use crate::accepting::Accepting;
+use crate::attendant::Standing;
 use crate::worker::Reply;
-use chpw_connections::{Connections, Taken, Todo, Unconfirmed};
+use chpw_connections::{Connections, Counted, Taken, Todo, Unconfirmed};
 use chpw_follower::{Asking, Misspoken};
 use std::io::{ErrorKind, Read, Write};
 
@@ -44,6 +48,8 @@ pub(crate) struct State {
     pub shortage: Shortage,
     /// What the follower is asked.
     pub asking: Asking,
+    /// The connection to the follower is of a journal that another one has replaced since: what comes there isn't heard.
+    pub is_of_former: bool,
 }
 
 /// Whether a message wasn't read for want of room. Others of its kind wait with it for the next round, so that all get
@@ -99,7 +105,7 @@ pub(crate) enum Progress {
 impl State {
     /// These connections, which workers may serve.
     pub fn new(connections: Connections) -> State
-        ensures value { result ≡ record { connections = connections; is_stopped = false; is_over = false; is_deserted = false; has_newcomer = false; shortage = record { of_large = false; of_small = false }; asking = at_start } }
+        ensures value { result ≡ record { connections = connections; is_stopped = false; is_over = false; is_deserted = false; has_newcomer = false; shortage = record { of_large = false; of_small = false }; asking = at_start; is_of_former = false } }
     {
         State {
             connections,
@@ -109,6 +115,7 @@ impl State {
             has_newcomer: false,
             shortage: Shortage::default(),
             asking: Asking::new(),
+            is_of_former: false,
         }
     }
 
@@ -164,9 +171,9 @@ impl State {
         }
     }
 
-    /// The follower said this. Where it has confirmed so many bytes of the journal with it, the replies that waited for no
-    /// more are to be written.
-    pub fn hear(&mut self, bytes: &[u8], now: u64) -> Result<Option<u64>, Misspoken>
+    // The follower said this. Where it has confirmed so many bytes of the journal with it, the replies that waited for no
+    // more are to be written.
+    fn hear(&mut self, bytes: &[u8], now: u64) -> Result<Option<u64>, Misspoken>
         ensures asking { OnOk result (behind_bytes self.old.asking bytes.now ≡ Some self.new.asking) }
         ensures confirmed { IfOk result (λ mark. mark ≡ confirmed_by self.old.asking.asked bytes.now) }
         ensures released { IfOk result (λ mark. Releases mark now (slots_of self.old.connections) (slots_of self.new.connections)) }
@@ -180,6 +187,22 @@ impl State {
             self.connections.confirm(mark, now);
         }
         Ok(confirmed)
+    }
+
+    /// As `hear`, unless the connection is of a former journal: of that nothing is heard.
+    pub fn heard(&mut self, bytes: &[u8], now: u64) -> Result<Option<u64>, Misspoken>
+        ensures former { self.old.is_of_former ≡ true → (result ≡ Ok None) × (self.new ≡ self.old) }
+        ensures asking { self.old.is_of_former ≡ false → OnOk result (behind_bytes self.old.asking bytes.now ≡ Some self.new.asking) }
+        ensures confirmed { self.old.is_of_former ≡ false → IfOk result (λ mark. mark ≡ confirmed_by self.old.asking.asked bytes.now) }
+        ensures released { self.old.is_of_former ≡ false → IfOk result (λ mark. Releases mark now (slots_of self.old.connections) (slots_of self.new.connections)) }
+        ensures misspoken { OnErr result (behind_bytes self.old.asking bytes.now ≡ None) }
+        ensures lost { OnErr result (self.new.asking ≡ behind_loss self.old.asking) }
+        ensures same { OnErr result (self.new.connections ≡ self.old.connections) }
+    {
+        if self.is_of_former {
+            return Ok(None);
+        }
+        self.hear(bytes, now)
     }
 
     /// The first reply that has waited for the follower for so long: it is to be written.
@@ -210,6 +233,37 @@ impl State {
             self.asking.lose();
         }
         is_due
+    }
+
+    /// Whether a reply waits for the follower.
+    pub fn has_waiting(&self) -> bool
+        ensures value { result ≡ nat_lt 0 (count_in counted.Confirming (slots_of self.now.connections)) }
+    {
+        self.connections.count(Counted::Confirming) > 0
+    }
+
+    /// Another journal has taken the place of the one that the follower was asked of: marks count from its beginning, and
+    /// what is still said of the former one isn't heard.
+    pub fn begin_marks_anew(&mut self)
+        ensures asking { self.new.asking ≡ at_start }
+        ensures of_former { self.new.is_of_former ≡ true }
+        ensures same { self.new.connections ≡ self.old.connections }
+    {
+        self.asking = Asking::new();
+        self.is_of_former = true;
+    }
+
+    /// What is to be asked now, and whether the connection to the follower is of a former journal: then it is closed first.
+    pub fn ask(&mut self) -> (bool, Option<u64>)
+        ensures of_former { result.0 ≡ self.old.is_of_former }
+        ensures mark { result.1 ≡ asked_by self.old.asking }
+        ensures asking { self.new.asking ≡ behind_ask self.old.asking }
+        ensures of_present { self.new.is_of_former ≡ false }
+        ensures same { self.new.connections ≡ self.old.connections }
+    {
+        let is_of_former = self.is_of_former;
+        self.is_of_former = false;
+        (is_of_former, self.asking.ask())
     }
 
     /// Reads what is wanted of a connection's message, as far as it is there, the buffer takes it and there is room. Where
@@ -365,6 +419,42 @@ impl State {
     {
         let has_all = self.connections.accepted() >= wanted || accepting.has_failed();
         self.is_deserted || (has_all && self.connections.is_empty())
+    }
+
+    /// Whether the reactor has nothing left to do: nothing is left of the connections, and no order is carried out or waits; or
+    /// nobody is there to answer.
+    pub fn is_done(&self, wanted: u32, accepting: Accepting, has_orders: bool) -> bool
+        ensures value { result ≡ is_done wanted accepting has_orders self.now }
+    {
+        self.is_deserted || (self.is_finished(wanted, accepting) && !has_orders)
+    }
+
+    /// Ends a connection that waits for its client's next bytes.
+    pub fn end_if_reading(&mut self, slot: usize)
+        ensures reading { is_reading (todo_in (get (slots_of self.old.connections) slot)) ≡ true → Happens 0 (slots_of self.old.connections) (slots_of self.new.connections) slot failed }
+        ensures others { is_reading (todo_in (get (slots_of self.old.connections) slot)) ≡ false → self.new ≡ self.old }
+    {
+        if matches!(self.todo(slot), Todo::Read(_)) {
+            self.connections.fail(slot);
+        }
+    }
+
+    /// How the connections stand, and whether the follower is asked about a change.
+    #[tactic(auto, using(crate::proofs::ControlLemmas::all_counted))]
+    pub fn standing(&self) -> Standing
+        ensures value { IsCounted self.now result }
+        ensures all { sum_of result ≡ slab_len (slots_of self.now.connections) }
+        ensures behind { result.is_behind ≡ is_waited self.now.asking }
+    {
+        Standing {
+            reading: self.connections.count(Counted::Reading),
+            waiting: self.connections.count(Counted::Waiting),
+            answering: self.connections.count(Counted::Answering),
+            confirming: self.connections.count(Counted::Confirming),
+            writing: self.connections.count(Counted::Writing),
+            ending: self.connections.count(Counted::Ending),
+            is_behind: self.is_waited_for(),
+        }
     }
 
     /// How many milliseconds to wait for the next event: none where there is something to do at once.

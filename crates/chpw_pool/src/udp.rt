@@ -10,8 +10,8 @@ ghost use Rattle.chpw_pool.specs.declared.state.Progress.TheVariants as progress
 
 use crate::one_message::reply_of_datagram;
 use crate::pool::PoolFault;
-use crate::sockets::DATAGRAMS;
 use crate::state::{Progress, State};
+use crate::tokens::DATAGRAMS;
 use crate::worker::peer_of;
 use chpw_datagrams::{Answered, Sender, is_answerable};
 use mio::net::UdpSocket;

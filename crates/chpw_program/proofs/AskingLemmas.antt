@@ -10,12 +10,13 @@ use Rattle.chpw_client.specs.Requests.{IsRequest}
 use Rattle.chpw_client.specs.declared.request.Sent.{Sent}
 use Rattle.chpw_invocation.specs.declared.invocation.ClientOptions.{ClientOptions}
 use Rattle.chpw_program.specs.Asking.{Asks, HasAsked, IsUnasked, Names, Tells}
+use Rattle.chpw_program.specs.NewPasswords.{IsPassword}
 use Rattle.chpw_program.specs.declared.ending.Ending.{Ending}
-use Rattle.chpw_program.specs.declared.ending.Ending.TheVariants.{Good, Faulty, Early, Unread, Unserved, Unbrought, BadArgument, Unconnected, Unanswered, Refused, Misused, NotText}
+use Rattle.chpw_program.specs.declared.ending.Ending.TheVariants.{Good, Faulty, Early, Unread, Unserved, Unbrought, EmptyPassword, ManyLines, BadArgument, Unconnected, Unanswered, Refused, Misused, NotText}
 
 pub asks : (options : ClientOptions) (config : Config) (q : Question) (target : Option Name) (drawn : _)
     (sent : Sent) → config_fits config ≡ true → q.realm ≡ config.realm → IsFirstKey config.service q.service
-    → name_of options.client.now ≡ Some q.client → q.password ≡ options.password.now
+    → name_of options.client.now ≡ Some q.client → IsPassword options.password q.password
     → Names (option_map (λ t. t.now) options.target) target → q.target ≡ target
     → q.initial ≡ not options.no_initial → q.old ≡ options.old → IsRequest q drawn sent → Asks options sent
 asks options config q target drawn sent fits realm first named password aimed is initial old request = (
@@ -43,6 +44,8 @@ unasked options (Early fault) is = tt
 unasked options (Unread file) is = tt
 unasked options (Unserved fault) is = tt
 unasked options (Unbrought fault) is = tt
+unasked options (EmptyPassword file) is = tt
+unasked options (ManyLines file) is = tt
 unasked options BadArgument is = tt
 unasked options Unconnected is = tt
 unasked options Unanswered is = tt
@@ -57,6 +60,8 @@ replied options sent reply (Early fault) asks tells = tt
 replied options sent reply (Unread file) asks tells = tt
 replied options sent reply (Unserved fault) asks tells = tt
 replied options sent reply (Unbrought fault) asks tells = tt
+replied options sent reply (EmptyPassword file) asks tells = tt
+replied options sent reply (ManyLines file) asks tells = tt
 replied options sent reply BadArgument asks tells = tt
 replied options sent reply Unconnected asks tells = tt
 replied options sent reply Unanswered asks tells = tt

@@ -10,6 +10,7 @@ use Rattle.chpw_client.specs.Questions.{Question}
 use Rattle.chpw_client.specs.Requests.{IsRequest}
 use Rattle.chpw_client.specs.declared.request.Sent.{Sent}
 use Rattle.chpw_invocation.specs.declared.invocation.ClientOptions.{ClientOptions}
+use Rattle.chpw_program.specs.NewPasswords.{IsPassword}
 use Rattle.chpw_program.specs.declared.ending.Ending.{Ending}
 use Rattle.chpw_program.specs.declared.ending.Ending.TheVariants.{Good, Refused, Unanswered, Early}
 
@@ -27,7 +28,7 @@ pub record IsAsked (options : ClientOptions) (q : Question) : Type 0 where
   pub realm : q.realm ≡ config.realm
   pub service : IsFirstKey config.service q.service
   pub client : name_of options.client.now ≡ Some q.client
-  pub password : q.password ≡ options.password.now
+  pub password : IsPassword options.password q.password
   pub target : Names (option_map (λ t. t.now) options.target) q.target
   pub initial : q.initial ≡ not options.no_initial
   pub old : q.old ≡ options.old

@@ -8,7 +8,7 @@ use Rattle.chpw_keys.specs.declared.fault.KeysFault.TheVariants.{BadName}
 use Rattle.chpw_service.specs.Faults.{line_of as service_line}
 use Rattle.chpw_service.specs.declared.fault.ServeFault.{ServeFault}
 use Rattle.chpw_program.specs.declared.ending.Ending.{Ending}
-use Rattle.chpw_program.specs.declared.ending.Ending.TheVariants.{Good, Faulty, Early, Unread, Unserved, Unbrought, BadArgument, Unconnected, Unanswered, Refused, Misused, NotText}
+use Rattle.chpw_program.specs.declared.ending.Ending.TheVariants.{Good, Faulty, Early, Unread, Unserved, Unbrought, EmptyPassword, ManyLines, BadArgument, Unconnected, Unanswered, Refused, Misused, NotText}
 
 abbrev pub status_of : Ending → ℕ
 status_of Good = 0
@@ -17,6 +17,8 @@ status_of (Early fault) = 1
 status_of (Unread file) = 1
 status_of (Unserved fault) = 1
 status_of (Unbrought fault) = 1
+status_of (EmptyPassword file) = 1
+status_of (ManyLines file) = 1
 status_of BadArgument = 2
 status_of Unconnected = 1
 status_of Unanswered = 1
@@ -32,6 +34,8 @@ line_of (Early fault) = fault_text fault
 line_of (Unread file) = codes "cannot read " ++ file.now
 line_of (Unserved fault) = service_line fault
 line_of (Unbrought fault) = keys_line fault
+line_of (EmptyPassword file) = file.now ++ codes ": the password is empty"
+line_of (ManyLines file) = file.now ++ codes ": more than one line"
 line_of BadArgument = codes "bad argument"
 line_of Unconnected = codes "cannot connect"
 line_of Unanswered = codes "connection ended"
@@ -47,6 +51,8 @@ has_line (Early fault) = true
 has_line (Unread file) = true
 has_line (Unserved fault) = true
 has_line (Unbrought fault) = true
+has_line (EmptyPassword file) = true
+has_line (ManyLines file) = true
 has_line BadArgument = true
 has_line Unconnected = true
 has_line Unanswered = true

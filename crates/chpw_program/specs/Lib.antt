@@ -1,2 +1,5 @@
 pub mod Asking
+pub mod Controlling
 pub mod Endings
+pub mod NewPasswords
+pub mod Reasons

@@ -4,8 +4,10 @@ ghost use Rattle.chpw_rules.specs.Fitting.{config_fits};
 ghost use Rattle.chpw_rules.specs.Names.{is_name, name_of as name_in};
 ghost use Rattle.chpw_client.specs.Questions.{latest_second};
 ghost use Rattle.chpw_program.specs.Asking.{Asks, HasAsked, IsUnasked, Names, Tells};
+ghost use Rattle.chpw_program.specs.NewPasswords.{IsPassword};
 
 use crate::ending::Ending;
+use crate::new_password::password_of;
 use chpw_client::{LAST_START, LONGEST_PASSWORD, Sent, client_line, client_request};
 use chpw_commands::DrillFault;
 use chpw_frame::{LONGEST_MESSAGE, Received, read_tcp, write_tcp};
@@ -22,12 +24,12 @@ use std::io::Write;
 use std::net::{Net, TcpStream};
 use std::time::Clock;
 
-/// Sends the request, and prints what the reply says. The names, the password's length and the moment
-/// are looked at first, then the configuration and the seed are read, and then the service is called.
+/// Sends the request, and prints what the reply says. The names, the password and the moment are looked at
+/// first, then the configuration and the seed are read, and then the service is called.
 #[tactic(auto, using(crate::proofs::AskingLemmas::unasked, crate::proofs::AskingLemmas::replied))]
 pub fn ask<'a, R>(rt: &R, options: ClientOptions<'a>) -> Ending<'a>
 where
-    R: Files<File = File> + Net<Stream = TcpStream> + Clock + Print + AllocGlobal,
+    R: Files<File = File> + Net<Stream = TcpStream> + Clock + Input + Print + AllocGlobal,
     ensures asked { HasAsked options.entry result }
 {
     match request(rt, options) {
@@ -39,17 +41,40 @@ where
     }
 }
 
-// The request, made with the first stream of the seed's words.
-#[tactic(auto, using(crate::proofs::AskingLemmas::asks))]
+// The request.
 fn request<'a, R>(rt: &R, options: ClientOptions<'a>) -> Result<Sent, Ending<'a>>
 where
-    R: Files<File = File> + Clock + AllocGlobal,
+    R: Files<File = File> + Clock + Input + AllocGlobal,
     ensures asks { IfOk result (Asks options.entry) }
     ensures early { IfErr result IsUnasked }
 {
     let client = name_of(rt.alloc(), options.client)?;
     let target = target_of(rt.alloc(), options.target)?;
-    if options.password.len() > LONGEST_PASSWORD {
+    let password = password_of(rt, options.password)?;
+    request_of(rt, options, &client, &target, password.as_slice())
+}
+
+// The request of this client with this target and password, made with the first stream of the seed's words.
+#[tactic(auto, using(crate::proofs::AskingLemmas::asks))]
+fn request_of<'a, R>(
+    rt: &R,
+    options: ClientOptions<'a>,
+    client: &Name,
+    target: &Option<Name>,
+    password: &[u8],
+) -> Result<Sent, Ending<'a>>
+where
+    R: Files<File = File> + Clock + AllocGlobal,
+    requires client { is_name client.now ≡ true }
+    requires target { IfSome target.now (λ name. is_name name ≡ true) }
+    requires own { options.old ≡ true → target.now ≡ None }
+    requires named { name_in options.client.now ≡ Some client.now }
+    requires aimed { Names (option_map (λ t. t.now) options.target) target.now }
+    requires given { IsPassword options.password password.now }
+    ensures asks { IfOk result (Asks options.entry) }
+    ensures early { IfErr result IsUnasked }
+{
+    if password.len() > LONGEST_PASSWORD {
         return Err(Ending::BadArgument);
     }
     let now = moment(rt)?;
@@ -63,9 +88,9 @@ where
         rt.alloc(),
         &config,
         now,
-        &client,
-        options.password.as_bytes(),
-        lent(&target),
+        client,
+        password,
+        lent(target),
         !options.no_initial,
         options.old,
         &mut words,

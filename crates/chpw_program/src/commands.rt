@@ -4,6 +4,7 @@ ghost use Rattle.clap.specs.Values.{kind_of};
 ghost use Rattle.chpw_program.specs.Endings.{ending_brought, ending_drilled, ending_served};
 
 use crate::client::ask;
+use crate::control::send_command;
 use crate::ending::Ending;
 use chpw_commands::{DrillFault, explain_check, run_check, run_drill};
 use chpw_invocation::{Invocation, command_of};
@@ -42,6 +43,7 @@ where
         Ok(Invocation::Import(options)) => brought(tell_keytab(rt, options)),
         Ok(Invocation::Key(options)) => brought(tell_password(rt, options)),
         Ok(Invocation::Serve(options)) => served(serve(rt, options)),
+        Ok(Invocation::Control(options)) => send_command(rt, options),
         Ok(Invocation::Client(options)) => ask(rt, options),
     }
 }

@@ -24,13 +24,18 @@ pub enum Ending<'a> {
     Unserved(ServeFault<'a>),
     /// No keys were brought in.
     Unbrought(KeysFault<'a>),
-    /// A name, a password or the clock that no request can be made with.
+    /// This file, or standard input, has no password.
+    EmptyPassword(&'a str),
+    /// More than one line stands where the password is to be.
+    ManyLines(&'a str),
+    /// A name, a password or the clock that no request can be made with, or a file that a command for a
+    /// running service can't name.
     BadArgument,
     /// There is no service at the port.
     Unconnected,
     /// No reply came that can be read.
     Unanswered,
-    /// The service answered, and not with code 0.
+    /// The service answered, and not with code 0; or not with `ok` at the end.
     Refused,
     /// The command line asks for no command, or for help.
     Misused,
@@ -48,7 +53,7 @@ impl Ending<'_> {
         match self {
             Ending::Good => 0,
             Ending::Faulty { .. } | Ending::Early(_) | Ending::Unread(_) | Ending::Unserved(_) => 1,
-            Ending::Unbrought(_) => 1,
+            Ending::Unbrought(_) | Ending::EmptyPassword(_) | Ending::ManyLines(_) => 1,
             Ending::Unconnected | Ending::Unanswered | Ending::Refused => 1,
             Ending::BadArgument | Ending::Misused | Ending::NotText => 2,
         }
@@ -86,6 +91,8 @@ impl fmt::Display for Ending<'_> {
             Ending::Unread(file) => write!(f, "cannot read {file}"),
             Ending::Unserved(fault) => write!(f, "{fault}"),
             Ending::Unbrought(fault) => write!(f, "{fault}"),
+            Ending::EmptyPassword(file) => write!(f, "{file}: the password is empty"),
+            Ending::ManyLines(file) => write!(f, "{file}: more than one line"),
             Ending::BadArgument => f.write_str("bad argument"),
             Ending::Unconnected => f.write_str("cannot connect"),
             Ending::Unanswered => f.write_str("connection ended"),

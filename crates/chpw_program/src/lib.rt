@@ -1,16 +1,21 @@
-//! What the program does for each command line, and how it ends: the service, a request to it, the table that
-//! is held, keys brought in, a check of a configuration, and a script of decisions.
+//! What the program does for each command line, and how it ends: the service, a request to it, a command for it
+//! while it runs, the table that is held, keys brought in, a check of a configuration, and a script of decisions.
 #![tactic(auto)]
 
 mod client;
 mod command_line;
 mod commands;
+mod control;
 mod descriptors;
 mod ending;
+mod new_password;
+mod reasons;
 mod running;
 
 pub use client::ask;
 pub use command_line::words;
 pub use commands::misused;
+pub use control::{send_command, tell_service};
 pub use ending::{Ending, tell};
+pub use reasons::Reason;
 pub use running::run_program;

@@ -6,6 +6,7 @@ use crate::command_line::words;
 use crate::commands::run;
 use crate::descriptors::{NOTHING, hold_standard};
 use crate::ending::{Ending, tell};
+use crate::reasons::reason_of;
 use std::fs::{File, Files};
 use std::io::Write;
 use std::net::{Net, TcpListener, TcpStream};
@@ -15,7 +16,7 @@ use std::thread::Threads;
 use std::time::Clock;
 
 /// Runs the command that the command line asks for; `errors` is standard error. The exit status: 0; 1 after
-/// a fault, which is told in a line there; 2 where the command line asks for no command or for help, whose
+/// a fault, which is told in a line there, and in a second one why, where that can be seen; 2 where the command line asks for no command or for help, whose
 /// text stands there, or isn't UTF-8, or `client` for no request.
 pub fn run_program<R, W: Write>(rt: &R, errors: &mut W) -> u8
 where
@@ -33,22 +34,26 @@ where
     ensures few { result ≤ 2 }
 {
     if hold_standard(rt).is_err() {
-        return end(errors, Ending::Unread(NOTHING));
+        return end(errors, &Ending::Unread(NOTHING));
     }
     match words(rt) {
         Ok(words) => {
             let ending = run(rt, errors, words.as_slice());
-            end(errors, ending)
+            let status = end(errors, &ending);
+            if let Some(reason) = reason_of(rt, words.as_slice(), &ending) {
+                let _ = writeln!(errors, "{reason}");
+            }
+            status
         }
-        Err(ending) => end(errors, ending),
+        Err(ending) => end(errors, &ending),
     }
 }
 
 // Tells how the run ended; its status.
-fn end<W: Write>(errors: &mut W, ending: Ending<'_>) -> u8
-    ensures status { result ≡ status_of ending.entry }
+fn end<W: Write>(errors: &mut W, ending: &Ending<'_>) -> u8
+    ensures status { result ≡ status_of ending.now }
     ensures few { result ≤ 2 }
 {
-    let _ = tell(errors, &ending);
+    let _ = tell(errors, ending);
     ending.status()
 }

@@ -1,37 +1,29 @@
 -- Histories of a service, one after the other.
-use Rattle.std.proofs.Common.{List, [], ◌∷◌, ◌++◌, sym, subst}
+use Rattle.std.proofs.Common.{ℕ, List, Option, inl, inr}
+use Rattle.chpw_rules.specs.declared.config.Config.{Config}
+use Rattle.chpw_table.specs.Agreement.{Held}
 use Rattle.chpw_table.specs.State.{State}
-use Rattle.chpw_table.specs.Agreement.{Held, Agrees}
-use Rattle.chpw_table.specs.History.{IsLegal, outcome}
 use Rattle.chpw_table.proofs.AgreementLemmas.{agrees_itself}
-use Rattle.chpw_journal.specs.Runs.{IsSound, AreWhole, Run, last_state}
-use Rattle.chpw_journal.specs.Joined.{FollowOn}
-use Rattle.chpw_journal.proofs.JoinedLemmas.{tables_may_open, histories_stay_sound, runs_are_last}
-use Rattle.chpw_service.specs.ServiceRuns.{IsHistory, AreHistories, IsServiceRun, HistoriesFollowOn}
+use Rattle.chpw_reload.specs.declared.renewal.Renewal.{Renewal}
+use Rattle.chpw_reload.specs.declared.reloading.Reloaded.{Reloaded}
+use Rattle.chpw_reload.specs.Reloading.{IsPrepared, IsReloaded}
+use Rattle.chpw_reload.specs.ReloadRuns.{GoesOn}
+use Rattle.chpw_reload.specs.RunLaws.{RunsBegin, RunsGoOn}
+use Rattle.chpw_reload.proofs.PartsLemmas.{reloaded_is_reload}
+use Rattle.chpw_reload.proofs.RunLemmas.{runs_begin, runs_go_on}
 
-pub histories_follow_on : HistoriesFollowOn
-histories_follow_on s [] sound h = record { sound = sound; each = tt; counts = tt }
-histories_follow_on s (r ∷ rs) sound h =
-    let opens = tables_may_open s [] r.opening (record { sound = sound; each = tt; counts = tt }) h.0 in
-    let rest = histories_follow_on (outcome r.opening r.history) rs (histories_stay_sound r.opening r.history opens.sound h.1 h.2) h.3 in
-    record { sound = sound; each = (opens.left.keys, opens.sound, h.1, h.2, rest.each); counts = (opens.left.count, rest.counts) }
+pub reload_goes_on : (file : Config) (journal rest : Option (List ℕ)) (renewal : Renewal) (closed : Held) (next : Reloaded) →
+    IsPrepared file journal renewal → IsReloaded renewal rest closed next → GoesOn closed.state next.table.state
+reload_goes_on file journal rest renewal closed next prepared reloaded =
+    let made = reloaded_is_reload file journal rest renewal closed next closed.state prepared reloaded (agrees_itself closed.state) in
+    inr (file, made.0, made.1)
 
--- the first history
-pub first_history : (opening : State) (table : Held) → IsHistory opening table → IsServiceRun opening table
-first_history opening table h = record { history = h.history; more = []; follow = (agrees_itself opening, h.legal, h.whole, tt); leaves = h.agrees }
+-- and the closed table from itself
+pub goes_on_itself : (s : State) → GoesOn s s
+goes_on_itself s = inl (agrees_itself s)
 
-histories_more : (s : State) (runs : List Run) (r : Run) → AreHistories s runs → Agrees r.opening (last_state s runs) → IsLegal r.opening r.history → AreWhole r.opening r.history → AreHistories s (runs ++ r ∷ [])
-histories_more s [] r h same legal whole = (same, legal, whole, tt)
-histories_more s (q ∷ qs) r h same legal whole = (h.0, h.1, h.2, histories_more (outcome q.opening q.history) qs r h.3 same legal whole)
+pub first_history : RunsBegin
+first_history = runs_begin
 
--- one more, opened with the table that was left
-pub next_history : (opening : State) (table next : Held) → IsServiceRun opening table → IsHistory table.state next → IsServiceRun opening next
-next_history opening table next h g =
-    let first : Run = record { opening = opening; history = h.history } in
-    let r : Run = record { opening = table.state; history = g.history } in
-    record {
-      history = h.history;
-      more = h.more ++ r ∷ [];
-      follow = histories_more opening (first ∷ h.more) r h.follow h.leaves g.legal g.whole;
-      leaves = subst (λ (s : State). Agrees next.state s) (sym (runs_are_last opening (first ∷ h.more) r).0) g.agrees;
-    }
+pub next_history : RunsGoOn
+next_history = runs_go_on

@@ -17,7 +17,7 @@ use Rattle.chpw_pool.specs.declared.pool.PoolFault.{PoolFault}
 use Rattle.chpw_pool.specs.declared.pool.PoolFault.TheVariants as pool
 use Rattle.chpw_invocation.specs.declared.invocation.ServeOptions.{ServeOptions}
 use Rattle.chpw_service.specs.declared.fault.ServeFault.{ServeFault}
-use Rattle.chpw_service.specs.declared.fault.ServeFault.TheVariants.{CannotRead, Config, CannotWrite, Journal, CannotListen, CannotPrint, Memory, CannotClose}
+use Rattle.chpw_service.specs.declared.fault.ServeFault.TheVariants.{CannotRead, Config, CannotWrite, Journal, CannotListen, CannotListenAt, CannotPrint, Memory, CannotClose}
 use Rattle.chpw_service.specs.declared.fault.LateFault.{LateFault}
 use Rattle.chpw_service.specs.declared.fault.LateFault.TheVariants as late
 
@@ -27,6 +27,7 @@ line_of (Config fault) = codes "config: " ++ config_text fault
 line_of (CannotWrite file) = codes "cannot write " ++ file.now
 line_of (Journal fault) = codes "journal: " ++ journal_text fault
 line_of CannotListen = codes "cannot listen"
+line_of (CannotListenAt socket) = codes "cannot listen at " ++ socket.now
 line_of CannotPrint = codes "cannot write"
 line_of Memory = codes "memory"
 line_of CannotClose = codes "cannot close"
@@ -83,6 +84,12 @@ IsOfLog (Some path) fault = IsUnlogged path.now fault
 abbrev pub IsOfClash : ServeOptions → ServeFault → Type 0
 IsOfClash o fault = IsOfLog o.log fault ⊎ IsOfJournal o.journal.now fault
 
+-- of the control socket, where one is asked for: it can't be listened at
+abbrev pub IsOfControl : Option (Bor (List ℕ)) → ServeFault → Type 0
+IsOfControl None fault = ⊥
+IsOfControl (Some path) (CannotListenAt socket) = socket.now ≡ path.now
+IsOfControl (Some path) fault = ⊥
+
 -- once the files are read
 abbrev pub IsLate : ServeFault → Type 0
 IsLate CannotListen = Unit {0}
@@ -101,7 +108,7 @@ late_fault late.CannotClose = CannotClose
 -- of a service with these files
 abbrev pub IsOfService : ServeOptions → ServeFault → Type 0
 IsOfService o fault = IsOfSettings o.config.now fault ⊎ (IsUnread o.seed.now fault
-    ⊎ (IsOfLog o.log fault ⊎ (IsOfJournal o.journal.now fault ⊎ IsLate fault)))
+    ⊎ (IsOfLog o.log fault ⊎ (IsOfJournal o.journal.now fault ⊎ (IsOfControl o.control fault ⊎ IsLate fault))))
 
 -- what a pool that ended early is told as
 abbrev pub told_as : PoolFault → ServeFault

@@ -1,12 +1,13 @@
+pub mod Facts
 pub mod Faults
 pub mod Following
 pub mod Opening
+pub mod Modes
 pub mod Notices
 pub mod Noting
 pub mod Places
 pub mod Sheets
 pub mod Serving
-pub mod ServiceRuns
 pub mod Tallies
 pub mod Raised
 pub mod Telling

@@ -13,11 +13,11 @@ use Rattle.chpw_answer.specs.Hearing.{Heard, passed, decision, refusal}
 use Rattle.chpw_log.specs.Lines.{Outcome, target_asked, line_with}
 
 -- the line of a message that opened, of this moment; that of one that didn't, which may be held back, with its peer;
--- or that the journal did not take a change
+-- or that the journal did not take a change, at this moment
 pub data Noted : Type 0 where
   opened : Moment → List ℕ → Noted
   unopened : Moment → List ℕ → List ℕ → Noted
-  journal_failed : Noted
+  journal_failed : Moment → Noted
 
 -- what came of a message, with the reply's answer
 abbrev pub outcome_with : Option Target → Option Target → Answer → Option ℕ → Outcome
@@ -42,13 +42,13 @@ refused_line worker peer now o a = line_with now worker peer (outcome_with (Some
 abbrev pub unopened_line : ℕ → List ℕ → Moment → Answer → List ℕ
 unopened_line worker peer now a = line_with now worker peer (outcome_with None None a None)
 
-abbrev pub failed_under : Verdict → List Noted
-failed_under Broken = journal_failed ∷ []
-failed_under v = []
+abbrev pub failed_under : Moment → Verdict → List Noted
+failed_under now Broken = journal_failed now ∷ []
+failed_under now v = []
 
 -- of a decision: its line, and before it that the journal failed, where it did; a raise is no message's
 abbrev pub noted_event : ℕ → List ℕ → Moment → Event → Option ℕ → List Noted
-noted_event worker peer now (Ask o v) kvno = failed_under v ++ opened now (decided_line worker peer now o v kvno) ∷ []
+noted_event worker peer now (Ask o v) kvno = failed_under now v ++ opened now (decided_line worker peer now o v kvno) ∷ []
 noted_event worker peer now (Raise count v) kvno = []
 
 -- by the gate of this worker

@@ -20,6 +20,8 @@ pub enum ServeFault<'a> {
     Journal(RestoreFault),
     /// The port can't be listened at, or a connection couldn't be accepted.
     CannotListen,
+    /// The control socket can't be listened at.
+    CannotListenAt(&'a str),
     /// A line couldn't be printed.
     CannotPrint,
     /// A growth was refused, or a thread couldn't be started.
@@ -79,6 +81,7 @@ impl fmt::Display for ServeFault<'_> {
             ServeFault::CannotWrite(file) => write!(f, "cannot write {file}"),
             ServeFault::Journal(fault) => write!(f, "journal: {fault}"),
             ServeFault::CannotListen => f.write_str("cannot listen"),
+            ServeFault::CannotListenAt(socket) => write!(f, "cannot listen at {socket}"),
             ServeFault::CannotPrint => f.write_str("cannot write"),
             ServeFault::Memory => f.write_str("memory"),
             ServeFault::CannotClose => f.write_str("cannot close"),

@@ -2,15 +2,21 @@
 ghost use Rattle.std.specs.Prelude.{◌≡◌, IfOk, IfErr, List, ℕ, Ok, true};
 ghost use Rattle.std.specs.Io.KnownBytes.{Consumes};
 ghost use Rattle.chpw_rules.specs.Fitting.{config_fits};
+ghost use Rattle.chpw_service.specs.Modes.{lets_others};
 ghost use Rattle.chpw_service.specs.Faults.{IsOfBytes, IsOfSettings, IsUnread, Sets};
 
 use crate::fault::ServeFault;
+use crate::sheets::{Kind, kind_of};
 use chpw_config::{ConfigError, ConfigFault, read_config};
 use chpw_rules::Config;
 use std::alloc::Global;
 use std::fs::{File, Files};
 use std::io::{ErrorKind, Read};
+use std::os::unix::fs::PermissionsExt;
 use std::{fs, io, str};
+
+/// The bits of a mode by which group and others read and write.
+const OTHERS: u32 = 0o066;
 
 /// The settings in the configuration's file.
 pub fn read_settings<'a, R: Files + AllocGlobal>(
@@ -37,6 +43,20 @@ pub(crate) fn read_file<'a, R: Files + AllocGlobal>(
     }
 }
 
+/// The bytes of a regular file. A pipe would make its reader wait, and is refused before it is opened.
+pub(crate) fn read_regular<'a, R: Files + AllocGlobal>(
+    rt: &R,
+    path: &'a str,
+) -> Result<Vec<u8>, ServeFault<'a>>
+    ensures fault { IfErr result (IsUnread path.now) }
+{
+    if matches!(kind_of(rt, path), Kind::File) {
+        read_file(rt, path)
+    } else {
+        Err(ServeFault::CannotRead(path))
+    }
+}
+
 /// A file that is there, opened to be read. A folder can be opened too, and is refused as one that can't be read.
 pub(crate) fn open_file<'a, R: Files<File = File>>(
     rt: &R,
@@ -56,6 +76,22 @@ fn is_folder(file: &File) -> bool {
         Ok(metadata) => metadata.is_dir(),
         Err(_) => false,
     }
+}
+
+/// Whether others than its owner may read or write the file at a path; a device, as one that gives random bytes, is
+/// everyone's.
+pub(crate) fn is_shared<R: Files>(rt: &R, path: &str) -> bool {
+    match fs::metadata(rt, path) {
+        Ok(metadata) => metadata.is_file() && lets_others(metadata.permissions().mode()),
+        Err(_) => false,
+    }
+}
+
+// Whether a file's mode lets others read or write it.
+fn lets_others(mode: u32) -> bool
+    ensures value { result ≡ lets_others mode }
+{
+    mode & OTHERS != 0
 }
 
 /// The settings that a file's bytes set, or their first fault. A text that isn't UTF-8 isn't TOML.

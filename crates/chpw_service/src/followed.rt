@@ -1,15 +1,18 @@
 //! The follower of a service: where it is, and what is told of changes that it hasn't confirmed.
 ghost use Rattle.std.specs.Prelude.{◌≡◌, IfErr};
+ghost use Rattle.chpw_control.specs.Statuses.{IsTold};
 ghost use Rattle.chpw_service.specs.Faults.{IsOfJournal};
 
 use crate::fault::ServeFault;
 use crate::logging::Log;
 use crate::notices::{Notice, is_first};
+use chpw_control::{FollowerState, JournalState, Status, Time, status_answer};
+use chpw_invocation::VERSION;
 use chpw_journal::FileSink;
-use chpw_pool::{Follower, JournalEnd, MachineClock, Unconfirmed};
+use chpw_pool::{Attendant, Follower, JournalEnd, MachineClock, Standing, Unconfirmed};
 use chpw_serve::Clock as _;
 use chpw_table::JournalSink;
-use mio::net::UnixStream;
+use mio::net::{UnixListener, UnixStream};
 use std::alloc::Global;
 use std::fs::File;
 use std::io::ErrorKind;
@@ -18,10 +21,11 @@ use std::sync::atomic::{AtomicU64, Ordering};
 use std::sync::{Arc, Wait};
 use std::time::Clock;
 
-/// How long the journal is, as far as it is on the disk; nothing is told where no reply waits for a follower.
+/// How long the journal is, as far as it is on the disk; no reply waits where there is no follower.
 #[derive(Drop)]
 pub struct JournalLength {
-    end: Option<Arc<AtomicU64>>,
+    end: Arc<AtomicU64>,
+    has_follower: bool,
 }
 
 /// The one of the journal at a path, which this sink appends to, for a service that has a follower or hasn't.
@@ -34,22 +38,23 @@ pub(crate) fn journal_length<'a>(
     ensures failed { ⟦<FileSink<File> as JournalSink>⟧.failed sink.new ≡ ⟦<FileSink<File> as JournalSink>⟧.failed sink.old }
     ensures fault { IfErr result (IsOfJournal path.now) }
 {
-    if !has_follower {
-        return Ok(JournalLength { end: None });
-    }
     match sink.show_end(alloc) {
-        Ok(end) => Ok(JournalLength { end: Some(end) }),
+        Ok(end) => Ok(JournalLength { end, has_follower }),
         Err(error) if error.kind() == ErrorKind::OutOfMemory => Err(ServeFault::Memory),
         Err(_) => Err(ServeFault::CannotRead(path)),
     }
 }
 
+impl JournalLength {
+    /// In bytes.
+    pub(crate) fn bytes(&self) -> u64 {
+        self.end.load(Ordering::SeqCst)
+    }
+}
+
 impl JournalEnd for JournalLength {
     fn journal_end(&self) -> Option<u64> {
-        match &self.end {
-            None => None,
-            Some(end) => Some(end.load(Ordering::SeqCst)),
-        }
+        self.has_follower.then(|| self.bytes())
     }
 }
 
@@ -62,6 +67,17 @@ pub struct FollowerTerms<'l> {
     pub wait: u32,
 }
 
+/// What the service is told at its control socket, and tells there.
+#[derive(Drop)]
+pub(crate) struct ControlTerms {
+    /// The socket, until the reactor has it; none where there is none.
+    pub listener: Option<UnixListener>,
+    /// When the service started.
+    pub since: Time,
+    pub workers: u8,
+    ghost told: { IsTold since },
+}
+
 /// The follower at a socket, where one is asked for. What it doesn't confirm is told in the log, each change in a line of
 /// its own, and on standard error once until it confirms one again.
 #[derive(Drop)]
@@ -72,6 +88,12 @@ pub(crate) struct Followed<'l, R, T: Clock> {
     clock: MachineClock<'l, T>,
     /// Whether it was told that a change isn't confirmed.
     is_told: bool,
+    journal: &'l JournalLength,
+    /// The control socket, until the reactor has it.
+    listener: Option<UnixListener>,
+    since: Time,
+    workers: u8,
+    ghost told: { IsTold since },
 }
 
 impl<'l, R, T: Clock> Followed<'l, R, T> {
@@ -80,14 +102,26 @@ impl<'l, R, T: Clock> Followed<'l, R, T> {
         rt: &'l R,
         time: &'l T,
         log: &'l Log<'l, R>,
+        journal: &'l JournalLength,
         terms: FollowerTerms<'l>,
+        control: ControlTerms,
     ) -> Followed<'l, R, T> {
+        let ControlTerms {
+            listener,
+            since,
+            workers,
+            ..
+        } = control;
         Followed {
             rt,
             terms,
             log,
             clock: MachineClock::new(time),
             is_told: false,
+            journal,
+            listener,
+            since,
+            workers,
         }
     }
 }
@@ -106,6 +140,10 @@ impl<R: Net<Listener = TcpListener, Stream = TcpStream> + Wait + Eprint, T: Cloc
         self.is_told = false;
     }
 
+    fn is_behind(&self) -> bool {
+        self.is_told
+    }
+
     fn unconfirmed(&mut self, change: Unconfirmed) {
         self.log.put_unconfirmed(self.clock.now(), &change);
         if let Some(socket) = self.terms.socket {
@@ -113,5 +151,57 @@ impl<R: Net<Listener = TcpListener, Stream = TcpStream> + Wait + Eprint, T: Cloc
                 self.log.tell(Notice::Unconfirmed(socket));
             }
         }
+    }
+}
+
+impl<R: Net<Listener = TcpListener, Stream = TcpStream> + Wait + Eprint, T: Clock> Attendant
+    for Followed<'_, R, T> {
+    fn listener(&mut self) -> Option<UnixListener> {
+        self.listener.take()
+    }
+
+    fn status(&mut self, alloc: Global, standing: &Standing) -> Vec<u8> {
+        let now = self.clock.now();
+        let facts = self.log.facts();
+        let status = Status {
+            version: VERSION,
+            since: self.since,
+            quiet_until: facts.quiet_time(now),
+            principals: facts.principals,
+            iterations: facts.iterations,
+            entries: facts.entries,
+            changes: facts.changes,
+            all_entries: facts.all_entries,
+            all_changes: facts.all_changes,
+            connections: standing.connections() as u64,
+            reading: standing.reading as u64,
+            waiting: standing.waiting as u64,
+            answering: standing.answering as u64,
+            confirming: standing.confirming as u64,
+            writing: standing.writing as u64,
+            ending: standing.ending as u64,
+            workers: u64::from(self.workers),
+            busy: standing.answering as u64,
+            queue: standing.waiting as u64,
+            journal_bytes: self.journal.bytes(),
+            journal: if self.log.has_failed() {
+                JournalState::Failed
+            } else {
+                JournalState::Good
+            },
+            log_lost: facts.lost,
+            follower: follower_state(self.terms.socket.is_some(), standing.is_behind),
+        };
+        status_answer(alloc, &status).unwrap_or(Vec::new(alloc))
+    }
+}
+
+fn follower_state(has_follower: bool, is_behind: bool) -> FollowerState {
+    if !has_follower {
+        FollowerState::Absent
+    } else if is_behind {
+        FollowerState::Unconfirmed
+    } else {
+        FollowerState::Confirmed
     }
 }

@@ -28,9 +28,11 @@ pub trait Lines {
     fn put_unopened(&mut self, line: &Line<'_>)
         ensures taken { takes self.old (unopened line.now.moment line.now.peer (line_of line.now)) self.new };
 
-    /// The journal did not take a change.
-    fn tell_failed(&mut self)
-        ensures taken { takes self.old journal_failed self.new };
+    /// The journal did not take a change, at this moment.
+    fn tell_failed(&mut self, now: Moment)
+        requires moment { IsMoment now }
+        requires micros { now.micros < 1000000 }
+        ensures taken { takes self.old (journal_failed now) self.new };
 }
 
 /// What this worker passes with its messages.
@@ -72,7 +74,7 @@ impl<L: Lines> Gate for Logging<L> {
     // A raise is no message's.
     fn decided(&mut self, peer: [u8; 4], now: Moment, receipt: &Receipt, kvno: Option<u32>) {
         if let Event::Ask { opened, verdict } = &receipt.entry.event {
-            tell_failed(&mut self.lines, *verdict);
+            tell_failed(&mut self.lines, now, *verdict);
             put_decided(
                 &mut self.lines,
                 self.worker,
@@ -99,11 +101,13 @@ impl<L: Lines> Gate for Logging<L> {
 }
 
 // Tells where the journal did not take the change that was decided so.
-fn tell_failed<L: Lines>(lines: &mut L, verdict: Verdict)
-    ensures told { InTurn L.takes lines.old (failed_under verdict) lines.new }
+fn tell_failed<L: Lines>(lines: &mut L, now: Moment, verdict: Verdict)
+    requires moment { IsMoment now }
+    requires micros { now.micros < 1000000 }
+    ensures told { InTurn L.takes lines.old (failed_under now verdict) lines.new }
 {
     if matches!(verdict, Verdict::Broken) {
-        lines.tell_failed();
+        lines.tell_failed(now);
     }
 }
 

@@ -5,39 +5,51 @@ ghost use Rattle.chpw_book.specs.Starting.{IsNamed, table_of, workers_of};
 ghost use Rattle.chpw_pool.specs.Engines.{workers_at};
 ghost use Rattle.chpw_service.specs.Faults.{IsLate};
 ghost use Rattle.chpw_service.specs.Following.{reopened};
-ghost use Rattle.chpw_service.specs.ServiceRuns.{IsHistory, IsServiceRun};
+ghost use Rattle.chpw_reload.specs.ReloadRuns.{GoesOn, IsHistory, IsServiceRun};
 ghost use Rattle.chpw_service.specs.Serving.{is_full_with};
 ghost use Rattle.chpw_service.specs.declared.fault.ServeFault.TheVariants.{CannotPrint, Memory};
 
 use crate::closing::{Left, Tally, close_desk};
+use crate::compacting::compact;
 use crate::fault::ServeFault;
 use crate::followed::{FollowerTerms, JournalLength};
 use crate::gates::Logging;
 use crate::logging::{Log, LogLines};
 use crate::notices::{Notice, is_first, unreported};
+use crate::orders::{Due, Orders};
+use crate::reloading::reload;
 use chpw_book::{Desk, DeskName, Pass, StartFault, UnnamedDesk};
+use chpw_invocation::ServeOptions;
 use chpw_journal::FileSink;
 use chpw_messages::Service;
-use chpw_pool::{Engine, NotStarted, run_shift};
+use chpw_pool::{Engine, MachineClock, NotStarted, run_shift};
+use chpw_serve::Clock as _;
 use chpw_table::{JournalSink, Table};
-use std::fs::File;
+use std::fs::{File, Files};
 use std::marker::Brand;
+use std::net::Net;
 use std::sync::Wait;
 use std::thread::Threads;
 use std::time::Clock;
 
+/// What messages are answered by, until the configuration is read anew.
+#[derive(Drop)]
+pub struct Rules {
+    pub service: Service,
+    /// How many entries a history has at the most.
+    pub max_entries: u32,
+}
+
 /// What is served with, at all desks.
 #[derive(Drop)]
 pub struct Hall<'l, R: Wait + Eprint> {
-    pub service: Service,
     pub engine: Engine<Logging<LogLines<'l, R>>>,
     pub workers: u8,
-    /// How many entries a history has at the most.
-    pub max_entries: u32,
     pub log: &'l Log<'l, R>,
     /// How long the journal is, where replies wait for a follower.
     pub journal: JournalLength,
     pub follower: FollowerTerms<'l>,
+    pub options: &'l ServeOptions<'l>,
     ghost some_workers: { (1 ≤ workers) × (workers ≤ 16) },
     ghost queues: { workers_at engine ≡ workers },
 }
@@ -65,16 +77,22 @@ pub(crate) fn first_opening(table: Table, sink: FileSink<File>, workers: u8) -> 
 }
 
 /// Answers the messages of the engine's connections at this desk, and then at one after the other, until no more come.
-/// Where a history is full, its desk is closed and the next one opens with the table that was closed. The table of the
-/// last desk is given back.
+/// Where a history is full, its desk is closed and the next one opens with the table that was closed; where the
+/// configuration was read anew, with what that makes of it. The table of the last desk is given back.
 #[tactic(auto, using(crate::proofs::ServiceRunLemmas::first_history, crate::proofs::ServiceRunLemmas::next_history))]
 pub fn serve_histories<
     'a,
     'l,
     D: DeskName + Send + Sync,
-    R: Threads + Wait + Clock + Print + Eprint + AllocGlobal + Sync,
+    R: Files<File = File> + Net + Threads + Wait + Clock + Print + Eprint + AllocGlobal + Sync,
     T: Clock + Sync,
->(rt: &R, time: &T, hall: &Hall<'l, R>, first: Opened<D>) -> Result<Table, ServeFault<'a>>
+>(
+    rt: &R,
+    time: &T,
+    hall: &Hall<'l, R>,
+    mut rules: Rules,
+    first: Opened<D>,
+) -> Result<Table, ServeFault<'a>>
     requires passes { length first.passes.items ≡ hall.now.workers }
     ensures served { IfOk result (λ table. IsServiceRun (opening_state D.root) table) }
     ensures fault { IfErr result IsLate }
@@ -83,23 +101,54 @@ pub fn serve_histories<
         is_lost: false,
         expired: 0,
     };
-    let mut served = serve_desk(rt, time, hall, first, &mut reported)?;
+    let mut served = serve_desk(rt, time, hall, &rules, first, &mut reported)?;
     for _ in rt.forever() {
         if served.is_over {
             return Ok(served.table);
         }
-        let opening = next_opening(served.table, served.sink, hall.workers)?;
-        served = serve_history::<Brand, R, T>(rt, time, hall, opening, &mut reported)?;
+        let opening = further_opening(rt, time, hall, &mut rules, served)?;
+        served = serve_history::<Brand, R, T>(rt, time, hall, &rules, opening, &mut reported)?;
     }
     Ok(served.table)
 }
 
-// What a desk left that was closed, and whether no more messages come. The sink has room for one failure more, or the
-// table is broken.
+// What the next desk opens with: the table that was closed, or what is made of that where the configuration was read anew.
+#[tactic(auto, using(crate::proofs::ServiceRunLemmas::goes_on_itself))]
+fn further_opening<'a, 'l, R: Files<File = File> + Wait + Clock + Eprint + AllocGlobal, T: Clock>(
+    rt: &R,
+    time: &T,
+    hall: &Hall<'l, R>,
+    rules: &mut Rules,
+    served: Served,
+) -> Result<Opening, ServeFault<'a>>
+    ensures goes_on { IfOk result (λ next. GoesOn served.table.state (table_of next.unnamed).state) }
+    ensures workers { IfOk result (λ next. workers_of next.unnamed ≡ hall.now.workers) }
+    ensures fault { IfErr result (λ fault. fault ≡ Memory) }
+{
+    let Served {
+        table,
+        sink,
+        due,
+        ..
+    } = served;
+    match due {
+        None => {
+            hall.log
+                .tell_rollover(MachineClock::new(time).now(), &table);
+            next_opening(table, sink, hall.workers)
+        }
+        Some(Due::Reload(anew)) => reload(rt, time, hall, rules, anew, table, sink),
+        Some(Due::Compact(compaction)) => compact(rt, time, hall, compaction, table, sink),
+    }
+}
+
+// What a desk left that was closed, what is due behind it, and whether no more messages come. The sink has room for one
+// failure more, or the table is broken.
 #[derive(Drop)]
 struct Served {
     table: Table,
     sink: FileSink<File>,
+    due: Option<Due>,
     is_over: bool,
     ghost room: { table.state.broken ≡ false
         → ⟦<FileSink<File> as JournalSink>⟧.failed sink < 2 ^ 64 - 1 },
@@ -119,12 +168,13 @@ fn serve_history<
     'a,
     'l,
     D: DeskName + Send + Sync,
-    R: Threads + Wait + Clock + Print + Eprint + AllocGlobal + Sync,
+    R: Files<File = File> + Net + Threads + Wait + Clock + Print + Eprint + AllocGlobal + Sync,
     T: Clock + Sync,
 >(
     rt: &R,
     time: &T,
     hall: &Hall<'l, R>,
+    rules: &Rules,
     opening: Opening,
     reported: &mut Reported,
 ) -> Result<Served, ServeFault<'a>>
@@ -135,7 +185,7 @@ fn serve_history<
 {
     match start_desk::<D, R>(rt, opening) {
         Err(_) => Err(ServeFault::Memory),
-        Ok(opened) => serve_desk(rt, time, hall, opened, reported),
+        Ok(opened) => serve_desk(rt, time, hall, rules, opened, reported),
     }
 }
 
@@ -144,12 +194,13 @@ fn serve_desk<
     'a,
     'l,
     D: DeskName + Send + Sync,
-    R: Threads + Wait + Clock + Print + Eprint + AllocGlobal + Sync,
+    R: Files<File = File> + Net + Threads + Wait + Clock + Print + Eprint + AllocGlobal + Sync,
     T: Clock + Sync,
 >(
     rt: &R,
     time: &T,
     hall: &Hall<'l, R>,
+    rules: &Rules,
     opened: Opened<D>,
     reported: &mut Reported,
 ) -> Result<Served, ServeFault<'a>>
@@ -158,51 +209,55 @@ fn serve_desk<
     ensures fault { IfErr result IsLate }
 {
     let Opened { desk, mut passes } = opened;
-    let served = serve_shift(rt, time, hall, &desk, &mut passes);
+    let served = serve_shift(rt, time, hall, rules, &desk, &mut passes);
     let Left { tally, table, sink } = close_desk(rt, desk, passes)?;
     let over = hall.engine.is_over(rt);
     report_expired(hall.log, hall.engine.expired(rt), &mut reported.expired);
     let last = over || served.is_err();
     tell_tally(rt, hall.log, tally, last, &mut reported.is_lost)?;
-    if served.is_err() {
-        return Err(ServeFault::Memory);
+    match served {
+        Err(NotStarted) => Err(ServeFault::Memory),
+        Ok(due) => Ok(Served {
+            table,
+            sink,
+            due,
+            is_over: over,
+        }),
     }
-    Ok(Served {
-        table,
-        sink,
-        is_over: over,
-    })
 }
 
-// Answers messages at a desk, unless a raise has taken the only entry that its history has room for.
+// Answers messages at a desk, unless a raise has taken the only entry that its history has room for, and carries out orders
+// meanwhile. What is due once it is closed.
 fn serve_shift<
     'l,
     D: DeskName + Send + Sync,
-    R: Threads + Wait + Clock + Print + Eprint + AllocGlobal + Sync,
+    R: Files<File = File> + Net + Threads + Wait + Clock + Print + Eprint + AllocGlobal + Sync,
     T: Clock + Sync,
 >(
     rt: &R,
     time: &T,
     hall: &Hall<'l, R>,
+    rules: &Rules,
     desk: &Desk<D, FileSink<File>>,
     passes: &mut [Pass<D>],
-) -> Result<(), NotStarted>
+) -> Result<Option<Due>, NotStarted>
     requires passes { length passes.old ≡ hall.now.workers }
 {
-    if is_full(passes, hall.max_entries) {
-        return Ok(());
+    if is_full(passes, rules.max_entries) {
+        return Ok(None);
     }
-    let room = hall.max_entries;
+    hall.engine.start(rt);
     run_shift(
         rt,
         rt.alloc(),
         time,
         &hall.engine,
-        &hall.service,
+        &rules.service,
         desk,
         passes,
-        room,
+        rules.max_entries,
         &hall.journal,
+        Orders { rt, time, hall },
     )
 }
 

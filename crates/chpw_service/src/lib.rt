@@ -2,18 +2,25 @@
 //! those files hold.
 #![tactic(auto)]
 
+mod answers;
 mod closing;
+mod compacting;
+mod control_socket;
+mod facts;
 mod fault;
 mod files;
 mod followed;
 mod gates;
 mod histories;
-pub mod laws;
 mod logging;
 mod notices;
+mod orders;
 mod places;
 mod raising;
 mod readiness;
+mod reloading;
+mod renewed;
+mod running;
 mod serving;
 mod sheets;
 mod starting;
@@ -23,7 +30,7 @@ pub use fault::ServeFault;
 pub use files::{read_seed, read_settings};
 pub use followed::{FollowerTerms, JournalLength};
 pub use gates::{Lines, Logging};
-pub use histories::{Hall, Opened, serve_histories};
+pub use histories::{Hall, Opened, Rules, serve_histories};
 pub use logging::{Log, LogLines};
 pub use serving::{serve, serve_by};
 pub use table::{tell_table, write_table};

@@ -2,17 +2,23 @@
 ghost use Rattle.std.specs.Prelude.{◌+◌, ◌≤◌, ◌≡◌, ◌<◌, IfErr};
 ghost use Rattle.std.specs.Option.{ForSome};
 ghost use Rattle.chpw_table.specs.Times.{IsMoment};
+ghost use Rattle.chpw_log.specs.Events.{IsQuietTold};
 ghost use Rattle.chpw_service.specs.Faults.{IsOfClash, IsOfLog, IsUnlogged};
 
+use crate::facts::Facts;
 use crate::fault::ServeFault;
 use crate::gates::Lines;
 use crate::notices::{Losses, Notice, is_first};
 use crate::places::keep_apart;
+use crate::raising::RaiseTold;
 use crate::sheets::{Sheet, is_standard_error};
 use chpw_invocation::ServeOptions;
-use chpw_log::{Held, Limit, Line, micros_of, write_held, write_line, write_unconfirmed};
+use chpw_log::{
+    Held, Limit, Line, News, ServiceEvent, micros_of, write_event, write_held, write_line,
+    write_unconfirmed,
+};
 use chpw_pool::Unconfirmed;
-use chpw_table::Moment;
+use chpw_table::{Moment, Table};
 use std::alloc::{AllocError, Global};
 use std::fs::{File, Files};
 use std::io::{self, ErrorKind};
@@ -33,6 +39,7 @@ pub struct Log<'l, R> {
     journal: &'l str,
     /// Whether it was told that the journal failed.
     failed: Mutex<bool>,
+    facts: Mutex<Facts>,
     book: Option<Book<'l>>,
 }
 
@@ -69,6 +76,7 @@ pub(crate) fn log_of<'l, 'a: 'l, R: Files<File = File> + Net>(
         alloc,
         journal: options.journal,
         failed: Mutex::new(false),
+        facts: Mutex::new(Facts::default()),
         book,
     })
 }
@@ -107,7 +115,48 @@ fn unlogged(path: &str, error: io::Error) -> ServeFault<'_>
 }
 
 impl<R: Wait + Eprint> Log<'_, R> {
-    /// Appends the line that tells what was held back and not told yet. It is the last one.
+    /// Appends the line of a start with this table.
+    pub(crate) fn tell_start(&self, now: Moment, table: &Table)
+        requires moment { IsMoment now }
+        requires micros { now.micros < 1000000 }
+    {
+        self.facts.lock(self.rt).open(table);
+        let quiet_until = self.facts().quiet_time(now);
+        self.put_event(
+            now,
+            &ServiceEvent::Started {
+                principals: u32::try_from(table.principals()).unwrap_or(u32::MAX),
+                iterations: table.count(),
+                quiet_until: quiet_until.map(|time| Moment {
+                    seconds: time.seconds,
+                    micros: time.micros,
+                }),
+            },
+        );
+    }
+
+    /// A raise was decided so: an entry of the history, and a line where the count was raised.
+    pub(crate) fn tell_raise(&self, now: Moment, told: RaiseTold)
+        requires moment { IsMoment now }
+        requires micros { now.micros < 1000000 }
+    {
+        match told {
+            RaiseTold::Raised(iterations) => {
+                self.facts.lock(self.rt).raised(u64::from(iterations));
+                self.put_event(now, &ServiceEvent::Raised { iterations });
+            }
+            RaiseTold::NotHigher | RaiseTold::Broken => {
+                let iterations = self.facts().iterations;
+                self.facts.lock(self.rt).raised(iterations);
+            }
+            RaiseTold::Full => {}
+        }
+        if matches!(told, RaiseTold::Broken) {
+            self.tell_failed(now);
+        }
+    }
+
+    /// Appends the lines that tell what was held back and not told yet, and the end. They are the last ones.
     pub(crate) fn end(&self, now: Moment)
         requires moment { IsMoment now }
         requires micros { now.micros < 1000000 }
@@ -115,6 +164,68 @@ impl<R: Wait + Eprint> Log<'_, R> {
         if let Some(book) = &self.book {
             let held = book.end.lock(self.rt).limit.rest();
             self.put_held(book, now, held);
+        }
+        let Facts {
+            all_entries,
+            all_changes,
+            ..
+        } = self.facts();
+        self.put_event(
+            now,
+            &ServiceEvent::Ended {
+                entries: all_entries,
+                changes: all_changes,
+            },
+        );
+    }
+
+    /// What is counted.
+    pub(crate) fn facts(&self) -> Facts {
+        *self.facts.lock(self.rt)
+    }
+
+    /// A further history opens with this table, behind a reload.
+    pub(crate) fn tell_reload(&self, now: Moment, table: &Table)
+        requires moment { IsMoment now }
+        requires micros { now.micros < 1000000 }
+    {
+        self.facts.lock(self.rt).open(table);
+        self.put_event(
+            now,
+            &ServiceEvent::Reloaded {
+                principals: u32::try_from(table.principals()).unwrap_or(u32::MAX),
+                iterations: table.count(),
+            },
+        );
+    }
+
+    /// A further history opens with the table that the last one left: the line tells what that one had.
+    pub(crate) fn tell_rollover(&self, now: Moment, table: &Table)
+        requires moment { IsMoment now }
+        requires micros { now.micros < 1000000 }
+    {
+        let Facts {
+            entries,
+            changes,
+            ..
+        } = self.facts();
+        self.facts.lock(self.rt).open(table);
+        self.put_event(now, &ServiceEvent::RolledOver { entries, changes });
+    }
+
+    /// Whether the journal failed.
+    pub(crate) fn has_failed(&self) -> bool {
+        *self.failed.lock(self.rt)
+    }
+
+    /// Appends the line of what happens to the service itself.
+    pub(crate) fn put_event(&self, now: Moment, event: &ServiceEvent)
+        requires moment { IsMoment now }
+        requires micros { now.micros < 1000000 }
+        requires quiet { IsQuietTold event.now }
+    {
+        if let Some(book) = &self.book {
+            self.put_text(book, write_event(self.alloc, now, event));
         }
     }
 
@@ -166,15 +277,23 @@ impl<R: Wait + Eprint> Log<'_, R> {
 
     // Appends the text of a line. Where there is none, since memory was refused, the line is lost.
     fn put_text(&self, book: &Book<'_>, text: Result<Vec<u8>, AllocError>) {
-        if book.append(self.rt, text) {
+        let Appended { is_lost, is_due } = book.append(self.rt, text);
+        if is_lost {
+            self.facts.lock(self.rt).lose();
+        }
+        if is_due {
             self.tell(Notice::LogLost(book.path));
         }
     }
 
-    // Tells that the journal failed, the first time.
-    fn tell_failed(&self) {
+    /// Tells that the journal failed, the first time.
+    pub(crate) fn tell_failed(&self, now: Moment)
+        requires moment { IsMoment now }
+        requires micros { now.micros < 1000000 }
+    {
         let first = is_first(&mut *self.failed.lock(self.rt));
         if first {
+            self.put_event(now, &ServiceEvent::JournalFailed);
             self.tell(Notice::JournalFailed(self.journal));
         }
     }
@@ -198,9 +317,42 @@ impl<R: Wait + Eprint> Log<'_, R> {
     }
 }
 
+// What came of a line.
+#[derive(Clone, Copy, Drop)]
+struct Appended {
+    is_lost: bool,
+    /// Whether a first loss is to be told.
+    is_due: bool,
+}
+
+impl<R: Files<File = File> + Net + Wait + Eprint> Log<'_, R> {
+    /// Opens the log's file anew, and goes on there: its first line tells that. Where it can't be opened the log goes on as
+    /// before. A service without a log has nothing to open.
+    pub(crate) fn reopen<'a>(
+        &self,
+        options: &ServeOptions<'a>,
+        now: Moment,
+    ) -> Result<(), ServeFault<'a>>
+        requires moment { IsMoment now }
+        requires micros { now.micros < 1000000 }
+        ensures fault { IfErr result (IsOfClash options.now) }
+    {
+        let (Some(book), Some(path)) = (&self.book, options.log) else {
+            return Ok(());
+        };
+        keep_apart(self.rt, options)?;
+        match Sheet::at(self.rt, self.alloc, path) {
+            Ok(sheet) => book.end.lock(self.rt).sheet = sheet,
+            Err(error) => return Err(unlogged(path, error)),
+        }
+        self.put_event(now, &ServiceEvent::LogReopened);
+        Ok(())
+    }
+}
+
 impl Book<'_> {
-    // Appends this line; whether a first loss is to be told.
-    fn append<R: Wait + Eprint>(&self, rt: &R, line: Result<Vec<u8>, AllocError>) -> bool {
+    // Appends this line.
+    fn append<R: Wait + Eprint>(&self, rt: &R, line: Result<Vec<u8>, AllocError>) -> Appended {
         let mut end = self.end.lock(rt);
         let whole = match line {
             Ok(line) => end.sheet.append(rt, line.as_slice()),
@@ -210,7 +362,10 @@ impl Book<'_> {
             end.losses.is_any = true;
         }
         let can_tell = end.sheet.can_tell();
-        end.losses.are_due(can_tell)
+        Appended {
+            is_lost: !whole,
+            is_due: end.losses.are_due(can_tell),
+        }
     }
 }
 
@@ -225,6 +380,9 @@ impl<R: Wait + Eprint> Lines for LogLines<'_, R> {
     ghost takes = { λ a n b. Unit {0} };
 
     fn put(&mut self, line: &Line<'_>) {
+        if let News::Decided { verdict, .. } = line.news {
+            self.log.facts.lock(self.log.rt).decided(verdict);
+        }
         self.log.put(line);
     }
 
@@ -232,7 +390,7 @@ impl<R: Wait + Eprint> Lines for LogLines<'_, R> {
         self.log.put_unopened(line);
     }
 
-    fn tell_failed(&mut self) {
-        self.log.tell_failed();
+    fn tell_failed(&mut self, now: Moment) {
+        self.log.tell_failed(now);
     }
 }

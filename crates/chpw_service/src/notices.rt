@@ -16,6 +16,10 @@ pub(crate) enum Notice<'a> {
     Expired(u32),
     /// The follower at this socket hasn't confirmed a change that was answered.
     Unconfirmed(&'a str),
+    /// Others than its owner may read or write this file.
+    Shared(&'a str),
+    /// The configuration lacks so many principals that the table has.
+    Lacked(u64),
     /// Of the journal at this path so many bytes are kept, and a torn tail behind them was cut off.
     TailCut(&'a str, u64),
 }
@@ -46,6 +50,13 @@ impl fmt::Display for Notice<'_> {
                 write!(
                     f,
                     "{socket}: a change was answered that the follower has not confirmed, and maybe more"
+                )
+            }
+            Notice::Shared(file) => write!(f, "{file}: others may read or write it"),
+            Notice::Lacked(count) => {
+                write!(
+                    f,
+                    "principals that the configuration lacks: {count}; no start is possible once one changes its password"
                 )
             }
             Notice::TailCut(journal, kept) => {

@@ -44,7 +44,7 @@ impl fmt::Display for RaiseTold {
     }
 }
 
-/// Raises the count where one is asked for, and prints what came of it. The raise is an event of the first history, by
+/// Raises the count where one is asked for, and prints what came of it, which is given back. The raise is an event of the first history, by
 /// the first pass.
 pub(crate) fn raise_where_asked<'a, D: DeskName, R: Wait + Print, C: Clock>(
     rt: &R,
@@ -52,7 +52,7 @@ pub(crate) fn raise_where_asked<'a, D: DeskName, R: Wait + Print, C: Clock>(
     passes: &mut [Pass<D>],
     clock: &mut C,
     asked: Option<u32>,
-) -> Result<(), ServeFault<'a>>
+) -> Result<Option<RaiseTold>, ServeFault<'a>>
     requires count { (count : ℕ) → asked ≡ Some count → (1 ≤ count) × (count ≤ 16777216) }
     ensures raised { OnOk result (IsRaisedWhereAsked C.gives (opening_state D.root) clock.old clock.new
         passes.old passes.new asked) }
@@ -60,7 +60,7 @@ pub(crate) fn raise_where_asked<'a, D: DeskName, R: Wait + Print, C: Clock>(
     ensures fault { IfErr result IsLate }
 {
     match asked {
-        None => Ok(()),
+        None => Ok(None),
         Some(count) => raise_by_first(rt, desk, passes, clock, count),
     }
 }
@@ -72,7 +72,7 @@ fn raise_by_first<'a, D: DeskName, R: Wait + Print, C: Clock>(
     passes: &mut [Pass<D>],
     clock: &mut C,
     count: u32,
-) -> Result<(), ServeFault<'a>>
+) -> Result<Option<RaiseTold>, ServeFault<'a>>
     requires count { is_in iteration_counts count ≡ true }
     ensures raised { OnOk result (IsRaiseOfFirst C.gives (opening_state D.root) clock.old clock.new
         passes.old passes.new count) }
@@ -80,12 +80,13 @@ fn raise_by_first<'a, D: DeskName, R: Wait + Print, C: Clock>(
     ensures fault { IfErr result IsLate }
 {
     let [pass, ..] = passes else {
-        return Ok(());
+        return Ok(None);
     };
-    match raise(rt, desk, pass, clock, count) {
-        None => Err(ServeFault::Memory),
-        Some(told) => print_raised(rt, told),
-    }
+    let Some(told) = raise(rt, desk, pass, clock, count) else {
+        return Err(ServeFault::Memory);
+    };
+    print_raised(rt, told)?;
+    Ok(Some(told))
 }
 
 // A raise to this count, at the clock's moment. None where memory was refused, and then nothing was raised.

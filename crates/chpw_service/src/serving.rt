@@ -1,34 +1,37 @@
 //! The service on a port.
-ghost use Rattle.std.specs.Prelude.{◌≡◌, ◌≤◌, IfOk, IfErr, IfSome, IsSome, None, Ok, OnOk, false, true, length};
+ghost use Rattle.std.specs.Prelude.{◌≡◌, ◌≤◌, IfOk, IfErr, IsSome, None, Ok, OnOk, false, true, length};
 ghost use Rattle.chpw_book.specs.Starting.{IsNamed, workers_of};
 ghost use Rattle.chpw_pool.specs.Engines.{workers_at};
-ghost use Rattle.chpw_service.specs.Faults.{IsLate, IsOfService, told_as};
+ghost use Rattle.chpw_service.specs.Faults.{IsLate, IsOfService};
 ghost use Rattle.chpw_fronts.specs.Pens.{opening_state};
 ghost use Rattle.chpw_service.specs.Raised.{IsRaisedWhereAsked};
 ghost use Rattle.chpw_service.specs.Serving.{IsAskedFor};
 ghost use Rattle.chpw_service.specs.declared.fault.ServeFault.TheVariants.{CannotListen};
 
-use crate::fault::{LateFault, ServeFault};
-use crate::files::{read_seed, read_settings};
-use crate::followed::{Followed, FollowerTerms, JournalLength, journal_length};
+use crate::control_socket::{control_socket, take_away};
+use crate::facts::time_of;
+use crate::fault::ServeFault;
+use crate::files::{is_shared, read_seed, read_settings};
+use crate::followed::{ControlTerms, FollowerTerms, JournalLength, journal_length};
 use crate::gates::{Logging, log_gates};
-use crate::histories::{Hall, Opened, Opening, first_opening, serve_histories, start_desk};
+use crate::histories::{Hall, Opened, Opening, Rules, first_opening, start_desk};
 use crate::logging::{Log, LogLines, log_of};
 use crate::notices::Notice;
 use crate::raising::raise_where_asked;
+use crate::running::{serve_from, told};
 use crate::starting::open_table;
 use chpw_book::{Desk, DeskName, Pass};
 use chpw_invocation::ServeOptions;
 use chpw_journal::{FileSink, Journal};
 use chpw_messages::Service;
-use chpw_pool::{Engine, Follower, MachineClock, Pool, PoolFault, Terms};
+use chpw_pool::{Engine, MachineClock, Terms};
 use chpw_serve::Clock as _;
 use std::alloc::Global;
 use std::fs::{File, Files};
 use std::marker::Brand;
 use std::net::{Ipv4Addr, Net, TcpListener, TcpStream, UdpSocket};
 use std::sync::Wait;
-use std::thread::{self, Threads};
+use std::thread::Threads;
 use std::time::Clock;
 
 /// Serves so many connections on 127.0.0.1, the messages of connection i (from 0) by worker i modulo their number,
@@ -37,7 +40,8 @@ use std::time::Clock;
 /// that is asked for, and then the port is listened at. A torn tail that was cut off the journal is told in a
 /// line on standard error. Printed are what came of the raise, `listening on 127.0.0.1:N` before a
 /// connection is accepted, and `entries N changes N` for each history: where one is full, its desk is
-/// closed, and the next one opens with the table that was closed, its used ids kept.
+/// closed, and the next one opens with the table that was closed, its used ids kept. With a control socket it does what
+/// it is told there, and ends where it is told to.
 pub fn serve<
     'a,
     R: Files<File = File>
@@ -90,43 +94,57 @@ pub fn serve_by<
     if let Some(kept) = cut_at {
         log.tell(Notice::TailCut(options.journal, kept));
     }
+    tell_shared(rt, &log, &options);
+    let listener = control_socket(rt, options.control)?;
+    let since = clock.now();
+    log.tell_start(since, &table);
     let opening = first_opening(table, sink, options.workers);
     let start = Start {
         options: &options,
-        service,
         terms: terms_of(&options, seed),
-        max_entries,
         log: &log,
         journal,
-        follower: FollowerTerms {
-            socket: options.follower,
-            wait: options.follower_wait,
-        },
     };
-    let ended = serve_opened::<Brand, R, T>(rt, time, start, opening, &mut clock);
+    let control = ControlTerms {
+        listener,
+        since: time_of(since),
+        workers: options.workers,
+    };
+    let rules = Rules {
+        service,
+        max_entries,
+    };
+    let ended = serve_opened::<Brand, R, T>(rt, time, start, control, rules, opening, &mut clock);
+    take_away(rt, options.control);
     log.end(clock.now());
     ended
 }
 
-/// What a service starts with, beside its table.
+// Tells which of its files others may read or write.
+fn tell_shared<R: Files + Wait + Eprint>(rt: &R, log: &Log<'_, R>, options: &ServeOptions<'_>) {
+    for file in [options.config, options.seed, options.journal] {
+        if is_shared(rt, file) {
+            log.tell(Notice::Shared(file));
+        }
+    }
+}
+
+/// What a service starts with, beside its table and its rules.
 #[derive(Drop)]
-struct Start<'o, 'l, R> {
-    options: &'o ServeOptions<'o>,
-    service: Service,
+struct Start<'l, R> {
+    options: &'l ServeOptions<'l>,
     terms: Terms,
-    max_entries: u32,
     log: &'l Log<'l, R>,
     journal: JournalLength,
-    follower: FollowerTerms<'l>,
 }
 
 // Serves what is opened: at the first desk the count is raised where that is asked for, and then the port is listened at.
 fn serve_opened<
     'a,
-    'o,
     'l,
     D: DeskName + Send + Sync,
-    R: Net<Listener = TcpListener, Stream = TcpStream>
+    R: Files<File = File>
+        + Net<Listener = TcpListener, Stream = TcpStream>
         + Threads
         + Wait
         + Clock
@@ -138,7 +156,9 @@ fn serve_opened<
 >(
     rt: &R,
     time: &T,
-    start: Start<'o, 'l, R>,
+    start: Start<'l, R>,
+    control: ControlTerms,
+    rules: Rules,
     opening: Opening,
     clock: &mut MachineClock<'_, T>,
 ) -> Result<(), ServeFault<'a>>
@@ -150,10 +170,19 @@ fn serve_opened<
         return Err(ServeFault::Memory);
     };
     let connections = start.terms.connections;
-    match prepared(rt, start, &desk, &mut passes, clock) {
+    match prepared(rt, time, start, &desk, &mut passes, clock) {
         Ok((listener, hall)) => {
             let first = Opened { desk, passes };
-            serve_from(rt, time, &listener, &hall, first, connections)
+            serve_from(
+                rt,
+                time,
+                &listener,
+                &hall,
+                control,
+                rules,
+                first,
+                connections,
+            )
         }
         Err(fault) => {
             desk.abandon(rt);
@@ -165,14 +194,15 @@ fn serve_opened<
 // The count is raised where that is asked for, and then the port is listened at.
 fn prepared<
     'a,
-    'o,
     'l,
     D: DeskName,
     R: Net<Listener = TcpListener, Stream = TcpStream> + Wait + Print + Eprint + AllocGlobal,
+    T: Clock,
     C: chpw_serve::Clock,
 >(
     rt: &R,
-    start: Start<'o, 'l, R>,
+    time: &T,
+    start: Start<'l, R>,
     desk: &Desk<D, FileSink<File>>,
     passes: &mut [Pass<D>],
     clock: &mut C,
@@ -183,78 +213,40 @@ fn prepared<
     ensures passes { length passes.new ≡ length passes.old }
     ensures fault { IfErr result IsLate }
 {
-    raise_where_asked(rt, desk, passes, clock, start.options.raise)?;
-    listening(rt, start)
-}
-
-// Serves from the first desk on. It is given up where no thread for the sockets could be started.
-fn serve_from<
-    'a,
-    'l,
-    D: DeskName + Send + Sync,
-    R: Net<Listener = TcpListener, Stream = TcpStream>
-        + Threads
-        + Wait
-        + Clock
-        + Print
-        + Eprint
-        + AllocGlobal
-        + Sync,
-    T: Clock + Sync,
->(
-    rt: &R,
-    time: &T,
-    listener: &TcpListener,
-    hall: &Hall<'l, R>,
-    first: Opened<D>,
-    connections: u32,
-) -> Result<(), ServeFault<'a>>
-    requires passes { length first.passes.items ≡ hall.now.workers }
-    ensures fault { IfErr result IsLate }
-{
-    let mut first = Some(first);
-    let followed = Followed::of(rt, time, hall.log, hall.follower);
-    let ended = serve_all(rt, time, listener, hall, followed, &mut first, connections);
-    match first {
-        None => {}
-        Some(Opened { desk, passes }) => {
-            desk.abandon(rt);
-            drop(passes);
-        }
+    if let Some(told) = raise_where_asked(rt, desk, passes, clock, start.options.raise)? {
+        start.log.tell_raise(MachineClock::new(time).now(), told);
     }
-    ended
+    listening(rt, start)
 }
 
 // Listens at the port, and tells that.
 fn listening<
     'a,
-    'o,
     'l,
     R: Net<Listener = TcpListener, Stream = TcpStream> + Wait + Print + Eprint + AllocGlobal,
->(rt: &R, start: Start<'o, 'l, R>) -> Result<(TcpListener, Hall<'l, R>), ServeFault<'a>>
+>(rt: &R, start: Start<'l, R>) -> Result<(TcpListener, Hall<'l, R>), ServeFault<'a>>
     ensures workers { IfOk result (λ r. r.1.workers ≡ start.entry.options.now.workers) }
     ensures fault { IfErr result IsLate }
 {
     let Start {
         options,
-        service,
         terms,
-        max_entries,
         log,
         journal,
-        follower,
     } = start;
     let listener = listen(rt, options.port)?;
     let datagrams = datagrams_of(rt, options)?;
     let engine = engine_of(rt, rt.alloc(), options.workers, &terms, log, datagrams)?;
     let hall = Hall {
-        service,
         engine,
         workers: options.workers,
-        max_entries,
         log,
         journal,
-        follower,
+        follower: FollowerTerms {
+            socket: options.follower,
+            wait: options.follower_wait,
+        },
+        options,
     };
     match println!(rt; "listening on 127.0.0.1:{}", options.port) {
         Ok(()) => Ok((listener, hall)),
@@ -324,99 +316,5 @@ fn engine_of<'a, 'l, R: Net + Wait + Eprint>(
             Err(fault) => Err(told(fault)),
             Ok(engine) => Ok(engine),
         },
-    }
-}
-
-// The reactor in a thread of its own, while the messages are answered at one desk after the other.
-fn serve_all<
-    'a,
-    'l,
-    D: DeskName + Send + Sync,
-    R: Net<Listener = TcpListener, Stream = TcpStream>
-        + Threads
-        + Wait
-        + Clock
-        + Print
-        + Eprint
-        + AllocGlobal
-        + Sync,
-    T: Clock + Sync,
-    F: Follower + Send + Drop,
->(
-    rt: &R,
-    time: &T,
-    listener: &TcpListener,
-    hall: &Hall<'l, R>,
-    followed: F,
-    first: &mut Option<Opened<D>>,
-    connections: u32,
-) -> Result<(), ServeFault<'a>>
-    requires passes { IfSome first.old (λ opened. length opened.passes.items ≡ hall.now.workers) }
-    ensures fault { IfErr result IsLate }
-{
-    let ended = thread::scope(
-        thread::scope_env(),
-        rt,
-        move |scope| -> Result<(), LateFault>
-            requires { IfSome first.now (λ opened. length opened.passes.items ≡ hall.now.workers) }
-        {
-            let engine = &hall.engine;
-            if scope
-                .spawn(move || engine.react(rt, listener, connections, followed))
-                .is_err()
-            {
-                return Err(LateFault::Memory);
-            }
-            serve_or_desert(rt, time, hall, first)
-        },
-    );
-    match ended {
-        Ok(()) => end(hall.engine.outcome(rt, connections)),
-        Err(late) => Err(late.fault()),
-    }
-}
-
-// Tells why the pool ended early.
-fn end<'a>(pool: Pool) -> Result<(), ServeFault<'a>>
-    ensures whole { OnOk result (pool.fault ≡ None) }
-    ensures fault { IfErr result (λ fault.
-        IfSome pool.fault (λ why. fault ≡ told_as why)) }
-    ensures late { IfErr result IsLate }
-{
-    match pool.fault {
-        None => Ok(()),
-        Some(fault) => Err(told(fault)),
-    }
-}
-
-// Serves at one desk after the other. After a fault nobody is there to answer, and all connections end.
-fn serve_or_desert<
-    'l,
-    D: DeskName + Send + Sync,
-    R: Threads + Wait + Clock + Print + Eprint + AllocGlobal + Sync,
-    T: Clock + Sync,
->(rt: &R, time: &T, hall: &Hall<'l, R>, first: &mut Option<Opened<D>>) -> Result<(), LateFault>
-    requires passes { IfSome first.old (λ opened. length opened.passes.items ≡ hall.now.workers) }
-{
-    let Some(opened) = first.take() else {
-        return Ok(());
-    };
-    match serve_histories(rt, time, hall, opened) {
-        Ok(_) => Ok(()),
-        Err(fault) => {
-            hall.engine.desert(rt);
-            Err(LateFault::of(fault))
-        }
-    }
-}
-
-// The fault of a pool that ended early, as it is told.
-fn told<'a>(fault: PoolFault) -> ServeFault<'a>
-    ensures value { result ≡ told_as fault }
-    ensures late { IsLate result }
-{
-    match fault {
-        PoolFault::Accept => ServeFault::CannotListen,
-        PoolFault::Start | PoolFault::Memory => ServeFault::Memory,
     }
 }

@@ -116,7 +116,8 @@ impl Sheet {
     }
 }
 
-fn kind_of<R: Files>(rt: &R, path: &str) -> Kind {
+/// What stands at a path.
+pub(crate) fn kind_of<R: Files>(rt: &R, path: &str) -> Kind {
     let Ok(metadata) = fs::metadata(rt, path) else {
         return Kind::Missing;
     };

@@ -4,10 +4,12 @@ ghost use Rattle.chpw_rules.specs.Fitting.{config_fits};
 ghost use Rattle.chpw_table.specs.Agreement.{Agrees};
 ghost use Rattle.chpw_table.specs.Times.{IsTime};
 ghost use Rattle.chpw_service.specs.Faults.{IsOfFile, IsOfJournal};
+ghost use Rattle.chpw_service.specs.Modes.{can_be_journal};
 ghost use Rattle.chpw_service.specs.Opening.{IsOpening, opening_at};
 ghost use Rattle.chpw_service.specs.declared.fault.ServeFault.TheVariants.{Memory};
 
 use crate::fault::ServeFault;
+use crate::sheets::{Kind, kind_of};
 use chpw_journal::{FileSink, Journal, JournalFile, OpenFault, RestoreFault, quiet_after};
 use chpw_rules::Config;
 use chpw_serve::Clock;
@@ -16,7 +18,8 @@ use std::alloc::Global;
 use std::fs::{File, Files};
 
 /// The journal at a path, and the table restored from it. The table is quiet for 300 seconds from its start
-/// on where there was a journal. The start is read from the clock once no other process has the journal.
+/// on where there was a journal. The start is read from the clock once no other process has the journal. One that isn't a
+/// regular file is refused before it is opened.
 #[tactic(auto, using(crate::proofs::FaultLemmas::unopened, crate::proofs::FaultLemmas::unrestored))]
 pub(crate) fn open_table<'a, R: Files<File = File>, C: Clock>(
     rt: &R,
@@ -30,6 +33,9 @@ pub(crate) fn open_table<'a, R: Files<File = File>, C: Clock>(
     ensures fresh { IfOk result (λ j. ⟦<FileSink<File> as JournalSink>⟧.failed j.sink ≡ 0) }
     ensures fault { IfErr result (IsOfJournal path.now) }
 {
+    if !can_be_journal(kind_of(rt, path)) {
+        return Err(ServeFault::CannotRead(path));
+    }
     let file = match JournalFile::lock(rt, path) {
         Ok(file) => file,
         Err(fault) => return Err(journal_fault(path, fault)),
@@ -40,6 +46,13 @@ pub(crate) fn open_table<'a, R: Files<File = File>, C: Clock>(
         Ok(journal) => Ok(journal),
         Err(fault) => Err(journal_fault(path, fault)),
     }
+}
+
+// Whether a journal is there, or can be made. A pipe would make its opener wait.
+fn can_be_journal(kind: Kind) -> bool
+    ensures value { result ≡ can_be_journal kind }
+{
+    matches!(kind, Kind::Missing | Kind::File)
 }
 
 // The table of the configuration, quiet from this start on.

@@ -22,6 +22,7 @@ pub mod AppendLemmas
 pub mod DecideLemmas
 pub mod WorkedEdges
 pub mod RestoringLemmas
+pub mod BaseLemmas
 pub mod OrderLemmas
 pub mod SortingLemmas
 pub mod HeldIdLemmas

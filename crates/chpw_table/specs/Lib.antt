@@ -17,6 +17,7 @@ pub mod Laws
 pub mod Refusals
 pub mod Outcomes
 pub mod Restoring
+pub mod BaseKeys
 pub mod Lookups
 pub mod Replies
 pub mod Holding

@@ -121,6 +121,18 @@ impl StandingRules {
     {
         self.policy
     }
+
+    pub(crate) fn realm(&self) -> &[u8]
+        ensures value { result.now ≡ self.now.realm }
+    {
+        self.realm.as_slice()
+    }
+
+    pub(crate) fn quiet_until(&self) -> i64
+        ensures value { result ≡ self.now.quiet_until }
+    {
+        self.quiet_until
+    }
 }
 
 // Whether this time is too late for the authenticator, the ticket or the KRB-PRIV.

@@ -2,7 +2,7 @@
 ghost use Rattle.std.specs.Prelude.{◌≡◌, ◌≤◌, ◌<◌, ◌&&◌, not, length, All, MatchBool, IfOk, IfSome, Some, true, find, max, map, position, option_copied, option_map, slice_get};
 ghost use Rattle.std.specs.List.{IsDistinct};
 ghost use Rattle.std.specs.List.Sorted.{IsStrictlySortedBy};
-ghost use Rattle.chpw_rules.specs.Names.{is_same_name, name_cmp};
+ghost use Rattle.chpw_rules.specs.Names.{is_name, is_same_name, name_cmp};
 ghost use Rattle.chpw_rules.specs.Limits.{is_in, entry_counts, iteration_counts};
 ghost use Rattle.chpw_rules.specs.Fitting.{config_fits};
 ghost use Rattle.chpw_table.specs.Agreement.{Agrees};
@@ -13,6 +13,7 @@ ghost use Rattle.chpw_table.specs.Holding.{StandsAt};
 ghost use Rattle.chpw_table.specs.Lookups.{lookup_of, lookup_with, StandsOnce};
 ghost use Rattle.chpw_table.specs.declared.request.RequestId.{RequestId};
 
+mod base;
 mod changing;
 mod decision;
 mod opening;
@@ -31,6 +32,7 @@ use chpw_rules::{Config, Items, Name, Policy};
 use opening::opening_table;
 use ordered_keys::{KeyTree, Keyed};
 pub use preparing::{Prepared, RowChange};
+pub use reopening::MOST_CARRIED;
 pub use restoring::KeyFault;
 use std::alloc::{AllocError, Global};
 use std::marker::Model;
@@ -164,11 +166,12 @@ impl Table {
     }
 
     /// The name of the principal at this place, from 0 in the order of the names; none from their
-    /// number on. No name stands at two places.
+    /// number on. No name stands at two places. It has 1 to 8 components of 1 to 128 bytes.
     pub fn name_at(&self, place: u32) -> Option<&Name>
         ensures value { option_copied result
             ≡ slice_get (map (λ p. p.name) self.now.state.principals) place }
         ensures once { IfSome result (λ name. StandsOnce self.now.state name.now place) }
+        ensures fits { IfSome result (λ name. is_name name.now ≡ true) }
         ensures order { IsStrictlySortedBy name_cmp (map (λ p. p.name) self.now.state.principals) }
     {
         self.principal_at(place).map(|p| &p.name)
@@ -237,6 +240,27 @@ impl Table {
         ensures iterations { 1 ≤ result.iterations }
     {
         self.standing.policy()
+    }
+
+    /// How many principals it has.
+    pub fn principals(&self) -> usize
+        ensures value { result ≡ length self.now.state.principals }
+    {
+        self.principals.len()
+    }
+
+    /// The realm of its principals.
+    pub fn realm(&self) -> &[u8]
+        ensures value { result.now ≡ self.now.state.fixed.realm }
+    {
+        self.standing.realm()
+    }
+
+    /// Until when it is quiet, seconds since 1970: a request whose ctime is not after that is refused.
+    pub fn quiet_until(&self) -> i64
+        ensures value { result ≡ self.now.state.fixed.quiet_until }
+    {
+        self.standing.quiet_until()
     }
 
     /// A copy of what no event changes of it.

@@ -1,7 +1,7 @@
 //! What is brought in of keytabs, whole and cut short.
 ghost use Rattle.std.specs.Prelude.{◌≤◌};
 
-use crate::words::{bytes, count, joined, said};
+use crate::words::{behind, bytes, count, joined, said};
 use case_lines::Census;
 use chpw_invocation::{ImportOptions, LONGEST_REALM, USUAL_COUNT};
 use chpw_keys::write_keytab;
@@ -32,16 +32,6 @@ fn brought(alloc: Global, options: ImportOptions<'_>, keytab: &[u8]) -> io::Resu
         Ok(()) => Ok(behind(joined(alloc, &written)?, &left)?),
         Err(fault) => said(alloc, fault),
     }
-}
-
-// A text with each of these lines behind it.
-fn behind(text: String, lines: &[u8]) -> Result<String, AllocError> {
-    let mut text = text;
-    for line in str::from_utf8(lines).unwrap_or("no UTF-8").lines() {
-        text.push_str(" | ")?;
-        text.push_str(line)?;
-    }
-    Ok(text)
 }
 
 /// What comes of a keytab.

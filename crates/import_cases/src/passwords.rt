@@ -1,7 +1,7 @@
 //! What is written of passwords.
 ghost use Rattle.std.specs.Prelude.{◌≤◌};
 
-use crate::words::{bytes, count, joined, said};
+use crate::words::{behind, bytes, count, joined, said};
 use chpw_invocation::{KeyOptions, LONGEST_REALM};
 use chpw_keys::write_password;
 use chpw_rules::Name;
@@ -41,9 +41,9 @@ pub fn written(alloc: Global, rest: &str) -> io::Result<String> {
     let Some(name) = Name::parse(alloc, name)? else {
         return Ok(String::from_str(alloc, "no name")?);
     };
-    let mut text = Vec::new(alloc);
-    match write_password(alloc, options, name, &file, &mut text) {
-        Ok(()) => Ok(joined(alloc, &text)?),
+    let (mut text, mut notes) = (Vec::new(alloc), Vec::new(alloc));
+    match write_password(alloc, options, name, &file, &mut text, &mut notes) {
+        Ok(()) => Ok(behind(joined(alloc, &text)?, &notes)?),
         Err(fault) => said(alloc, fault),
     }
 }

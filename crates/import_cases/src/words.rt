@@ -48,3 +48,13 @@ pub fn joined(alloc: Global, text: &[u8]) -> Result<String, AllocError> {
     }
     Ok(all)
 }
+
+/// A text with each of these lines behind it.
+pub fn behind(text: String, lines: &[u8]) -> Result<String, AllocError> {
+    let mut text = text;
+    for line in str::from_utf8(lines).unwrap_or("no UTF-8").lines() {
+        text.push_str(" | ")?;
+        text.push_str(line)?;
+    }
+    Ok(text)
+}

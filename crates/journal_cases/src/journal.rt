@@ -22,7 +22,7 @@ fn add_pieces(alloc: Global, journal: &mut Vec<u8>, pieces: &str) -> Result<(), 
 
 /// Adds a piece: `nothing`; `NAME KVNO`, the record of a change, or `raise COUNT`, that of a raise, with
 /// ` kind K` or ` length L` behind it where that is another; `NAME KVNO to KVNO`, a record for each
-/// version; `first N of` before a record, of which only so many bytes are there.
+/// version; `first N of` before a record, of which only so many bytes are there; `bytes DIGITS`, these bytes.
 fn add_piece(alloc: Global, journal: &mut Vec<u8>, piece: &str) -> Result<(), Refusal> {
     if let Some((first, last)) = piece.split_once(" to ") {
         return add_records(alloc, journal, first, last);
@@ -31,7 +31,16 @@ fn add_piece(alloc: Global, journal: &mut Vec<u8>, piece: &str) -> Result<(), Re
         None if piece == "nothing" => Ok(()),
         None => Err(Refusal::NoSuchCase),
         Some(("first", rest)) => add_front(alloc, journal, rest),
+        Some(("bytes", digits)) => add_bytes(alloc, journal, digits),
         Some((what, rest)) => add_record(alloc, journal, what, rest),
+    }
+}
+
+/// Adds the bytes with these digits, two for each.
+fn add_bytes(alloc: Global, journal: &mut Vec<u8>, digits: &str) -> Result<(), Refusal> {
+    match hex::decode(alloc, digits) {
+        Ok(bytes) => journal.extend_from_slice(&bytes).map_err(Refusal::from),
+        Err(_) => Err(Refusal::NoSuchCase),
     }
 }
 

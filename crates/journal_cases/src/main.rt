@@ -8,6 +8,7 @@
 #![tactic(auto)]
 
 mod changed;
+mod compact;
 mod disk;
 mod failing;
 mod filed;
@@ -19,6 +20,7 @@ mod unsynced;
 
 use case_lines::{Answers, Change, print_answers};
 use changed::show_changed;
+use compact::show_compact;
 use disk::show_appended;
 use failing::{show_decided, show_each_failed};
 use filed::show_filed;
@@ -40,6 +42,9 @@ fn show_answer<R: Files<File = File>>(
     };
     if let Some(change) = Change::of(what) {
         return show_changed(alloc, text, change, pieces);
+    }
+    if what == "compact" {
+        return show_compact(alloc, text, pieces);
     }
     match what.split_once(' ') {
         Some((kind, how)) => show_case(rt, alloc, text, kind, how, pieces),

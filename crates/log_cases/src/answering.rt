@@ -3,6 +3,7 @@
 ghost use Rattle.std.specs.Prelude.{◌≡◌, ◌<◌, true};
 ghost use Rattle.chpw_table.specs.Times.{IsMoment};
 
+use crate::events;
 use crate::fault::Fault;
 use crate::making::opened;
 use crate::words::{error_of, maybe_number, number, octets, text_of, verdict_of};
@@ -25,6 +26,7 @@ pub fn answer(alloc: Global, case: &str) -> Result<String, Fault> {
     match words.as_slice() {
         ["held", rest @ ..] => return held(alloc, rest),
         ["limit", rest @ ..] => return limited(alloc, rest),
+        ["event", rest @ ..] => return events::happened(alloc, rest),
         _ => {}
     }
     let [kind, seconds, micros, worker, peer, rest @ ..] = words.as_slice() else {
@@ -147,7 +149,7 @@ fn push_told(text: &mut String, told: Option<Held>) -> Result<(), Fault> {
     Ok(())
 }
 
-fn is_moment(moment: Moment) -> bool
+pub(crate) fn is_moment(moment: Moment) -> bool
     ensures { result ≡ true → IsMoment moment × (moment.micros < 1000000) }
 {
     moment.seconds >= 0 && moment.seconds <= LAST_SECOND && moment.micros < 1_000_000
@@ -173,7 +175,7 @@ fn shown(alloc: Global, place: Place, news: News<'_>) -> Result<String, Fault> {
 }
 
 // A line without its newline.
-fn line_of(alloc: Global, line: &[u8]) -> Result<String, Fault> {
+pub(crate) fn line_of(alloc: Global, line: &[u8]) -> Result<String, Fault> {
     let Some((b'\n', text)) = line.split_last() else {
         return Ok(String::from_str(alloc, "(no newline)")?);
     };

@@ -3,6 +3,7 @@
 #![tactic(auto)]
 
 mod answering;
+mod events;
 mod fault;
 mod making;
 mod words;

@@ -1,6 +1,7 @@
 //! The command `client`, with each of its options, against a service.
 use chpw_invocation::{
-    ClientOptions, ServeOptions, USUAL_BUFFERS, USUAL_CLIENTS, USUAL_FOLLOWER_WAIT, USUAL_IDLE,
+    ClientOptions, PasswordSource, ServeOptions, USUAL_BUFFERS, USUAL_CLIENTS, USUAL_FOLLOWER_WAIT,
+    USUAL_IDLE,
 };
 use chpw_program::{Ending, ask};
 use chpw_service::{ServeFault, serve};
@@ -150,12 +151,18 @@ fn own(password: &'static str) -> Wish {
 
 // The options for a request; the earlier protocol has no target.
 fn options(port: u16, wish: Wish) -> ClientOptions<'static> {
+    let password = PasswordSource::Text(wish.password);
+    options_with(port, wish, password)
+}
+
+// The same request with a password of another source.
+fn options_with<'a>(port: u16, wish: Wish, password: PasswordSource<'a>) -> ClientOptions<'a> {
     ClientOptions {
         config: CONFIG_FILE,
         seed: SEED_FILE,
         port,
         client: wish.client,
-        password: wish.password,
+        password,
         target: if wish.old { None } else { wish.target },
         no_initial: wish.no_initial,
         old: wish.old,
@@ -165,7 +172,7 @@ fn options(port: u16, wish: Wish) -> ClientOptions<'static> {
 // How the first request ends that finds the service.
 fn ask_soon<'a, R>(rt: &R, options: ClientOptions<'a>) -> Ending<'a>
 where
-    R: Files<File = File> + Net<Stream = TcpStream> + Clock + Print + AllocGlobal,
+    R: Files<File = File> + Net<Stream = TcpStream> + Clock + Input + Print + AllocGlobal,
 {
     for _ in 0..1000 {
         match ask(rt, options) {
@@ -188,7 +195,7 @@ fn is_answered(ending: &Ending<'_>, wish: Wish) -> bool {
 // A connection for each of the requests.
 fn ask_all<R>(rt: &R, port: u16)
 where
-    R: Files<File = File> + Net<Stream = TcpStream> + Clock + Print + AllocGlobal + Abort,
+    R: Files<File = File> + Net<Stream = TcpStream> + Clock + Input + Print + AllocGlobal + Abort,
 {
     for wish in WISHES {
         let ending = ask_soon(rt, options(port, wish));
@@ -222,6 +229,7 @@ fn serving<'a>(port: u16, connections: u32, log: &'a str) -> ServeOptions<'a> {
         log: Some(log),
         follower: None,
         follower_wait: USUAL_FOLLOWER_WAIT,
+        control: None,
         udp: false,
     }
 }
@@ -298,4 +306,51 @@ fn log_that_cannot_be_written(rt: HostRuntime) {
     );
     assert!(rt; served && changed);
     assert!(rt; size_of(&rt, JOURNAL_FILE) == 66);
+}
+
+// How a request ends whose password is to come from a file with these bytes.
+fn ask_by_file<'a, R>(rt: &R, port: u16, file: &'a str, bytes: &[u8]) -> Ending<'a>
+where
+    R: Files<File = File> + Net<Stream = TcpStream> + Clock + Input + Print + AllocGlobal + Abort,
+{
+    assert!(rt; fs::write(rt, file, bytes).is_ok());
+    let password = PasswordSource::File(file);
+    ask_soon(rt, options_with(port, own(""), password))
+}
+
+// The end of the line is no part of the password: it would be of one class more than the service wants.
+#[test]
+fn passwords_of_files(rt: HostRuntime) {
+    let port = prepare(&rt);
+    let options_of_it = serving(port, 4, LOG_FILE);
+    let (served, ()) = join(
+        &rt,
+        || serve(&rt, options_of_it).is_ok(),
+        || {
+            for (bytes, changes) in [
+                (b"newpass1\n".as_slice(), true),
+                (b"newpass2\r\n".as_slice(), true),
+                (b"newpass3".as_slice(), true),
+                (b"newpass\r\n".as_slice(), false),
+            ] {
+                let ending = ask_by_file(&rt, port, "client-tests.password", bytes);
+                assert!(&rt; matches!(ending, Ending::Good) == changes);
+            }
+        },
+    );
+    assert!(rt; served);
+}
+
+#[test]
+fn files_without_a_password(rt: HostRuntime) {
+    let file = "client-tests.no-password";
+    for bytes in [b"".as_slice(), b"\n", b"\r\n"] {
+        let ending = ask_by_file(&rt, 1, file, bytes);
+        assert!(rt; matches!(ending, Ending::EmptyPassword(_)));
+    }
+    let ending = ask_by_file(&rt, 1, file, b"New-pass1\nNew-pass2\n");
+    assert!(rt; matches!(ending, Ending::ManyLines(_)));
+    let mut missing = options(1, own(""));
+    missing.password = PasswordSource::File("client-tests.missing");
+    assert!(rt; matches!(ask(&rt, missing), Ending::Unread("client-tests.missing")));
 }

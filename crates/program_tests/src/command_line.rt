@@ -1,5 +1,5 @@
 //! The command lines and what is asked by them, and words that are no UTF-8.
-use chpw_invocation::{Invocation, command_of};
+use chpw_invocation::{Invocation, PasswordSource, command_of};
 use chpw_program::{Ending, misused, words as words_of};
 use std::alloc::{AllocError, Global};
 use std::env::FillError;
@@ -8,7 +8,7 @@ use std::rt::Env;
 
 /// Command lines without the program's name, and what they ask for; of one that asks for no command, a word
 /// of clap's text.
-const LINES: [(&str, &str); 45] = [
+const LINES: [(&str, &str); 63] = [
     ("drill", "drill"),
     ("drill --config c", "unexpected"),
     ("check --config c", "check c"),
@@ -107,7 +107,42 @@ const LINES: [(&str, &str); 45] = [
         "serve --config c --journal j --seed s --port 1 --workers 1 --connections 1 --raise=-1",
         "--raise",
     ),
+    (
+        "serve --config c --journal j --seed s --port 1 --workers 1 --connections 1 --control=c.socket",
+        "serve c j s port 1 workers 1 connections 1 idle 30 clients 1024 buffers 32 raise - log - \
+         control c.socket",
+    ),
+    // a running service
+    ("control --socket s status", "control s status"),
+    ("control --socket s reload", "control s reload"),
+    ("control --socket=s reopen-log", "control s reopen-log"),
+    ("control stop --socket s", "control s stop"),
+    ("control --socket s compact j", "control s compact j"),
+    ("control compact --socket s -- -j", "control s compact -j"),
+    ("control --socket s", "<COMMAND>"),
+    ("control status", "--socket"),
+    ("control --socket s start", "reopen-log"),
+    ("control --socket s start f", "reopen-log"),
+    ("control --socket s compact", "wants"),
+    ("control --socket s stop now", "'compact'"),
+    ("control --socket s compact a b", "unexpected"),
     // a request
+    (
+        "client --config c --seed s --port 464 --client alice --password-file f",
+        "client c s port 464 client alice password-file f target - no-initial false old false",
+    ),
+    (
+        "client --config c --seed s --port 464 --client alice --password-file - --old",
+        "client c s port 464 client alice password-file standard input target - no-initial false old true",
+    ),
+    (
+        "client --config c --seed s --port 464 --client alice",
+        "--password-file",
+    ),
+    (
+        "client --config c --seed s --port 464 --client alice --password p --password-file f",
+        "--password-file",
+    ),
     (
         "client --config realm.toml --seed seed --port 464 --client alice/admin --password=-New-pass2- \
          --target bob --no-initial",
@@ -234,11 +269,27 @@ fn show(text: &mut String, asked: Invocation<'_>) -> Result<(), AllocError> {
                 Some(count) => write!(text, "{count}")?,
                 None => text.push_str("-")?,
             }
-            write!(text, " log {}", it.log.unwrap_or("-"))
+            write!(text, " log {}", it.log.unwrap_or("-"))?;
+            match it.control {
+                Some(socket) => write!(text, " control {socket}"),
+                None => Ok(()),
+            }
+        }
+        Invocation::Control(it) => {
+            write!(text, "control {} {}", it.socket, it.command.word())?;
+            match it.command.file() {
+                Some(file) => write!(text, " {file}"),
+                None => Ok(()),
+            }
         }
         Invocation::Client(it) => {
             write!(text, "client {} {} port {} ", it.config, it.seed, it.port)?;
-            write!(text, "client {} password {} ", it.client, it.password)?;
+            write!(text, "client {} ", it.client)?;
+            match it.password {
+                PasswordSource::Text(it) => write!(text, "password {it} ")?,
+                PasswordSource::File(it) => write!(text, "password-file {it} ")?,
+                PasswordSource::StandardInput => text.push_str("password-file standard input ")?,
+            }
             write!(text, "target {} ", it.target.unwrap_or("-"))?;
             write!(text, "no-initial {} old {}", it.no_initial, it.old)
         }

@@ -75,7 +75,7 @@ impl Table {
     }
 
     // Puts keys in the place of a principal's.
-    fn put_kept(&mut self, place: usize, keys: Items<KeyRow>)
+    pub(super) fn put_kept(&mut self, place: usize, keys: Items<KeyRow>)
         requires place { place < length self.old.state.principals }
         requires holders { are_holders (with_keys_at place keys self.old.state.principals) ≡ true }
         ensures value { self.new ≡ with_held_at place keys self.old }

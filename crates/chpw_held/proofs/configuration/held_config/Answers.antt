@@ -12,10 +12,10 @@ loop-name-preserved c =
     let found : slice_get (names_of s) place ≡ Some c.in-Some.name.now = search rules in
     let more = rows_more (row_of s) (names_of s) place c.in-Some.name.now found in
     let next : c.in-Some-checked_add.next ≡ place + 1 = search rules in
-    let row : PrincipalRow = c.in_ok-row.field-0 in
+    let row : PrincipalRow = c.in_ok-held_row.field-0 in
     let pushed : c.push.new.self.items ≡ c.loop-name.rows.items ++ row ∷ [] = search rules in
     let front : List PrincipalRow = map (row_of s) (take place (names_of s)) in
-    let grown = pushed ∙ (ap (λ (xs : List PrincipalRow). xs ++ row ∷ []) c.loop-name.invariant.0 ∙ (ap (λ (x : PrincipalRow). front ++ x ∷ []) c.in_ok-row.ensures.value ∙ sym more.1)) in (
+    let grown = pushed ∙ (ap (λ (xs : List PrincipalRow). xs ++ row ∷ []) c.loop-name.invariant.0 ∙ (ap (λ (x : PrincipalRow). front ++ x ∷ []) c.in_ok-held_row.ensures.value ∙ sym more.1)) in (
       rw next grown,
       rw next more.0,
     )

@@ -11,6 +11,7 @@ returns c =
     let p4 = c.with_command-program-4.ensures.shape _ specs_of.import_keytab p3 (IfOk-both c.import_keytab.result _ specs_of.IsLocal c.import_keytab.ensures.shape c.import_keytab.ensures.local) in
     let p5 = c.with_command-program-5.ensures.shape _ specs_of.key p4 (IfOk-both c.key.result _ specs_of.IsLocal c.key.ensures.shape c.key.ensures.local) in
     let p6 = c.with_command-program-6.ensures.shape _ specs_of.serve p5 (IfOk-both c.serve.result _ specs_of.IsLocal c.serve.ensures.shape c.serve.ensures.local) in
-    let p7 = c.with_command.ensures.shape _ specs_of.client p6 (IfOk-both c.client.result _ specs_of.IsLocal c.client.ensures.shape c.client.ensures.local) in
-    let parts = apart specs_of.program c.with_command.result p7 in
+    let p7 = c.with_command-program-7.ensures.shape _ specs_of.control p6 (IfOk-both c.control.result _ specs_of.IsLocal c.control.ensures.shape c.control.ensures.local) in
+    let p8 = c.with_command.ensures.shape _ specs_of.client p7 (IfOk-both c.client.result _ specs_of.IsLocal c.client.ensures.shape c.client.ensures.local) in
+    let parts = apart specs_of.program c.with_command.result p8 in
     record { shape = parts.0; local = parts.1 }

@@ -1,0 +1,6 @@
+pub mod AnswerLemmas
+pub mod ConnectionLemmas
+pub mod EndingLemmas
+pub mod LineLemmas
+pub mod SeatLemmas
+pub mod CallerLemmas

@@ -1,0 +1,63 @@
+-- The whole life of somebody at the control socket: what came of its line, the commands that were carried out for it, what it
+-- is told, and what went out of that.
+use Rattle.std.specs.Prelude.{◌≡◌, ℕ, List, [], ◌∷◌, ◌++◌, take, ◌⊎◌, Option, Some, None, Result, Ok}
+use Rattle.chpw_control.specs.declared.command.Command.{Command}
+use Rattle.chpw_control.specs.declared.fault.ControlFault.{ControlFault}
+use Rattle.chpw_control.specs.Dialogs.{at_start, told_of}
+use Rattle.chpw_control.specs.Callers.{Stage, asking, waiting, answered, Event, came, taken, wrote, after, error_line}
+
+pub record Life : Type 0 where
+  pub came : List ℕ
+  pub taken : List Command
+  pub answers : List (List ℕ)
+  pub written : List ℕ
+  pub stage : Stage
+
+-- one that was accepted just now
+abbrev pub accepted : Life
+accepted = record { came = []; taken = []; answers = []; written = []; stage = asking at_start }
+
+-- bytes count while its line comes
+abbrev pub came_behind : Stage → Event → List ℕ → List ℕ
+came_behind (asking s) (came bytes) before = before ++ bytes
+came_behind stage e before = before
+
+abbrev pub taken_behind : Stage → Event → List Command → List Command
+taken_behind (waiting command) taken before = before ++ command ∷ []
+taken_behind stage e before = before
+
+-- an answer counts from when it is there
+abbrev pub answers_behind : Stage → Stage → List (List ℕ) → List (List ℕ)
+answers_behind (answered left) new before = before
+answers_behind old (answered left) before = before ++ left ∷ []
+answers_behind old new before = before
+
+abbrev pub written_behind : Stage → Event → List ℕ → List ℕ
+written_behind (answered left) (wrote n) before = before ++ take n left
+written_behind stage e before = before
+
+abbrev pub behind : Life → Event → Life
+behind l e = record {
+  came = came_behind l.stage e l.came;
+  taken = taken_behind l.stage e l.taken;
+  answers = answers_behind l.stage (after l.stage e) l.answers;
+  written = written_behind l.stage e l.written;
+  stage = after l.stage e;
+}
+
+abbrev pub life : Life → List Event → Life
+life l [] = l
+life l (e ∷ es) = life (behind l e) es
+
+-- no command is carried out for it but the one of its own whole line, once
+abbrev pub IsOnce : Life → Type 0
+IsOnce l = (l.taken ≡ []) ⊎ ((command : Command) × (l.taken ≡ command ∷ []) × (told_of l.came ≡ Some (Ok command)))
+
+-- it has one answer, of which what was written is the beginning
+abbrev pub IsToldOnce : Life → Type 0
+IsToldOnce l = ((l.answers ≡ []) × (l.written ≡ []))
+    ⊎ ((answer left : List ℕ) × (l.answers ≡ answer ∷ []) × (l.written ++ left ≡ answer))
+
+-- whatever happened, in whatever order
+abbrev pub Served : Type 0
+Served = (events : List Event) → IsOnce (life accepted events) × IsToldOnce (life accepted events)

@@ -1,0 +1,12 @@
+pub mod Commands
+pub mod Dialogs
+pub mod Faults
+pub mod FileNames
+pub mod Pieces
+pub mod Connections
+pub mod Callers
+pub mod Seats
+pub mod CallerLives
+pub mod Answers
+pub mod Endings
+pub mod Statuses

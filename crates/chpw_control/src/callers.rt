@@ -1,0 +1,335 @@
+//! All that are at the control socket.
+ghost use Rattle.std.specs.Prelude.{◌≡◌, ◌≢◌, ◌<◌, ◌≤◌, ◌+◌, ℕ, IfOk, IfSome, IfNone, OnSome, Some, None, length, option_copied, is_some, true, false, ◌==◌, nat_le};
+ghost use Rattle.slab.specs.Slab.{get, slab_len, HasRoomFor, Updates};
+ghost use Rattle.chpw_control.specs.Dialogs.{at_start};
+ghost use Rattle.chpw_control.specs.Callers.{asking, closed, expired, failed, told, taken, wrote};
+ghost use Rattle.chpw_control.specs.Seats.{Happens, HappensToHear, IsNew, IsFirst, NobodyWaits, waiting_at, number_in, left_at, is_late, is_order, is_over_at, waiting_of, earlier};
+
+use crate::caller::Caller;
+use crate::command::Command;
+use slab::Slab;
+use std::alloc::{AllocError, Global};
+
+/// After how many milliseconds its line is to be whole.
+const PATIENCE: u64 = 1_000;
+
+/// Somebody at the control socket, since a moment in milliseconds. They are numbered in the order in which they came.
+#[derive(Drop)]
+pub(crate) struct Seat {
+    pub caller: Caller,
+    pub since: u64,
+    pub number: u64,
+}
+
+/// All that are at the control socket, each in a slot of its own.
+///
+/// `status` and `stop` are answered at once, each for itself. The other commands are orders: they are carried out one after the
+/// other, beside whoever runs this.
+#[derive(Drop)]
+pub struct Callers {
+    seats: Slab<Seat>,
+    accepted: u64,
+    /// The slot of the one whose order is carried out.
+    ordering: Option<usize>,
+}
+
+impl Callers {
+    /// None yet, with room for so many.
+    pub fn new(alloc: Global, count: usize) -> Result<Callers, AllocError>
+        ensures none { IfOk result (λ c. slab_len c.seats ≡ 0) }
+        ensures room { IfOk result (λ c. count ≤ c.seats.capacity) }
+        ensures ordering { IfOk result (λ c. c.ordering ≡ None) }
+    {
+        Ok(Callers {
+            seats: Slab::with_capacity(alloc, count)?,
+            accepted: 0,
+            ordering: None,
+        })
+    }
+
+    /// Somebody comes, where there is room for one more: its slot.
+    pub fn accept(&mut self, alloc: Global, now: u64) -> Option<usize>
+        ensures accepted { IfSome result (λ slot. IsNew now self.old.accepted self.old.seats self.new.seats slot (asking at_start)) }
+        ensures full { IfNone result ((slab_len self.old.seats ≡ self.old.seats.capacity) × (self.new ≡ self.old)) }
+        ensures ordering { self.new.ordering ≡ self.old.ordering }
+    {
+        if self.is_full() {
+            return None;
+        }
+        let seat = Seat {
+            caller: Caller::accepted(alloc),
+            since: now,
+            number: self.accepted,
+        };
+        self.accepted = self.accepted.saturating_add(1);
+        Some(self.seats.insert_reserved(seat))
+    }
+
+    /// Whether nobody is there.
+    pub fn is_empty(&self) -> bool
+        ensures value { result ≡ (slab_len self.now.seats == 0) }
+    {
+        self.seats.len() == 0
+    }
+
+    /// Whether there is room for nobody more.
+    pub fn is_full(&self) -> bool
+        ensures value { result ≡ nat_le self.now.seats.capacity (slab_len self.now.seats) }
+        ensures full { result ≡ true → slab_len self.now.seats ≡ self.now.seats.capacity }
+    {
+        self.seats.len() >= self.seats.capacity()
+    }
+
+    // Takes the one in a slot out, which is the next to be filled.
+    fn take_out(&mut self, slot: usize) -> Option<Seat>
+        ensures value { result ≡ get self.old.seats slot }
+        ensures updates { Updates self.old.seats self.new.seats slot None }
+        ensures next { OnSome result (self.new.seats.vacant_key ≡ slot) }
+        ensures room { OnSome result (HasRoomFor self.new.seats 1) }
+        ensures absent { IfNone result (self.new ≡ self.old) }
+        ensures ordering { self.new.ordering ≡ self.old.ordering }
+    {
+        self.seats.try_remove(slot)
+    }
+
+    /// Bytes came of somebody's line.
+    pub fn hear(&mut self, alloc: Global, slot: usize, bytes: &[u8])
+        ensures heard { HappensToHear self.old.seats self.new.seats slot bytes.now }
+        ensures ordering { self.new.ordering ≡ self.old.ordering }
+    {
+        if let Some(mut seat) = self.take_out(slot) {
+            seat.caller.hear(alloc, bytes);
+            self.seats.insert_reserved(seat);
+        }
+    }
+
+    /// Somebody sends no more.
+    pub fn close(&mut self, slot: usize)
+        ensures happens { Happens self.old.seats self.new.seats slot closed }
+        ensures ordering { self.new.ordering ≡ self.old.ordering }
+    {
+        if let Some(mut seat) = self.take_out(slot) {
+            seat.caller.close();
+            self.seats.insert_reserved(seat);
+        }
+    }
+
+    /// Somebody can't go on.
+    pub fn fail(&mut self, slot: usize)
+        ensures happens { Happens self.old.seats self.new.seats slot failed }
+        ensures ordering { self.new.ordering ≡ self.old.ordering }
+    {
+        if let Some(mut seat) = self.take_out(slot) {
+            seat.caller.fail();
+            self.seats.insert_reserved(seat);
+        }
+    }
+
+    /// Where somebody's line isn't whole a second after it came, its time for that is up.
+    pub fn pass(&mut self, slot: usize, now: u64)
+        ensures late { is_late now (get self.old.seats slot) ≡ true → Happens self.old.seats self.new.seats slot expired }
+        ensures others { is_late now (get self.old.seats slot) ≡ false → self.new ≡ self.old }
+        ensures ordering { self.new.ordering ≡ self.old.ordering }
+    {
+        if self.is_late(slot, now) {
+            self.expire(slot);
+        }
+    }
+
+    fn is_late(&self, slot: usize, now: u64) -> bool
+        ensures value { result ≡ is_late now (get self.now.seats slot) }
+    {
+        match self.seats.get(slot) {
+            Some(seat) => seat.caller.is_asking() && now.saturating_sub(seat.since) >= PATIENCE,
+            None => false,
+        }
+    }
+
+    fn expire(&mut self, slot: usize)
+        ensures happens { Happens self.old.seats self.new.seats slot expired }
+        ensures ordering { self.new.ordering ≡ self.old.ordering }
+    {
+        if let Some(mut seat) = self.take_out(slot) {
+            seat.caller.expire();
+            self.seats.insert_reserved(seat);
+        }
+    }
+
+    /// The next one that is to be answered at once, and what it asks: of those the one that was accepted first.
+    #[tactic(auto, using(crate::proofs::SeatLemmas::kind_of))]
+    pub fn next_question(&mut self) -> Option<(usize, Command)>
+        ensures first { IfSome result (λ r. IsFirst self.old.seats false r.0) }
+        ensures command { IfSome result (λ r. waiting_at false (get self.old.seats r.0) ≡ Some r.1) }
+        ensures kind { IfSome result (λ r. is_order r.1 ≡ false) }
+        ensures taken { IfSome result (λ r. Happens self.old.seats self.new.seats r.0 taken) }
+        ensures none { IfNone result (NobodyWaits self.old.seats false × (self.new ≡ self.old)) }
+        ensures ordering { self.new.ordering ≡ self.old.ordering }
+    {
+        let slot = self.first_waiting(false)?;
+        let command = self.take(slot)?;
+        Some((slot, command))
+    }
+
+    /// The next order, unless one is carried out: of those the one whose caller was accepted first. It is carried out from now
+    /// on.
+    #[tactic(auto, using(crate::proofs::SeatLemmas::kind_of))]
+    pub fn next_order(&mut self) -> Option<Command>
+        ensures first { IfSome result (λ command. IfSome self.new.ordering (λ slot. IsFirst self.old.seats true slot
+            × (waiting_at true (get self.old.seats slot) ≡ Some command) × Happens self.old.seats self.new.seats slot taken)) }
+        ensures kind { IfSome result (λ command. is_order command ≡ true) }
+        ensures idle { OnSome result ((self.old.ordering ≡ None) × (self.new.ordering ≢ None)) }
+        ensures none { IfNone result (self.new ≡ self.old) }
+        ensures all { IfNone result (IfNone self.old.ordering (NobodyWaits self.old.seats true)) }
+    {
+        if self.ordering.is_some() {
+            return None;
+        }
+        let slot = self.first_waiting(true)?;
+        let command = self.take(slot)?;
+        self.ordering = Some(slot);
+        Some(command)
+    }
+
+    /// Whether somebody waits with an order, or with a question.
+    pub fn has_waiting(&self, order: bool) -> bool
+        ensures nobody { result ≡ false → NobodyWaits self.now.seats order }
+        ensures somebody { result ≡ true → (slot : ℕ) × IsFirst self.now.seats order slot }
+    {
+        self.first_waiting(order).is_some()
+    }
+
+    /// Whether an order is carried out.
+    pub fn is_ordering(&self) -> bool
+        ensures value { result ≡ is_some self.now.ordering }
+    {
+        self.ordering.is_some()
+    }
+
+    fn take(&mut self, slot: usize) -> Option<Command>
+        ensures command { result ≡ waiting_of (get self.old.seats slot) }
+        ensures taken { Happens self.old.seats self.new.seats slot taken }
+        ensures ordering { self.new.ordering ≡ self.old.ordering }
+    {
+        let mut seat = self.take_out(slot)?;
+        let command = seat.caller.take();
+        self.seats.insert_reserved(seat);
+        command
+    }
+
+    // Below which number each slot is.
+    fn capacity(&self) -> usize
+        ensures value { result ≡ self.now.seats.capacity }
+        ensures slots { length self.now.seats.slots ≤ result }
+    {
+        self.seats.capacity()
+    }
+
+    // The one that was accepted first of those with an order, or of those with a question.
+    #[tactic(auto, using(crate::proofs::SeatLemmas::first_next, crate::proofs::SeatLemmas::nobody_of_all))]
+    fn first_waiting(&self, order: bool) -> Option<usize>
+        ensures first { IfSome result (IsFirst self.now.seats order) }
+        ensures none { IfNone result (NobodyWaits self.now.seats order) }
+    {
+        let mut first: Option<(u64, usize)> = None;
+        for slot in 0..self.capacity() {
+            first = earlier_of(first, slot, self.number_waiting(slot, order));
+        }
+        match first {
+            None => None,
+            Some((_, slot)) => Some(slot),
+        }
+    }
+
+    // The number of the one in a slot, where it waits so.
+    fn number_waiting(&self, slot: usize, order: bool) -> Option<u64>
+        ensures value { result ≡ number_in self.now.seats order slot }
+    {
+        match self.seats.get(slot) {
+            Some(seat) if seat.caller.waits(order) => Some(seat.number),
+            _ => None,
+        }
+    }
+
+    /// What came of somebody's question is to be written.
+    pub fn answer(&mut self, slot: usize, answer: Vec<u8>)
+        ensures happens { Happens self.old.seats self.new.seats slot (told answer.items) }
+        ensures ordering { self.new.ordering ≡ self.old.ordering }
+    {
+        if let Some(mut seat) = self.take_out(slot) {
+            seat.caller.answer(answer);
+            self.seats.insert_reserved(seat);
+        }
+    }
+
+    /// What came of the order is to be written, and the next one may be carried out.
+    pub fn answer_order(&mut self, answer: Vec<u8>)
+        ensures happens { IfSome self.old.ordering (λ slot. Happens self.old.seats self.new.seats slot (told answer.items)) }
+        ensures over { self.new.ordering ≡ None }
+        ensures none { IfNone self.old.ordering (self.new ≡ self.old) }
+    {
+        if let Some(slot) = self.ordering.take() {
+            self.answer(slot, answer);
+        }
+    }
+
+    /// What is left to write to somebody.
+    pub fn unwritten(&self, slot: usize) -> &[u8]
+        ensures value { result.now ≡ left_at (get self.now.seats slot) }
+    {
+        match self.seats.get(slot) {
+            None => &[],
+            Some(seat) => seat.caller.unwritten(),
+        }
+    }
+
+    /// So many bytes of it went out.
+    pub fn wrote(&mut self, slot: usize, count: usize)
+        ensures happens { Happens self.old.seats self.new.seats slot (wrote count) }
+        ensures ordering { self.new.ordering ≡ self.old.ordering }
+    {
+        if let Some(mut seat) = self.take_out(slot) {
+            seat.caller.wrote(count);
+            self.seats.insert_reserved(seat);
+        }
+    }
+
+    /// Whether the one in a slot is over, or nobody is there: its socket can be closed.
+    pub fn is_over(&self, slot: usize) -> bool
+        ensures value { result ≡ is_over_at (get self.now.seats slot) }
+    {
+        match self.seats.get(slot) {
+            None => false,
+            Some(seat) => seat.caller.is_over(),
+        }
+    }
+
+    /// Lets go of one that is over; whether there was one.
+    pub fn remove(&mut self, slot: usize) -> bool
+        ensures over { is_over_at (get self.old.seats slot) ≡ true → Updates self.old.seats self.new.seats slot None }
+        ensures value { result ≡ is_over_at (get self.old.seats slot) }
+        ensures not { result ≡ false → self.new ≡ self.old }
+        ensures ordering { self.new.ordering ≡ self.old.ordering }
+    {
+        if !self.is_over(slot) {
+            return false;
+        }
+        self.take_out(slot).is_some()
+    }
+}
+
+// The earlier of two that wait.
+fn earlier_of(first: Option<(u64, usize)>, slot: usize, number: Option<u64>) -> Option<(u64, usize)>
+    ensures value { result ≡ earlier first slot number }
+{
+    match (first, number) {
+        (first, None) => first,
+        (None, Some(number)) => Some((number, slot)),
+        (Some(first), Some(number)) => {
+            if first.0 <= number {
+                Some(first)
+            } else {
+                Some((number, slot))
+            }
+        }
+    }
+}

@@ -1,0 +1,26 @@
+//! The control socket of the service (docs/CONTROL.md): which command a line is, and what is answered. No socket, clock
+//! or thread is in it: whoever has those hands in what came, and writes what is answered.
+#![tactic(auto)]
+
+mod answer;
+mod caller;
+mod callers;
+mod command;
+mod dialog;
+mod fault;
+mod file_name;
+pub mod laws;
+mod piece;
+mod status;
+mod telling;
+mod time;
+
+pub use answer::{ended_ok, put_error, put_line, put_ok};
+pub use callers::Callers;
+pub use command::Command;
+pub use dialog::Dialog;
+pub use fault::ControlFault;
+pub use file_name::FileName;
+pub use status::{FollowerState, JournalState, Status};
+pub use telling::status_answer;
+pub use time::Time;

@@ -1,0 +1,13 @@
+use Rattle.std.proofs.Common.{◌∙◌, refl, sym}
+use Rattle.clap.specs.Words.{found_of, rows_of}
+use Rattle.chpw_invocation.proofs.OwnLemmas.{aimed, unpassed}
+use Rattle.chpw_invocation.proofs.matching.client_of.Goals as goal
+
+pub returns-then-is_some-clause-none : goal.returns-then-is_some-clause-none
+returns-then-is_some-clause-none c = λ whole none.
+    aimed (rows_of (found_of c.args.options.now)) c.is_given-old.result c.text_of-target.result c.is_given-old.ensures.given c.if-old.true
+    c.text_of-target.ensures.value (sym c.is_some.ensures ∙ c.if-is_some.true)
+
+pub returns-in_err-password_of-clause-none : goal.returns-in_err-password_of-clause-none
+returns-in_err-password_of-clause-none c = λ whole none.
+    unpassed (rows_of (found_of c.args.options.now)) (c.in_err-password_of.ensures.none refl)

@@ -1,0 +1,69 @@
+//! Another journal in the place of one.
+ghost use Rattle.std.specs.Prelude.{◌≡◌, OnOk};
+ghost use Rattle.std.specs.Io.KnownBytes.{Appends};
+
+use crate::journal_file::is_name_kept;
+use std::alloc::Global;
+use std::fs::{self, File, Files, OpenFile, OpenOptions};
+use std::io::{self, ErrorKind, Write};
+use std::os::unix::fs::OpenOptionsExt;
+
+/// What stands behind the journal's name in that of the file which takes its place.
+const BEHIND_NAME: &str = ".new";
+
+/// A journal that has taken the place of another one, locked and at its end.
+#[derive(Drop)]
+pub struct Replacement {
+    pub file: File,
+    /// Whether its name is on the disk. Where it isn't a loss of power may bring the former one back.
+    pub is_kept: bool,
+}
+
+/// Puts a journal of this text in the place of the one at a path, by one change of a name: at each moment the one or the
+/// other stands there, whole and on the disk. It is made beside the former one, under the name with `.new` behind it; what a
+/// run that was ended early has left there is taken away. After an error the former one stands where it stood.
+pub fn replace_journal<R: Files<File = File>>(
+    rt: &R,
+    alloc: Global,
+    path: &str,
+    text: &[u8],
+) -> io::Result<Replacement> {
+    let mut beside = String::from_str(alloc, path)?;
+    beside.push_str(BEHIND_NAME)?;
+    let beside = beside.as_str();
+    match fs::remove_file(rt, beside) {
+        Err(error) if error.kind() != ErrorKind::NotFound => return Err(error),
+        _ => {}
+    }
+    let file = write_new(rt, beside, text)?;
+    if let Err(error) = fs::rename(rt, beside, path) {
+        let _ = fs::remove_file(rt, beside);
+        return Err(error);
+    }
+    let is_kept = is_name_kept(rt, path);
+    Ok(Replacement { file, is_kept })
+}
+
+/// Makes a file with this text, locked, readable and writable by its owner alone, and has text and name on the disk. It is an
+/// error where something stands at the path; after another error nothing is left there.
+pub fn write_new<R: Files<File = File>>(rt: &R, path: &str, text: &[u8]) -> io::Result<File> {
+    let mut how = OpenOptions::new();
+    how.append(true).create_new(true).mode(0o600);
+    let mut file = how.open(rt, path)?;
+    let is_locked = file.try_lock().is_ok();
+    match put(&mut file, text) {
+        Ok(()) if is_locked && is_name_kept(rt, path) => Ok(file),
+        kept => {
+            let _ = fs::remove_file(rt, path);
+            Err(kept.err().unwrap_or(io::Error::from(ErrorKind::Other)))
+        }
+    }
+}
+
+// Writes the text and has it on the disk.
+fn put<F: Write + OpenFile>(file: &mut F, text: &[u8]) -> io::Result<()>
+    ensures written { OnOk result (Appends (F.contents file.old) (F.contents file.new) text.now) }
+{
+    file.write_all(text)?;
+    file.sync_all()
+}

@@ -1,0 +1,14 @@
+-- What is reported by which token.
+use Rattle.std.specs.Prelude.{ℕ, ◌-◌, ◌^◌, ◌==◌, nat_lt, if◌then◌else◌}
+use Rattle.chpw_pool.specs.declared.tokens.Reported.{Reported}
+use Rattle.chpw_pool.specs.declared.tokens.Reported.TheVariants.{Listener, Follower, Datagrams, Connection, Control}
+
+-- Three have the greatest numbers but one, which is a wake's; connections have the numbers of their slots; all others are the
+-- control socket's, and who is there.
+abbrev pub reported_by : ℕ → ℕ → Reported
+reported_by token connections =
+    if token == 2 ^ 64 - 1 then Listener
+    else if token == 2 ^ 64 - 3 then Follower
+    else if token == 2 ^ 64 - 4 then Datagrams
+    else if nat_lt token connections then Connection token
+    else Control

@@ -1,0 +1,66 @@
+//! The service's side of its control socket.
+ghost use Rattle.std.specs.Prelude.{◌≡◌, ◌-◌, ◌^◌, min};
+ghost use Rattle.chpw_pool.specs.Controlling.{sum_of};
+
+use crate::follower::NoFollower;
+use chpw_control::put_error;
+use mio::net::UnixListener;
+use std::alloc::Global;
+
+/// How many connections there are, by their stages, and what the follower has of the journal.
+#[derive(Clone, Copy, PartialEq, Eq, Debug, Drop)]
+pub struct Standing {
+    /// Those whose message is being read.
+    pub reading: usize,
+    /// Those whose message waits for a worker.
+    pub waiting: usize,
+    /// Those whose message a worker answers.
+    pub answering: usize,
+    /// Those whose reply waits for the follower.
+    pub confirming: usize,
+    /// Those whose reply is being written.
+    pub writing: usize,
+    /// Those that are ending.
+    pub ending: usize,
+    /// Whether the follower is asked about a change, or the last answer to one went out unconfirmed.
+    pub is_behind: bool,
+}
+
+impl Standing {
+    /// Those of all stages.
+    pub fn connections(&self) -> usize
+        ensures value { result ≡ min (sum_of self.now) (2 ^ 64 - 1) }
+    {
+        let coming = self
+            .reading
+            .saturating_add(self.waiting)
+            .saturating_add(self.answering);
+        let going = self
+            .confirming
+            .saturating_add(self.writing)
+            .saturating_add(self.ending);
+        coming.saturating_add(going)
+    }
+}
+
+/// Who answers for the service at its control socket.
+pub trait Attendant {
+    /// The socket's listener, which doesn't block; it is asked for once. None where there is no control socket.
+    fn listener(&mut self) -> Option<UnixListener>;
+
+    /// What is answered to `status`, where the connections stand so. Empty where memory is refused.
+    fn status(&mut self, alloc: Global, standing: &Standing) -> Vec<u8>;
+}
+
+/// No control socket.
+impl Attendant for NoFollower {
+    fn listener(&mut self) -> Option<UnixListener> {
+        None
+    }
+
+    fn status(&mut self, alloc: Global, _standing: &Standing) -> Vec<u8> {
+        let mut text = Vec::new(alloc);
+        let _ = put_error(&mut text, "no service");
+        text
+    }
+}

@@ -1,0 +1,222 @@
+//! Those at the control socket, as the reactor and whoever carries out their orders share them.
+ghost use Rattle.std.specs.Prelude.{◌≡◌, ◌≢◌, ◌⊎◌, ◌&&◌, not, ℕ, [], IfOk, length, slice_get, true, false, None};
+ghost use Rattle.slab.specs.Slab.{Slab, get, slab_len, SameValues, Updates};
+ghost use Rattle.chpw_control.specs.Callers.{asking, told, wrote};
+ghost use Rattle.chpw_control.specs.Dialogs.{at_start};
+ghost use Rattle.chpw_control.specs.declared.callers.Seat.{Seat};
+ghost use Rattle.chpw_control.specs.Seats.{Happens, IsNew, seats_of, ordering_of, accepted_of, is_over_at, left_at};
+ghost use Rattle.chpw_pool.specs.Controlling.{Admits, HasNoOrder, HasOrder, IsDue, IsHeard, IsIdle, IsOpen, IsTold, ServesAt, TellsDone, TellsLast};
+
+use crate::tokens::token_behind;
+use chpw_control::{Callers, put_ok};
+use mio::net::UnixStream;
+use mio::{Interest, Registry};
+use std::alloc::{AllocError, Global};
+use std::io::{ErrorKind, Read, Write};
+
+/// How many may be at the control socket at a time.
+pub(crate) const CALLERS: usize = 64;
+
+/// Those at the control socket. Their lock is their own: no worker takes it.
+#[derive(Drop)]
+pub(crate) struct Control {
+    pub callers: Callers,
+    /// Their sockets, by their slots.
+    pub streams: Vec<Option<UnixStream>>,
+    /// The service is to end once what is under way is finished.
+    pub is_stopping: bool,
+    /// No order is carried out for now.
+    pub is_paused: bool,
+    /// No order is carried out any more.
+    pub is_over: bool,
+}
+
+impl Control {
+    /// Nobody yet.
+    pub fn new(alloc: Global) -> Result<Control, AllocError>
+        ensures nobody { IfOk result (λ c. slab_len (seats_of c.callers) ≡ 0) }
+        ensures no_order { IfOk result (λ c. ordering_of c.callers ≡ None) }
+        ensures places { IfOk result (λ c. length c.streams.items ≡ 64) }
+        ensures goes_on { IfOk result (λ c. (c.is_stopping ≡ false) × (c.is_paused ≡ false) × (c.is_over ≡ false)) }
+    {
+        Ok(Control {
+            callers: Callers::new(alloc, CALLERS)?,
+            streams: no_streams(alloc)?,
+            is_stopping: false,
+            is_paused: false,
+            is_over: false,
+        })
+    }
+
+    /// Somebody comes, whose token is behind those of so many connections. One whose socket can't be watched, or for whom there
+    /// is no room, is let go.
+    #[tactic(auto, using(crate::proofs::ControlLemmas::admits))]
+    pub fn admit(
+        &mut self,
+        alloc: Global,
+        registry: &Registry,
+        mut stream: UnixStream,
+        connections: usize,
+        now: u64,
+    )
+        ensures admitted { Admits now (accepted_of self.old.callers) (seats_of self.old.callers) (seats_of self.new.callers) self.old.streams.items self.new.streams.items
+            ⊎ (SameValues (seats_of self.old.callers) (seats_of self.new.callers) × (self.new.streams ≡ self.old.streams)) }
+        ensures ordering { ordering_of self.new.callers ≡ ordering_of self.old.callers }
+        ensures same { (self.new.is_stopping ≡ self.old.is_stopping) × (self.new.is_paused ≡ self.old.is_paused) × (self.new.is_over ≡ self.old.is_over) }
+    {
+        let Some(slot) = self.callers.accept(alloc, now) else {
+            return;
+        };
+        let both = Interest::READABLE | Interest::WRITABLE;
+        let token = token_behind(connections, slot);
+        let is_watched = registry.register(&mut stream, token, both).is_ok();
+        if is_watched && slot < self.streams.len() {
+            self.streams[slot] = Some(stream);
+        } else {
+            self.turn_away(slot);
+        }
+    }
+
+    // Lets go of somebody who came just now.
+    #[tactic(auto, using(crate::proofs::ControlLemmas::leaves_none))]
+    fn turn_away(&mut self, slot: usize)
+        ensures gone { (now number : ℕ) → (before : Slab Seat) → IsNew now number before (seats_of self.old.callers) slot (asking at_start)
+            → SameValues before (seats_of self.new.callers) }
+        ensures ordering { ordering_of self.new.callers ≡ ordering_of self.old.callers }
+        ensures places { self.new.streams ≡ self.old.streams }
+        ensures same { (self.new.is_stopping ≡ self.old.is_stopping) × (self.new.is_paused ≡ self.old.is_paused) × (self.new.is_over ≡ self.old.is_over) }
+    {
+        self.callers.fail(slot);
+        let _ = self.callers.remove(slot);
+    }
+
+    /// Whether orders are carried out, and there is none yet.
+    pub fn is_idle(&self) -> bool
+        ensures idle { result ≡ true → (self.now.is_paused ≡ false) × (self.now.is_over ≡ false) × IsIdle self.now.callers }
+        ensures due { result ≡ false → (self.now.is_paused ≡ true) ⊎ ((self.now.is_over ≡ true) ⊎ IsDue self.now.callers) }
+    {
+        !self.is_paused
+            && !self.is_over
+            && (self.callers.is_ordering() || !self.callers.has_waiting(true))
+    }
+
+    /// Whether an order is carried out or waits.
+    pub fn has_orders(&self) -> bool
+        ensures none { result ≡ false → HasNoOrder self.now.callers }
+        ensures some { result ≡ true → HasOrder self.now.callers }
+    {
+        self.callers.is_ordering() || self.callers.has_waiting(true)
+    }
+
+    /// Hears what has come of somebody's line, and writes what is left of the answer, as far as the socket goes along.
+    pub fn serve(&mut self, alloc: Global, slot: usize, buffer: &mut [u8])
+        ensures served { ServesAt (slice_get self.old.streams.items slot) (seats_of self.old.callers) (seats_of self.new.callers) slot }
+        ensures ordering { ordering_of self.new.callers ≡ ordering_of self.old.callers }
+        ensures others { (other : ℕ) → other ≢ slot → slice_get self.new.streams.items other ≡ slice_get self.old.streams.items other }
+        ensures same { (self.new.is_stopping ≡ self.old.is_stopping) × (self.new.is_paused ≡ self.old.is_paused) × (self.new.is_over ≡ self.old.is_over) }
+    {
+        if slot >= self.streams.len() {
+            return;
+        }
+        if let Some(stream) = &mut self.streams[slot] {
+            hear(&mut self.callers, alloc, slot, stream, buffer);
+            tell(&mut self.callers, slot, stream);
+        }
+    }
+
+    /// Tells somebody that what was under way is finished, where an end was asked for and somebody was there to finish it, and
+    /// writes what is left to tell.
+    pub fn tell_last(&mut self, alloc: Global, slot: usize, is_deserted: bool, buffer: &mut [u8])
+        ensures told { TellsLast (self.old.is_stopping && not is_deserted) (slice_get self.old.streams.items slot) (seats_of self.old.callers) (seats_of self.new.callers) slot }
+    {
+        let is_told = self.is_stopping && !is_deserted;
+        self.tell_done(alloc, slot, is_told);
+        self.serve(alloc, slot, buffer);
+    }
+
+    // What somebody asked for is done, where that is to be told. Without memory for the word nothing is told.
+    fn tell_done(&mut self, alloc: Global, slot: usize, is_told: bool)
+        ensures told { TellsDone is_told (seats_of self.old.callers) (seats_of self.new.callers) slot }
+        ensures places { self.new.streams ≡ self.old.streams }
+    {
+        if is_told {
+            let mut text = Vec::new(alloc);
+            if put_ok(&mut text).is_ok() {
+                self.callers.answer(slot, text);
+            }
+        }
+    }
+
+    /// Lets go of somebody who is over, and closes the socket; whether there was one.
+    #[tactic(auto, using(crate::proofs::ControlLemmas::none_there, crate::proofs::ControlLemmas::none_past, crate::proofs::PlaceLemmas::elsewhere))]
+    pub fn let_go(&mut self, slot: usize) -> bool
+        ensures value { result ≡ is_over_at (get (seats_of self.old.callers) slot) }
+        ensures gone { result ≡ true → Updates (seats_of self.old.callers) (seats_of self.new.callers) slot None }
+        ensures closed { result ≡ true → IsOpen self.new.streams.items slot → ⊥ }
+        ensures others { (other : ℕ) → other ≢ slot → slice_get self.new.streams.items other ≡ slice_get self.old.streams.items other }
+        ensures not { result ≡ false → self.new ≡ self.old }
+        ensures ordering { ordering_of self.new.callers ≡ ordering_of self.old.callers }
+        ensures same { (self.new.is_stopping ≡ self.old.is_stopping) × (self.new.is_paused ≡ self.old.is_paused) × (self.new.is_over ≡ self.old.is_over) }
+    {
+        if !self.callers.remove(slot) {
+            return false;
+        }
+        if slot < self.streams.len() {
+            self.streams[slot] = None;
+        }
+        true
+    }
+}
+
+// A place for the socket of each.
+fn no_streams(alloc: Global) -> Result<Vec<Option<UnixStream>>, AllocError>
+    ensures places { IfOk result (λ v. length v.items ≡ 64) }
+{
+    let mut streams = Vec::with_capacity(alloc, CALLERS)?;
+    for _ in 0..CALLERS {
+        streams.push(None)?;
+    }
+    Ok(streams)
+}
+
+// Hears what has come of somebody's line.
+fn hear<I: Read>(
+    callers: &mut Callers,
+    alloc: Global,
+    slot: usize,
+    reader: &mut I,
+    buffer: &mut [u8],
+)
+    ensures heard { IsHeard (seats_of callers.old) (seats_of callers.new) slot (I.remaining reader.old) (I.remaining reader.new) }
+    ensures ordering { ordering_of callers.new ≡ ordering_of callers.old }
+{
+    match reader.read(buffer) {
+        Ok(0) => callers.close(slot),
+        Ok(count) => callers.hear(alloc, slot, &buffer[..count]),
+        Err(error) => match error.kind() {
+            ErrorKind::WouldBlock | ErrorKind::Interrupted => {}
+            _ => callers.fail(slot),
+        },
+    }
+}
+
+// Writes what is left of somebody's answer. One to whom nothing is left to write is over, where there was an answer.
+fn tell<W: Write>(callers: &mut Callers, slot: usize, writer: &mut W)
+    ensures told { IsTold (seats_of callers.old) (seats_of callers.new) slot (W.contents writer.old) (W.contents writer.new) }
+    ensures out { left_at (get (seats_of callers.old) slot) ≡ [] → Happens (seats_of callers.old) (seats_of callers.new) slot (wrote 0) }
+    ensures ordering { ordering_of callers.new ≡ ordering_of callers.old }
+{
+    let left = callers.unwritten(slot);
+    if left.is_empty() {
+        callers.wrote(slot, 0);
+        return;
+    }
+    match writer.write(left) {
+        Ok(0) => callers.fail(slot),
+        Ok(count) => callers.wrote(slot, count),
+        Err(error) => match error.kind() {
+            ErrorKind::WouldBlock | ErrorKind::Interrupted => {}
+            _ => callers.fail(slot),
+        },
+    }
+}

@@ -1,0 +1,27 @@
+-- The new password that `client` sends: a text of the command line, or the one line of a file or of standard input.
+use Rattle.std.specs.Prelude.{◌≡◌, ◌⊎◌, ◌<◌, ◌==◌, ℕ, false, List, [], ◌∷◌, ◌++◌, length}
+use Rattle.std.specs.List.{list_any}
+use Rattle.chpw_invocation.specs.declared.invocation.PasswordSource.{PasswordSource}
+use Rattle.chpw_invocation.specs.declared.invocation.PasswordSource.TheVariants as source
+
+abbrev pub EndsIn : ℕ → List ℕ → Type 0
+EndsIn byte bytes = (front : List ℕ) × (bytes ≡ front ++ byte ∷ [])
+
+-- the bytes without one such byte at their end, where it stands there
+abbrev pub IsWithoutLast : ℕ → List ℕ → List ℕ → Type 0
+IsWithoutLast byte bytes rest = (bytes ≡ rest ++ byte ∷ []) ⊎ ((bytes ≡ rest) × ¬ (EndsIn byte bytes))
+
+-- the bytes without a newline (10) at their end, and without a carriage return (13) before that
+abbrev pub IsWithoutEnd : List ℕ → List ℕ → Type 0
+IsWithoutEnd bytes line = ((front : List ℕ) × (bytes ≡ front ++ 10 ∷ []) × IsWithoutLast 13 front line)
+    ⊎ ((bytes ≡ line) × ¬ (EndsIn 10 bytes))
+
+-- that is a line, and all that there is
+pub record IsOnlyLine (bytes line : List ℕ) : Type 0 where
+  pub without : IsWithoutEnd bytes line
+  pub some : 0 < length line
+  pub one : list_any (λ b. b == 10) line ≡ false
+
+abbrev pub IsPassword : PasswordSource → List ℕ → Type 0
+IsPassword (source.Text text) password = password ≡ text.now
+IsPassword other password = (bytes : List ℕ) × IsOnlyLine bytes password

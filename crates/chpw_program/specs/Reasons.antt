@@ -1,0 +1,20 @@
+-- Why a fault came, as it is told behind the fault's line.
+use Rattle.std.specs.Prelude.{ℕ, Bool, List, ◌++◌, codes, string_bytes, nat_lt}
+use Rattle.std.specs.Fmt.{decimal}
+use Rattle.chpw_program.specs.declared.reasons.Reason.{Reason}
+use Rattle.chpw_program.specs.declared.reasons.Reason.TheVariants.{Missing, NoFolder, Forbidden, Folder, Special, Short, Held, InWords, InUse, Privileged}
+
+abbrev pub line_of : Reason → List ℕ
+line_of (Missing file) = file.now ++ codes ": no such file"
+line_of (NoFolder file) = file.now ++ codes ": no such folder"
+line_of (Forbidden file) = file.now ++ codes ": permission denied"
+line_of (Folder file) = file.now ++ codes ": a folder"
+line_of (Special file) = file.now ++ codes ": not a regular file"
+line_of (Short file) = file.now ++ codes ": fewer than 32 bytes"
+line_of (Held file) = file.now ++ codes ": another process has it"
+line_of (InWords file words) = file.now ++ (codes ": " ++ string_bytes words)
+line_of (InUse port) = codes "port " ++ (decimal port ++ codes ": in use")
+line_of (Privileged port) = codes "port " ++ (decimal port ++ codes ": a privilege is wanted below port 1024")
+
+abbrev pub is_privileged : ℕ → Bool
+is_privileged port = nat_lt port 1024

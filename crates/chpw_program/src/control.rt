@@ -1,0 +1,114 @@
+//! `control`: a command for a running service, and what the service answers.
+ghost use Rattle.std.specs.Prelude.{◌≡◌, ◌==◌, true, IfOk, IfSome, string_bytes};
+ghost use Rattle.std.specs.Io.KnownBytes.{Appends};
+ghost use Rattle.chpw_program.specs.Controlling as controlling;
+ghost use Rattle.chpw_program.specs.Controlling.{IsAnswered, ending_by, line_of, says_ok};
+
+use crate::ending::Ending;
+use chpw_commands::DrillFault;
+use chpw_invocation::{ControlCommand, ControlOptions};
+use std::alloc::{AllocError, Global};
+use std::io::{self, ErrorKind, Read, Write};
+use std::net::Net;
+use std::os::unix::net::UnixStream;
+
+/// Sends the command to the service that listens at the socket, prints what it answers, and ends by that.
+pub fn send_command<'a, R: Net + Print + AllocGlobal>(
+    rt: &R,
+    options: ControlOptions<'a>,
+) -> Ending<'a>
+    ensures broken { controlling.is_broken options.entry.command ≡ true → result ≡ Ending.BadArgument }
+{
+    if is_broken(&options.command) {
+        return Ending::BadArgument;
+    }
+    match UnixStream::connect(rt, options.socket) {
+        Ok(stream) => tell_service(
+            rt.alloc(),
+            &options.command,
+            &mut &stream,
+            &mut &stream,
+            &mut io::writer(rt),
+        ),
+        Err(_) => Ending::Unconnected,
+    }
+}
+
+// Whether its file has a newline.
+fn is_broken(command: &ControlCommand<'_>) -> bool
+    ensures value { result ≡ controlling.is_broken command.now }
+{
+    match command.file() {
+        None => false,
+        Some(file) => file.as_bytes().contains(&b'\n'),
+    }
+}
+
+/// Writes the command's line to a service, and what the service answers to `out`, and ends by that.
+pub fn tell_service<'a, S: Write, A: Read, W: Write>(
+    alloc: Global,
+    command: &ControlCommand<'_>,
+    service: &mut S,
+    answers: &mut A,
+    out: &mut W,
+) -> Ending<'a>
+    ensures said { IsAnswered result
+        → Appends (S.contents service.old) (S.contents service.new) (line_of command.now) }
+    ensures ends { IsAnswered result → IfSome (A.remaining answers.old) (λ answer. result ≡ ending_by answer) }
+    ensures printed { IsAnswered result
+        → IfSome (A.remaining answers.old) (Appends (W.contents out.old) (W.contents out.new)) }
+{
+    let Ok(line) = command_line(alloc, command) else {
+        return Ending::Early(DrillFault::Memory);
+    };
+    if service.write_all(line.as_bytes()).is_err() {
+        return Ending::Unanswered;
+    }
+    let mut answer = Vec::new(alloc);
+    match answers.read_to_end(&mut answer) {
+        Ok(_) => ended(answer.as_slice(), out),
+        Err(error) => broken_off(answer.as_slice(), &error, out),
+    }
+}
+
+fn command_line(alloc: Global, command: &ControlCommand<'_>) -> Result<String, AllocError>
+    ensures value { IfOk result (λ line. string_bytes line ≡ line_of command.now) }
+{
+    match command.file() {
+        None => format!(in alloc; "{}\n", command.word()),
+        Some(file) => format!(in alloc; "{} {file}\n", command.word()),
+    }
+}
+
+// Prints a whole answer, and ends by it.
+fn ended<'a, W: Write>(answer: &[u8], out: &mut W) -> Ending<'a>
+    ensures ends { IsAnswered result → result ≡ ending_by answer.now }
+    ensures printed { IsAnswered result → Appends (W.contents out.old) (W.contents out.new) answer.now }
+{
+    if answer.is_empty() {
+        return Ending::Unanswered;
+    }
+    match out.write_all(answer) {
+        Err(_) => Ending::Early(DrillFault::Write),
+        Ok(()) if is_ok(answer) => Ending::Good,
+        Ok(()) => Ending::Refused,
+    }
+}
+
+// Whether its last line is `ok`.
+fn is_ok(answer: &[u8]) -> bool
+    ensures value { result ≡ says_ok answer.now }
+{
+    answer == b"ok\n".as_slice() || answer.ends_with(b"\nok\n")
+}
+
+// Prints what came of an answer that broke off.
+fn broken_off<'a, W: Write>(answer: &[u8], error: &io::Error, out: &mut W) -> Ending<'a>
+    ensures unanswered { IsAnswered result → ⊥ }
+{
+    match out.write_all(answer) {
+        Err(_) => Ending::Early(DrillFault::Write),
+        Ok(()) if error.kind() == ErrorKind::OutOfMemory => Ending::Early(DrillFault::Memory),
+        Ok(()) => Ending::Unanswered,
+    }
+}

@@ -1,0 +1,11 @@
+pub mod WorkedReload
+pub mod KeyLemmas
+pub mod ReloadLemmas
+pub mod GoingLemmas
+pub mod CompactingLemmas
+pub mod PartsLemmas
+pub mod WalkLemmas
+pub mod RunLemmas
+pub mod StartingLemmas
+pub mod AlikeLemmas
+pub mod OnceLemmas

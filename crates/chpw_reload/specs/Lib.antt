@@ -1,0 +1,10 @@
+pub mod Next
+pub mod Comparing
+pub mod Compacting
+pub mod Reasons
+pub mod Reloading
+pub mod Starting
+pub mod Reloads
+pub mod Laws
+pub mod ReloadRuns
+pub mod RunLaws

@@ -1,0 +1,40 @@
+-- Why a reload is refused, and how that is printed.
+use Rattle.std.specs.Prelude.{ℕ, ◌+◌, min, List, ◌++◌, codes}
+use Rattle.chpw_rules.specs.declared.name.Name.{Name}
+use Rattle.chpw_printing.specs.Quoting.{name_text}
+use Rattle.chpw_journal.specs.declared.fault.RestoreFault.{RestoreFault}
+use Rattle.chpw_journal.specs.declared.fault.RestoreFault.TheVariants as journal
+use Rattle.chpw_journal.specs.Restoring as restoring
+use Rattle.chpw_reload.specs.declared.fault.ReloadFault.{ReloadFault}
+use Rattle.chpw_reload.specs.declared.fault.ReloadFault.TheVariants.{Realm, Journal, Keys, Limits, Memory}
+
+-- a fault of a journal
+abbrev pub fault_of : RestoreFault → ReloadFault
+fault_of (journal.BadRecord n) = Journal (journal.BadRecord n)
+fault_of (journal.WrongVersion n) = Journal (journal.WrongVersion n)
+fault_of (journal.UnknownPrincipal n) = Journal (journal.UnknownPrincipal n)
+fault_of journal.CannotRead = Journal journal.CannotRead
+fault_of journal.Memory = Memory
+
+-- a record's number behind others, as far as 64 bits have it
+abbrev pub number_behind : ℕ → ℕ → ℕ
+number_behind records n = min (records + n) 18446744073709551615
+
+-- a fault that was found behind so many records
+abbrev pub fault_behind : ℕ → RestoreFault → RestoreFault
+fault_behind records (journal.BadRecord n) = journal.BadRecord (number_behind records n)
+fault_behind records (journal.WrongVersion n) = journal.WrongVersion (number_behind records n)
+fault_behind records (journal.UnknownPrincipal n) = journal.UnknownPrincipal (number_behind records n)
+fault_behind records journal.CannotRead = journal.CannotRead
+fault_behind records journal.Memory = journal.Memory
+
+abbrev pub keys_text : Name → List ℕ
+keys_text name = codes "other keys of " ++ name_text name
+
+-- a fault as it is printed
+abbrev pub fault_text : ReloadFault → List ℕ
+fault_text Realm = codes "another realm"
+fault_text (Journal fault) = restoring.fault_text fault
+fault_text (Keys name) = keys_text name
+fault_text Limits = codes "too many principals"
+fault_text Memory = codes "memory"

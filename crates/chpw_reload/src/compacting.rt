@@ -1,0 +1,22 @@
+//! When a compact journal may be made.
+ghost use Rattle.std.specs.Prelude.{◌≡◌, IfOk, true};
+ghost use Rattle.chpw_reload.specs.Compacting.{GoesWith};
+
+use crate::lacking::lacked;
+use chpw_table::Table;
+use std::alloc::{AllocError, Global};
+
+/// Whether a compact journal may be made of the held table over a base, the table that the configuration opens with now:
+/// they are of one realm and keep as many keys, each of the base's principals is held, and its count of new keys isn't
+/// greater than the held one. `laws::compacting` and chpw_journal's laws ask for this.
+pub fn goes_with(alloc: Global, base: &Table, held: &Table) -> Result<bool, AllocError>
+    ensures goes { IfOk result (λ goes. goes ≡ true → GoesWith base.now.state held.now.state) }
+{
+    if base.realm() != held.realm()
+        || base.policy().depth != held.policy().depth
+        || base.count() > held.count()
+    {
+        return Ok(false);
+    }
+    Ok(lacked(alloc, base, held)?.is_empty())
+}

@@ -1,0 +1,75 @@
+//! Why a reload is refused.
+ghost use Rattle.std.specs.Prelude.{◌≡◌, ◌++◌, OnOk};
+ghost use Rattle.chpw_reload.specs.Reasons.{fault_of, fault_text, keys_text};
+ghost use Rattle.chpw_journal.specs.Restoring.{fault_text as restore_text};
+
+use chpw_journal::RestoreFault;
+use chpw_printing::put_name;
+use chpw_rules::Name;
+use std::alloc::AllocError;
+
+/// Why a reload is refused, in the order of the checks. The service then goes on with the table that it has.
+#[derive(Drop)]
+pub enum ReloadFault {
+    /// The new configuration is of another realm.
+    Realm,
+    /// The journal can't be put back onto the new configuration: its first fault, and the number of its record
+    /// in the whole journal.
+    Journal(RestoreFault),
+    /// This principal's newest keys aren't those that the new configuration and the journal give.
+    Keys(Name),
+    /// The principals of both are more than a configuration has.
+    Limits,
+    /// A growth was refused.
+    Memory,
+}
+
+impl From<AllocError> for ReloadFault {
+    ghost use Rattle.std.specs.Prelude.{◌≡◌};
+    ghost use Rattle.chpw_reload.specs.declared.fault.ReloadFault.TheVariants.{Memory};
+
+    ghost from_gives = { λ _ fault. fault ≡ Memory };
+
+    fn from(_error: AllocError) -> ReloadFault {
+        ReloadFault::Memory
+    }
+}
+
+impl ReloadFault {
+    /// A fault of a journal.
+    pub(crate) fn of(fault: RestoreFault) -> ReloadFault
+        ensures value { result ≡ fault_of fault }
+    {
+        match fault {
+            RestoreFault::Memory => ReloadFault::Memory,
+            fault => ReloadFault::Journal(fault),
+        }
+    }
+}
+
+/// Puts the fault at the end of a text, as it is printed: `other keys of alice`.
+pub fn put_fault(text: &mut Vec<u8>, fault: &ReloadFault) -> Result<(), AllocError>
+    ensures value { OnOk result (text.new.items ≡ text.old.items ++ fault_text fault.now) }
+{
+    match fault {
+        ReloadFault::Realm => text.extend_from_slice(b"another realm"),
+        ReloadFault::Journal(fault) => put_journal_fault(text, *fault),
+        ReloadFault::Keys(name) => put_keys_fault(text, name),
+        ReloadFault::Limits => text.extend_from_slice(b"too many principals"),
+        ReloadFault::Memory => text.extend_from_slice(b"memory"),
+    }
+}
+
+fn put_keys_fault(text: &mut Vec<u8>, name: &Name) -> Result<(), AllocError>
+    ensures value { OnOk result (text.new.items ≡ text.old.items ++ keys_text name.now) }
+{
+    text.extend_from_slice(b"other keys of ")?;
+    put_name(text, name)
+}
+
+fn put_journal_fault(text: &mut Vec<u8>, fault: RestoreFault) -> Result<(), AllocError>
+    ensures value { OnOk result (text.new.items ≡ text.old.items ++ restore_text fault) }
+{
+    let words = fault.to_string(*text.allocator())?;
+    text.extend_from_slice(words.as_bytes())
+}

@@ -1,0 +1,18 @@
+//! A reload: the table that the next desk opens with, made of the closed one, the new configuration and all of the
+//! journal.
+#![tactic(auto)]
+
+mod compacting;
+mod comparing;
+mod fault;
+mod fitting;
+mod lacking;
+pub mod laws;
+mod next;
+mod reloading;
+mod renewal;
+
+pub use compacting::goes_with;
+pub use fault::{ReloadFault, put_fault};
+pub use reloading::{Refused, Reloaded, finish};
+pub use renewal::{Renewal, prepare};

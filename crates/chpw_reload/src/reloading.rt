@@ -1,0 +1,161 @@
+//! The table that the next desk opens with.
+ghost use Rattle.std.specs.Prelude.{◌≡◌, ◌≤◌, ◌^◌, length, IfOk, IfErr, OnOk};
+ghost use Rattle.chpw_rules.specs.declared.config.Config.{Config as Settings};
+ghost use Rattle.chpw_rules.specs.declared.name.Name.{Name as TheName};
+ghost use Rattle.chpw_reload.specs.Comparing.{HoldAlike};
+ghost use Rattle.chpw_reload.specs.Next.{lacked as lacked_names};
+ghost use Rattle.chpw_reload.specs.Reasons.{fault_behind as fault_after, number_behind as number_after};
+ghost use Rattle.chpw_reload.specs.Reloading.{IsRefused, IsReloaded};
+ghost use Rattle.chpw_reload.specs.Starting.{IsRefusedOver, IsStarted, IsStartedFrom};
+
+use crate::comparing::first_apart;
+use crate::fault::ReloadFault;
+use crate::fitting::fitting;
+use crate::lacking::lacked;
+use crate::next::next_config;
+use crate::renewal::{Renewal, read_on};
+use chpw_journal::RestoreFault;
+use chpw_rules::{Config, Name};
+use chpw_table::{MOST_CARRIED, Table};
+use std::alloc::Global;
+use std::io::Read;
+
+/// The table that the next desk opens with, and the principals in it that the new configuration lacks.
+#[derive(Drop)]
+pub struct Reloaded {
+    pub table: Table,
+    pub lacked: Vec<Name>,
+}
+
+/// A reload that was refused, and the closed table as it was.
+#[derive(Drop)]
+pub struct Refused {
+    pub fault: ReloadFault,
+    pub closed: Table,
+}
+
+/// The table that the next desk opens with, once a history is closed. The rest of the journal is read from behind
+/// the bytes that the renewal has kept, to its end.
+///
+/// It has the new settings; the principals of the new configuration with the journal's changes, and those of the
+/// closed table that the new configuration lacks; the greater of the counts of new keys. Used ids, clock and quiet
+/// time are the closed table's. Of several faults the first in `ReloadFault`'s order is given.
+pub fn finish<F: Read + Drop>(
+    alloc: Global,
+    renewal: Renewal,
+    rest: F,
+    closed: Table,
+) -> Result<Reloaded, Refused>
+    ensures reloaded { IfOk result (IsReloaded renewal (F.remaining rest) closed) }
+    ensures refused { IfErr result (λ refused.
+        IsRefused renewal (F.remaining rest) closed refused.fault) }
+    ensures unchanged { IfErr result (λ refused. refused.closed ≡ closed) }
+{
+    match started(alloc, renewal, rest, &closed) {
+        Ok(started) => Ok(Reloaded {
+            table: started.table.going_on_from(closed),
+            lacked: started.lacked,
+        }),
+        Err(fault) => Err(Refused { fault, closed }),
+    }
+}
+
+// The next configuration's table, before the closed one goes on in it.
+fn started<F: Read + Drop>(
+    alloc: Global,
+    renewal: Renewal,
+    rest: F,
+    closed: &Table,
+) -> Result<Reloaded, ReloadFault>
+    ensures started { IfOk result (IsStartedFrom renewal (F.remaining rest) closed.now.state) }
+    ensures refused { IfErr result (IsRefused renewal (F.remaining rest) closed.now) }
+{
+    if closed.realm() != renewal.settings.realm.as_slice() {
+        return Err(ReloadFault::Realm);
+    }
+    let Renewal {
+        settings,
+        table,
+        records,
+        kept: _,
+    } = renewal;
+    match read_on(alloc, table, rest) {
+        Ok(restored) => start_over(alloc, settings, closed, &restored.table),
+        Err(fault) => Err(ReloadFault::of(fault_behind(records, fault))),
+    }
+}
+
+// A fault that was found behind so many records.
+fn fault_behind(records: u64, fault: RestoreFault) -> RestoreFault
+    ensures value { result ≡ fault_after records fault }
+{
+    match fault {
+        RestoreFault::BadRecord(n) => RestoreFault::BadRecord(number_behind(records, n)),
+        RestoreFault::WrongVersion(n) => RestoreFault::WrongVersion(number_behind(records, n)),
+        RestoreFault::UnknownPrincipal(n) => {
+            RestoreFault::UnknownPrincipal(number_behind(records, n))
+        }
+        RestoreFault::CannotRead => RestoreFault::CannotRead,
+        RestoreFault::Memory => RestoreFault::Memory,
+    }
+}
+
+fn number_behind(records: u64, number: u64) -> u64
+    ensures value { result ≡ number_after records number }
+{
+    records.saturating_add(number)
+}
+
+// The next configuration's table, made of the closed one and this renewed one.
+fn start_over(
+    alloc: Global,
+    settings: Config,
+    closed: &Table,
+    renewed: &Table,
+) -> Result<Reloaded, ReloadFault>
+    ensures started { IfOk result (IsStarted settings closed.now.state renewed.now.state) }
+    ensures refused { IfErr result
+        (IsRefusedOver settings closed.now.state renewed.now.state) }
+{
+    if let Err(fault) = check_keys(closed, renewed) {
+        return Err(fault);
+    }
+    if closed.ids_held() > MOST_CARRIED {
+        return Err(ReloadFault::Memory);
+    }
+    start_next(alloc, settings, closed, renewed)
+}
+
+// No name has other keys in both.
+fn check_keys(closed: &Table, renewed: &Table) -> Result<(), ReloadFault>
+    ensures alike { OnOk result ((name : TheName) → HoldAlike closed.now.state renewed.now.state name) }
+    ensures refused { IfErr result (λ fault. (settings : Settings)
+        → IsRefusedOver settings closed.now.state renewed.now.state fault) }
+{
+    match first_apart(closed, renewed)? {
+        None => Ok(()),
+        Some(name) => Err(ReloadFault::Keys(name.clone()?)),
+    }
+}
+
+// The next configuration's table, where it is within the limits.
+fn start_next(
+    alloc: Global,
+    settings: Config,
+    closed: &Table,
+    renewed: &Table,
+) -> Result<Reloaded, ReloadFault>
+    requires alike { (name : TheName) → HoldAlike closed.now.state renewed.now.state name }
+    requires few { length closed.now.state.used ≤ 2 ^ 31 }
+    ensures started { IfOk result (IsStarted settings closed.now.state renewed.now.state) }
+    ensures refused { IfErr result
+        (IsRefusedOver settings closed.now.state renewed.now.state) }
+{
+    let lacked = lacked(alloc, closed, renewed)?;
+    let config = next_config(alloc, settings, closed, renewed, lacked.as_slice())?;
+    let Some(config) = fitting(config) else {
+        return Err(ReloadFault::Limits);
+    };
+    let table = Table::start(alloc, config, closed.quiet_until())?;
+    Ok(Reloaded { table, lacked })
+}

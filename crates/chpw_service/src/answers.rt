@@ -1,0 +1,74 @@
+//! Answers to orders.
+
+use crate::compacting::CompactFault;
+use crate::fault::ServeFault;
+use crate::orders::RenewFault;
+use chpw_control::{put_error, put_ok};
+use chpw_reload::{ReloadFault, put_fault};
+use std::alloc::{AllocError, Global};
+use std::str;
+
+/// The answer to a reload that was refused before the desk was closed.
+pub(crate) fn unrenewed(alloc: Global, fault: &RenewFault<'_>) -> Result<Vec<u8>, AllocError> {
+    match fault {
+        RenewFault::Start(fault) => refused(alloc, fault.to_string(alloc)?.as_str()),
+        RenewFault::Config(words) => refused(alloc, words.as_str()),
+        RenewFault::Reload(fault) => unreloaded(alloc, fault),
+    }
+}
+
+/// The answer to a reload that was refused.
+pub(crate) fn unreloaded(alloc: Global, fault: &ReloadFault) -> Result<Vec<u8>, AllocError> {
+    let mut words = Vec::new(alloc);
+    put_fault(&mut words, fault)?;
+    refused(alloc, str::from_utf8(&words).unwrap_or(""))
+}
+
+/// The answer to whoever had the log opened anew.
+pub(crate) fn reopened(
+    alloc: Global,
+    opened: Result<(), ServeFault<'_>>,
+) -> Result<Vec<u8>, AllocError> {
+    match opened {
+        Ok(()) => done(alloc),
+        Err(fault) => refused(alloc, fault.to_string(alloc)?.as_str()),
+    }
+}
+
+/// The order is carried out.
+pub(crate) fn done(alloc: Global) -> Result<Vec<u8>, AllocError> {
+    let mut text = Vec::new(alloc);
+    put_ok(&mut text)?;
+    Ok(text)
+}
+
+/// A file can't be written.
+pub(crate) fn unwritten(alloc: Global, path: &str) -> Result<Vec<u8>, AllocError> {
+    refused(
+        alloc,
+        ServeFault::CannotWrite(path).to_string(alloc)?.as_str(),
+    )
+}
+
+/// The answer to a compact journal that was refused before the desk was closed.
+pub(crate) fn uncompacted(alloc: Global, fault: &CompactFault<'_>) -> Result<Vec<u8>, AllocError> {
+    match fault {
+        CompactFault::Unread(fault) => refused(alloc, fault.to_string(alloc)?.as_str()),
+        CompactFault::NoCopy(copy) => unwritten(alloc, copy.as_str()),
+    }
+}
+
+/// It is refused, for this reason.
+pub(crate) fn refused(alloc: Global, words: &str) -> Result<Vec<u8>, AllocError> {
+    let mut text = Vec::new(alloc);
+    put_error(&mut text, words)?;
+    Ok(text)
+}
+
+/// An answer; one that memory lacks for is cut off, which says nothing.
+pub(crate) fn told(alloc: Global, answer: Result<Vec<u8>, AllocError>) -> Vec<u8> {
+    match answer {
+        Ok(text) => text,
+        Err(_) => Vec::new(alloc),
+    }
+}

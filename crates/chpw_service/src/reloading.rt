@@ -1,0 +1,111 @@
+//! The opening of a desk behind a reload.
+ghost use Rattle.std.specs.Prelude.{◌≡◌, ◌≤◌, ◌<◌, ◌-◌, ◌^◌, IfOk, IfErr, false};
+ghost use Rattle.chpw_book.specs.Starting.{table_of, workers_of};
+ghost use Rattle.chpw_reload.specs.ReloadRuns.{GoesOn};
+ghost use Rattle.chpw_service.specs.declared.fault.ServeFault.TheVariants.{Memory};
+
+use crate::answers::{told, unreloaded};
+use crate::fault::ServeFault;
+use crate::histories::{Hall, Opening, Rules, next_opening};
+use crate::notices::Notice;
+use crate::orders::Anew;
+use crate::renewed::Renewed;
+use chpw_book::UnnamedDesk;
+use chpw_control::put_ok;
+use chpw_journal::FileSink;
+use chpw_pool::MachineClock;
+use chpw_printing::put_name;
+use chpw_reload::{Refused, Reloaded, finish};
+use chpw_rules::Name;
+use chpw_serve::Clock as _;
+use chpw_table::{JournalSink, Table};
+use std::alloc::{AllocError, Global};
+use std::fs::File;
+use std::sync::Wait;
+use std::time::Clock;
+
+/// What the next desk opens with, where the configuration was read anew: what the closed table becomes with it and the rest of
+/// the journal, by the new rules; or the closed table, by the present rules, where the reload is refused. Whoever asked for it
+/// is answered.
+pub(crate) fn reload<'a, 'l, R: Wait + Clock + Eprint + AllocGlobal, T: Clock>(
+    rt: &R,
+    time: &T,
+    hall: &Hall<'l, R>,
+    rules: &mut Rules,
+    anew: Anew,
+    table: Table,
+    sink: FileSink<File>,
+) -> Result<Opening, ServeFault<'a>>
+    requires room { table.state.broken ≡ false
+        → ⟦<FileSink<File> as JournalSink>⟧.failed sink < 2 ^ 64 - 1 }
+    ensures goes_on { IfOk result (λ next. GoesOn table.state (table_of next.unnamed).state) }
+    ensures workers { IfOk result (λ next. workers_of next.unnamed ≡ hall.now.workers) }
+    ensures fault { IfErr result (λ fault. fault ≡ Memory) }
+{
+    let Anew {
+        renewed,
+        rest,
+        rules: next_rules,
+    } = anew;
+    match made_anew(rt.alloc(), renewed, rest, table) {
+        Ok(Reloaded { table, lacked }) => {
+            *rules = next_rules;
+            tell_reloaded(rt, time, hall, &table, &lacked);
+            Ok(Opening {
+                unnamed: UnnamedDesk::of(table, hall.workers),
+                sink,
+            })
+        }
+        Err(Refused { fault, closed }) => {
+            hall.log
+                .tell_rollover(MachineClock::new(time).now(), &closed);
+            let answer = unreloaded(rt.alloc(), &fault);
+            hall.engine.answer_order(rt, told(rt.alloc(), answer));
+            next_opening(closed, sink, hall.workers)
+        }
+    }
+}
+
+// What a closed table becomes with what was read anew, and the rest of the journal.
+fn made_anew(
+    alloc: Global,
+    renewed: Renewed,
+    rest: File,
+    closed: Table,
+) -> Result<Reloaded, Refused>
+    ensures goes_on { IfOk result (λ next. GoesOn closed.state next.table.state) }
+    ensures broken { IfOk result (λ next. next.table.state.broken ≡ closed.state.broken) }
+    ensures unchanged { IfErr result (λ refused. refused.closed ≡ closed) }
+{
+    finish(alloc, renewed.into_renewal(), rest, closed)
+}
+
+// Tells that the configuration was read anew: in the log, to whoever asked for it, and on standard error where the
+// configuration lacks principals.
+fn tell_reloaded<'l, R: Wait + Eprint + AllocGlobal, T: Clock>(
+    rt: &R,
+    time: &T,
+    hall: &Hall<'l, R>,
+    table: &Table,
+    lacked: &[Name],
+) {
+    let now = MachineClock::new(time).now();
+    hall.log.tell_reload(now, table);
+    if !lacked.is_empty() {
+        hall.log.tell(Notice::Lacked(lacked.len() as u64));
+    }
+    let answer = reloaded(rt.alloc(), lacked);
+    hall.engine.answer_order(rt, told(rt.alloc(), answer));
+}
+
+// The answer: a line for each principal that the configuration lacks.
+fn reloaded(alloc: Global, lacked: &[Name]) -> Result<Vec<u8>, AllocError> {
+    let mut text = Vec::new(alloc);
+    for name in lacked {
+        text.extend_from_slice(b"lacked ")?;
+        put_name(&mut text, name)?;
+        text.push(b'\n')?;
+    }
+    put_ok(&mut text)?;
+    Ok(text)
+}

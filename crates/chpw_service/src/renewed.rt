@@ -1,0 +1,45 @@
+//! A configuration that was read anew, between the thread that reads it and the one that opens the next desk.
+ghost use Rattle.std.specs.Prelude.{◌≡◌, List, Option, ℕ};
+ghost use Rattle.chpw_rules.specs.declared.config.Config.{Config as Settings};
+ghost use Rattle.chpw_reload.specs.Reloading.{IsPrepared};
+
+use chpw_reload::Renewal;
+use std::marker::Model;
+
+/// The table that a start would open with now. It keeps what it was prepared of: some configuration, and a journal.
+#[derive(Drop)]
+pub(crate) struct Renewed {
+    renewal: Renewal,
+}
+
+impl Model for Renewed {
+    ghost use Rattle.std.specs.Prelude.{List, Option, ℕ};
+    ghost use Rattle.chpw_rules.specs.declared.config.Config.{Config as Settings};
+    ghost use Rattle.chpw_reload.specs.declared.renewal.Renewal.{Renewal as TheRenewal};
+    ghost use Rattle.chpw_reload.specs.Reloading.{IsPrepared};
+
+    ghost Value = { TheRenewal };
+
+    ghost view = { λ r. r.renewal };
+
+    ghost invariant = { λ r. (file : Settings) × (journal : Option (List ℕ)) × IsPrepared file journal r.renewal };
+}
+
+impl Renewed {
+    /// What was prepared.
+    pub fn of(renewal: Renewal) -> Renewed
+        requires prepared { (file : Settings) × (journal : Option (List ℕ)) × IsPrepared file journal renewal }
+        ensures value { result ≡ renewal }
+    {
+        Renewed { renewal }
+    }
+
+    /// It was prepared.
+    pub fn into_renewal(self) -> Renewal
+        ensures value { result ≡ self }
+        ensures prepared { (file : Settings) × (journal : Option (List ℕ)) × IsPrepared file journal result }
+    {
+        let Renewed { renewal } = self;
+        renewal
+    }
+}

@@ -1,0 +1,168 @@
+//! The service's threads: the reactor, and whoever serves at the desks.
+ghost use Rattle.std.specs.Prelude.{◌≡◌, IfErr, IfSome, None, OnOk, length};
+ghost use Rattle.chpw_service.specs.Faults.{IsLate, told_as};
+
+use crate::fault::{LateFault, ServeFault};
+use crate::followed::{ControlTerms, Followed};
+use crate::histories::{Hall, Opened, Rules, serve_histories};
+use chpw_book::DeskName;
+use chpw_pool::{Attendant, Follower, Pool, PoolFault};
+use std::fs::{File, Files};
+use std::net::{Net, TcpListener, TcpStream};
+use std::sync::Wait;
+use std::thread::{self, Threads};
+use std::time::Clock;
+
+/// Serves from the first desk on, until no more messages come. That desk is given up where no thread for the sockets could
+/// be started.
+pub(crate) fn serve_from<
+    'a,
+    'l,
+    D: DeskName + Send + Sync,
+    R: Files<File = File>
+        + Net<Listener = TcpListener, Stream = TcpStream>
+        + Threads
+        + Wait
+        + Clock
+        + Print
+        + Eprint
+        + AllocGlobal
+        + Sync,
+    T: Clock + Sync,
+>(
+    rt: &R,
+    time: &T,
+    listener: &TcpListener,
+    hall: &Hall<'l, R>,
+    control: ControlTerms,
+    rules: Rules,
+    first: Opened<D>,
+    connections: u32,
+) -> Result<(), ServeFault<'a>>
+    requires passes { length first.passes.items ≡ hall.now.workers }
+    ensures fault { IfErr result IsLate }
+{
+    let followed = Followed::of(rt, time, hall.log, &hall.journal, hall.follower, control);
+    let mut first = Some(first);
+    let ended = serve_all(
+        rt,
+        time,
+        listener,
+        hall,
+        followed,
+        rules,
+        &mut first,
+        connections,
+    );
+    match first {
+        None => {}
+        Some(Opened { desk, passes }) => {
+            desk.abandon(rt);
+            drop(passes);
+        }
+    }
+    ended
+}
+
+// The reactor in a thread of its own, while this one serves at one desk after the other.
+fn serve_all<
+    'a,
+    'l,
+    D: DeskName + Send + Sync,
+    R: Files<File = File>
+        + Net<Listener = TcpListener, Stream = TcpStream>
+        + Threads
+        + Wait
+        + Clock
+        + Print
+        + Eprint
+        + AllocGlobal
+        + Sync,
+    T: Clock + Sync,
+    F: Follower + Attendant + Send + Drop,
+>(
+    rt: &R,
+    time: &T,
+    listener: &TcpListener,
+    hall: &Hall<'l, R>,
+    followed: F,
+    rules: Rules,
+    first: &mut Option<Opened<D>>,
+    connections: u32,
+) -> Result<(), ServeFault<'a>>
+    requires passes { IfSome first.old (λ opened. length opened.passes.items ≡ hall.now.workers) }
+    ensures fault { IfErr result IsLate }
+{
+    let ended = thread::scope(
+        thread::scope_env(),
+        rt,
+        move |scope| -> Result<(), LateFault>
+            requires { IfSome first.now (λ opened. length opened.passes.items ≡ hall.now.workers) }
+        {
+            let engine = &hall.engine;
+            if scope
+                .spawn(move || engine.react(rt, listener, connections, followed))
+                .is_err()
+            {
+                return Err(LateFault::Memory);
+            }
+            serve_or_desert(rt, time, hall, rules, first)
+        },
+    );
+    match ended {
+        Ok(()) if hall.engine.was_stopped(rt) => Ok(()),
+        Ok(()) => end(hall.engine.outcome(rt, connections)),
+        Err(late) => Err(late.fault()),
+    }
+}
+
+// Serves at one desk after the other. After a fault nobody is there to answer, and all connections end.
+fn serve_or_desert<
+    'l,
+    D: DeskName + Send + Sync,
+    R: Files<File = File> + Net + Threads + Wait + Clock + Print + Eprint + AllocGlobal + Sync,
+    T: Clock + Sync,
+>(
+    rt: &R,
+    time: &T,
+    hall: &Hall<'l, R>,
+    rules: Rules,
+    first: &mut Option<Opened<D>>,
+) -> Result<(), LateFault>
+    requires passes { IfSome first.old (λ opened. length opened.passes.items ≡ hall.now.workers) }
+{
+    let Some(opened) = first.take() else {
+        return Ok(());
+    };
+    match serve_histories(rt, time, hall, rules, opened) {
+        Ok(_) => Ok(()),
+        Err(fault) => {
+            hall.engine.desert(rt);
+            Err(LateFault::of(fault))
+        }
+    }
+}
+
+// Tells why the pool ended early.
+fn end<'a>(pool: Pool) -> Result<(), ServeFault<'a>>
+    ensures whole { OnOk result (pool.fault ≡ None) }
+    ensures fault { IfErr result (λ fault.
+        IfSome pool.fault (λ why. fault ≡ told_as why)) }
+    ensures late { IfErr result IsLate }
+{
+    match pool.fault {
+        None => Ok(()),
+        Some(fault) => Err(told(fault)),
+    }
+}
+
+/// The fault of a pool that ended early, as it is told.
+pub(crate) fn told<'a>(fault: PoolFault) -> ServeFault<'a>
+    ensures value { result ≡ told_as fault }
+    ensures late { IsLate result }
+{
+    match fault {
+        PoolFault::Accept => ServeFault::CannotListen,
+        PoolFault::Start | PoolFault::Memory => ServeFault::Memory,
+    }
+}

@@ -1,0 +1,77 @@
+//! A journal's bytes, put together from pieces.
+use crate::refusal::Refusal;
+use chpw_rules::Name;
+use chpw_table::{KeyRow, raise_bytes, record_bytes};
+use std::alloc::Global;
+
+// The kinds of records with a key: a change, and a base.
+const CHANGE_KIND: u8 = 1;
+
+const BASE_KIND: u8 = 3;
+
+/// The journal with these pieces: `nothing`; `NAME KVNO`, the record of a change, its keys' bytes of that number;
+/// `base NAME KVNO`, that of a base; `raise COUNT`, that of a raise.
+pub fn journal_of(alloc: Global, pieces: &str) -> Result<Vec<u8>, Refusal> {
+    let mut journal = Vec::new(alloc);
+    match add_pieces(alloc, &mut journal, pieces) {
+        Ok(()) => Ok(journal),
+        Err(refusal) => Err(refusal),
+    }
+}
+
+fn add_pieces(alloc: Global, journal: &mut Vec<u8>, pieces: &str) -> Result<(), Refusal> {
+    if pieces == "nothing" {
+        return Ok(());
+    }
+    for piece in pieces.split(", ") {
+        add_piece(alloc, journal, piece)?;
+    }
+    Ok(())
+}
+
+fn add_piece(alloc: Global, journal: &mut Vec<u8>, piece: &str) -> Result<(), Refusal> {
+    match piece.split_once(' ') {
+        None => Err(Refusal::NoSuchCase),
+        Some(("raise", count)) => {
+            journal
+                .extend_from_slice(&raise_bytes(number(count)?))
+                .map_err(Refusal::from)
+        }
+        Some(("base", words)) => add_key(alloc, journal, BASE_KIND, words),
+        Some(_) => add_key(alloc, journal, CHANGE_KIND, piece),
+    }
+}
+
+/// Adds a record of this kind with `NAME KVNO`.
+fn add_key(alloc: Global, journal: &mut Vec<u8>, kind: u8, words: &str) -> Result<(), Refusal> {
+    let Some((name, kvno)) = words.split_once(' ') else {
+        return Err(Refusal::NoSuchCase);
+    };
+    let Some(name) = Name::parse(alloc, name)? else {
+        return Err(Refusal::NoSuchCase);
+    };
+    let key = key(number(kvno)?);
+    let mut record = record_bytes(alloc, &name, &key)?;
+    if let Some(place) = record.as_mut_slice().get_mut(2) {
+        *place = kind;
+    }
+    journal.extend_from_slice(&record).map_err(Refusal::from)
+}
+
+fn key(kvno: u32) -> KeyRow {
+    let byte = (kvno % 256) as u8;
+    KeyRow {
+        kvno,
+        count: 4096,
+        aes128: [byte; 16],
+        aes256: [byte; 32],
+    }
+}
+
+/// The number that a word is.
+pub fn number(word: &str) -> Result<u32, Refusal> {
+    match word.parse::<u32>() {
+        Ok(number) => Ok(number),
+        Err(_) => Err(Refusal::NoSuchCase),
+    }
+}
