@@ -144,12 +144,12 @@ static int number_of(const char *line, size_t length, uint64_t *number)
     return 1;
 }
 
-/* puts the number among those that were asked */
+/* puts the number among those that were asked of this journal */
 static void add_ask(struct connection *connection, uint64_t number)
 {
     size_t place = connection->asks;
 
-    for (; place > 0 && connection->asked[place - 1] > number; place--)
+    for (; place > connection->covered && connection->asked[place - 1] > number; place--)
         connection->asked[place] = connection->asked[place - 1];
     connection->asked[place] = number;
     connection->asks++;
@@ -209,13 +209,15 @@ static int put_answers(struct connection *connection)
     return 0;
 }
 
-/* answers what was asked up to that length; -1 where the connection is over, as where its answers
-   aren't read */
+/* answers what is covered and what was asked up to that length; -1 where the connection is over, as
+   where its answers aren't read */
 static int answer(struct connection *connection, uint64_t length)
 {
     size_t done;
 
-    for (done = 0; done < connection->asks && connection->asked[done] <= length; done++) {
+    for (done = 0; done < connection->asks; done++) {
+        if (done >= connection->covered && connection->asked[done] > length)
+            break;
         if (ANSWERS_ROOM - connection->answers_length < LONGEST_ANSWER && put_answers(connection) < 0)
             return -1;
         if (ANSWERS_ROOM - connection->answers_length < LONGEST_ANSWER)
@@ -225,6 +227,7 @@ static int answer(struct connection *connection, uint64_t length)
                             connection->asked[done]);
     }
     connection->asks -= done;
+    connection->covered = 0;
     memmove(connection->asked, connection->asked + done,
             connection->asks * sizeof *connection->asked);
     return put_answers(connection);
@@ -256,18 +259,26 @@ size_t asks_files(const struct asks *asks, struct pollfd *files)
     return 1 + asks->count;
 }
 
-/* what happened to one; -1 where it is over */
-static int take_events(struct connection *connection, short events, struct asks *asks)
+/* takes what is asked on one; -1 where it is over */
+static int take_asks(struct connection *connection, struct asks *asks)
 {
     size_t before = connection->asks;
 
-    if ((events & POLLIN) != 0 && take_lines(connection) < 0)
+    if (take_lines(connection) < 0)
         return -1;
     if (connection->asks > before) {
         asks->is_asked = 1;
         if (connection->asked[connection->asks - 1] > asks->highest)
             asks->highest = connection->asked[connection->asks - 1];
     }
+    return 0;
+}
+
+/* what happened to one; -1 where it is over */
+static int take_events(struct connection *connection, short events, struct asks *asks)
+{
+    if ((events & POLLIN) != 0 && take_asks(connection, asks) < 0)
+        return -1;
     /* nobody is left who could read an answer */
     if ((events & (POLLHUP | POLLERR | POLLNVAL)) != 0 && (events & POLLIN) == 0)
         return -1;
@@ -295,6 +306,24 @@ int asks_take(struct asks *asks, const struct pollfd *files)
 void asks_try_again(struct asks *asks)
 {
     asks->is_resting = 0;
+}
+
+void asks_cover(struct asks *asks)
+{
+    size_t place;
+
+    if (asks->listener < 0)
+        return;
+    /* what was asked before the journal was another one may wait to be read */
+    take_connections(asks);
+    for (place = asks->count; place-- > 0;) {
+        struct connection *connection = &asks->connections[place];
+        if (take_asks(connection, asks) < 0 || is_over(connection))
+            end_connection(asks, place);
+        else
+            connection->covered = connection->asks;
+    }
+    asks->highest = 0;
 }
 
 void asks_answer(struct asks *asks, uint64_t length)

@@ -21,7 +21,9 @@ struct connection {
     int is_read;
     char line[LONGEST_LINE];
     size_t line_length;
-    /* in ascending order */
+    /* how many of what was asked, the first ones, are answered when the whole pass is over, whatever
+       their number; the others stand in ascending order */
+    size_t covered;
     uint64_t asked[MOST_ASKS];
     size_t asks;
     char answers[ANSWERS_ROOM];
@@ -37,7 +39,8 @@ struct asks {
     char *fault;
     struct connection connections[MOST_CONNECTIONS];
     size_t count;
-    /* whether something was asked, and the greatest length of all that was asked since it was 0 */
+    /* whether something was asked, and the greatest length of this journal of all that was asked since it
+       was 0 */
     int is_asked;
     uint64_t highest;
 };
@@ -58,7 +61,11 @@ int asks_take(struct asks *asks, const struct pollfd *files);
 /* connections that couldn't be taken are tried again */
 void asks_try_again(struct asks *asks);
 
-/* answers what was asked up to that length of the journal */
+/* a whole pass over another journal begins, whose table isn't read yet: it covers all that was asked
+   until now, of which no number is a length of that journal */
+void asks_cover(struct asks *asks);
+
+/* answers what the whole pass covered, which is over, and what was asked up to that length of the journal */
 void asks_answer(struct asks *asks, uint64_t length);
 
 /* ends all connections, and removes the socket */

@@ -6,30 +6,11 @@
 #include <sys/stat.h>
 #include <unistd.h>
 
-#define CHANGE 1
-#define RAISE 2
-/* what stands before the name in the record of a change, behind its length */
+/* what stands before the name in a record that has one, behind its length */
 #define BEFORE_NAME 57
 #define LENGTH_OF_RAISE 5
-#define SHORTEST_CHANGE 60
-#define LONGEST_CHANGE 1090
-
-int journal_open(struct journal *journal)
-{
-    int file = open(journal->path, O_RDONLY | O_CLOEXEC | O_NONBLOCK);
-    struct stat found;
-
-    if (file < 0)
-        return -1;
-    if (fstat(file, &found) < 0 || !S_ISREG(found.st_mode)) {
-        close(file);
-        errno = EINVAL;
-        return -1;
-    }
-    journal_close(journal);
-    journal->file = file;
-    return 0;
-}
+#define SHORTEST_WITH_NAME 60
+#define LONGEST_WITH_NAME 1090
 
 /* reads as many bytes as there are, up to `length`; how many, or -1 with errno */
 static ssize_t read_at(int file, unsigned char *bytes, size_t length, uint64_t place)
@@ -62,14 +43,40 @@ static int has_last(const struct journal *journal)
     return is_there;
 }
 
-int journal_is_same(struct journal *journal)
+/* whether what was found is the file that is open, with all that was taken of it */
+static int is_open_one(const struct journal *journal, const struct stat *found)
 {
-    struct stat at_path, here;
+    struct stat here;
 
-    if (journal->file < 0 || stat(journal->path, &at_path) < 0 || fstat(journal->file, &here) < 0)
+    if (journal->file < 0 || fstat(journal->file, &here) < 0)
         return 0;
-    return at_path.st_dev == here.st_dev && at_path.st_ino == here.st_ino &&
+    return found->st_dev == here.st_dev && found->st_ino == here.st_ino &&
            (uint64_t)here.st_size >= journal->position && has_last(journal);
+}
+
+int journal_is_same(const struct journal *journal)
+{
+    struct stat at_path;
+
+    return stat(journal->path, &at_path) == 0 && is_open_one(journal, &at_path);
+}
+
+int journal_open(struct journal *journal)
+{
+    int file = open(journal->path, O_RDONLY | O_CLOEXEC | O_NONBLOCK), is_another;
+    struct stat found;
+
+    if (file < 0)
+        return -1;
+    if (fstat(file, &found) < 0 || !S_ISREG(found.st_mode)) {
+        close(file);
+        errno = EINVAL;
+        return -1;
+    }
+    is_another = !is_open_one(journal, &found);
+    journal_close(journal);
+    journal->file = file;
+    return is_another;
 }
 
 static uint32_t number_at(const unsigned char *bytes)
@@ -85,17 +92,17 @@ static int is_count(uint32_t count)
 /* reads what stands behind a record's length; whether it is one */
 static int read_record(const unsigned char *body, size_t length, struct record *record)
 {
-    record->is_change = 0;
+    record->kind = body[0];
     if (length == LENGTH_OF_RAISE)
-        return body[0] == RAISE && is_count(number_at(body + 1));
-    record->is_change = 1;
+        return record->kind == KIND_RAISE && is_count(number_at(body + 1));
     record->version.kvno = number_at(body + 1);
     record->version.count = number_at(body + 5);
     memcpy(record->version.aes128, body + 9, AES128_SIZE);
     memcpy(record->version.aes256, body + 9 + AES128_SIZE, AES256_SIZE);
     record->name = body + BEFORE_NAME;
     record->name_length = length - BEFORE_NAME;
-    return body[0] == CHANGE && record->version.kvno != 0 && is_count(record->version.count) &&
+    return (record->kind == KIND_CHANGE || record->kind == KIND_BASE) &&
+           record->version.kvno != 0 && is_count(record->version.count) &&
            is_name(record->name, record->name_length);
 }
 
@@ -127,7 +134,7 @@ enum found journal_next(struct journal *journal, struct record *record)
     if (have < 2)
         return FOUND_END;
     length = (size_t)bytes[0] << 8 | bytes[1];
-    if (length != LENGTH_OF_RAISE && (length < SHORTEST_CHANGE || length > LONGEST_CHANGE))
+    if (length != LENGTH_OF_RAISE && (length < SHORTEST_WITH_NAME || length > LONGEST_WITH_NAME))
         return FOUND_FAULT;
     if (have < 2 + length)
         return FOUND_END;

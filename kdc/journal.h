@@ -30,12 +30,22 @@ struct journal {
     size_t used;
 };
 
-/* a change; the name points into the journal's bytes, and holds until the next call */
+/* as a record's byte says it */
+enum kind {
+    /* the next version of a principal's keys */
+    KIND_CHANGE = 1,
+    /* another iteration count of new keys */
+    KIND_RAISE = 2,
+    /* the one version that a principal has */
+    KIND_BASE = 3
+};
+
 struct record {
     /* where it begins */
     uint64_t place;
-    /* a raise has no change */
-    int is_change;
+    enum kind kind;
+    /* of a change and a base record. The name points into the journal's bytes, and holds until the next
+       call */
     struct version version;
     const unsigned char *name;
     size_t name_length;
@@ -52,11 +62,12 @@ enum found {
     FOUND_FAILURE
 };
 
-/* opens what stands at the path now, and begins at its start; 0, or -1 with errno */
+/* opens what stands at the path now, and begins at its start: 0 where it is the file that was open,
+   with all that was taken of it, 1 where it is another journal; or -1 with errno, and all is as it was */
 int journal_open(struct journal *journal);
 
 /* whether the path is still that file, with all that was taken of it */
-int journal_is_same(struct journal *journal);
+int journal_is_same(const struct journal *journal);
 
 enum found journal_next(struct journal *journal, struct record *record);
 

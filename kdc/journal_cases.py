@@ -10,6 +10,7 @@ import time
 import realms
 from cases import Cases
 from follower import Asker, Follower
+from own_journal import base_record
 from realm import REALM
 
 
@@ -27,9 +28,9 @@ class JournalCases(Cases):
     def run(self):
         for case in (
             self.at_the_answer, self.without_asking, self.torn, self.begun_anew, self.rewritten,
-            self.unreadable, self.unknown, self.above, self.raised, self.thousand, self.late,
-            self.is_locked, self.other_depth, self.no_database, self.program_fails, self.no_files,
-            self.nobody_reads, self.memory, self.endings,
+            self.compact, self.base, self.no_base, self.unreadable, self.unknown, self.above, self.raised,
+            self.thousand, self.late, self.is_locked, self.other_depth, self.no_database,
+            self.program_fails, self.no_files, self.nobody_reads, self.memory, self.endings,
         ):
             case()
 
@@ -120,6 +121,79 @@ class JournalCases(Cases):
             fresh.rename(files.journal)
             self.tell("a longer journal in its place", follower.ask())
             self.tell("  kinit", self.realm.kinit(name, "Third-pass5"))
+            self.as_table("  its keys", files, [name])
+
+    def compact(self):
+        """A compact journal takes the place of the one that the follower reads."""
+        name, other, third = self.name(), self.name(), self.name()
+        with self.own(name, other, third) as files, self.following(files) as follower:
+            files.append(files.change(name) + files.change(other))
+            files.append(b"".join(files.change(name) for _ in range(5)))
+            self.tell("seven changes", follower.ask())
+            # lines may be read behind an answer
+            time.sleep(0.2)
+            before, told = files.length(), follower.told(": set, kvno", 2)
+            files.begin_in(files.folder, files.compact())
+            self.tell("a compact journal: shorter", files.length() < before)
+            self.tell("  an answer", follower.ask())
+            self.tell("  another whole pass", follower.told("principals ", 2), 2)
+            self.tell("  none is set again", follower.told(": set, kvno", told), told)
+            files.append(files.change(name, "Compact-pass8") + files.change(third))
+            self.tell("changes behind it: an answer", follower.ask())
+            self.tell("  kinit", self.realm.kinit(name, "Compact-pass8"))
+            data = files.compact()
+            files.begin_in(files.folder, data + files.change(other, "Compact-pass3"))
+            self.tell("another one, with a change: an answer", follower.ask())
+            self.tell("  kinit", self.realm.kinit(other, "Compact-pass3"))
+            self.tell("  whole passes", follower.told("principals ", 3), 3)
+            self.as_table("  its keys", files, [name, other, third])
+
+    def base(self):
+        """A base record behind others: a whole pass reads it, but where the table says the same already."""
+        name, other = self.name(), self.name()
+        with self.own(name, other) as files, self.following(files) as follower:
+            files.append(files.change(name) + files.change(name))
+            self.tell("two changes", follower.ask())
+            for what, kvno, passes in (
+                ("of the newest", 3, 2), ("the same again", 3, 2), ("of the next", 4, 3), ("of a later one", 7, 4),
+            ):
+                keys = files.versions[name][0][1] if kvno == 3 else (os.urandom(16), os.urandom(32))
+                files.versions[name] = [(kvno, keys)]
+                files.append(base_record(name, kvno, keys) + files.change(other))
+                self.tell(f"a base record {what}, and a change: an answer", follower.ask())
+                found = self.realm.kvno(name), self.realm.kvno(other)
+                self.tell("  kvno of both", found, (kvno, files.versions[other][0][0]))
+                self.tell("  whole passes", follower.told("principals ", passes), passes)
+            files.append(files.change(name))
+            self.tell("  a change behind it: an answer", follower.ask())
+            self.tell("  whole passes", follower.told("principals ", 4), 4)
+            self.as_table("  its keys", files, [name, other])
+
+    def no_base(self):
+        """What is no base record is told as any other fault."""
+        name = self.name()
+        with self.own(name) as files, self.following(files) as follower:
+            good = base_record(name, 2, (bytes(16), bytes(32)))
+            for what, record in (
+                ("of kvno 0", good[:3] + bytes(4) + good[7:]),
+                ("of count 0", good[:7] + bytes(4) + good[11:]),
+                ("of 59 bytes", b"\0\x3b" + good[2:]),
+                ("of 1091 bytes", b"\x04\x43" + good[2:].ljust(1091, b"\0")),
+                ("as long as a raise", b"\0\5" + good[2:7]),
+                ("whose name goes on", good[:1] + bytes([good[1] - 1]) + good[2:-1]),
+                ("whose name is over", good[:1] + bytes([good[1] + 1]) + good[2:] + b"x"),
+            ):
+                files.append(files.change(name))
+                length = files.length()
+                self.tell(f"a base record {what}: a change before it", follower.ask())
+                files.append(record)
+                told = follower.wait_for("failed: ", 5)
+                number = files.versions[name][0][0]
+                self.tell("  told", told, f"failed: table: status 1: journal: J1 at {number}")
+                with files.journal.open("r+b") as file:
+                    file.truncate(length)
+            files.append(files.change(name))
+            self.tell("they are gone, and a change: an answer", follower.ask(seconds=15))
             self.as_table("  its keys", files, [name])
 
     def unreadable(self):
@@ -281,7 +355,8 @@ class JournalCases(Cases):
             files.journal = folder / "journal"
             follower = Follower(self.realm, files, wrap=self.wrap)
             told = follower.wait_for("failed: ")
-            self.tell("no journal: told", told, f"failed: table: status 1: cannot read {files.journal}")
+            wanted = f"failed: table: status 1: cannot read {files.journal} {files.journal}: no such file"
+            self.tell("no journal: told", told, wanted)
             folder.mkdir()
             files.begin_in(folder)
             self.tell("  it is there", follower.passes(5), "principals 1, set 0, failed 0")

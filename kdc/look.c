@@ -44,9 +44,23 @@ static void queue_all(struct follower *follower)
     follower->is_untold = 1;
 }
 
+/* reads table and journal anew; NULL, or why it can't, to be freed. Another journal has what the former
+   one had. So what is asked until it has been opened is in it, and in the table that is read then */
+static char *read_anew(struct follower *follower, char **note)
+{
+    int is_another;
+    char *why = pass_begin(&follower->pass, &follower->journal, &is_another);
+
+    *note = NULL;
+    if (is_another)
+        asks_cover(&follower->asks);
+    return why != NULL ? why
+                       : pass_make(&follower->pass, &follower->table, &follower->journal, note);
+}
+
 static void whole_pass(struct follower *follower)
 {
-    char *why, *note;
+    char *why, *note = NULL;
 
     follower->begun = milliseconds();
     follower->is_current = 0;
@@ -54,7 +68,11 @@ static void whole_pass(struct follower *follower)
     follower->queue = (struct queue){NULL, NULL};
     follower->tried_config = stamp_of(follower->options->config);
     follower->tried_journal = stamp_of(follower->options->journal);
-    why = pass_make(&follower->pass, &follower->table, &follower->journal, &note);
+    /* until no other journal took the file's place before the table was read */
+    do {
+        free(note);
+        why = read_anew(follower, &note);
+    } while (why == NULL && !journal_is_same(&follower->journal));
     if (why != NULL) {
         pass_failed(follower, why);
         free(why);
@@ -80,8 +98,14 @@ static int has_version(const struct principal *principal, const struct record *r
                   sizeof record->version) == 0;
 }
 
-/* takes a record into the table; whether it fits there */
-static int take_change(struct follower *follower, const struct record *record)
+/* whether no version stands in the table that is older than the record's */
+static int is_oldest(const struct principal *principal, const struct record *record)
+{
+    return principal->versions[0].kvno - record->version.kvno >= principal->count - 1;
+}
+
+/* takes a change or a base record into the table; whether it fits there */
+static int take_version(struct follower *follower, const struct record *record)
 {
     struct principal *principal =
         table_find(&follower->table, record->name, record->name_length);
@@ -89,8 +113,9 @@ static int take_change(struct follower *follower, const struct record *record)
     if (principal == NULL)
         return 0;
     if (has_version(principal, record))
-        return 1;
-    if (record->version.kvno != principal->versions[0].kvno + 1)
+        return record->kind == KIND_CHANGE || is_oldest(principal, record);
+    /* one that begins a principal's keys anew is a whole pass's to read */
+    if (record->kind == KIND_BASE || record->version.kvno != principal->versions[0].kvno + 1)
         return 0;
     principal_add(principal, &record->version, follower->table.kept);
     queue_add(&follower->queue, principal, record->place);
@@ -115,7 +140,7 @@ static int take_records(struct follower *follower)
     int fits = 1;
 
     while (fits && (found = journal_next(&follower->journal, &record)) == FOUND_RECORD)
-        fits = !record.is_change || take_change(follower, &record);
+        fits = record.kind == KIND_RAISE || take_version(follower, &record);
     explicit_bzero(&record, sizeof record);
     journal_wipe(&follower->journal);
     note_synced(follower);

@@ -5,7 +5,7 @@ import os
 import realms
 from changepw_client import string_to_key
 from follower import Files
-from journal import raise_record
+from journal import BASE, CHANGE, keys_record, raise_record
 from realm import REALM
 
 COUNT = 4096
@@ -20,10 +20,12 @@ def keys_of(name, password):
 
 def change_record(name, kvno, keys):
     """A change's record (docs/JOURNAL.md)."""
-    parts = [part.encode() for part in name.split("/")]
-    body = b"\1" + kvno.to_bytes(4, "big") + COUNT.to_bytes(4, "big") + keys[0] + keys[1]
-    body += bytes([len(parts)]) + b"".join(bytes([len(part)]) + part for part in parts)
-    return len(body).to_bytes(2, "big") + body
+    return keys_record(CHANGE, name, kvno, COUNT, keys)
+
+
+def base_record(name, kvno, keys):
+    """That of a principal's one version."""
+    return keys_record(BASE, name, kvno, COUNT, keys)
 
 
 def stanza(name, versions):
@@ -57,6 +59,7 @@ class OwnJournal(Files):
 
     def write_configuration(self):
         """Of the keys of now, so that an empty journal goes with it."""
+        self.configured = dict(self.versions)
         self.configuration.write_text(configured(self.versions, self.depth))
         self.configuration.chmod(0o600)
 
@@ -64,11 +67,21 @@ class OwnJournal(Files):
         """An empty journal in place of the one that is there."""
         self.begin_in(self.folder)
 
-    def begin_in(self, folder):
+    def begin_in(self, folder, data=b""):
         fresh = folder / "journal.new"
-        fresh.write_bytes(b"")
+        fresh.write_bytes(data)
         fresh.chmod(0o600)
         fresh.rename(self.journal)
+
+    def compact(self):
+        """A journal that has of each principal that changed its versions of now, and nothing else of changes."""
+        records = raise_record(COUNT)
+        for name, versions in self.versions.items():
+            if versions != self.configured[name]:
+                (kvno, keys), *later = reversed(versions)
+                records += base_record(name, kvno, keys)
+                records += b"".join(change_record(name, *version) for version in later)
+        return records
 
     def append(self, data):
         """As the service does: written and synced."""

@@ -122,8 +122,6 @@ static char *skip(struct journal *journal)
     struct record record;
     enum found found;
 
-    if (journal_open(journal) < 0)
-        return text_of("%s: %s", journal->path, strerror(errno));
     do
         found = journal_next(journal, &record);
     while (found == FOUND_RECORD);
@@ -156,16 +154,29 @@ static char *read_table(struct pass *pass, struct table *table, char **note)
     return NULL;
 }
 
-char *pass_make(struct pass *pass, struct table *table, struct journal *journal, char **note)
+char *pass_begin(struct pass *pass, struct journal *journal, int *is_another)
 {
     char *why = pass_lock(pass);
+    int opened;
 
-    *note = NULL;
+    *is_another = 0;
     if (why == NULL)
         why = read_kept(pass);
+    if (why != NULL)
+        return why;
+    opened = journal_open(journal);
+    if (opened < 0)
+        return text_of("%s: %s", journal->path, strerror(errno));
+    *is_another = opened;
+    return NULL;
+}
+
+char *pass_make(struct pass *pass, struct table *table, struct journal *journal, char **note)
+{
     /* before the table is read: what is written meanwhile is in both, and known again by its version */
-    if (why == NULL)
-        why = skip(journal);
+    char *why = skip(journal);
+
+    *note = NULL;
     if (why == NULL)
         why = read_table(pass, table, note);
     if (why != NULL) {

@@ -26,8 +26,12 @@ struct pass {
 /* locks the configuration, so that one follower runs at a time; NULL, or why it can't, to be freed */
 char *pass_lock(struct pass *pass);
 
+/* what comes before it: the lock, and the journal opened anew. NULL, or why it can't be, to be freed.
+   `is_another` is whether the journal was known to be another one, or none, before; 0 where it fails */
+char *pass_begin(struct pass *pass, struct journal *journal, int *is_another);
+
 /*
- * Reads table and journal anew: of the table then at least what the journal had at its position, and
+ * Reads journal and table anew: of the table then at least what the journal had at its position, and
  * maybe more. NULL, or why it can't, to be freed; the table is as it was then, and the journal has no
  * meaning. `note` is what the program told beside the table, if anything, to be freed.
  */

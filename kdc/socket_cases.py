@@ -8,6 +8,7 @@ import stat
 import time
 
 from cases import Cases
+from daemons import comes
 from follower import Asker, Follower
 
 GARBAGE = [
@@ -27,11 +28,50 @@ def is_over(asker):
     return line == b""
 
 
+class HeldTable:
+    """In place of the program: its `table` waits, in one form, for as long as a test holds it."""
+
+    SCRIPT = """#!/bin/sh
+for form; do :; done
+[ ! -e {0}/fails ] || {{ echo it fails >&2; exit 1; }}
+[ ! -e {0}/held ] || touch {0}/reached-$form
+while [ -e {0}/held-$form ]; do sleep 0.02; done
+exec {1} "$@"
+"""
+
+    def __init__(self, files):
+        self.folder = files.folder
+        program = self.folder / "held-table"
+        program.write_text(self.SCRIPT.format(self.folder, files.program))
+        program.chmod(0o755)
+        files.program = program
+
+    @contextlib.contextmanager
+    def held(self, form="keys"):
+        holds = [self.folder / "held", self.folder / f"held-{form}"]
+        for file in holds:
+            file.touch()
+        try:
+            yield self.folder / f"reached-{form}"
+        finally:
+            for file in [*holds, *self.folder.glob("reached-*")]:
+                file.unlink()
+
+    @contextlib.contextmanager
+    def failing(self):
+        (self.folder / "fails").touch()
+        try:
+            yield
+        finally:
+            (self.folder / "fails").unlink()
+
+
 class SocketCases(Cases):
     def run(self):
         for case in (
             self.file, self.stale, self.not_ours, self.garbage, self.numbers, self.several,
             self.places, self.silent_reader, self.flood, self.halves, self.slow_pass, self.killed,
+            self.replaced, self.replaced_unread, self.replaced_first, self.replaced_twice,
         ):
             name = self.name()
             with self.own(name) as files:
@@ -91,9 +131,12 @@ class SocketCases(Cases):
 
     def numbers(self, files, name):
         """Any number of at most 19 digits is a question; one that the journal doesn't reach waits."""
-        with self.following(files), Asker(files.socket, 0.3) as asker:
+        with self.following(files) as follower, Asker(files.socket, 0.3) as asker:
             asker.send(b"9" * 19 + b"\n")
             self.tell("19 digits: an answer", asker.line(), None)
+            os.utime(files.configuration)
+            self.tell("  another whole pass over this journal", follower.told("principals ", 2), 2)
+            self.tell("  an answer", asker.line(), None)
             asker.send(b"0\n")
             self.tell("0: an answer", asker.line(), b"0")
             asker.send(b"0000000000000000000\n")
@@ -223,6 +266,121 @@ class SocketCases(Cases):
             self.tell("  the next one answers", asker.ask(self.record(files, name)))
             follower.stop()
             self.tell("SIGTERM: the connection ends", is_over(asker))
+
+
+    # ---- asks where another journal takes the file's place
+
+    def begun(self, files, name):
+        """A program that can be held, and a journal of six changes."""
+        held = HeldTable(files)
+        files.append(b"".join(files.change(name) for _ in range(6)))
+        return held
+
+    def silent(self, what, *askers):
+        """No answer comes to any of them for a while."""
+        found = []
+        for asker in askers:
+            asker.connection.settimeout(0.3)
+            found.append(asker.line())
+            asker.connection.settimeout(20)
+        self.tell(what, found, [None for _ in askers])
+
+    def replaced(self, files, name):
+        """What was asked before is answered when the pass is over; what is asked then, by the length."""
+        held = self.begun(files, name)
+        with self.following(files), Asker(files.socket) as one, Asker(files.socket) as other:
+            with self.realm.locked():
+                length = self.record(files, name)
+                one.send(b"%d\n" % length)
+                other.send(b"%d\n" % length)
+                self.silent("locked: an answer to either", one, other)
+                with held.held() as reached:
+                    files.begin_in(files.folder, files.compact())
+                    self.tell("a compact journal, shorter: a whole pass", comes(reached.exists))
+                    following = files.length() + len(files.change(name))
+                    files.versions[name].pop(0)
+                    one.send(b"%d\n" % length)
+                    other.send(b"%d\n" % following)
+                self.tell("  shorter than what was asked for", following < length)
+                self.silent("  the table is read: an answer to either", one, other)
+            self.tell("  let go: an answer to one", one.line(), b"%d" % length)
+            self.tell("  kvno, at once", self.realm.kvno(name), 8)
+            self.tell("  an answer to the other", other.line(), b"%d" % length)
+            self.silent("  to what was asked when it had begun", one, other)
+            self.record(files, name)
+            self.tell("  a change: the other's answer", other.line(), b"%d" % following)
+            self.silent("  to one", one)
+            while files.length() < length:
+                self.record(files, name)
+            self.tell("  the new journal is as long: an answer", one.line(), b"%d" % length)
+            self.as_table("  its keys", files, [name])
+
+    def replaced_unread(self, files, name):
+        """What the follower hasn't read when the file is another one was asked before, too."""
+        held = self.begun(files, name)
+        for form in "keys", "configuration":
+            with self.following(files) as follower, Asker(files.socket) as one, Asker(files.socket) as other:
+                self.tell("both are there", (one.ask(0), other.ask(0)), (True, True))
+                with held.held(form) as reached, Asker(files.socket) as late:
+                    os.utime(files.configuration)
+                    self.tell(f"held at its {form}", comes(reached.exists))
+                    lengths = [self.record(files, name) for _ in range(3)]
+                    for asker, length in zip((one, other, late), lengths):
+                        asker.send(b"%d\n" % length)
+                    other.send(b"%d\n" % lengths[0])
+                    files.begin_in(files.folder, files.compact())
+                    self.silent("  asks, then a compact journal: an answer", one, other, late)
+                    self.tell("  shorter than what was asked for", files.length() < lengths[0])
+                    late.connection.settimeout(20)
+                self.tell("  it goes on: the answer to one", one.line(), b"%d" % lengths[0])
+                self.tell("  kvno, at once", self.realm.kvno(name), files.versions[name][0][0])
+                found = [other.line(), other.line()]
+                self.tell("  the answers to another", found, [b"%d" % length for length in lengths[:2]])
+                self.tell("  whole passes", follower.told("principals ", 2), 2)
+            self.as_table("  its keys", files, [name])
+
+    def replaced_first(self, files, name):
+        """A new journal, a record in it and an ask: nothing is answered by the length of the former one."""
+        held = self.begun(files, name)
+        with self.following(files) as follower, Asker(files.socket) as asker:
+            self.tell("six changes", asker.ask(files.length()))
+            former = files.length()
+            with held.held() as reached:
+                files.begin_in(files.folder, files.compact())
+                length = self.record(files, name)
+                asker.send(b"%d\n" % length)
+                self.tell("a new journal, a record, an ask: a whole pass", comes(reached.exists))
+                self.tell("  less than the former one had", length < former)
+                self.silent("  an answer", asker)
+                self.tell("  kvno", self.realm.kvno(name), 7)
+            self.tell("  it goes on: the answer", asker.line(), b"%d" % length)
+            self.tell("  kvno, at once", self.realm.kvno(name), 8)
+            self.tell("  the next change: an answer", asker.ask(self.record(files, name)))
+            self.tell("  kvno, at once", self.realm.kvno(name), 9)
+            self.tell("  whole passes", follower.told("principals ", 2), 2)
+
+    def replaced_twice(self, files, name):
+        """Passes that fail, and journals that are replaced meanwhile, keep what was asked before."""
+        held = self.begun(files, name)
+        with self.following(files) as follower, Asker(files.socket) as one, Asker(files.socket) as other:
+            with held.failing():
+                with self.realm.locked():
+                    first = self.record(files, name)
+                    one.send(b"%d\n" % first)
+                    self.silent("locked: an answer", one)
+                    files.begin_in(files.folder, files.compact())
+                    told = follower.wait_for("failed: table")
+                    self.tell("a compact journal, no table", told, "failed: table: status 1: it fails")
+                second = self.record(files, name)
+                other.send(b"%d\n" % second)
+                files.begin_in(files.folder, files.compact())
+                self.silent("  another one: an answer", one, other)
+            self.tell("  there is a table: the answer to one", one.line(), b"%d" % first)
+            self.tell("  kvno, at once", self.realm.kvno(name), 9)
+            self.tell("  the answer to the other", other.line(), b"%d" % second)
+            self.tell("  longer than the journal", files.length() < second)
+            self.tell("  the next change: an answer", other.ask(self.record(files, name)))
+            self.tell("  whole passes", follower.told("principals ", 2), 2)
 
 
 def processor_time(process):
