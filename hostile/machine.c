@@ -2,6 +2,7 @@
    environment has it:
 
    SLOW     a sync of a file takes so many milliseconds longer
+   FOLDERS  of the syncs of folders the one of this number, from 1, fails
    CLOCK    the clock of the day stands still at the second that this file has in decimal digits
    TICK     it takes so many milliseconds to look at that clock
    HELD     while this file is there, the first to look at that clock puts .held behind the file's name, and waits until
@@ -17,6 +18,7 @@
 #include <stdio.h>
 #include <stdlib.h>
 #include <sys/socket.h>
+#include <sys/stat.h>
 #include <sys/syscall.h>
 #include <time.h>
 #include <unistd.h>
@@ -39,9 +41,23 @@ static void hold(const char *file)
             wait_for("1");
 }
 
+/* whether this is a sync that is to fail */
+static int is_lost(int file)
+{
+    static atomic_int folders;
+    const char *number = getenv("FOLDERS");
+    struct stat found;
+    return number != NULL && fstat(file, &found) == 0 && S_ISDIR(found.st_mode) &&
+           atomic_fetch_add(&folders, 1) + 1 == strtol(number, NULL, 10);
+}
+
 int fsync(int file)
 {
     wait_for(getenv("SLOW"));
+    if (is_lost(file)) {
+        errno = EIO;
+        return -1;
+    }
     return (int)syscall(SYS_fsync, file);
 }
 

@@ -1,5 +1,5 @@
 #!/usr/bin/env python3
-"""How each command of the program ends: what it prints, its line on standard error, its status.
+"""How each command of the program ends: what it prints, its lines on standard error, its status.
 
     endings.py [--server PROGRAM]
 
@@ -21,12 +21,13 @@ from journal import Record, plain_record, raise_record, read_journal
 from kill import ITERATIONS, keys_of
 from report import Report
 from sample_realm import write_configuration
-from server import PROGRAM, Server
+from server import PROGRAM, Server, private
 
 SCRIPT = "realm EXAMPLE.COM\npolicy 0 0 2 4096 no\nprincipal alice 1 4096:a1\nopen 10 -1\n"
 LONGEST_PASSWORD = 60_000
 HEAD = pathlib.Path(__file__).resolve().parent.parent / "samples/head.toml"
 NO_TEXT = "a word of the command line is not UTF-8"
+MISSING = "no such file"
 
 
 def closing(numbers, command):
@@ -69,7 +70,7 @@ class Program:
             **streams,
         )
         errors = done.stderr.strip()
-        if len(errors.splitlines()) > 1:
+        if done.returncode == 2 and len(errors.splitlines()) > 1:
             errors = "a text"
         return (done.stdout or "").strip(), errors, done.returncode
 
@@ -82,10 +83,21 @@ class Program:
             self.tell(what, ("", "cannot write", 1), *words, stdout=full, **streams)
 
 
+def unreadable(file, why):
+    """What is said of a file that can't be read."""
+    return "", f"cannot read {file}\n{file}: {why}", 1
+
+
+def fault_of(program, configuration):
+    """The fault of a configuration in words, as `check` tells it."""
+    return program.ended("check", "--config", configuration)[1]
+
+
 def command_lines(program):
     text = ("", "a text", 2)
     serve = "serve --config c --journal j --seed s --port 1 --workers 1 --connections 1"
     client = "client --config c --seed s --port 1 --client alice --password New-pass2"
+    control = "control --socket s status"
     program.tell("no command", text)
     program.tell("another command", text, "change")
     program.tell("help", text, "--help")
@@ -104,6 +116,13 @@ def command_lines(program):
         (client, "--port 1", "--port 0"),
         (client, "--client alice", ""),
         (client, "--client alice", "--client alice --old --target bob"),
+        (client, "--password New-pass2", ""),
+        (client, "--password", "--password-file password --password"),
+        (control, "--socket s", ""),
+        (control, "status", ""),
+        (control, "status", "start"),
+        (control, "status", "compact"),
+        (control, "status", "status file"),
     ]:
         words = line.replace(old, new).split()
         program.tell(f"{words[0]}, {old} now '{new}'", text, *words)
@@ -129,7 +148,7 @@ def check(program):
     found, words, status = program.ended("check", "--config", "bad")
     told = (found, words.split(":")[0], status)
     program.report.tell("check: a depth of 17", told, ("C4 policy 0", "bad", 1))
-    unread = ("", "cannot read missing", 1)
+    unread = unreadable("missing", MISSING)
     program.tell("check: no file", unread, "check", "--config", "missing")
     program.tell_unwritten("check: good, a full disk", "check", "--config", "good")
     program.tell_unwritten("check: a fault, a full disk", "check", "--config", "bad")
@@ -178,13 +197,13 @@ def keys_brought_in(program):
                         (stanza("alice", 3, short, long).split(), left, 0))
     (program.folder / "whole").write_bytes(keytab(*alice))
     program.tell_unwritten("import: a full disk", "import", "--keytab", "whole", "--realm", "EXAMPLE.COM")
-    program.tell("import: no file", ("", "cannot read missing", 1), "import", "--keytab", "missing", *words[2:])
+    program.tell("import: no file", unreadable("missing", MISSING), "import", "--keytab", "missing", *words[2:])
     (program.folder / "password").write_text("New-pass2\n")
     words = ["--realm", "EXAMPLE.COM", "--name", "alice", "--password-file", "password"]
     program.report.tell("key: of a password", words_of(program.ended("key", *words)),
                         (stanza("alice", 1, *keys_of("alice", "New-pass2")).split(), "", 0))
     program.tell_unwritten("key: a full disk", "key", *words)
-    program.tell("key: no file", ("", "cannot read missing", 1), "key", *words[:-1], "missing")
+    program.tell("key: no file", unreadable("missing", MISSING), "key", *words[:-1], "missing")
 
 
 def keys_behind_a_head(program):
@@ -205,7 +224,7 @@ def keys_behind_a_head(program):
 def table(program):
     """The configuration's keys, and those that the journal's changes put in front."""
     server = program.server("alice", "bob")
-    server.journal.write_bytes(raise_record(8192) + plain_record("alice", 2))
+    private(server.journal).write_bytes(raise_record(8192) + plain_record("alice", 2))
     words = ["--config", server.configuration, "--journal", server.journal]
     lines = "alice kvno 2 counts 4096 4096\nbob kvno 1 counts 4096\nprincipals 2 changes 2"
     program.tell("table: lines", (lines, "", 0), "table", *words)
@@ -215,7 +234,7 @@ def table(program):
                         (newest, 6, "", 0))
     program.tell_unwritten("table: a full disk", "table", *words)
     server.journal.unlink()
-    program.tell("table: no journal", ("", f"cannot read {server.journal}", 1), "table", *words)
+    program.tell("table: no journal", unreadable(server.journal, MISSING), "table", *words)
 
 
 def serve(program):
@@ -223,28 +242,29 @@ def serve(program):
     server = program.server("alice")
     words = [str(word) for word in server.command(1)[1:]]
 
-    def tell(what, line):
-        program.tell(f"serve: {what}", ("", line, 1), *words)
+    def tell(what, *lines):
+        program.tell(f"serve: {what}", ("", "\n".join(lines), 1), *words)
 
-    server.journal.write_bytes(plain_record("alice", 2).replace(b"\1", b"\2", 1))
+    private(server.journal).write_bytes(plain_record("alice", 2).replace(b"\1", b"\2", 1))
     tell("a record of another kind", "journal: J1 at 1")
     server.journal.unlink()
     server.journal.mkdir()
-    tell("a folder as the journal", f"cannot read {server.journal}")
+    tell("a folder as the journal", f"cannot read {server.journal}", f"{server.journal}: a folder")
     server.journal.rmdir()
     server.seed.unlink()
-    tell("no seed", f"cannot read {server.seed}")
-    server.seed.write_bytes(bytes(32))
+    tell("no seed", f"cannot read {server.seed}", f"{server.seed}: {MISSING}")
+    private(server.seed).write_bytes(bytes(32))
     server.configuration.write_text("[")
-    tell("no TOML", "config: C1 file 0")
+    tell("no TOML", "config: C1 file 0", fault_of(program, server.configuration))
     write_configuration(server.configuration, ["alice"])
     program.tell_unwritten("serve: a full disk", *words)
 
-    def tell_of_journal(what, journal, line):
+    def tell_of_journal(what, journal, *lines):
         other = [journal if word == str(server.journal) else word for word in words]
-        program.tell(f"serve: {what}", ("", line, 1), *other)
+        program.tell(f"serve: {what}", ("", "\n".join(lines), 1), *other)
 
-    tell_of_journal("a journal in no folder", "missing/journal", "cannot write missing/journal")
+    tell_of_journal("a journal in no folder", "missing/journal", "cannot write missing/journal",
+                    f"missing/journal: {MISSING}")
     # what stands at address 0 of a process can't be read
     tell_of_journal("a read that fails", "/proc/self/mem", "journal: J4")
 
@@ -254,8 +274,8 @@ def second_service(program):
     first = program.server("alice")
     first.start(connections=1)
     second = program.server("alice")
-    line = ("", f"cannot read {second.journal}", 1)
-    program.tell("serve: another's journal", line, *second.command(1)[1:])
+    held = unreadable(second.journal, "another process has it")
+    program.tell("serve: another's journal", held, *second.command(1)[1:])
     first.connect()
     program.report.tell("serve: its last line", first.last_words(), "entries 0 changes 0")
     program.report.tell("serve: its status", first.process.returncode, 0)
@@ -301,14 +321,69 @@ def client_alone(program):
     client.tell("no target's name", bad, "--target=", config="missing")
     long = "a" * (LONGEST_PASSWORD + 1)
     client.tell("a password of 60,001 bytes", bad, password=long, config="missing")
-    unread = ("", "cannot read missing", 1)
+    unread = unreadable("missing", MISSING)
     client.tell("no configuration", unread, config="missing", seed="missing2")
     (program.folder / "short").write_bytes(bytes(31))
-    client.tell("a short seed", ("", "cannot read short", 1), seed="short")
+    client.tell("a short seed", unreadable("short", "fewer than 32 bytes"), seed="short")
     (program.folder / "no-toml").write_text("[")
-    client.tell("no TOML", ("", "config: C1 file 0", 1), config="no-toml", seed="short")
+    bad = ("", f"config: C1 file 0\n{fault_of(program, 'no-toml')}", 1)
+    client.tell("no TOML", bad, config="no-toml", seed="short")
     client.tell("nobody there", ("", "cannot connect", 1))
     client.tell("the longest password", ("", "cannot connect", 1), password=long[1:])
+
+
+def passwords_read(program):
+    """`client` with the new password in a file, or on standard input."""
+    client = Client(program, program.server("alice"))
+    del client.options["--password"]
+    (program.folder / "empty").write_text("\r\n")
+    (program.folder / "lines").write_text("New-pass2\nNew-pass3\n")
+    for name, line in [
+        ("missing", f"cannot read missing\nmissing: {MISSING}"),
+        ("empty", "empty: the password is empty"),
+        ("lines", "lines: more than one line"),
+    ]:
+        named = {"password-file": name}
+        client.tell(f"the password of a file: {name}", ("", line, 1), config="missing2", **named)
+    words = [f"{name}={value}" for name, value in client.options.items()]
+    words = ["client", *words, "--password-file", "-"]
+    empty = ("", "standard input: the password is empty", 1)
+    program.tell("client: no password on standard input", empty, *words, script="\n")
+    unconnected = ("", "cannot connect", 1)
+    program.tell("client: the password on standard input", unconnected, *words, script="New-pass2")
+
+
+def control(program):
+    """What `control` sends, prints and ends with, by what a service answers."""
+    path = program.folder / "control.socket"
+    words = ["control", "--socket", path]
+    program.tell("control: nobody there", ("", "cannot connect", 1), *words, "status")
+    program.tell("control: a file of two lines", ("", "bad argument", 2), *words, "compact", "two\nlines")
+    for what, command, answer, errors, status in [
+        ("done", ["reload"], "ok\n", "", 0),
+        ("told and done", ["status"], "entries 3\nok\n", "", 0),
+        ("with a file", ["compact", "a file"], "ok\n", "", 0),
+        ("refused", ["reopen-log"], "ok\nerror: cannot write log\n", "", 1),
+        ("ended without its newline", ["stop"], "ok", "", 1),
+        ("no answer", ["stop"], "", "connection ended", 1),
+    ]:
+        with socket.socket(socket.AF_UNIX) as listener:
+            listener.bind(str(path))
+            listener.listen()
+            heard = []
+            answering = threading.Thread(target=answer_line, args=(listener, answer, heard))
+            answering.start()
+            program.tell(f"control: {what}", (answer.strip(), errors, status), *words, *command)
+            answering.join()
+            program.report.tell(f"control: {what}: its line", heard, [" ".join(command) + "\n"])
+        path.unlink()
+
+
+def answer_line(listener, answer, heard):
+    connection, _ = listener.accept()
+    with connection:
+        heard.append(connection.makefile().readline())
+        connection.sendall(answer.encode())
 
 
 def client_unanswered(program):
@@ -404,7 +479,7 @@ def closed_under_a_notice(program):
     whole = plain_record("alice", 2)
     for numbers in "2", "012":
         server = program.server("alice")
-        server.journal.write_bytes(whole + whole[:20])
+        private(server.journal).write_bytes(whole + whole[:20])
         server.process = subprocess.Popen(closing(numbers, server.command(1)), stdout=subprocess.DEVNULL)
         Client(program, server).told_soon()
         program.report.tell(f"serve, {numbers} closed, a torn tail: its status", server.process.wait(timeout=10), 0)
@@ -424,6 +499,8 @@ CASES = [
     client_alone,
     client_unanswered,
     client_answered,
+    passwords_read,
+    control,
     closed_descriptors,
     closed_under_a_change,
     closed_under_a_notice,

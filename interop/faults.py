@@ -18,7 +18,7 @@ import tempfile
 from journal import Raise, plain_record, raise_record, read_journal
 from report import Report
 from sample_realm import write_configuration
-from server import PROGRAM, Server
+from server import PROGRAM, Server, private
 
 NAME = "user0"
 # of a change of user0
@@ -34,22 +34,25 @@ def said(server):
 def at_start(report, server):
     """Each fault is added to those before it and hides them: it is looked for earlier."""
 
-    def wrong(line):
-        return f"{line} (status 1)"
+    def wrong(*lines):
+        return "\n".join(lines) + " (status 1)"
 
     with socket.create_server(("127.0.0.1", server.port)):
-        report.tell("a port in use", said(server), wrong("cannot listen"))
-        server.journal.write_bytes(plain_record("zoe", 2))
+        report.tell("a port in use", said(server), wrong("cannot listen", f"port {server.port}: in use"))
+        private(server.journal).write_bytes(plain_record("zoe", 2))
         report.tell("a journal of another realm", said(server), wrong("journal: J3 at 1"))
-        server.journal.write_bytes(plain_record(NAME, 2) * 2)
+        private(server.journal).write_bytes(plain_record(NAME, 2) * 2)
         report.tell("a record that stands twice", said(server), wrong("journal: J2 at 2"))
         server.seed.write_bytes(bytes(31))
-        report.tell("a short seed", said(server), wrong(f"cannot read {server.seed}"))
+        short = wrong(f"cannot read {server.seed}", f"{server.seed}: fewer than 32 bytes")
+        report.tell("a short seed", said(server), short)
         text = server.configuration.read_text()
         server.configuration.write_text(text.replace("depth = 3", "depth = 17"))
-        report.tell("a policy out of range", said(server), wrong("config: C4 policy 0"))
+        words = f"{server.configuration}: [policy]: depth must be 0 to 16"
+        report.tell("a policy out of range", said(server), wrong("config: C4 policy 0", words))
         server.configuration.unlink()
-        report.tell("no configuration", said(server), wrong(f"cannot read {server.configuration}"))
+        missing = wrong(f"cannot read {server.configuration}", f"{server.configuration}: no such file")
+        report.tell("no configuration", said(server), missing)
 
 
 def change(server, number):
@@ -102,7 +105,8 @@ def raising(report, server):
     resource.setrlimit(resource.RLIMIT_FSIZE, (16, resource.RLIM_INFINITY))
     found = said_at_start(server, 8194, restore_signals=False)
     resource.setrlimit(resource.RLIMIT_FSIZE, (resource.RLIM_INFINITY, resource.RLIM_INFINITY))
-    report.tell("a disk for two", found, (["journal failed"], tally))
+    failed = f"{server.journal}: journal failed: no change is taken until a restart"
+    report.tell("a disk for two", found, (["journal failed"], f"{tally}\n{failed}"))
     torn = raise_record(8194)[:2]
     report.tell("in the journal then", read_journal(server.journal.read_bytes()), (raises, torn))
     cut = f"{tally}\n{server.journal}: a torn tail was cut off behind 14 bytes"

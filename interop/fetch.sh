@@ -1,8 +1,8 @@
 #!/usr/bin/env bash
 # Unpacks MIT Kerberos and Heimdal (of both KDC, kadmin, clients, libraries and headers) from
 # Debian's packages into FOLDER/mit and FOLDER/heimdal, into FOLDER/kpropd what a replica of MIT's
-# runs, and into FOLDER/pam, FOLDER/pam-heimdal and FOLDER/sssd what logs
-# users in. Nothing is installed: the two conflict as packages, and not as folders (unpack.sh).
+# runs, into FOLDER/pam, FOLDER/pam-heimdal and FOLDER/sssd what logs users in, and into FOLDER/logrotate
+# what rotates logs. Nothing is installed: the two conflict as packages, and not as folders (unpack.sh).
 set -euo pipefail
 . "$(dirname "$0")/unpack.sh"
 
@@ -28,3 +28,4 @@ unpack kpropd krb5-kpropd
 unpack pam libpam-krb5 pamtester libpam-wrapper libnss-wrapper
 unpack pam-heimdal libpam-heimdal
 unpack sssd "${sssd[@]}"
+unpack logrotate logrotate libpopt0

@@ -218,12 +218,15 @@ def password(realm, name, iterations, kvno, octets):
     parts = tuple(name.encode().split(b"/"))
     if not is_name(parts):
         return "no name"
-    word = octets[:-1] if octets.endswith(b"\n") else octets
+    word = octets.removesuffix(b"\n")
+    has_return = word != octets and word.endswith(b"\r")
+    word = word[:-1] if has_return else word
     if not word:
         return "password: the password is empty"
+    note = " | password: a carriage return at the end is left out" if has_return else ""
     salt = realm.encode() + b"".join(parts)
     keys = [string_to_key(size, word, salt, iterations) for size in (16, 32)]
-    return " ".join(stanza(parts, [(kvno, *keys)], iterations))
+    return " ".join(stanza(parts, [(kvno, *keys)], iterations)) + note
 
 
 def octets_of(word):

@@ -3,8 +3,8 @@
 
     journal.py FILE
 
-prints kvno, iteration count and name of each change, the count of each raise, and whether the tail is torn;
-no keys.
+prints kvno, iteration count and name of each change, the same behind `base` of each base record, the count of
+each raise, and whether the tail is torn; no keys.
 """
 
 import dataclasses
@@ -21,20 +21,32 @@ class Record:
     aes256: bytes
 
 
+class Base(Record):
+    """It is the one version that the principal has."""
+
+
 @dataclasses.dataclass(frozen=True)
 class Raise:
     iterations: int
 
 
-# the kind of a record of a raise
+# the kinds of records
+CHANGE = 1
 RAISE = 2
+BASE = 3
+
+
+def keys_record(kind, name, kvno, iterations, keys):
+    """A change or a base record: of etype 17's and 18's key, and of a name whose components a slash divides."""
+    parts = [part.encode() for part in name.split("/")]
+    body = bytes([kind]) + kvno.to_bytes(4, "big") + iterations.to_bytes(4, "big") + keys[0] + keys[1]
+    body += bytes([len(parts)]) + b"".join(bytes([len(part)]) + part for part in parts)
+    return len(body).to_bytes(2, "big") + body
 
 
 def plain_record(name, kvno):
-    """The record of a change of a name of one component, to keys of zeros under 4096 iterations."""
-    body = b"\1" + kvno.to_bytes(4, "big") + (4096).to_bytes(4, "big") + bytes(48)
-    body += b"\1" + bytes([len(name)]) + name.encode()
-    return len(body).to_bytes(2, "big") + body
+    """The record of a change to keys of zeros under 4096 iterations."""
+    return keys_record(CHANGE, name, kvno, 4096, (bytes(16), bytes(32)))
 
 
 def raise_record(iterations):
@@ -67,7 +79,8 @@ def record_of(body):
         return Raise(int.from_bytes(body[1:5], "big"))
     kvno = int.from_bytes(body[1:5], "big")
     iterations = int.from_bytes(body[5:9], "big")
-    return Record("/".join(components(body[58:])), kvno, iterations, body[9:25], body[25:57])
+    made = Base if body[0] == BASE else Record
+    return made("/".join(components(body[58:])), kvno, iterations, body[9:25], body[25:57])
 
 
 def main():
@@ -77,6 +90,8 @@ def main():
     for record in records:
         if isinstance(record, Raise):
             print("raise", record.iterations)
+        elif isinstance(record, Base):
+            print("base", record.kvno, record.iterations, record.name)
         else:
             print(record.kvno, record.iterations, record.name)
     print(f"torn tail: {len(torn)} bytes" if torn else "whole")

@@ -91,6 +91,24 @@ def limited(words):
     return shown + (told(others) if others else "")
 
 
+# what happens to the service (docs/RULES.md), and the names of its numbers
+EVENTS = {
+    "started": ["principals", "iterations", "quiet-until"],
+    "reloaded": ["principals", "iterations"],
+    "raised": ["iterations"],
+    "rolled-over": ["entries", "changes"],
+    "journal-failed": [],
+    "log-reopened": [],
+    "ended": ["entries", "changes"],
+}
+
+
+def event(seconds, micros, kind, *values):
+    shown_values = [moment(*value.split(".")) if "." in value else value for value in values]
+    pairs = zip(EVENTS[kind], shown_values, strict=True)
+    return " ".join([moment(seconds, micros), "service", kind] + [f"{name} {value}" for name, value in pairs])
+
+
 def told(others):
     here = sum(peer.is_loopback for _, peer in others)
     return f"({here} {len(others) - here})"
@@ -102,6 +120,8 @@ def answer(case):
         return held(*words)
     if first == "limit":
         return limited(words)
+    if first == "event":
+        return event(*words)
     kind, seconds, micros, worker, peer, *rest = case.split(" ")
     client = asked = kvno = "-"
     if kind == "unopened":

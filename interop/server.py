@@ -11,6 +11,13 @@ from ports import free_ports
 PROGRAM = pathlib.Path(__file__).resolve().parent.parent / "crates/chpw_server/out/chpw_server"
 
 
+def private(path):
+    """A file that its owner alone may read and write, as the service wants its own, or tells of it."""
+    path.touch(mode=0o600)
+    path.chmod(0o600)
+    return path
+
+
 class Server:
     """`serve` in a folder with its configuration; the journal and the seed are made there."""
 
@@ -26,7 +33,7 @@ class Server:
         # the lines that it printed before it listened
         self.said = []
         [self.port] = free_ports(1)
-        self.seed.write_bytes(os.urandom(32))
+        private(self.seed).write_bytes(os.urandom(32))
         self.process = None
 
     def command(self, connections):

@@ -1,0 +1,172 @@
+"""Measures for how long a reload holds up decisions, and how soon `status` is answered.
+
+    python3 reload.py [--server PROGRAM] [--principals N] [--changers N] [--reloads N] [--held MS] [--status MS]
+
+`serve` has four workers and a realm of so many principals (10,000), each with three keys. Clients change passwords as fast
+as they are answered (4), and one asks, request after request over one connection, for a password that is too short: such an
+answer takes a fraction of a millisecond, so what it waits longer is what holds it up. First there is nothing beside them,
+and then so many reloads (10), a second after one another, each of a file that has one principal more. Another client asks
+for `status` twenty times a second all the time. A line for each has how many answers there were, the median, the 99th of
+100 and the longest, in milliseconds. The limits: no answer is wrong; the longest wait among the reloads is at most --held
+(200) more than in peace; `status` is answered within --status (50) in 99 of 100. The last line is `limits N failed N`.
+"""
+
+import argparse
+import pathlib
+import socket
+import statistics
+import tempfile
+import threading
+import time
+
+import asking
+from report import Report
+from sample_realm import SERVICE_KEY
+from server import PROGRAM, Server
+from sync import Changer
+
+CONNECTIONS = 4_294_967_295
+TOO_SHORT = "code 4 password too short"
+KEYS = 3
+# how long the peace is
+SECONDS = 5
+
+
+def configuration(path, names):
+    """Each with keys that nobody knows the password of."""
+    with path.open("w") as file:
+        file.write(f"""\
+[service]
+realm = "EXAMPLE.COM"
+[[service.key]]
+kvno = 3
+etype = 18
+key = "{SERVICE_KEY.hex()}"
+[policy]
+min_length = 6
+min_classes = 2
+depth = {KEYS}
+iterations = 4096
+set_needs_initial = false
+""")
+        for name in names:
+            file.write(f'[[principal]]\nname = "{name}"\n')
+            for kvno in range(KEYS, 0, -1):
+                file.write(f'[[principal.key]]\nkvno = {kvno}\niterations = 4096\n'
+                           f'aes128 = "{kvno:02x}{"11" * 15}"\naes256 = "{kvno:02x}{"22" * 31}"\n')
+    path.chmod(0o600)
+
+
+def ordered(folder, line):
+    """The answer at the control socket, and how long it took, in milliseconds."""
+    start = time.perf_counter()
+    with socket.socket(socket.AF_UNIX) as it:
+        it.connect(str(folder / "control"))
+        it.sendall(f"{line}\n".encode())
+        text = b""
+        while more := it.recv(65_536):
+            text += more
+    return text.decode(), (time.perf_counter() - start) * 1_000
+
+
+class Asker(threading.Thread):
+    """Asks until it is told to stop; the times of all answers, and how many were wrong."""
+
+    def __init__(self, port):
+        super().__init__(daemon=True)
+        self.connection, self.stops, self.times, self.wrong = asking.Connection(port), threading.Event(), [], 0
+
+    def run(self):
+        number = 0
+        while not self.stops.is_set():
+            number += 1
+            request = asking.request_now("asker", "Ab1", number)
+            start = time.perf_counter()
+            self.connection.send(request)
+            reply = self.connection.reply()
+            self.times.append((time.perf_counter() - start) * 1_000)
+            self.wrong += asking.said(request, reply) != TOO_SHORT
+
+
+class Watcher(threading.Thread):
+    """Asks for the status, twenty times a second."""
+
+    def __init__(self, folder):
+        super().__init__(daemon=True)
+        self.folder, self.stops, self.times, self.wrong = folder, threading.Event(), [], 0
+
+    def run(self):
+        while not self.stops.is_set():
+            text, spent = ordered(self.folder, "status")
+            self.times.append(spent)
+            self.wrong += not text.endswith("\nok\n")
+            time.sleep(0.05)
+
+
+def told(what, times):
+    """The line of these times; the 99th of 100 and the longest."""
+    last = statistics.quantiles(times, n=100)[98]
+    print(f"{what}: {len(times)} answers, median {statistics.median(times):.1f} ms, 99th {last:.1f} ms, "
+          f"longest {max(times):.1f} ms", flush=True)
+    return last, max(times)
+
+
+def measured(report, what, server, folder, work):
+    """What the asker and the watcher saw while the work was done."""
+    asker, watcher = Asker(server.port), Watcher(folder)
+    asker.start()
+    watcher.start()
+    work()
+    for it in (asker, watcher):
+        it.stops.set()
+        it.join()
+    report.tell(f"{what}: wrong answers", (asker.wrong, watcher.wrong), (0, 0))
+    _, longest = told(f"{what}: a password that is too short", asker.times)
+    last, _ = told(f"{what}: status", watcher.times)
+    return longest, last
+
+
+def main():
+    parser = argparse.ArgumentParser(description="For how long a reload holds up decisions.")
+    parser.add_argument("--server", type=pathlib.Path, default=PROGRAM)
+    for name, usual in (("principals", 10_000), ("changers", 4), ("reloads", 10), ("held", 200), ("status", 50)):
+        parser.add_argument(f"--{name}", type=int, default=usual)
+    words = parser.parse_args()
+    report = Report("limits {} failed {}")
+    with tempfile.TemporaryDirectory(prefix="chpw-reload-") as place:
+        folder = pathlib.Path(place)
+        server = Server(words.server.resolve(), folder, workers=4, options=["--control", "control"])
+        names = ["asker", *(f"changer{it}" for it in range(words.changers))]
+        names += [f"user{it:05}" for it in range(words.principals - len(names) - words.reloads)]
+        configuration(server.configuration, names)
+        server.launch(CONNECTIONS, cwd=folder)
+        server.listens()
+        changers = [Changer(server.port, f"changer{it}") for it in range(words.changers)]
+        for it in changers:
+            it.start()
+        peace, last = measured(report, "in peace", server, folder, lambda: time.sleep(SECONDS))
+        report.tell(f"status within {words.status} ms", last <= words.status, True)
+        spent = []
+        longest, last = measured(report, "reloads", server, folder, lambda: reload(report, server, folder, names, words, spent))
+        print(f"reloads: {len(spent)}, median {statistics.median(spent):.0f} ms, longest {max(spent):.0f} ms")
+        report.tell(f"held up for at most {words.held} ms ({longest - peace:.0f})", longest - peace <= words.held, True)
+        report.tell(f"status within {words.status} ms", last <= words.status, True)
+        for it in changers:
+            it.stops.set()
+            it.join()
+        server.end()
+    raise SystemExit(report.status())
+
+
+def reload(report, server, folder, names, words, spent):
+    for number in range(words.reloads):
+        names.append(f"later{number:05}")
+        configuration(server.configuration, names)
+        text, took = ordered(folder, "reload")
+        spent.append(took)
+        report.tell(f"reload {number}", text.strip(), "ok")
+        time.sleep(1)
+
+
+if __name__ == "__main__":
+    main()
