@@ -64,10 +64,12 @@ NAMES = 5_000
 # the principal of the hostile ones, which they changed the password of once
 HOSTILE = "hostile"
 
-# the limits: milliseconds, mebibytes and files more, milliseconds under the flood, histories of siege 5
+# the limits: milliseconds, mebibytes and files more, milliseconds under the flood and for an answer about how the service
+# stands, histories of siege 5
 MEDIAN_LATER, LONGEST_LATER = 5, 100
 MORE_MEMORY, MORE_FILES = 20, 16
 FLOODED = 1_000
+STATUS = 50
 HISTORIES = 3
 
 CHANGED = "code 0 password changed"
@@ -486,6 +488,37 @@ class Watched:
             self.files = max(self.files, len(os.listdir(self.place / "fd")))
 
 
+def percentile(times):
+    """The 99th."""
+    return sorted(times)[math.ceil(0.99 * len(times)) - 1]
+
+
+class StatusAsker(threading.Thread):
+    """Asks how the service stands, twenty times a second, until it is to leave: how long each answer took, in
+    milliseconds, and how many weren't whole."""
+
+    def __init__(self, server):
+        super().__init__()
+        self.path = str(server.control)
+        self.is_over = threading.Event()
+        self.times = []
+        self.cut_off = 0
+
+    def run(self):
+        while not self.is_over.wait(0.05):
+            start = time.monotonic()
+            with socket.socket(socket.AF_UNIX) as asked:
+                asked.connect(self.path)
+                asked.sendall(b"status\n")
+                text = b"".join(iter(lambda: asked.recv(4096), b""))
+            self.times.append(1000 * (time.monotonic() - start))
+            self.cut_off += not text.endswith(b"\nok\n")
+
+    def leave(self):
+        self.is_over.set()
+        self.join()
+
+
 @dataclasses.dataclass
 class Run:
     """What came of one run; times in milliseconds."""
@@ -504,6 +537,9 @@ class Run:
     seconds: float
     # what the service said where it ended by itself
     ended: str
+    # how long it took to say how it stands, and how often it didn't
+    status: list
+    cut_off: int
 
     def rate(self):
         return 1000 * len(self.times) / sum(self.times)
@@ -513,7 +549,7 @@ class Run:
 
     def late(self):
         """The 99th percentile."""
-        return sorted(self.times)[math.ceil(0.99 * len(self.times)) - 1]
+        return percentile(self.times)
 
     def longest(self):
         return max(self.times)
@@ -525,6 +561,8 @@ def service(options, names, entries=None):
     with tempfile.TemporaryDirectory(prefix="chpw-siege-") as folder:
         server = Server(options.server, pathlib.Path(folder), WORKERS, options.idle)
         server.seed = pathlib.Path("/dev/urandom")
+        server.control = pathlib.Path(folder) / "control"
+        server.options += ["--control", server.control]
         for name in ("clients", "buffers"):
             if getattr(options, name) is not None:
                 server.options += [f"--{name}", getattr(options, name)]
@@ -542,13 +580,16 @@ def run(options, requests, entries, parts_of):
         watched = Watched(server.process)
         lines = Lines(server.process.stdout)
         besiegers = Besiegers(server.port, parts_of(accepted(server.port)))
+        status = StatusAsker(server)
         try:
             lines.start()
             stood = besiegers.stand()
             watched.look()
             before, histories = besiegers.counts(), lines.histories
             start = time.monotonic()
+            status.start()
             answers, full = ask_all(server.port, list(map(asking.framed, requests)), watched.look)
+            status.leave()
             seconds = time.monotonic() - start
             beside = besiegers.counts()
             beside.subtract(before)
@@ -573,6 +614,8 @@ def run(options, requests, entries, parts_of):
         beside=beside,
         seconds=seconds,
         ended=ended,
+        status=status.times,
+        cut_off=status.cut_off,
     )
 
 
@@ -662,6 +705,10 @@ def lines_of(calm, beside):
                 f"  {what} {counts['connections']} hostile connections came, {counts['bytes'] / 1e6:.1f} MB were "
                 f"sent and {counts['replies']} replies read over them"
             )
+    yield (
+        f"  status beside them: {len(beside.status)} answers, median {statistics.median(beside.status):.1f} ms, "
+        f"99th percentile {percentile(beside.status):.1f} ms, longest {max(beside.status):.1f} ms"
+    )
     if beside.histories:
         yield f"  {beside.histories} histories were full, {beside.full} requests told so and asked again"
 
@@ -692,6 +739,8 @@ def tell(report, options, number, requests, calm, beside):
         within("longest, ms", beside.longest(), FLOODED)
     if siege.entries:
         tell(f"{beside.histories} full histories, at least {HISTORIES}", beside.histories >= HISTORIES, True)
+    tell("answers about how it stands that were cut off", beside.cut_off, 0)
+    within("status, ms", percentile(beside.status), STATUS)
     within("memory, MiB", beside.peak, beside.at_start + (options.buffers or BUFFERS) + MORE_MEMORY)
     within("files", beside.files, (options.clients or CLIENTS) + MORE_FILES)
 

@@ -254,15 +254,24 @@ fn size_of<R: Files + AllocGlobal + Abort>(rt: &R, file: &str) -> usize {
     fs::read(rt, file).ok().expect(rt, "a file").len()
 }
 
-// The log has those lines and no other.
+// The log has those lines between that of the start and that of the end, and no other.
 fn expect_log<R: Files + AllocGlobal + Abort>(rt: &R) {
     let log = fs::read(rt, LOG_FILE).ok().expect(rt, "a log");
     let mut lines = str::from_utf8(log.as_slice()).unwrap_or("").lines();
+    assert!(rt;
+        lines
+            .next()
+            .unwrap_or("")
+            .split_once(" service started principals ")
+            .is_some()
+    );
     for logged in LOGGED {
         let line = lines.next().unwrap_or("");
         let (_, behind) = line.split_once(" peer ").unwrap_or(("", ""));
         assert!(rt; behind == logged);
     }
+    let end = lines.next().unwrap_or("").split_once(" service ended ");
+    assert!(rt; matches!(end, Some((_, "entries 7 changes 3"))));
     assert!(rt; lines.next().is_none());
 }
 
