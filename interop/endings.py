@@ -264,7 +264,7 @@ def serve(program):
         program.tell(f"serve: {what}", ("", "\n".join(lines), 1), *other)
 
     tell_of_journal("a journal in no folder", "missing/journal", "cannot write missing/journal",
-                    f"missing/journal: {MISSING}")
+                    "missing/journal: no such folder")
     # what stands at address 0 of a process can't be read
     tell_of_journal("a read that fails", "/proc/self/mem", "journal: J4")
 
