@@ -1,9 +1,8 @@
 -- What a compact journal gives, and what is found again behind it.
-use Rattle.std.proofs.Common.{◌≡◌, ℕ, suc, ◌≤◌, ◌+◌, max, List, [], ◌∷◌, ◌++◌, map, take, length, Bool, true, false, ◌⊎◌, ⊎_elim, inl, inr, if◌then◌else◌, Option, Some, None, refl, sym, ◌∙◌, ap, subst, arith, rules}
+use Rattle.std.proofs.Common.{◌≡◌, ℕ, ◌≤◌, ◌+◌, max, List, [], ◌∷◌, ◌++◌, map, length, Bool, true, false, ◌⊎◌, ⊎_elim, inl, inr, if◌then◌else◌, Option, Some, None, refl, sym, ◌∙◌, ap, subst, arith, rules}
 use Rattle.std.specs.Prelude.{Decides, option_map, nat_lt, IsSome, IfSome}
 use Rattle.std.specs.List.{flat_map}
 use Rattle.std.specs.Cmp.Lexicographic.{pointwise_decides, bytes_decides}
-use Rattle.std.specs.Io.KnownBytes.{Consumes, IsAtEnd}
 use Rattle.std.proofs.lemmas.Bool.Decides.{Decides-and, Decides-eqb, Decides-like, nat_tests}
 use Rattle.std.proofs.lemmas.List.{take_all}
 use Rattle.chpw_rules.specs.declared.name.Name.{Name}
@@ -12,7 +11,7 @@ use Rattle.chpw_rules.specs.Names.{is_same_name, is_name}
 use Rattle.chpw_table.specs.declared.key.KeyRow.{KeyRow}
 use Rattle.chpw_table.specs.declared.table.Principal.{Principal}
 use Rattle.chpw_table.specs.State.{State, keys_held, kept_count, new_count}
-use Rattle.chpw_table.specs.Agreement.{Held, Agrees}
+use Rattle.chpw_table.specs.Agreement.{Agrees}
 use Rattle.chpw_table.proofs.AgreementLemmas.{agrees_itself}
 use Rattle.chpw_table.proofs.BaseLemmas.{keys_based}
 use Rattle.chpw_table.proofs.KeyLemmas.{keys_in, keys_put, put}
@@ -20,12 +19,10 @@ use Rattle.chpw_table.proofs.NameLemmas.{is_same_name-Decides, is_same_name-itse
 use Rattle.chpw_journal.specs.declared.change.Change.{Change}
 use Rattle.chpw_journal.specs.declared.record.Record.{Record}
 use Rattle.chpw_journal.specs.declared.record.Record.TheVariants as record_of
-use Rattle.chpw_journal.specs.declared.restoring.Restored.{Restored}
 use Rattle.chpw_journal.specs.Records.{ChangeFits, records_text}
-use Rattle.chpw_journal.specs.JournalText.{restored, AreNext, is_cut_off, Begins, whole, IsReading}
-use Rattle.chpw_journal.specs.Restoring.{IsRestored}
-use Rattle.chpw_journal.specs.Runs.{SameKeys, IsSound, IsWholeKey, Run, journals, records_in, last_state}
-use Rattle.chpw_journal.specs.Joined.{IsAlike, FollowOn, MayOpen}
+use Rattle.chpw_journal.specs.JournalText.{restored, AreNext, Begins, whole, IsReading}
+use Rattle.chpw_journal.specs.Runs.{IsWholeKey, journals, records_in, last_state}
+use Rattle.chpw_journal.specs.Joined.{IsAlike}
 use Rattle.chpw_journal.specs.Known.{AreKnown}
 use Rattle.chpw_journal.specs.Compact.{is_same_key, are_same_keys, key_records, records_between, name_records, raise_records, compacted, KeyInRange, AreInRow, AreKeptInRow, AreWholeRecords, MayCompact}
 use Rattle.chpw_journal.specs.CompactLaws.{IsGiven, CompactGives, CompactIsNext, CompactReads, CompactIsFoundAgain, CompactMayOpen}
@@ -105,12 +102,12 @@ count_of_name t n [] = refl
 count_of_name t n (k ∷ []) = refl
 count_of_name t n (k ∷ l ∷ ls) = ap new_count (restored_joined t (key_records n (l ∷ ls)) (record_of.Change (key_of n k) ∷ [])) ∙ count_of_name t n (l ∷ ls)
 
--- ---- those of a name of the base
+-- ---- those of a name of the opening
 
 abbrev IsKept : State → Option (List KeyRow) → Type 0
 IsKept t y = IfSome y (AreKeptInRow (kept_count t))
 
--- they lead from the keys of the base to the others, and so from these to themselves
+-- they lead from the keys of the opening to the others, and so from these to themselves
 own_keys : (t : State) (n : Name) (x y : Option (List KeyRow)) → IsSome x → IsSome y → IsKept t y → (keys_held t n ≡ y) ⊎ (keys_held t n ≡ x)
     → keys_held (restored t (records_between n x y)) n ≡ y
 own_keys t n None y some there w h = absurd (cc)
@@ -169,20 +166,20 @@ stands_in (p ∷ ps) name some = at (stands_in ps name) (is_same_name p.name nam
     at rest true e = inl ((is_same_name-Decides p.name name).0 e)
     at rest false e = inr (rest (rw e at some))
 
--- a name of the base has the keys that it is to have, or it stands among these and has those of the base still
+-- a name of the opening has the keys that it is to have, or it stands among these and has those of the opening still
 abbrev Settles : State → State → State → List Name → Type 0
-Settles base s t ns = (name : Name) → IsSome (keys_held base name) → (keys_held t name ≡ keys_held s name) ⊎ (Stands ns name × (keys_held t name ≡ keys_held base name))
+Settles opening s t ns = (name : Name) → IsSome (keys_held opening name) → (keys_held t name ≡ keys_held s name) ⊎ (Stands ns name × (keys_held t name ≡ keys_held opening name))
 
-module _ (base s : State) (may : MayCompact base s) where
-  held_of : (t : State) (ns : List Name) → Settles base s t ns → (name : Name) → IsSome (keys_held base name) → IsSome (keys_held t name)
+module _ (opening s : State) (may : MayCompact opening s) where
+  held_of : (t : State) (ns : List Name) → Settles opening s t ns → (name : Name) → IsSome (keys_held opening name) → IsSome (keys_held t name)
   held_of t ns settles name some =
       ⊎_elim (λ (g : keys_held t name ≡ keys_held s name). subst IsSome (sym g) (may.known name some))
-      (λ (g : Stands ns name × (keys_held t name ≡ keys_held base name)). subst IsSome (sym g.1) some) (settles name some)
+      (λ (g : Stands ns name × (keys_held t name ≡ keys_held opening name)). subst IsSome (sym g.1) some) (settles name some)
 
   kept_of : (t : State) (n : Name) → kept_count t ≡ kept_count s → IsKept t (keys_held s n)
   kept_of t n kept = subst (λ (m : ℕ). IfSome (keys_held s n) (AreKeptInRow m)) (sym kept) (may.row n)
 
-  settles_next : (t : State) (n : Name) (ns : List Name) → kept_count t ≡ kept_count s → Settles base s t (n ∷ ns) → Settles base s (restored t (name_records base s n)) ns
+  settles_next : (t : State) (n : Name) (ns : List Name) → kept_count t ≡ kept_count s → Settles opening s t (n ∷ ns) → Settles opening s (restored t (name_records opening s n)) ns
   settles_next t n ns kept settles name some = at (is_same_name n name) refl
     where
       others : Stands (n ∷ ns) name → is_same_name n name ≡ false → Stands ns name
@@ -191,36 +188,36 @@ module _ (base s : State) (may : MayCompact base s) where
           apart : (b : Bool) → b ≡ false → b ≡ true → ⊥
           apart b h k = cc
 
-      at : (b : Bool) → is_same_name n name ≡ b → (keys_held (restored t (name_records base s n)) name ≡ keys_held s name) ⊎ (Stands ns name × (keys_held (restored t (name_records base s n)) name ≡ keys_held base name))
+      at : (b : Bool) → is_same_name n name ≡ b → (keys_held (restored t (name_records opening s n)) name ≡ keys_held s name) ⊎ (Stands ns name × (keys_held (restored t (name_records opening s n)) name ≡ keys_held opening name))
       at true e =
           let same : n ≡ name = (is_same_name-Decides n name).0 e in
-          let there : IsSome (keys_held base n) = subst (λ (m : Name). IsSome (keys_held base m)) (sym same) some in
-          let either : (keys_held t n ≡ keys_held s n) ⊎ (keys_held t n ≡ keys_held base n) =
-          ⊎_elim (λ (g : keys_held t n ≡ keys_held s n). inl g) (λ (g : Stands (n ∷ ns) n × (keys_held t n ≡ keys_held base n)). inr g.1) (settles n there) in
-          inl (subst (λ (m : Name). keys_held (restored t (name_records base s n)) m ≡ keys_held s m) same (own_keys t n (keys_held base n) (keys_held s n) there (may.known n there) (kept_of t n kept) either))
+          let there : IsSome (keys_held opening n) = subst (λ (m : Name). IsSome (keys_held opening m)) (sym same) some in
+          let either : (keys_held t n ≡ keys_held s n) ⊎ (keys_held t n ≡ keys_held opening n) =
+          ⊎_elim (λ (g : keys_held t n ≡ keys_held s n). inl g) (λ (g : Stands (n ∷ ns) n × (keys_held t n ≡ keys_held opening n)). inr g.1) (settles n there) in
+          inl (subst (λ (m : Name). keys_held (restored t (name_records opening s n)) m ≡ keys_held s m) same (own_keys t n (keys_held opening n) (keys_held s n) there (may.known n there) (kept_of t n kept) either))
       at false e =
-          let stay : keys_held (restored t (name_records base s n)) name ≡ keys_held t name = other_keys t n name (keys_held base n) (keys_held s n) e (kept_of t n kept) in
+          let stay : keys_held (restored t (name_records opening s n)) name ≡ keys_held t name = other_keys t n name (keys_held opening n) (keys_held s n) e (kept_of t n kept) in
           ⊎_elim (λ (g : keys_held t name ≡ keys_held s name). inl (stay ∙ g))
-          (λ (g : Stands (n ∷ ns) name × (keys_held t name ≡ keys_held base name)). inr (others g.0 e, stay ∙ g.1)) (settles name some)
+          (λ (g : Stands (n ∷ ns) name × (keys_held t name ≡ keys_held opening name)). inr (others g.0 e, stay ∙ g.1)) (settles name some)
 
-  all_names : (t : State) (ns : List Name) → kept_count t ≡ kept_count s → Settles base s t ns → AreWholeRecords (flat_map (name_records base s) ns)
-      → AreNext t (flat_map (name_records base s) ns)
-      × ((name : Name) → IsSome (keys_held base name) → keys_held (restored t (flat_map (name_records base s) ns)) name ≡ keys_held s name)
-      × (new_count (restored t (flat_map (name_records base s) ns)) ≡ new_count t)
+  all_names : (t : State) (ns : List Name) → kept_count t ≡ kept_count s → Settles opening s t ns → AreWholeRecords (flat_map (name_records opening s) ns)
+      → AreNext t (flat_map (name_records opening s) ns)
+      × ((name : Name) → IsSome (keys_held opening name) → keys_held (restored t (flat_map (name_records opening s) ns)) name ≡ keys_held s name)
+      × (new_count (restored t (flat_map (name_records opening s) ns)) ≡ new_count t)
   all_names t [] kept settles w = (
     tt,
-    λ name some. ⊎_elim (λ (g : keys_held t name ≡ keys_held s name). g) (λ (g : Stands [] name × (keys_held t name ≡ keys_held base name)). absurd g.0) (settles name some),
+    λ name some. ⊎_elim (λ (g : keys_held t name ≡ keys_held s name). g) (λ (g : Stands [] name × (keys_held t name ≡ keys_held opening name)). absurd g.0) (settles name some),
     refl,
   )
   all_names t (n ∷ ns) kept settles w =
-      let front : List Record = name_records base s n in
-      let more : List Record = flat_map (name_records base s) ns in
+      let front : List Record = name_records opening s n in
+      let more : List Record = flat_map (name_records opening s) ns in
       let joined : restored t (front ++ more) ≡ restored (restored t front) more = restored_joined t front more in
       let parts = whole_parts front more w in
       let rest = all_names (restored t front) ns (restored_kept t front ∙ kept) (settles_next t n ns kept settles) parts.1 in (
-        next_joined t front more (between_next t n (keys_held base n) (keys_held s n) (may.sound.names n) (held_of t (n ∷ ns) settles n) (kept_of t n kept) parts.0) rest.0,
+        next_joined t front more (between_next t n (keys_held opening n) (keys_held s n) (may.sound.names n) (held_of t (n ∷ ns) settles n) (kept_of t n kept) parts.0) rest.0,
         λ name some. ap (λ (v : State). keys_held v name) joined ∙ rest.1 name some,
-        ap new_count joined ∙ (rest.2 ∙ between_count t n (keys_held base n) (keys_held s n)),
+        ap new_count joined ∙ (rest.2 ∙ between_count t n (keys_held opening n) (keys_held s n)),
       )
 
 -- ---- the raise
@@ -245,61 +242,61 @@ raise_count t count false e = not_lower (new_count t) count e
 
 -- ---- a compact journal
 
-module _ (base s : State) (may : MayCompact base s) where
+module _ (opening s : State) (may : MayCompact opening s) where
   abbrev raise : List Record
-  raise = raise_records base s
+  raise = raise_records opening s
 
   abbrev start : State
-  start = restored base raise
+  start = restored opening raise
 
   abbrev names : List Name
-  names = map (λ (p : Principal). p.name) base.principals
+  names = map (λ (p : Principal). p.name) opening.principals
 
-  begun : (name : Name) → keys_held start name ≡ keys_held base name
-  begun name = raise_keys base (new_count s) (nat_lt (new_count base) (new_count s)) name
+  begun : (name : Name) → keys_held start name ≡ keys_held opening name
+  begun name = raise_keys opening (new_count s) (nat_lt (new_count opening) (new_count s)) name
 
-  settles : Settles base s start names
-  settles name some = inr (stands_in base.principals name some, begun name)
+  settles : Settles opening s start names
+  settles name some = inr (stands_in opening.principals name some, begun name)
 
-  all : AreNext start (flat_map (name_records base s) names)
-      × ((name : Name) → IsSome (keys_held base name) → keys_held (restored start (flat_map (name_records base s) names)) name ≡ keys_held s name)
-      × (new_count (restored start (flat_map (name_records base s) names)) ≡ new_count start)
-  all = all_names base s may start names (restored_kept base raise ∙ may.kept) settles (whole_parts raise (flat_map (name_records base s) names) may.whole).1
+  all : AreNext start (flat_map (name_records opening s) names)
+      × ((name : Name) → IsSome (keys_held opening name) → keys_held (restored start (flat_map (name_records opening s) names)) name ≡ keys_held s name)
+      × (new_count (restored start (flat_map (name_records opening s) names)) ≡ new_count start)
+  all = all_names opening s may start names (restored_kept opening raise ∙ may.kept) settles (whole_parts raise (flat_map (name_records opening s) names) may.whole).1
 
-  joined : restored base (compacted base s) ≡ restored start (flat_map (name_records base s) names)
-  joined = restored_joined base raise (flat_map (name_records base s) names)
+  joined : restored opening (compacted opening s) ≡ restored start (flat_map (name_records opening s) names)
+  joined = restored_joined opening raise (flat_map (name_records opening s) names)
 
-  next : AreNext base (compacted base s)
-  next = next_joined base raise (flat_map (name_records base s) names) (raise_next base (new_count s) (nat_lt (new_count base) (new_count s)) may.sound.count) all.0
+  next : AreNext opening (compacted opening s)
+  next = next_joined opening raise (flat_map (name_records opening s) names) (raise_next opening (new_count s) (nat_lt (new_count opening) (new_count s)) may.sound.count) all.0
 
-  given : IsGiven base s (restored base (compacted base s))
+  given : IsGiven opening s (restored opening (compacted opening s))
   given = record {
     keys = λ name some. ap (λ (v : State). keys_held v name) joined ∙ all.1 name some;
-    others = λ name none. restored_none base (compacted base s) name none;
-    kept = restored_kept base (compacted base s) ∙ may.kept;
-    count = ap new_count joined ∙ (all.2 ∙ raise_count base (new_count s) (nat_lt (new_count base) (new_count s)) refl);
+    others = λ name none. restored_none opening (compacted opening s) name none;
+    kept = restored_kept opening (compacted opening s) ∙ may.kept;
+    count = ap new_count joined ∙ (all.2 ∙ raise_count opening (new_count s) (nat_lt (new_count opening) (new_count s)) refl);
   }
 
-  covers : Covers (restored base (compacted base s)) s
+  covers : Covers (restored opening (compacted opening s)) s
   covers = record {
     kept = given.kept;
-    keys = λ name some. given.keys name (restored_was base (compacted base s) name some);
+    keys = λ name some. given.keys name (restored_was opening (compacted opening s) name some);
   }
 
 pub compact_gives : CompactGives
-compact_gives base s may = given base s may
+compact_gives opening s may = given opening s may
 
 pub compact_is_next : CompactIsNext
-compact_is_next base s may = next base s may
+compact_is_next opening s may = next opening s may
 
 pub compact_reads : CompactReads
-compact_reads base s runs cut may f known c = reads_again base s (compacted base s) (next base s may) (covers base s may) runs f known cut c
+compact_reads opening s runs cut may f known c = reads_again opening s (compacted opening s) (next opening s may) (covers opening s may) runs f known cut c
 
 pub compact_is_found_again : CompactIsFoundAgain
-compact_is_found_again base s runs may f known low =
-    let is : new_count (restored base (compacted base s)) ≡ max (new_count base) (new_count s) = (given base s may).count in (
-      found_again base s (compacted base s) (next base s may) (covers base s may) runs f known (omega (arith, is, low)),
-      count_again base s (compacted base s) (next base s may) (covers base s may) runs f known (omega (arith, is, low)),
+compact_is_found_again opening s runs may f known low =
+    let is : new_count (restored opening (compacted opening s)) ≡ max (new_count opening) (new_count s) = (given opening s may).count in (
+      found_again opening s (compacted opening s) (next opening s may) (covers opening s may) runs f known (omega (arith, is, low)),
+      count_again opening s (compacted opening s) (next opening s may) (covers opening s may) runs f known (omega (arith, is, low)),
     )
 
 -- ---- a further run over it
@@ -308,46 +305,46 @@ is_there_too : (x y : Option (List KeyRow)) → (x ≡ None → y ≡ None) → 
 is_there_too None y h some = absurd (no_keys y (h refl) some)
 is_there_too (Some keys) y h some = search rules
 
-module _ (base s before : State) (may : MayCompact base s) (low : new_count base ≤ new_count s) (only : (name : Name) → keys_held base name ≡ None → keys_held s name ≡ None) (like : IsAlike base before) where
+module _ (opening s before : State) (may : MayCompact opening s) (low : new_count opening ≤ new_count s) (only : (name : Name) → keys_held opening name ≡ None → keys_held s name ≡ None) (like : IsAlike opening before) where
   abbrev over : State
-  over = restored before (compacted base s)
+  over = restored before (compacted opening s)
 
-  keys_of : (x : Option (List KeyRow)) (name : Name) → keys_held base name ≡ x → keys_held s name ≡ keys_held over name
-  keys_of None name e = only name e ∙ sym (restored_none before (compacted base s) name (sym (like.keys.keys name) ∙ e))
+  keys_of : (x : Option (List KeyRow)) (name : Name) → keys_held opening name ≡ x → keys_held s name ≡ keys_held over name
+  keys_of None name e = only name e ∙ sym (restored_none before (compacted opening s) name (sym (like.keys.keys name) ∙ e))
   keys_of (Some keys) name e =
-      sym ((given base s may).keys name (subst IsSome (sym e) (search rules)))
-      ∙ restored_alike base before (compacted base s) name like.keys.kept (like.keys.keys name)
+      sym ((given opening s may).keys name (subst IsSome (sym e) (search rules)))
+      ∙ restored_alike opening before (compacted opening s) name like.keys.kept (like.keys.keys name)
 
-  alike : IsAlike s (restored before (compacted base s))
+  alike : IsAlike s (restored before (compacted opening s))
   alike =
-      let is : new_count (restored base (compacted base s)) ≡ max (new_count base) (new_count s) = (given base s may).count in
-      let same : new_count base ≡ new_count before = like.count in
-      let a : new_count (restored base (compacted base s)) ≤ new_count over = restored_count base before (compacted base s) (omega (arith, same)) in
-      let b : new_count over ≤ new_count (restored base (compacted base s)) = restored_count before base (compacted base s) (omega (arith, same)) in
+      let is : new_count (restored opening (compacted opening s)) ≡ max (new_count opening) (new_count s) = (given opening s may).count in
+      let same : new_count opening ≡ new_count before = like.count in
+      let a : new_count (restored opening (compacted opening s)) ≤ new_count over = restored_count opening before (compacted opening s) (omega (arith, same)) in
+      let b : new_count over ≤ new_count (restored opening (compacted opening s)) = restored_count before opening (compacted opening s) (omega (arith, same)) in
       record {
         keys = record {
-          kept = sym may.kept ∙ (like.keys.kept ∙ sym (restored_kept before (compacted base s)));
-          keys = λ name. keys_of (keys_held base name) name refl;
+          kept = sym may.kept ∙ (like.keys.kept ∙ sym (restored_kept before (compacted opening s)));
+          keys = λ name. keys_of (keys_held opening name) name refl;
         };
         count = omega (arith, is, low, a, b);
       }
 
 pub compact_may_open : CompactMayOpen
-compact_may_open base s runs cut before new r may low only f c like is =
+compact_may_open opening s runs cut before new r may low only f c like is =
     let more : List Record = records_in runs in
-    let all : List Record = compacted base s ++ more in
-    let text : List ℕ = records_text (compacted base s) ++ journals runs ++ cut in
+    let all : List Record = compacted opening s ++ more in
+    let text : List ℕ = records_text (compacted opening s) ++ journals runs ++ cut in
     let follows : Follows s more (last_state s runs) = runs_next s s runs (same_itself s) f.each in
-    let known : AreKnown base more = known_alike s base more (λ name some. is_there_too (keys_held base name) (keys_held s name) (only name) some) (next_are_known s more follows.0) in
-    let there : AreNext base all = all_next base s (compacted base s) (next base s may) (covers base s may) runs f known in
+    let known : AreKnown opening more = known_alike s opening more (λ name some. is_there_too (keys_held opening name) (keys_held s name) (only name) some) (next_are_known s more follows.0) in
+    let there : AreNext opening all = all_next opening s (compacted opening s) (next opening s may) (covers opening s may) runs f known in
     let here : AreNext before.state all =
-    next_covered before.state base all (record { kept = sym like.keys.kept; keys = λ name some. sym (like.keys.keys name) })
-    (known_alike base before.state all (λ name some. subst IsSome (like.keys.keys name) some) (next_are_known base all there)) there in
-    let begins : Begins before.state text all cut = record { text_is = (reads_again base s (compacted base s) (next base s may) (covers base s may) runs f known cut c).0.0.text_is; next = here } in
+    next_covered before.state opening all (record { kept = sym like.keys.kept; keys = λ name some. sym (like.keys.keys name) })
+    (known_alike opening before.state all (λ name some. subst IsSome (like.keys.keys name) some) (next_are_known opening all there)) there in
+    let begins : Begins before.state text all cut = record { text_is = (reads_again opening s (compacted opening s) (next opening s may) (covers opening s may) runs f known cut c).0.0.text_is; next = here } in
     let read : records_text is.whole_records ++ is.rest ≡ text = all_read text (records_text is.whole_records ++ is.rest) new is.read is.end in
     let reading : IsReading before.state text (whole is.whole_records is.rest) =
     subst (λ (xs : List ℕ). IsReading before.state xs (whole is.whole_records is.rest)) read (is.reading before.state (agrees_itself before.state)) in
     let records : is.whole_records ≡ all = ap records_read (reads_one before.state text all cut begins c (whole is.whole_records is.rest) reading) in
     let put_back : Agrees r.table.state (restored before.state all) = subst (λ (rs : List Record). Agrees r.table.state (restored before.state rs)) records (is.table before.state (agrees_itself before.state)) in
-    restored_may_open s runs (restored before.state (compacted base s)) r.table.state f (alike base s before.state may low only like)
-    (subst (Agrees r.table.state) (restored_joined before.state (compacted base s) more) put_back)
+    restored_may_open s runs (restored before.state (compacted opening s)) r.table.state f (alike opening s before.state may low only like)
+    (subst (Agrees r.table.state) (restored_joined before.state (compacted opening s) more) put_back)

@@ -1,5 +1,5 @@
 -- Which states hold keys in a row.
-use Rattle.std.proofs.Common.{◌≡◌, ℕ, zero, suc, ◌+◌, ◌≤◌, max, List, [], ◌∷◌, map, take, length, All, Bool, true, false, if◌then◌else◌, Option, Some, None, refl, sym, ◌∙◌, ap, subst, arith}
+use Rattle.std.proofs.Common.{◌≡◌, ℕ, zero, suc, ◌+◌, ◌≤◌, max, List, [], ◌∷◌, map, take, length, Bool, true, false, if◌then◌else◌, Option, Some, None, refl, sym, ◌∙◌, ap, subst, arith}
 use Rattle.std.specs.Prelude.{option_map, IsSome, IfSome, ◌==◌}
 use Rattle.std.specs.List.{list_all}
 use Rattle.std.proofs.lemmas.Bool.Decides.{nat_tests}
@@ -13,7 +13,6 @@ use Rattle.chpw_rules.specs.Fitting.{key_fits, descend_from, kvnos_descend, prin
 use Rattle.chpw_table.specs.declared.key.KeyRow.{KeyRow}
 use Rattle.chpw_table.specs.State.{Fixed, State, keys_held, kept_count, new_count, key_row_of, opening_principal}
 use Rattle.chpw_table.specs.Decision.{newest_kvno}
-use Rattle.chpw_table.specs.Restoring.{IsNextKey}
 use Rattle.chpw_table.proofs.BoolLemmas.{and_left, and_right}
 use Rattle.chpw_table.proofs.HoldingLemmas.{kept_at_least, principals_of_fits}
 use Rattle.chpw_table.proofs.KeyLemmas.{keys_in, keys_put, put}
@@ -122,7 +121,7 @@ count_grows s ((record_of.Raise count) ∷ rs) = let more = count_grows (with_re
 count_grows s ((record_of.Base c) ∷ rs) = count_grows (with_record (record_of.Base c) s) rs
 
 pub runs_may_compact : RunsMayCompact
-runs_may_compact base s held runs f a w kept known low whole =
+runs_may_compact opening s held runs f a w kept known low whole =
     let follows : Follows s (records_in runs) (last_state s runs) = runs_next s s runs (same_itself s) f.each in
     let count : new_count (restored s (records_in runs)) ≡ new_count (last_state s runs) = count_runs s s runs f.each f.counts (omega arith) in
     let same : new_count held ≡ new_count (last_state s runs) = a.count in (

@@ -1,6 +1,6 @@
--- Compact journals, computed: a principal whose keys are others, one with the same, one that the base lacks; a count
+-- Compact journals, computed: a principal whose keys are others, one with the same, one that the opening lacks; a count
 -- that was raised, and one that wasn't; a base's bytes, and what puts it back.
-use Rattle.std.proofs.Common.{◌≡◌, ℕ, List, [], ◌∷◌, ◌++◌, take, drop, false, Some, None, refl}
+use Rattle.std.proofs.Common.{◌≡◌, ℕ, List, [], ◌∷◌, take, drop, false, Some, None, refl}
 use Rattle.std.specs.Prelude.{codes, pos}
 use Rattle.chpw_table.specs.declared.table.Principal.{Principal}
 use Rattle.chpw_table.specs.State.{State, keys_held, new_count}
@@ -27,8 +27,8 @@ state_of principals count = record {
 }
 
 -- alice has changed her key three times, bob never; admin came in elsewhere; the count was raised to 8
-abbrev base : State
-base = state_of (record { name = alice; keys = key_row 1 4 0xa1 ∷ [] } ∷ record { name = bob; keys = key_row 7 4 0xb7 ∷ [] } ∷ []) 4
+abbrev opening : State
+opening = state_of (record { name = alice; keys = key_row 1 4 0xa1 ∷ [] } ∷ record { name = bob; keys = key_row 7 4 0xb7 ∷ [] } ∷ []) 4
 
 abbrev held : State
 held = state_of (
@@ -38,7 +38,7 @@ held = state_of (
     ∷ []
     ) 8
 
-pub a_raise_and_alice : compacted base held
+pub a_raise_and_alice : compacted opening held
     ≡ record_of.Raise 8
     ∷ record_of.Base (record { name = alice; key = key_row 2 4 0xa2 })
     ∷ record_of.Change (record { name = alice; key = key_row 3 4 0xa3 })
@@ -46,20 +46,20 @@ pub a_raise_and_alice : compacted base held
     ∷ []
 a_raise_and_alice = refl
 
-pub alice_is_back : keys_held (restored base (compacted base held)) alice ≡ keys_held held alice
+pub alice_is_back : keys_held (restored opening (compacted opening held)) alice ≡ keys_held held alice
 alice_is_back = refl
 
-pub bob_stays : keys_held (restored base (compacted base held)) bob ≡ Some (key_row 7 4 0xb7 ∷ [])
+pub bob_stays : keys_held (restored opening (compacted opening held)) bob ≡ Some (key_row 7 4 0xb7 ∷ [])
 bob_stays = refl
 
-pub admin_is_none : keys_held (restored base (compacted base held)) admin ≡ None
+pub admin_is_none : keys_held (restored opening (compacted opening held)) admin ≡ None
 admin_is_none = refl
 
-pub count_is_back : new_count (restored base (compacted base held)) ≡ 8
+pub count_is_back : new_count (restored opening (compacted opening held)) ≡ 8
 count_is_back = refl
 
--- the count is no greater, and alice has a key alone; admin stands in no base's state
-pub lower_count_and_one_key : compacted held base ≡ record_of.Base (record { name = alice; key = key_row 1 4 0xa1 }) ∷ []
+-- the count is no greater, and alice has a key alone; admin stands in no opening
+pub lower_count_and_one_key : compacted held opening ≡ record_of.Base (record { name = alice; key = key_row 1 4 0xa1 }) ∷ []
 lower_count_and_one_key = refl
 
 pub none_of_itself : compacted held held ≡ []

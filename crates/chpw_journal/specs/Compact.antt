@@ -1,4 +1,4 @@
--- A compact journal: the few records that lead from a base, the state that a configuration opens with, to
+-- A compact journal: the few records that lead from an opening, the state that a configuration opens with, to
 -- the keys and the count of another state, in place of all that led there.
 use Rattle.std.specs.Prelude.{◌≡◌, ℕ, ◌+◌, ◌≤◌, List, [], ◌∷◌, ◌++◌, length, map, Bool, true, ◌&&◌, ◌==◌, nat_lt, bytes_eq, if◌then◌else◌, Option, Some, IsSome, IfSome}
 use Rattle.std.specs.List.{flat_map}
@@ -31,15 +31,15 @@ records_between name (Some before) (Some keys) = if are_same_keys before keys th
 records_between name before keys = []
 
 abbrev pub name_records : State → State → Name → List Record
-name_records base s name = records_between name (keys_held base name) (keys_held s name)
+name_records opening s name = records_between name (keys_held opening name) (keys_held s name)
 
--- a raise, where the count is greater than the base's
+-- a raise, where the count is greater than the opening's
 abbrev pub raise_records : State → State → List Record
-raise_records base s = if nat_lt (new_count base) (new_count s) then record_of.Raise (new_count s) ∷ [] else []
+raise_records opening s = if nat_lt (new_count opening) (new_count s) then record_of.Raise (new_count s) ∷ [] else []
 
--- the raise, and then the records of the base's principals, in their order
+-- the raise, and then the records of the opening's principals, in their order
 abbrev pub compacted : State → State → List Record
-compacted base s = raise_records base s ++ flat_map (name_records base s) (map (λ (p : Principal). p.name) base.principals)
+compacted opening s = raise_records opening s ++ flat_map (name_records opening s) (map (λ (p : Principal). p.name) opening.principals)
 
 -- ---- what can be led to so
 
@@ -78,11 +78,11 @@ abbrev pub AreWholeRecords : List Record → Type 0
 AreWholeRecords [] = Unit {0}
 AreWholeRecords (r ∷ rs) = IsWholeRecord r × AreWholeRecords rs
 
--- A compact journal may be made of a state over a base: the state is within the limits and holds keys in a row, of
--- which those that are written are whole; it has each principal of the base, and keeps as many keys.
-pub record MayCompact (base s : State) : Type 0 where
+-- A compact journal may be made of a state over an opening: the state is within the limits and holds keys in a row, of
+-- which those that are written are whole; it has each principal of the opening, and keeps as many keys.
+pub record MayCompact (opening s : State) : Type 0 where
   pub sound : IsSound s
   pub row : HoldsInRow s
-  pub whole : AreWholeRecords (compacted base s)
-  pub kept : kept_count base ≡ kept_count s
-  pub known : (name : Name) → IsSome (keys_held base name) → IsSome (keys_held s name)
+  pub whole : AreWholeRecords (compacted opening s)
+  pub kept : kept_count opening ≡ kept_count s
+  pub known : (name : Name) → IsSome (keys_held opening name) → IsSome (keys_held s name)

@@ -15,44 +15,44 @@ use Rattle.chpw_journal.specs.Joined.{IsAlike, FollowOn, MayOpen}
 use Rattle.chpw_journal.specs.Known.{AreKnown, IsFoundAgain}
 use Rattle.chpw_journal.specs.Compact.{compacted, HoldsInRow, AreWholeRecords, MayCompact}
 
--- what restoring a compact journal gives: of each name of the base the keys that were held, no other name, as
+-- what restoring a compact journal gives: of each name of the opening the keys that were held, no other name, as
 -- many kept, and the greater count
-pub record IsGiven (base s given : State) : Type 0 where
-  pub keys : (name : Name) → IsSome (keys_held base name) → keys_held given name ≡ keys_held s name
-  pub others : (name : Name) → keys_held base name ≡ None → keys_held given name ≡ None
+pub record IsGiven (opening s given : State) : Type 0 where
+  pub keys : (name : Name) → IsSome (keys_held opening name) → keys_held given name ≡ keys_held s name
+  pub others : (name : Name) → keys_held opening name ≡ None → keys_held given name ≡ None
   pub kept : kept_count given ≡ kept_count s
-  pub count : new_count given ≡ max (new_count base) (new_count s)
+  pub count : new_count given ≡ max (new_count opening) (new_count s)
 
 abbrev pub CompactGives : Type 0
-CompactGives = (base s : State) → MayCompact base s → IsGiven base s (restored base (compacted base s))
+CompactGives = (opening s : State) → MayCompact opening s → IsGiven opening s (restored opening (compacted opening s))
 
 -- its records are within the limits, and each may come next
 abbrev pub CompactIsNext : Type 0
-CompactIsNext = (base s : State) → MayCompact base s → AreNext base (compacted base s)
+CompactIsNext = (opening s : State) → MayCompact opening s → AreNext opening (compacted opening s)
 
 -- Runs that go on from the state write behind it. All together is read as its records and theirs and in no other way,
--- where none of theirs is of a principal that the base lacks.
+-- where none of theirs is of a principal that the opening lacks.
 abbrev pub CompactReads : Type 0
-CompactReads = (base s : State) (runs : List Run) (cut : List ℕ) → MayCompact base s → FollowOn s runs →
-    AreKnown base (records_in runs) → is_cut_off cut ≡ true →
-    let text : List ℕ = records_text (compacted base s) ++ journals runs ++ cut in
-    IsReading base text (whole (compacted base s ++ records_in runs) cut)
-    × ((reading : Reading) → IsReading base text reading → reading ≡ whole (compacted base s ++ records_in runs) cut)
+CompactReads = (opening s : State) (runs : List Run) (cut : List ℕ) → MayCompact opening s → FollowOn s runs →
+    AreKnown opening (records_in runs) → is_cut_off cut ≡ true →
+    let text : List ℕ = records_text (compacted opening s) ++ journals runs ++ cut in
+    IsReading opening text (whole (compacted opening s ++ records_in runs) cut)
+    × ((reading : Reading) → IsReading opening text reading → reading ≡ whole (compacted opening s ++ records_in runs) cut)
 
 -- a start over it finds what the last run left, and its count too
 abbrev pub CompactIsFoundAgain : Type 0
-CompactIsFoundAgain = (base s : State) (runs : List Run) → MayCompact base s → FollowOn s runs →
-    AreKnown base (records_in runs) → new_count base ≤ new_count s →
-    IsFoundAgain base (compacted base s ++ records_in runs) (last_state s runs)
-    × (new_count (restored base (compacted base s ++ records_in runs)) ≡ new_count (last_state s runs))
+CompactIsFoundAgain = (opening s : State) (runs : List Run) → MayCompact opening s → FollowOn s runs →
+    AreKnown opening (records_in runs) → new_count opening ≤ new_count s →
+    IsFoundAgain opening (compacted opening s ++ records_in runs) (last_state s runs)
+    × (new_count (restored opening (compacted opening s ++ records_in runs)) ≡ new_count (last_state s runs))
 
--- where the state has the base's names alone, a further run may open with what `restore` makes of a table like the base
+-- where the state has the opening's names alone, a further run may open with what `restore` makes of a table like the opening
 -- and of a reader that has all this
 abbrev pub CompactMayOpen : Type 0
-CompactMayOpen = (base s : State) (runs : List Run) (cut : List ℕ) (before : Held) (new : Option (List ℕ)) (r : Restored) →
-    MayCompact base s → new_count base ≤ new_count s → ((name : Name) → keys_held base name ≡ None → keys_held s name ≡ None) →
-    FollowOn s runs → is_cut_off cut ≡ true → IsAlike base before.state →
-    IsRestored before (Some (records_text (compacted base s) ++ journals runs ++ cut)) new r → MayOpen s runs r.table.state
+CompactMayOpen = (opening s : State) (runs : List Run) (cut : List ℕ) (before : Held) (new : Option (List ℕ)) (r : Restored) →
+    MayCompact opening s → new_count opening ≤ new_count s → ((name : Name) → keys_held opening name ≡ None → keys_held s name ≡ None) →
+    FollowOn s runs → is_cut_off cut ≡ true → IsAlike opening before.state →
+    IsRestored before (Some (records_text (compacted opening s) ++ journals runs ++ cut)) new r → MayOpen s runs r.table.state
 
 -- ---- which states hold keys in a row
 
@@ -72,10 +72,10 @@ RunsHoldInRow = (s : State) (runs : List Run) → FollowOn s runs → HoldsInRow
 abbrev pub AgreeHoldInRow : Type 0
 AgreeHoldInRow = (s t : State) → Agrees t s → HoldsInRow s → HoldsInRow t
 
--- So a compact journal may be made over a base of a table that runs left, where the first of them opened with keys in a
--- row, with each principal of the base and no lower count, and kept as many keys; the table's count isn't lower either.
+-- So a compact journal may be made over an opening of a table that runs left, where the first of them opened with keys in a
+-- row, with each principal of the opening and no lower count, and kept as many keys; the table's count isn't lower either.
 abbrev pub RunsMayCompact : Type 0
-RunsMayCompact = (base s held : State) (runs : List Run) → FollowOn s runs → Agrees held (last_state s runs) → HoldsInRow s →
-    kept_count base ≡ kept_count s → ((name : Name) → IsSome (keys_held base name) → IsSome (keys_held s name)) →
-    new_count base ≤ new_count s → AreWholeRecords (compacted base held) →
-    MayCompact base held × (new_count base ≤ new_count held)
+RunsMayCompact = (opening s held : State) (runs : List Run) → FollowOn s runs → Agrees held (last_state s runs) → HoldsInRow s →
+    kept_count opening ≡ kept_count s → ((name : Name) → IsSome (keys_held opening name) → IsSome (keys_held s name)) →
+    new_count opening ≤ new_count s → AreWholeRecords (compacted opening held) →
+    MayCompact opening held × (new_count opening ≤ new_count held)

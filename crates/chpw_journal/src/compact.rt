@@ -11,21 +11,21 @@ use chpw_rules::Name;
 use chpw_table::{KeyRow, Table, raise_bytes, record_bytes};
 use std::alloc::{AllocError, Global};
 
-/// The text of a journal that, restored onto the base, gives each of its principals the keys that the held
+/// The text of a journal that, restored onto the opening, gives each of its principals the keys that the held
 /// table has of it, and the held count where that is the greater: a raise to it first, and then of each
 /// principal with other keys the oldest as a base and the newer ones as changes. It has nothing of those with
-/// the same keys, nor of those that the base lacks. The base is the table that the configuration opens with.
-/// The keys in it are whole, as each key that a table holds is; `laws::compact` asks for that.
-pub fn compact_journal(alloc: Global, base: &Table, held: &Table) -> Result<Vec<u8>, AllocError>
+/// the same keys, nor of those that the opening lacks. The opening is the table that the configuration opens
+/// with. The keys in the text are whole, as each key that a table holds is; `laws::compact` asks for that.
+pub fn compact_journal(alloc: Global, opening: &Table, held: &Table) -> Result<Vec<u8>, AllocError>
     ensures value { IfOk result (λ text. text.items
-        ≡ records_text (compacted base.now.state held.now.state)) }
-    ensures whole { OnOk result (AreWholeRecords (compacted base.now.state held.now.state)) }
+        ≡ records_text (compacted opening.now.state held.now.state)) }
+    ensures whole { OnOk result (AreWholeRecords (compacted opening.now.state held.now.state)) }
 {
     let mut text = Vec::new(alloc);
-    put_raise(&mut text, base, held)?;
+    put_raise(&mut text, opening, held)?;
     let mut place = 0u32;
-    while let Some(name) = base.name_at(place) {
-        put_principal(&mut text, base, held, name)?;
+    while let Some(name) = opening.name_at(place) {
+        put_principal(&mut text, opening, held, name)?;
         // More names than that no memory holds.
         let Some(next) = place.checked_add(1) else {
             return Err(AllocError);
@@ -35,32 +35,32 @@ pub fn compact_journal(alloc: Global, base: &Table, held: &Table) -> Result<Vec<
     Ok(text)
 }
 
-// Adds a raise to the held count, where that is greater than the base's.
-fn put_raise(text: &mut Vec<u8>, base: &Table, held: &Table) -> Result<(), AllocError>
+// Adds a raise to the held count, where that is greater than the opening's.
+fn put_raise(text: &mut Vec<u8>, opening: &Table, held: &Table) -> Result<(), AllocError>
     ensures value { OnOk result (text.new.items
-        ≡ text.old.items ++ records_text (raise_records base.now.state held.now.state)) }
+        ≡ text.old.items ++ records_text (raise_records opening.now.state held.now.state)) }
 {
     let count = held.count();
-    if base.count() < count {
+    if opening.count() < count {
         text.extend_from_slice(&raise_bytes(count))?;
     }
     Ok(())
 }
 
-// Adds what a principal of the base takes.
+// Adds what a principal of the opening takes.
 fn put_principal(
     text: &mut Vec<u8>,
-    base: &Table,
+    opening: &Table,
     held: &Table,
     name: &Name,
 ) -> Result<(), AllocError>
     requires name { is_name name.now ≡ true }
     ensures value { OnOk result (text.new.items
-        ≡ text.old.items ++ records_text (name_records base.now.state held.now.state name.now)) }
+        ≡ text.old.items ++ records_text (name_records opening.now.state held.now.state name.now)) }
     ensures whole { OnOk result
-        (AreWholeRecords (name_records base.now.state held.now.state name.now)) }
+        (AreWholeRecords (name_records opening.now.state held.now.state name.now)) }
 {
-    match (base.keys_of(name), held.keys_of(name)) {
+    match (opening.keys_of(name), held.keys_of(name)) {
         (Some(before), Some(keys)) if !are_same(before, keys) => put_keys(text, name, keys),
         _ => Ok(()),
     }

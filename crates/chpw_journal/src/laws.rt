@@ -36,16 +36,16 @@ pub fn runs()
 {}
 
 /// Of a compact journal (`compact_journal`), made of a state that is within the limits, holds keys in a row and has
-/// each of the base's principals, over a base that keeps as many keys. Restoring it onto the base gives each of the
-/// base's names the keys that the state has of it, no other name, and the greater of both counts. Its records are
-/// within the limits, and each may come next. It is read in no other way, with the journals of runs behind it that
-/// go on from the state, and with nothing or a torn record behind those, where none of these changes a principal
-/// that the base lacks; then a start over it finds what the last run left. Where the state has no principal that
-/// the base lacks, a further run may open with what `restore` makes of a table like the base and of all this.
+/// each of the opening's principals, over an opening that keeps as many keys. Restoring it onto the opening gives each
+/// of the opening's names the keys that the state has of it, no other name, and the greater of both counts. Its records
+/// are within the limits, and each may come next. It is read in no other way, with the journals of runs behind it that
+/// go on from the state, and with nothing or a torn record behind those, where none of these changes a principal that
+/// the opening lacks; then a start over it finds what the last run left. Where the state has no principal that the
+/// opening lacks, a further run may open with what `restore` makes of a table like the opening and of all this.
 ///
 /// Keys in a row are held by what a fitting configuration opens with, by what is restored, by what runs leave that
 /// go on from such a state, and by a table that agrees with one. So a compact journal may be made of what runs left,
-/// where the first of them opened with such a state, with each principal of the base and no lower count.
+/// where the first of them opened with such a state, with each principal of the opening and no lower count.
 pub fn compact()
     ensures gives { CompactGives }
     ensures next { CompactIsNext }

@@ -1,7 +1,6 @@
 -- When a compact journal may be made.
-use Rattle.std.proofs.Common.{◌≡◌, ℕ, ◌≤◌, max, List, sym, ◌∙◌, ap, subst, arith}
-use Rattle.std.specs.Prelude.{IsSome, ℤ}
-use Rattle.chpw_rules.specs.declared.name.Name.{Name}
+use Rattle.std.proofs.Common.{◌≡◌, ◌≤◌, max, List, sym, ◌∙◌, ap, subst, arith}
+use Rattle.std.specs.Prelude.{IsSome}
 use Rattle.chpw_rules.specs.declared.config.Config.{Config}
 use Rattle.chpw_table.specs.State.{Fixed, State, keys_held, kept_count, new_count, opening_of}
 use Rattle.chpw_table.specs.Agreement.{Agrees}
@@ -27,25 +26,25 @@ reload_in_row file records left next h =
     (λ name. openings_hold_in_row (next_config (settings_of file) h.closed h.renewed) h.closed.fixed.quiet_until h.may.fits name)
 
 pub reloads_may_compact : ReloadsMayCompact
-reloads_may_compact file records left next base held runs quiet h f b a whole =
-    let was : new_count base ≡ new_count (opening file) = b.count in
+reloads_may_compact file records left next start held runs quiet h f b a whole =
+    let was : new_count start ≡ new_count (opening file) = b.count in
     let more : new_count (opening file) ≤ new_count (restored (opening file) records) = count_grows (opening file) records in
     let renewed : h.renewed.count ≡ new_count (restored (opening file) records) = h.is_renewed.table.count in
     let now : new_count next ≡ max h.closed.count h.renewed.count = h.opens.count in
-    runs_may_compact base next held runs f a (reload_in_row file records left next h)
-    (kept_alike base (opening_of file quiet) b ∙ sym (next_kept file records left next h))
+    runs_may_compact start next held runs f a (reload_in_row file records left next h)
+    (kept_alike start (opening_of file quiet) b ∙ sym (next_kept file records left next h))
     (λ name some.
     let there : IsSome (keys_held (opening file) name) = subst IsSome (b.principals name) some in
     subst IsSome (sym ((keys_are_given file records left next h name).0 there)) (restored_some (opening file) records name there))
     (omega (arith, was, more, renewed, now)) whole
 
 pub starts_may_compact : StartsMayCompact
-starts_may_compact file records base held s runs quiet later fits n put f b a whole =
-    let start : State = opening_of file quiet in
-    let was : new_count base ≡ new_count start = b.count in
-    let now : new_count s ≡ new_count (restored start records) = put.count in
-    runs_may_compact base s held runs f a
-    (agree_hold_in_row (restored start records) s put (restored_hold_in_row start records (openings_hold_in_row file quiet fits) n))
-    (kept_alike base (opening_of file later) b ∙ (sym (restored_kept start records) ∙ sym (kept_alike s (restored start records) put)))
-    (λ name some. subst IsSome (sym (put.principals name)) (restored_some start records name (subst IsSome (b.principals name) some)))
-    (omega (arith, was, now, count_grows start records)) whole
+starts_may_compact file records start held s runs quiet later fits n put f b a whole =
+    let before : State = opening_of file quiet in
+    let was : new_count start ≡ new_count before = b.count in
+    let now : new_count s ≡ new_count (restored before records) = put.count in
+    runs_may_compact start s held runs f a
+    (agree_hold_in_row (restored before records) s put (restored_hold_in_row before records (openings_hold_in_row file quiet fits) n))
+    (kept_alike start (opening_of file later) b ∙ (sym (restored_kept before records) ∙ sym (kept_alike s (restored before records) put)))
+    (λ name some. subst IsSome (sym (put.principals name)) (restored_some before records name (subst IsSome (b.principals name) some)))
+    (omega (arith, was, now, count_grows before records)) whole

@@ -1,5 +1,5 @@
 -- What a reload keeps, and what a later start finds.
-use Rattle.std.proofs.Common.{◌≡◌, ℕ, ◌≤◌, max, min, List, [], ◌∷◌, ◌++◌, take, length, Option, Some, None, refl, sym, ◌∙◌, ap, subst, arith}
+use Rattle.std.proofs.Common.{◌≡◌, ℕ, ◌≤◌, max, min, List, [], ◌++◌, take, length, Option, Some, None, refl, sym, ◌∙◌, ap, subst, arith}
 use Rattle.std.specs.Prelude.{option_map, IsSome, IfSome, ℤ, negsuc}
 use Rattle.std.proofs.lemmas.List.{take_all, take-take}
 use Rattle.chpw_rules.specs.declared.name.Name.{Name}
@@ -10,7 +10,6 @@ use Rattle.chpw_table.specs.Times.{is_later}
 use Rattle.chpw_journal.specs.declared.record.Record.{Record}
 use Rattle.chpw_journal.specs.JournalText.{restored, AreNext}
 use Rattle.chpw_journal.specs.Runs.{SameKeys, IsSound, Run, records_in, last_state}
-use Rattle.chpw_journal.specs.Joined.{FollowOn}
 use Rattle.chpw_journal.specs.Known.{AreKnown}
 use Rattle.chpw_journal.proofs.RecordsLemmas.{restored_joined, next_joined}
 use Rattle.chpw_journal.proofs.OpeningLemmas.{openings_are_sound}

@@ -108,13 +108,13 @@ ReloadedIsReload = (file : Config) (journal rest : Option (List ℕ)) (renewal :
 -- A compact journal may be made over a table of the new file, of a table that was left by what a reload opened with and
 -- by the runs behind it. The file's count isn't greater than the one that was left.
 abbrev pub ReloadsMayCompact : Type 0
-ReloadsMayCompact = (file : Config) (records : List Record) (left next base held : State) (runs : List Run) (quiet : ℤ) →
-    IsReload file records left next → FollowOn next runs → Agrees base (opening_of file quiet) → Agrees held (last_state next runs) →
-    AreWholeRecords (compacted base held) → MayCompact base held × (new_count base ≤ new_count held)
+ReloadsMayCompact = (file : Config) (records : List Record) (left next start held : State) (runs : List Run) (quiet : ℤ) →
+    IsReload file records left next → FollowOn next runs → Agrees start (opening_of file quiet) → Agrees held (last_state next runs) →
+    AreWholeRecords (compacted start held) → MayCompact start held × (new_count start ≤ new_count held)
 
 -- and over one of the file that a service began with, of a table that it left
 abbrev pub StartsMayCompact : Type 0
-StartsMayCompact = (file : Config) (records : List Record) (base held s : State) (runs : List Run) (quiet later : ℤ) →
+StartsMayCompact = (file : Config) (records : List Record) (start held s : State) (runs : List Run) (quiet later : ℤ) →
     config_fits file ≡ true → AreNext (opening_of file quiet) records → Agrees s (restored (opening_of file quiet) records) →
-    FollowOn s runs → Agrees base (opening_of file later) → Agrees held (last_state s runs) →
-    AreWholeRecords (compacted base held) → MayCompact base held × (new_count base ≤ new_count held)
+    FollowOn s runs → Agrees start (opening_of file later) → Agrees held (last_state s runs) →
+    AreWholeRecords (compacted start held) → MayCompact start held × (new_count start ≤ new_count held)

@@ -1,5 +1,5 @@
 -- A base put back is put back in each state that a table agrees with.
-use Rattle.std.proofs.Common.{◌≡◌, ℕ, List, [], ◌∷◌, Bool, true, false, if◌then◌else◌, Option, Some, None, refl, sym, ◌∙◌, ap, subst, map, arith}
+use Rattle.std.proofs.Common.{◌≡◌, ℕ, List, [], ◌∷◌, true, if◌then◌else◌, Option, sym, ◌∙◌, ap, subst, map, arith}
 use Rattle.std.specs.Prelude.{option_map, IsSome}
 use Rattle.chpw_rules.specs.declared.name.Name.{Name}
 use Rattle.chpw_rules.specs.Names.{is_same_name}
@@ -15,7 +15,7 @@ use Rattle.chpw_table.specs.Entering.{with_keys_at}
 use Rattle.chpw_table.specs.Holding.{are_holders}
 use Rattle.chpw_table.specs.BaseKeys.{with_base_key, IsBaseRefused}
 use Rattle.chpw_table.proofs.HoldingLemmas.{new_holders}
-use Rattle.chpw_table.proofs.KeyLemmas.{keys_put, put}
+use Rattle.chpw_table.proofs.KeyLemmas.{keys_put}
 
 -- the keys of each name after a base of one
 pub keys_based : (s : State) (name : Name) (key : KeyRow) (other : Name)

@@ -1,5 +1,5 @@
 -- The key that a compact journal begins a principal with, its base, put back.
-use Rattle.std.specs.Prelude.{◌≡◌, List, IsSome, None, map}
+use Rattle.std.specs.Prelude.{◌≡◌, IsSome, None, map}
 use Rattle.chpw_rules.specs.declared.name.Name.{Name}
 use Rattle.chpw_table.specs.declared.key.KeyRow.{KeyRow}
 use Rattle.chpw_table.specs.declared.table.restoring.KeyFault.{KeyFault}

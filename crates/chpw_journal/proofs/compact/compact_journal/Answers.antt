@@ -1,4 +1,4 @@
-use Rattle.std.proofs.Common.{◌≡◌, ℕ, ◌+◌, ◌++◌, ◌∷◌, List, [], map, take, Some, None, sym, ◌∙◌, ap, subst, rules}
+use Rattle.std.proofs.Common.{◌≡◌, ℕ, ◌+◌, ◌++◌, List, map, take, Some, None, sym, ◌∙◌, ap, subst, rules}
 use Rattle.std.specs.Prelude.{slice_get}
 use Rattle.std.specs.List.{flat_map}
 use Rattle.chpw_rules.specs.declared.name.Name.{Name}
@@ -12,11 +12,11 @@ use Rattle.chpw_journal.proofs.compact.compact_journal.Goals as goal
 
 pub loop-name-preserved : goal.loop-name-preserved
 loop-name-preserved c =
-    let base = c.args.base.now.state in
+    let opening = c.args.opening.now.state in
     let held = c.args.held.now.state in
-    let names : List Name = map (λ (p : Principal). p.name) base.principals in
-    let raise : List Record = raise_records base held in
-    let records : Name → List Record = name_records base held in
+    let names : List Name = map (λ (p : Principal). p.name) opening.principals in
+    let raise : List Record = raise_records opening held in
+    let records : Name → List Record = name_records opening held in
     let place : ℕ = c.loop-name.place in
     let name : Name = c.in-Some.name.now in
     let found : slice_get names place ≡ Some name = search rules in
@@ -33,12 +33,12 @@ loop-name-preserved c =
 
 pub returns : goal.returns
 returns c =
-    let base = c.args.base.now.state in
+    let opening = c.args.opening.now.state in
     let held = c.args.held.now.state in
-    let names : List Name = map (λ (p : Principal). p.name) base.principals in
+    let names : List Name = map (λ (p : Principal). p.name) opening.principals in
     let found : slice_get names c.loop-name.place ≡ None = search rules in
     let all = (take_whole names c.loop-name.place found).1 in
     record {
-      value = c.loop-name.invariant.0 ∙ ap (λ (ns : List Name). records_text (raise_records base held ++ flat_map (name_records base held) ns)) all;
-      whole = subst (λ (ns : List Name). AreWholeRecords (raise_records base held ++ flat_map (name_records base held) ns)) all c.loop-name.invariant.2;
+      value = c.loop-name.invariant.0 ∙ ap (λ (ns : List Name). records_text (raise_records opening held ++ flat_map (name_records opening held) ns)) all;
+      whole = subst (λ (ns : List Name). AreWholeRecords (raise_records opening held ++ flat_map (name_records opening held) ns)) all c.loop-name.invariant.2;
     }
