@@ -3,7 +3,7 @@ ghost use Rattle.std.specs.Prelude.{◌≡◌, OnOk};
 ghost use Rattle.std.specs.Io.KnownBytes.{Appends};
 
 use crate::journal_file::is_name_kept;
-use std::alloc::Global;
+use std::alloc::{AllocError, Global};
 use std::fs::{self, File, Files, OpenFile, OpenOptions};
 use std::io::{self, ErrorKind, Write};
 use std::os::unix::fs::OpenOptionsExt;
@@ -19,22 +19,32 @@ pub struct Replacement {
     pub is_kept: bool,
 }
 
+/// Removes what a replacement that was ended early has left beside the journal at a path, if anything. Where it can't be
+/// removed no replacement can be made.
+pub fn remove_unfinished<R: Files>(rt: &R, alloc: Global, path: &str) -> Result<(), AllocError> {
+    let beside = beside(alloc, path)?;
+    let _ = fs::remove_file(rt, beside.as_str());
+    Ok(())
+}
+
+// The name under which a replacement is made.
+fn beside(alloc: Global, path: &str) -> Result<String, AllocError> {
+    let mut name = String::from_str(alloc, path)?;
+    name.push_str(BEHIND_NAME)?;
+    Ok(name)
+}
+
 /// Puts a journal of this text in the place of the one at a path, by one change of a name: at each moment the one or the
-/// other stands there, whole and on the disk. It is made beside the former one, under the name with `.new` behind it; what a
-/// run that was ended early has left there is taken away. After an error the former one stands where it stood.
+/// other stands there, whole and on the disk. It is made beside the former one, under the name with `.new` behind it, where
+/// nothing may stand. After an error the former one stands where it stood.
 pub fn replace_journal<R: Files<File = File>>(
     rt: &R,
     alloc: Global,
     path: &str,
     text: &[u8],
 ) -> io::Result<Replacement> {
-    let mut beside = String::from_str(alloc, path)?;
-    beside.push_str(BEHIND_NAME)?;
+    let beside = beside(alloc, path)?;
     let beside = beside.as_str();
-    match fs::remove_file(rt, beside) {
-        Err(error) if error.kind() != ErrorKind::NotFound => return Err(error),
-        _ => {}
-    }
     let file = write_new(rt, beside, text)?;
     if let Err(error) = fs::rename(rt, beside, path) {
         let _ = fs::remove_file(rt, beside);

@@ -78,15 +78,22 @@ impl<
     F: Follower + Attendant + Drop,
 > Reactor<'a, R, L, G, F> {
     /// Those at the control socket are accepted, heard and answered, as far as their sockets go along; whoever carries out
-    /// orders looks up. Where the service is to end, connections that would wait for their clients end.
+    /// orders looks up. So it is whether or not the socket was reported: a report may wait behind those of many connections.
     pub fn attend(&mut self, registry: &Registry) {
+        self.port.is_due = true;
         if self.port.take_due() {
             self.admit_callers(registry);
+        }
+        if self.has_callers() {
             self.hear_callers();
             self.answer_questions();
             self.engine.call_for_order();
             self.let_callers_go();
         }
+    }
+
+    /// Where the service is to end, connections that would wait for their clients end.
+    pub fn end_idle_where_stopping(&mut self) {
         if self.is_stopping {
             self.end_idle();
         }
@@ -97,8 +104,12 @@ impl<
         if self.port.listener.is_none() {
             return patience;
         }
-        let has_callers = !self.engine.control.lock(self.rt).callers.is_empty();
-        patience_with(patience, self.port.is_due, has_callers)
+        patience_with(patience, self.port.is_due, self.has_callers())
+    }
+
+    // Whether somebody is there.
+    fn has_callers(&self) -> bool {
+        !self.engine.control.lock(self.rt).callers.is_empty()
     }
 
     // Accepts who is there, as long as there is room.

@@ -25,6 +25,9 @@ use std::time::{Clock, Duration};
 /// How many connections are accepted before the others are looked at again.
 const ACCEPTS: u32 = 64;
 
+/// After how many connections of a round the control socket is looked at.
+const BETWEEN: usize = 64;
+
 /// What happens at the sockets is told to the connections, and what they want is done.
 #[derive(Drop)]
 pub(crate) struct Reactor<'a, R, L, G, F> {
@@ -121,10 +124,11 @@ impl<
             self.look_at_events(events);
             self.follow(poll.registry());
             self.attend(poll.registry());
+            self.end_idle_where_stopping();
             self.look_at_changed();
             self.accept();
             self.take_datagrams();
-            self.look_for_late();
+            self.look_for_late(poll.registry());
         }
     }
 
@@ -192,7 +196,7 @@ impl<
     }
 
     // Ends the connections whose time is up, once in a while.
-    fn look_for_late(&mut self) {
+    fn look_for_late(&mut self, registry: &Registry) {
         let now = milliseconds(self.rt);
         if now.saturating_sub(self.looked) < TICK {
             return;
@@ -202,7 +206,7 @@ impl<
         self.accepting = self.accepting.resumed(now);
         self.release_overdue();
         let had = self.pass(now);
-        self.look_round(had.is_any());
+        self.look_round(registry, had.is_any());
     }
 
     // Time passes for all connections, and a round begins: what there was no room for in the last one.
@@ -214,11 +218,14 @@ impl<
 
     // Looks at each connection for which there is something to be done though nothing came of it. The next round begins
     // at the one for which there was no room in this one, so that all get room in turn.
-    fn look_round(&mut self, reads: bool) {
+    fn look_round(&mut self, registry: &Registry, reads: bool) {
         let slots = self.clients;
         let first = self.first;
         let mut is_short = false;
         for slot in (first..slots).chain(0..first.min(slots)) {
+            if slot % BETWEEN == 0 {
+                self.attend(registry);
+            }
             let hub = self.engine.hub.lock(self.rt);
             let is_due = hub.state.is_to_be_looked_at(slot, reads);
             MutexGuard::unlock(hub);

@@ -22,8 +22,8 @@ use std::alloc::{AllocError, Global};
 use std::io::ErrorKind;
 use std::net::{self, Net, Shutdown};
 
-/// How many events are taken at once.
-const EVENTS: usize = 256;
+/// How many events are taken at once. Between two takes the control socket is looked at.
+const EVENTS: usize = 64;
 
 /// How many bytes are read at once.
 const BUFFER: usize = 16_384;

@@ -130,6 +130,7 @@ where
 fn unwritable<'a, R: Files>(rt: &R, path: &'a str) -> Option<Reason<'a>> {
     match fs::metadata(rt, path) {
         Ok(metadata) if metadata.is_dir() => Some(Reason::Folder(path)),
+        Ok(metadata) if !metadata.is_file() => Some(Reason::Special(path)),
         Ok(_) => None,
         Err(error) if error.kind() == ErrorKind::NotFound => {
             let (folder, _) = path.rsplit_once('/')?;

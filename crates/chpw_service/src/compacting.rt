@@ -14,7 +14,9 @@ use crate::histories::{Hall, Opening, next_opening};
 use crate::table::write_table;
 use chpw_control::FileName;
 use chpw_invocation::{ServeOptions, TableForm, TableOptions};
-use chpw_journal::{FileSink, Replacement, compact_journal, replace_journal, write_new};
+use chpw_journal::{
+    FileSink, Replacement, compact_journal, remove_unfinished, replace_journal, write_new,
+};
 use chpw_pool::MachineClock;
 use chpw_reload::goes_with;
 use chpw_serve::Clock as _;
@@ -46,7 +48,8 @@ pub(crate) enum CompactFault<'a> {
 }
 
 /// Copies the configuration that is held to a new file, as `table --as configuration` prints it, and reads what the
-/// configuration opens with.
+/// configuration opens with. What an earlier replacement has left beside the journal is removed first: so a copy that is to
+/// stand there is in the way of this one, which is refused then.
 pub(crate) fn begin_compaction<'a, R: Files<File = File> + AllocGlobal>(
     rt: &R,
     options: &ServeOptions<'a>,
@@ -60,6 +63,9 @@ pub(crate) fn begin_compaction<'a, R: Files<File = File> + AllocGlobal>(
         Ok(text) => text,
         Err(fault) => return Err(CompactFault::Unread(fault)),
     };
+    if remove_unfinished(rt, rt.alloc(), options.journal).is_err() {
+        return Err(CompactFault::Unread(ServeFault::Memory));
+    }
     match write_new(rt, copy.as_str(), &text) {
         Ok(_) => Ok(Compaction { base, copy }),
         Err(_) => Err(CompactFault::NoCopy(copy)),
