@@ -2,7 +2,7 @@
 # Processor seconds that the gate's parts take of each crate, from nothing and one after the other: its
 # proof, its tests, its edits of must-fail/. All crates, in the order of crates.txt, or those of the
 # arguments; the libraries below them are built first where they aren't. It works on a copy, and takes
-# three hours and more for all. It prints rows for the table in docs/GATE.md, at last one for all.
+# three hours and more for all. It prints rows for the table in docs/RESULTS.md, at last one for all.
 set -euo pipefail
 cd "$(dirname "$0")/.."
 copy=$(mktemp -d)

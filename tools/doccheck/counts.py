@@ -1,0 +1,97 @@
+"""Numbers of what is in the tree: crates, edits, tests, cases, samples."""
+
+import re
+
+from .tree import TOP
+
+CRATES = TOP / "crates"
+
+
+def crates():
+    return sum(1 for it in CRATES.iterdir() if it.is_dir())
+
+
+def edits(folder, crate="*"):
+    return len(list((TOP / folder).glob(f"{crate}/*.edit"))) - (len(list((TOP / folder).glob("self_test/*.edit"))))
+
+
+def must_fail():
+    return edits("must-fail")
+
+
+def refused():
+    """The wrong bodies of trials/ that the prover has to refuse."""
+    return edits("trials")
+
+
+def caught():
+    """The wrong bodies of trials/ that a test has to catch."""
+    return len(list((TOP / "trials").glob("*/tests/*.edit")))
+
+
+def caught_by_scripts():
+    """Those of them that name a script of hostile/."""
+    found = (it.read_text().splitlines()[0] for it in (TOP / "trials").glob("*/tests/*.edit"))
+    return sum(1 for it in found if it.startswith("test: hostile/"))
+
+
+def tests(crate):
+    sources = (CRATES / crate / "src").rglob("*.rt")
+    return sum(len(re.findall(r"^\s*#\[test\]", it.read_text(), re.MULTILINE)) for it in sources)
+
+
+def cases(crate):
+    """The lines of `stdin` that aren't empty and don't begin with `#`."""
+    text = (CRATES / crate / "stdin").read_text()
+    return sum(1 for line in text.splitlines() if line.strip() and not line.startswith("#"))
+
+
+def beginning(word):
+    """Counts the lines of a crate's `stdin` that begin with a word."""
+    return lambda crate: len(re.findall(rf"^{word} ", (CRATES / crate / "stdin").read_text(), re.MULTILINE))
+
+
+def samples():
+    return len(list((TOP / "samples/drill").glob("*.script")))
+
+
+def of(count, *words):
+    """A counter that has nothing to take out of the document."""
+    return lambda _: count(*words)
+
+
+# Of each document an expression and what counts the number that it finds under `n`. `name` is a crate's name, where the
+# expression has one. An expression that finds nothing in its document is a fault, so that no row is left without use.
+TABLE = [
+    ("docs/TESTS.md", r"^\| `(?P<name>\w+)` \| (?P<n>\d+) \|", lambda it: cases(it["name"])),
+    ("docs/TESTS.md", r"^\| `(?P<name>\w+)` \| (?P<n>\d+) blocks \|", lambda it: beginning("==")(it["name"])),
+    ("docs/TESTS.md", r"^\| `(?P<name>\w+)` \| (?P<n>\d+), in \d+ scripts \|", lambda it: cases(it["name"])),
+    ("docs/TESTS.md", r"^\| `(?P<name>\w+)` \| \d+, in (?P<n>\d+) scripts \|", lambda it: beginning("start")(it["name"])),
+    ("docs/TESTS.md", r"`(?P<name>\w+_tests)` \((?P<n>\d+)\)", lambda it: tests(it["name"])),
+    ("docs/TESTS.md", r"`must-fail/` has (?P<n>\d+)", of(must_fail)),
+    ("docs/TESTS.md", r"`trials/` has (?P<n>\d+)", of(refused)),
+    ("docs/TESTS.md", r"(?P<n>\d+) wrong bodies that no clause", of(caught)),
+    ("docs/TESTS.md", r"(?P<n>\d+) of them name a script of `hostile/`", of(caught_by_scripts)),
+    ("docs/TESTS.md", r"(?P<n>\d+) scripts of the drill", of(samples)),
+    ("CONTRIBUTING.md", r"(?P<n>\d+) crates", of(crates)),
+    ("trials/README.md", r"`must-fail/CRATE/` has (?P<n>\d+) ", of(must_fail)),
+]
+
+
+def check(tree, faults):
+    for name, expression, count in TABLE:
+        document = tree.document(name)
+        if document is None:
+            continue
+        text = document.text
+        found = list(re.finditer(expression, text, re.MULTILINE))
+        faults.check(found, name, f"nothing matches {expression}: change the table in tools/doccheck/counts.py")
+        for match in found:
+            place = f"{name}:{text.count(chr(10), 0, match.start()) + 1}"
+            stated = int(match["n"].replace(",", ""))
+            try:
+                right = count(match.groupdict())
+            except FileNotFoundError as fault:
+                faults.check(False, place, f"no {fault.filename} to count in")
+                continue
+            faults.check(stated == right, place, f"{stated} stands there, and there are {right}: {match[0]}")
