@@ -36,18 +36,19 @@ class Parser(argparse.ArgumentParser):
     def error(self, message):
         self.exit(2, f"{self.prog}: {message} (--help says more)\n")
 
-    def add_program(self, word="--server", program=PROGRAM):
+    def add_program(self, word="--server", program=PROGRAM, words="the program"):
         """The option that names another built program than the gate's, which has to be there."""
-        self.program = self.add_argument(word, type=pathlib.Path, default=program, metavar="PROGRAM",
-                                         help=f"the program, by default {program.relative_to(TOP)}").dest
+        usual = f", by default {program.relative_to(TOP)}" if program else ""
+        option = self.add_argument(word, type=pathlib.Path, default=program, metavar="PROGRAM", help=words + usual)
+        self.program = option.dest
 
     def parse_args(self, *words):
         found = super().parse_args(*words)
-        if self.program:
-            path = getattr(found, self.program).resolve()
+        path = self.program and getattr(found, self.program)
+        if path:
+            setattr(found, self.program, path.resolve())
             if not os.access(path, os.X_OK):
                 self.error(f"there is no program {path}")
-            setattr(found, self.program, path)
         return found
 
     def add_keep(self):
