@@ -8,7 +8,7 @@ use Rattle.krb_elements.specs.Times.{IsTime, IsWritable, pair, time_octets, time
 use Rattle.krb_elements.proofs.TimeLemmas.{time_of_some, time_spelled}
 use Rattle.chpw_rules.specs.Limits.{range, is_in}
 use Rattle.chpw_printing.specs.Quoting.{are_graphic, is_field}
-use Rattle.chpw_times.specs.Printed.{Tells, date_time, time_text}
+use Rattle.chpw_printing.specs.Times.{Tells, date_time, time_text}
 
 -- what krb_elements writes of it
 pub time_is : (seconds : ℤ) (text : List ℕ) → IsWritable seconds → time_of seconds ≡ Some text → text ≡ time_octets seconds

@@ -1,7 +1,7 @@
 use Rattle.std.proofs.Common.{◌≡◌, sym, ◌∙◌, rules}
 use Rattle.krb_elements.specs.Times as times
-use Rattle.chpw_times.proofs.TimeLemmas.{time_is, time_some}
-use Rattle.chpw_times.proofs.times.octets_of.Goals as goal
+use Rattle.chpw_printing.proofs.TimeLemmas.{time_is, time_some}
+use Rattle.chpw_printing.proofs.times.octets_of.Goals as goal
 
 pub unwrap-requires : goal.unwrap-requires
 unwrap-requires c =

@@ -2,7 +2,7 @@
 ghost use Rattle.std.specs.Prelude.{◌≡◌, ◌++◌, ◌<◌, true, OnOk};
 ghost use Rattle.krb_elements.specs.Times.{IsWritable, pair, time_octets};
 ghost use Rattle.chpw_printing.specs.Quoting.{is_field};
-ghost use Rattle.chpw_times.specs.Printed.{date_time, six_digits, time_text};
+ghost use Rattle.chpw_printing.specs.Times.{date_time, six_digits, time_text};
 
 use krb_elements::seconds_to_time;
 use std::alloc::AllocError;
