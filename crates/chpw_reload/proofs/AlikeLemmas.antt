@@ -13,7 +13,7 @@ use Rattle.chpw_journal.specs.declared.record.Record.TheVariants as record_of
 use Rattle.chpw_journal.specs.JournalText.{with_record, restored, IsNextRecord, AreNext}
 use Rattle.chpw_journal.specs.Known.{IsKnown, AreKnown}
 use Rattle.chpw_journal.proofs.CoverLemmas.{restored_was, known_after}
-use Rattle.chpw_held.specs.Held.{opening}
+use Rattle.chpw_report.specs.Held.{opening}
 use Rattle.chpw_reload.specs.Comparing.{kept_by_both, HoldAlike}
 use Rattle.chpw_reload.specs.Laws.{FilesGoOn}
 

@@ -9,7 +9,7 @@ use Rattle.chpw_journal.specs.JournalText.{restored}
 use Rattle.chpw_journal.specs.Compact.{HoldsInRow}
 use Rattle.chpw_journal.proofs.CoverLemmas.{restored_kept, restored_some}
 use Rattle.chpw_journal.proofs.RowLemmas.{openings_hold_in_row, restored_hold_in_row, agree_hold_in_row, runs_may_compact, count_grows}
-use Rattle.chpw_held.specs.Held.{opening}
+use Rattle.chpw_report.specs.Held.{opening}
 use Rattle.chpw_reload.specs.Next.{settings_of, next_config, next_state}
 use Rattle.chpw_reload.specs.Reloads.{IsReload}
 use Rattle.chpw_reload.specs.Laws.{ReloadsMayCompact, StartsMayCompact}

@@ -10,7 +10,7 @@ use Rattle.chpw_journal.specs.Records.{records_text}
 use Rattle.chpw_journal.specs.JournalText.{restored, whole, IsReading}
 use Rattle.chpw_journal.specs.Restoring.{IsRestored}
 use Rattle.chpw_journal.proofs.RecordsLemmas.{records_joined, restored_joined, next_joined}
-use Rattle.chpw_held.specs.Held.{opening}
+use Rattle.chpw_report.specs.Held.{opening}
 use Rattle.chpw_reload.specs.Next.{next_state}
 use Rattle.chpw_reload.specs.Comparing.{MayFollow}
 use Rattle.chpw_reload.specs.Laws.{TwoPartsAreOne, ReloadedIsReload}

@@ -18,7 +18,7 @@ use Rattle.chpw_journal.proofs.RunLemmas.{Follows, runs_next}
 use Rattle.chpw_journal.proofs.JoinedLemmas.{tables_may_open}
 use Rattle.chpw_journal.proofs.CoverLemmas.{Covers, restored_kept, restored_alike, restored_some, restored_was, restored_none, restored_few, restored_count, opening_few, known_alike, next_covered, next_are_known}
 use Rattle.chpw_journal.proofs.FoundLemmas.{found_again, reads_again}
-use Rattle.chpw_held.specs.Held.{opening}
+use Rattle.chpw_report.specs.Held.{opening}
 use Rattle.chpw_reload.specs.Next.{settings_of, next_config, next_state}
 use Rattle.chpw_reload.specs.Comparing.{kept_by_both}
 use Rattle.chpw_reload.specs.Reloads.{IsRenewed, IsReload}

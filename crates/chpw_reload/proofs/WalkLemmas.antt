@@ -8,7 +8,7 @@ use Rattle.chpw_table.specs.declared.table.Principal.{Principal}
 use Rattle.chpw_table.specs.State.{State}
 use Rattle.chpw_table.proofs.KeyLemmas.{keys_in}
 use Rattle.chpw_table.proofs.NameLemmas.{is_same_name-Decides}
-use Rattle.chpw_held.specs.Configurations.{names_of}
+use Rattle.chpw_report.specs.Configurations.{names_of}
 use Rattle.chpw_journal.proofs.ListLemmas.{take_whole}
 use Rattle.chpw_reload.specs.Comparing.{HoldAlike}
 

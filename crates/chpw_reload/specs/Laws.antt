@@ -17,7 +17,7 @@ use Rattle.chpw_journal.specs.Runs.{IsSound, Run, journals, records_in, last_sta
 use Rattle.chpw_journal.specs.Joined.{FollowOn}
 use Rattle.chpw_journal.specs.Known.{AreKnown, IsFoundAgain}
 use Rattle.chpw_journal.specs.Compact.{compacted, AreWholeRecords, MayCompact}
-use Rattle.chpw_held.specs.Held.{opening}
+use Rattle.chpw_report.specs.Held.{opening}
 use Rattle.chpw_reload.specs.declared.renewal.Renewal.{Renewal}
 use Rattle.chpw_reload.specs.declared.reloading.Reloaded.{Reloaded}
 use Rattle.chpw_reload.specs.Comparing.{kept_by_both, HoldAlike}

@@ -5,7 +5,7 @@ use Rattle.chpw_table.specs.State.{State}
 use Rattle.chpw_table.specs.Agreement.{Agrees}
 use Rattle.chpw_journal.specs.declared.record.Record.{Record}
 use Rattle.chpw_journal.specs.JournalText.{restored, AreNext}
-use Rattle.chpw_held.specs.Held.{opening}
+use Rattle.chpw_report.specs.Held.{opening}
 use Rattle.chpw_reload.specs.Next.{settings_of, next_state}
 use Rattle.chpw_reload.specs.Comparing.{MayFollow}
 

@@ -1,6 +1,6 @@
 use Rattle.std.proofs.Common.{◌≡◌, ◌≤◌, ◌-◌, map, take, length}
-use Rattle.chpw_held.specs.Configurations.{row_of, names_of}
-use Rattle.chpw_held.proofs.configuration.held_config.Given as goal
+use Rattle.chpw_report.specs.Configurations.{row_of, names_of}
+use Rattle.chpw_report.proofs.configuration.held_config.Given as goal
 
 abbrev pub invariant-loop-name : goal.invariant-loop-name
 invariant-loop-name l =

@@ -2,8 +2,8 @@ use Rattle.std.proofs.Common.{List, ℕ, Option, subst}
 use Rattle.std.specs.Io.Buffered.{reader_remaining}
 use Rattle.chpw_journal.specs.Restoring.{IsRefused, IsRestored}
 use Rattle.chpw_journal.proofs.FileLemmas.{unread}
-use Rattle.chpw_held.proofs.FaultLemmas.{held_fault}
-use Rattle.chpw_held.proofs.holding.held_from.Goals as goal
+use Rattle.chpw_report.proofs.FaultLemmas.{held_fault}
+use Rattle.chpw_report.proofs.holding.held_from.Goals as goal
 
 pub returns-in-Ok-restore-clause-held : goal.returns-in-Ok-restore-clause-held
 returns-in-Ok-restore-clause-held g c =

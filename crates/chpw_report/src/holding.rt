@@ -2,7 +2,7 @@
 ghost use Rattle.std.specs.Prelude.{◌≡◌, IfOk, IfErr, true};
 ghost use Rattle.chpw_rules.specs.Fitting.{config_fits};
 ghost use Rattle.chpw_journal.specs.JournalFile.{cut_of};
-ghost use Rattle.chpw_held.specs.Held.{IsHeld, IsHeldFault};
+ghost use Rattle.chpw_report.specs.Held.{IsHeld, IsHeldFault};
 
 use chpw_journal::{RestoreFault, Restored, restore};
 use chpw_rules::Config;

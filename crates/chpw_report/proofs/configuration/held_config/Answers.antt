@@ -1,9 +1,9 @@
 use Rattle.std.proofs.Common.{◌≡◌, ℕ, ◌+◌, ◌++◌, ◌∷◌, List, [], Some, map, take, sym, ◌∙◌, ap, rules}
 use Rattle.std.specs.Prelude.{slice_get}
 use Rattle.chpw_rules.specs.declared.config.PrincipalRow.{PrincipalRow}
-use Rattle.chpw_held.specs.Configurations.{names_of, row_of}
-use Rattle.chpw_held.proofs.RowLemmas.{rows_more}
-use Rattle.chpw_held.proofs.configuration.held_config.Goals as goal
+use Rattle.chpw_report.specs.Configurations.{names_of, row_of}
+use Rattle.chpw_report.proofs.RowLemmas.{rows_more}
+use Rattle.chpw_report.proofs.configuration.held_config.Goals as goal
 
 pub loop-name-preserved : goal.loop-name-preserved
 loop-name-preserved c =

@@ -2,10 +2,10 @@
 ghost use Rattle.std.specs.Prelude.{◌≡◌, List, ℕ, IfOk, OnOk, Ok, map};
 ghost use Rattle.std.specs.Io.KnownBytes.{Appends};
 ghost use Rattle.chpw_config.specs.Settings.{settings_of};
-ghost use Rattle.chpw_held.specs.Configurations.{config_held, key_bytes_of, row_of};
+ghost use Rattle.chpw_report.specs.Configurations.{config_held, key_bytes_of, row_of};
 
+use crate::report::ReportFault;
 use chpw_config_text::{WriteFault, write_config};
-use chpw_report::ReportFault;
 use chpw_rules::{Config, Items, KeyBytes, Name, Policy, PrincipalRow};
 use chpw_table::{KeyRow, Table};
 use std::alloc::{AllocError, Global};

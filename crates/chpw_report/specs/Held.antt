@@ -7,7 +7,7 @@ use Rattle.chpw_journal.specs.declared.fault.RestoreFault.{RestoreFault}
 use Rattle.chpw_journal.specs.declared.fault.RestoreFault.TheVariants.{Memory}
 use Rattle.chpw_journal.specs.declared.restoring.Restored.{Restored}
 use Rattle.chpw_journal.specs.JournalFile.{cut_of, IsReadFrom, IsRefusedFrom}
-use Rattle.chpw_held.specs.declared.holding.HeldTable.{HeldTable}
+use Rattle.chpw_report.specs.declared.holding.HeldTable.{HeldTable}
 
 -- no request is refused for its time: quiet until the second -1
 abbrev pub opening : Config → State

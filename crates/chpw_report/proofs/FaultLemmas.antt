@@ -5,7 +5,7 @@ use Rattle.chpw_table.specs.Agreement.{Agrees, Held}
 use Rattle.chpw_journal.specs.declared.fault.RestoreFault.{RestoreFault}
 use Rattle.chpw_journal.specs.declared.fault.RestoreFault.TheVariants.{BadRecord, WrongVersion, UnknownPrincipal, CannotRead, Memory}
 use Rattle.chpw_journal.specs.JournalFile.{IsRefusedFrom}
-use Rattle.chpw_held.specs.Held.{opening, IsHeldFault}
+use Rattle.chpw_report.specs.Held.{opening, IsHeldFault}
 
 pub held_fault : (config : Config) (journal : Option (List ℕ)) (fault : RestoreFault) (before : Held)
     → Agrees before.state (opening config) → IsRefusedFrom before journal fault → IsHeldFault config journal fault
