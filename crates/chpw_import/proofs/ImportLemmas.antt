@@ -15,7 +15,7 @@ use Rattle.chpw_import.specs.LeftLines.{left_lines}
 use Rattle.chpw_import.specs.Passwords.{IsPasswordOf}
 use Rattle.chpw_invocation.specs.declared.invocation.KeyOptions.{KeyOptions}
 use Rattle.chpw_rules.specs.declared.name.Name.{Name}
-use Rattle.chpw_keys.specs.Stanzas.{Imports, WritesKey, key_row, note_of}
+use Rattle.chpw_import.specs.Stanzas.{Imports, WritesKey, key_row, note_of}
 
 pub imported : (o : ImportOptions) (bytes : List ℕ) (b : Brought) (before behind untold told : Option (List ℕ)) (text t lines l : List ℕ) (s : List ServiceRow) (p : List PrincipalRow)
     → IsBrought bytes o.realm.now o.iterations b → (service_fits b.service.items ≡ true) × (principals_fit b.principals.items ≡ true) → s ≡ b.service.items → p ≡ b.principals.items

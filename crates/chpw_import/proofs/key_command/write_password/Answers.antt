@@ -1,6 +1,6 @@
 use Rattle.std.proofs.lemmas.Result.{on_ok_weaker}
-use Rattle.chpw_keys.proofs.ImportLemmas.{keyed}
-use Rattle.chpw_keys.proofs.password.write_password.Goals as goal
+use Rattle.chpw_import.proofs.ImportLemmas.{keyed}
+use Rattle.chpw_import.proofs.key_command.write_password.Goals as goal
 
 pub returns-clause-written : goal.returns-clause-written
 returns-clause-written g c = on_ok_weaker c.write_note.result

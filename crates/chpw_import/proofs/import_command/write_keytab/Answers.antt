@@ -1,5 +1,5 @@
-use Rattle.chpw_keys.proofs.ImportLemmas.{imported}
-use Rattle.chpw_keys.proofs.keytab.write_keytab.Goals as goal
+use Rattle.chpw_import.proofs.ImportLemmas.{imported}
+use Rattle.chpw_import.proofs.import_command.write_keytab.Goals as goal
 
 pub returns-clause-written : goal.returns-clause-written
 returns-clause-written g c = imported c.args.options c.args.bytes.now c.in_ok-brought.brought _ _ _ _ _ _ _ _ _ _

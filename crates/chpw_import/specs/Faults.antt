@@ -8,8 +8,8 @@ use Rattle.chpw_rules.specs.Names.{name_of}
 use Rattle.chpw_import.specs.Passwords.{HoldsNoPassword}
 use Rattle.chpw_invocation.specs.declared.invocation.ImportOptions.{ImportOptions}
 use Rattle.chpw_invocation.specs.declared.invocation.KeyOptions.{KeyOptions}
-use Rattle.chpw_keys.specs.declared.fault.KeysFault.{KeysFault}
-use Rattle.chpw_keys.specs.declared.fault.KeysFault.TheVariants.{BadName, CannotRead, Keytab, EmptyPassword, CannotPrint, Memory}
+use Rattle.chpw_import.specs.declared.fault.KeysFault.{KeysFault}
+use Rattle.chpw_import.specs.declared.fault.KeysFault.TheVariants.{BadName, CannotRead, Keytab, EmptyPassword, CannotPrint, Memory}
 
 abbrev pub keytab_text : KeytabFault → List ℕ
 keytab_text NotKeytab = codes "no keytab of format 0x0502"

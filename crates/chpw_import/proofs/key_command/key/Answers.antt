@@ -1,5 +1,5 @@
 use Rattle.std.proofs.lemmas.Result.{on_ok_weaker}
-use Rattle.chpw_keys.proofs.password.key.Goals as goal
+use Rattle.chpw_import.proofs.key_command.key.Goals as goal
 
 pub returns-clause-written : goal.returns-clause-written
 returns-clause-written g c = on_ok_weaker c.write_password.result

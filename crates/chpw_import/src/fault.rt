@@ -21,7 +21,7 @@ pub enum KeysFault<'a> {
 
 impl fmt::Display for KeysFault<'_> {
     ghost use Rattle.std.specs.Prelude.{Some};
-    ghost use Rattle.chpw_keys.specs.Faults.{line_of};
+    ghost use Rattle.chpw_import.specs.Faults.{line_of};
 
     ghost output = { λ fault. Some (line_of fault) };
 
@@ -43,7 +43,7 @@ struct KeytabWords(KeytabFault);
 
 impl fmt::Display for KeytabWords {
     ghost use Rattle.std.specs.Prelude.{Some};
-    ghost use Rattle.chpw_keys.specs.Faults.{keytab_text};
+    ghost use Rattle.chpw_import.specs.Faults.{keytab_text};
 
     ghost output = { λ words. Some (keytab_text words.0) };
 

@@ -4,7 +4,7 @@ ghost use Rattle.std.specs.Io.KnownBytes.{Appends};
 ghost use Rattle.toml.specs.Parse.{parse_document};
 ghost use Rattle.toml.specs.Text.{IsDocumentText};
 ghost use Rattle.chpw_config_text.specs.Stanzas.{stanzas_of};
-ghost use Rattle.chpw_keys.specs.Faults.{IsEarly, IsLate, IsUnread};
+ghost use Rattle.chpw_import.specs.Faults.{IsEarly, IsLate, IsUnread};
 
 use crate::fault::KeysFault;
 use chpw_config_text::{WriteFault, write_stanzas};

@@ -1,14 +1,15 @@
-//! `key`: the keys of a password.
+//! The command `key`: a principal's keys of a password.
 ghost use Rattle.std.specs.Prelude.{◌≡◌, ◌⊎◌, List, ℕ, true, IfOk, IfErr, OnOk, Some};
 ghost use Rattle.std.specs.Io.KnownBytes.{Appends};
 ghost use Rattle.chpw_rules.specs.Fitting.{principal_fits};
 ghost use Rattle.chpw_rules.specs.Names.{is_name, name_of as name_in};
-ghost use Rattle.chpw_keys.specs.Faults.{IsEarly, IsLate, IsOfKey, IsOfName, IsOfPassword, IsUnread};
-ghost use Rattle.chpw_keys.specs.Stanzas.{Keys, WritesKey, key_row, note_of};
+ghost use Rattle.chpw_import.specs.Faults.{IsEarly, IsLate, IsOfKey, IsOfName, IsOfPassword, IsUnread};
+ghost use Rattle.chpw_import.specs.Stanzas.{Keys, WritesKey, key_row, note_of};
 
 use crate::fault::KeysFault;
+use crate::numbers::KeyNumbers;
 use crate::output::{ErrorWriter, read_file, stanzas, write_text};
-use chpw_import::{KeyNumbers, has_carriage_return, password_in, password_row};
+use crate::password::{has_carriage_return, password_in, password_row};
 use chpw_invocation::KeyOptions;
 use chpw_rules::{Name, PrincipalRow};
 use std::alloc::Global;

@@ -1,13 +1,14 @@
-//! `import`: the keys of a keytab.
+//! The command `import`: the keys of a keytab.
 ghost use Rattle.std.specs.Prelude.{◌≡◌, ◌⊎◌, true, IfOk, IfErr, OnOk, List, ℕ};
 ghost use Rattle.chpw_rules.specs.Fitting.{principals_fit, service_fits};
 ghost use Rattle.chpw_import.specs.Keytabs.{IsBrought};
-ghost use Rattle.chpw_keys.specs.Faults.{IsEarly, IsLate, IsOfBytes, IsOfImport, IsUnread};
-ghost use Rattle.chpw_keys.specs.Stanzas.{Imports};
+ghost use Rattle.chpw_import.specs.Faults.{IsEarly, IsLate, IsOfBytes, IsOfImport, IsUnread};
+ghost use Rattle.chpw_import.specs.Stanzas.{Imports};
 
 use crate::fault::KeysFault;
+use crate::keytab::{Brought, ImportFault, bring_in};
+use crate::left::left_text;
 use crate::output::{ErrorWriter, read_file, stanzas, write_text};
-use chpw_import::{Brought, ImportFault, bring_in, left_text};
 use chpw_invocation::ImportOptions;
 use std::alloc::Global;
 use std::fs::Files;
