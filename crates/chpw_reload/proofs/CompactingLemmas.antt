@@ -4,7 +4,7 @@ use Rattle.std.specs.Prelude.{IsSome}
 use Rattle.chpw_rules.specs.declared.config.Config.{Config}
 use Rattle.chpw_table.specs.State.{Fixed, State, keys_held, kept_count, new_count, opening_of}
 use Rattle.chpw_table.specs.Agreement.{Agrees}
-use Rattle.chpw_journal.specs.declared.record.Record.{Record}
+use Rattle.chpw_record.specs.declared.record.Record.{Record}
 use Rattle.chpw_journal.specs.JournalText.{restored}
 use Rattle.chpw_journal.specs.Compact.{HoldsInRow}
 use Rattle.chpw_journal.proofs.CoverLemmas.{restored_kept, restored_some}

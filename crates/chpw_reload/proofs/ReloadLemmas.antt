@@ -4,10 +4,10 @@ use Rattle.std.specs.Prelude.{option_map, IsSome, IfSome, ℤ, negsuc}
 use Rattle.std.proofs.lemmas.List.{take_all, take-take}
 use Rattle.chpw_rules.specs.declared.name.Name.{Name}
 use Rattle.chpw_rules.specs.declared.config.Config.{Config}
-use Rattle.chpw_table.specs.declared.key.KeyRow.{KeyRow}
+use Rattle.chpw_record.specs.declared.key.KeyRow.{KeyRow}
 use Rattle.chpw_table.specs.State.{Fixed, State, keys_held, kept_count, new_count, opening_of}
 use Rattle.chpw_table.specs.Times.{is_later}
-use Rattle.chpw_journal.specs.declared.record.Record.{Record}
+use Rattle.chpw_record.specs.declared.record.Record.{Record}
 use Rattle.chpw_journal.specs.JournalText.{restored, AreNext}
 use Rattle.chpw_journal.specs.Runs.{SameKeys, IsSound, Run, records_in, last_state}
 use Rattle.chpw_journal.specs.Known.{AreKnown}

@@ -6,7 +6,7 @@ use Rattle.std.specs.Fmt.{decimal}
 use Rattle.hex.specs.Hex.{encode_lower}
 use Rattle.chpw_rules.specs.declared.name.Name.{Name}
 use Rattle.chpw_printing.specs.Quoting.{name_text, number_text, principal_text, quoted}
-use Rattle.chpw_table.specs.declared.key.KeyRow.{KeyRow}
+use Rattle.chpw_record.specs.declared.key.KeyRow.{KeyRow}
 use Rattle.chpw_table.specs.declared.table.Lookup.{Lookup}
 use Rattle.chpw_table.specs.State.{keys_held}
 use Rattle.chpw_table.specs.Agreement.{Held}
