@@ -9,7 +9,7 @@ use Rattle.chpw_table.specs.declared.times.Moment.{Moment}
 use Rattle.chpw_table.specs.declared.request.Target.{Target}
 use Rattle.chpw_table.specs.declared.request.Body.TheVariants.{Ask}
 use Rattle.chpw_table.specs.declared.request.Opened.{Opened}
-use Rattle.chpw_table.specs.declared.key.KeyRow.{KeyRow}
+use Rattle.chpw_record.specs.declared.key.KeyRow.{KeyRow}
 use Rattle.chpw_table.specs.declared.table.Principal.{Principal}
 use Rattle.chpw_table.specs.declared.verdict.Verdict.{Verdict}
 use Rattle.chpw_table.specs.declared.verdict.Verdict.TheVariants.{Skew, Replay, NotYet, Expired, BadPrivate, Denied, NeedInitial, Unknown, Short, Classes, Reused, LastVersion, Broken, Done}

@@ -7,7 +7,7 @@ use Rattle.chpw_table.specs.declared.change.Accepted.{Accepted}
 use Rattle.chpw_table.specs.declared.change.Accepted.TheVariants.{Key}
 use Rattle.chpw_table.specs.declared.history.Event.{Event}
 use Rattle.chpw_table.specs.declared.history.Event.TheVariants.{Ask, Raise}
-use Rattle.chpw_table.specs.declared.key.KeyRow.{KeyRow}
+use Rattle.chpw_record.specs.declared.key.KeyRow.{KeyRow}
 use Rattle.chpw_table.specs.Requests.{target_of}
 use Rattle.chpw_table.specs.State.{State, keys_held, kept_count}
 use Rattle.chpw_table.specs.Decision.{verdict}

@@ -10,12 +10,13 @@ use Rattle.chpw_table.specs.Verdicts.{is_done, is_broken}
 use Rattle.chpw_table.specs.Entering.{with_append}
 use Rattle.chpw_table.specs.Decision.{verdict}
 use Rattle.chpw_table.specs.History.{IsDecided}
-use Rattle.chpw_table.specs.declared.key.KeyRow.{KeyRow}
+use Rattle.chpw_record.specs.declared.key.KeyRow.{KeyRow}
 use Rattle.chpw_rules.specs.declared.name.Name.{Name}
 use Rattle.std.specs.Int.{w16, to_be_bytes}
 use Rattle.chpw_table.specs.Requests.{target_of}
 use Rattle.chpw_table.specs.Step.{new_key}
-use Rattle.chpw_table.specs.Journal.{appended, record_bytes, change_bytes}
+use Rattle.chpw_record.specs.Records.{key_text, record_bytes}
+use Rattle.chpw_table.specs.Journal.{appended}
 use Rattle.chpw_table.proofs.AppendLemmas.{verdict_written}
 use Rattle.chpw_commands.specs.declared.drill.sink.RequestSink.{RequestSink}
 
@@ -32,7 +33,7 @@ not_empty [] ys h = cc
 not_empty (x ∷ xs) ys h = cc
 
 not_recorded : (b : Bool) (name : Name) (k : KeyRow) → [] ≡ (if b then record_bytes name k else []) → b ≡ false
-not_recorded true name k h = absurd (not_empty (to_be_bytes w16 (length (change_bytes name k))) _ h)
+not_recorded true name k h = absurd (not_empty (to_be_bytes w16 (length (key_text 1 name k))) _ h)
 not_recorded false name k h = refl
 
 -- only a broken journal answers so where no append fails

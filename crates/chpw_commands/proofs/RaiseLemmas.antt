@@ -7,7 +7,8 @@ use Rattle.chpw_table.specs.declared.raising.RaiseVerdict.{RaiseVerdict}
 use Rattle.chpw_table.specs.declared.raising.RaiseVerdict.TheVariants.{NotHigher, Broken, Raised}
 use Rattle.chpw_table.specs.State.{State, new_count}
 use Rattle.chpw_table.specs.Raising.{raise_verdict, is_raised, step_raise, IsRaise}
-use Rattle.chpw_table.specs.Journal.{raise_appended, raise_bytes}
+use Rattle.chpw_record.specs.Records.{raise_bytes}
+use Rattle.chpw_table.specs.Journal.{raise_appended}
 use Rattle.chpw_table.specs.Agreement.{Held, Agrees}
 use Rattle.chpw_commands.specs.declared.drill.printed.Response.{Response}
 use Rattle.chpw_commands.specs.declared.drill.printed.Response.TheVariants.{Told, Full}

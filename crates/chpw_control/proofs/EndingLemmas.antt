@@ -9,7 +9,7 @@ use Rattle.std.proofs.lemmas.Slice.Eq.{bytes_eq-Decides, ends_is}
 use Rattle.std.proofs.lemmas.List.Folds.{list_all-append}
 use Rattle.chpw_rules.specs.Limits.{range, is_in}
 use Rattle.chpw_printing.specs.Quoting.{are_printed, is_field, words_text}
-use Rattle.chpw_printing.proofs.PrintedLemmas.{graphic_printed}
+use Rattle.chpw_printing.proofs.QuotingLemmas.{graphic_printed}
 use Rattle.chpw_control.specs.declared.status.FollowerState.{FollowerState}
 use Rattle.chpw_control.specs.declared.status.FollowerState.TheVariants.{Absent, Confirmed, Unconfirmed}
 use Rattle.chpw_control.specs.declared.status.JournalState.{JournalState}

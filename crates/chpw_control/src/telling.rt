@@ -11,8 +11,7 @@ ghost use Rattle.chpw_control.specs.Statuses.{AreTold, IsTold, connection_lines,
 use crate::answer::put_ok;
 use crate::status::Status;
 use crate::time::Time;
-use chpw_printing::{put_number, put_words};
-use chpw_times::put_time;
+use chpw_printing::{put_number, put_time, put_words};
 use std::alloc::{AllocError, Global};
 
 /// The whole answer to `status`: the lines of the status, and `ok`.

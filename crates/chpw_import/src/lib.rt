@@ -1,17 +1,24 @@
-//! Keys brought in: the service keys and the principals' keys that a keytab holds, with what is left out of
-//! it and why; and a principal's keys of a password.
+//! The commands `import` and `key`: the keys that a keytab holds, with what is left out of it and why, and a principal's
+//! keys of a password, printed as stanzas of a configuration.
 #![tactic(auto)]
 
 mod entries;
+mod fault;
+mod import_command;
+mod key_command;
 mod keytab;
 mod left;
 mod left_out;
 mod numbers;
+mod output;
 mod password;
 mod rows;
 mod slot;
 mod table;
 
+pub use fault::KeysFault;
+pub use import_command::{import, tell_keytab, write_keytab};
+pub use key_command::{key, tell_password, write_password};
 pub use keytab::{Brought, ImportFault, bring_in};
 pub use left::{Left, Reason, left_text};
 pub use numbers::KeyNumbers;

@@ -8,7 +8,7 @@ use Rattle.std.proofs.lemmas.List.{take_all}
 use Rattle.chpw_rules.specs.declared.name.Name.{Name}
 use Rattle.chpw_rules.specs.Limits.{is_in, iteration_counts}
 use Rattle.chpw_rules.specs.Names.{is_same_name, is_name}
-use Rattle.chpw_table.specs.declared.key.KeyRow.{KeyRow}
+use Rattle.chpw_record.specs.declared.key.KeyRow.{KeyRow}
 use Rattle.chpw_table.specs.declared.table.Principal.{Principal}
 use Rattle.chpw_table.specs.State.{State, keys_held, kept_count, new_count}
 use Rattle.chpw_table.specs.Agreement.{Agrees}
@@ -16,10 +16,10 @@ use Rattle.chpw_table.proofs.AgreementLemmas.{agrees_itself}
 use Rattle.chpw_table.proofs.BaseLemmas.{keys_based}
 use Rattle.chpw_table.proofs.KeyLemmas.{keys_in, keys_put, put}
 use Rattle.chpw_table.proofs.NameLemmas.{is_same_name-Decides, is_same_name-itself}
-use Rattle.chpw_journal.specs.declared.change.Change.{Change}
-use Rattle.chpw_journal.specs.declared.record.Record.{Record}
-use Rattle.chpw_journal.specs.declared.record.Record.TheVariants as record_of
-use Rattle.chpw_journal.specs.Records.{ChangeFits, records_text}
+use Rattle.chpw_record.specs.declared.record.Change.{Change}
+use Rattle.chpw_record.specs.declared.record.Record.{Record}
+use Rattle.chpw_record.specs.declared.record.Record.TheVariants as record_of
+use Rattle.chpw_record.specs.Records.{ChangeFits, records_text}
 use Rattle.chpw_journal.specs.JournalText.{restored, AreNext, Begins, whole, IsReading}
 use Rattle.chpw_journal.specs.Runs.{IsWholeKey, journals, records_in, last_state}
 use Rattle.chpw_journal.specs.Joined.{IsAlike}

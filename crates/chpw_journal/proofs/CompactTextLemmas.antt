@@ -3,13 +3,13 @@ use Rattle.std.proofs.Common.{◌≡◌, ◌≤◌, List, [], ◌∷◌, ◌++�
 use Rattle.std.specs.List.{flat_map}
 use Rattle.std.proofs.lemmas.List.{flat_map_more}
 use Rattle.chpw_rules.specs.declared.name.Name.{Name}
-use Rattle.chpw_table.specs.declared.key.KeyRow.{KeyRow}
-use Rattle.chpw_journal.specs.declared.record.Record.{Record}
-use Rattle.chpw_journal.specs.declared.record.Record.TheVariants as record_of
-use Rattle.chpw_journal.specs.Records.{record_text, records_text}
+use Rattle.chpw_record.specs.declared.key.KeyRow.{KeyRow}
+use Rattle.chpw_record.specs.declared.record.Record.{Record}
+use Rattle.chpw_record.specs.declared.record.Record.TheVariants as record_of
+use Rattle.chpw_record.specs.Records.{record_text, records_text}
 use Rattle.chpw_journal.specs.Compact.{key_records, AreWholeRecords}
 use Rattle.chpw_journal.specs.Runs.{IsWholeKey}
-use Rattle.chpw_journal.proofs.RecordsLemmas.{records_joined, records_more}
+use Rattle.chpw_record.proofs.RecordLemmas.{records_joined, records_more}
 
 -- one name more
 pub names_more : (front : List Record) (records : Name → List Record) (names : List Name) (name : Name)

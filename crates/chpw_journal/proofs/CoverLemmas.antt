@@ -6,13 +6,13 @@ use Rattle.chpw_rules.specs.declared.name.Name.{Name}
 use Rattle.chpw_rules.specs.declared.config.Config.{Config}
 use Rattle.chpw_rules.specs.declared.config.PrincipalRow.{PrincipalRow}
 use Rattle.chpw_rules.specs.Names.{is_same_name}
-use Rattle.chpw_table.specs.declared.key.KeyRow.{KeyRow}
+use Rattle.chpw_record.specs.declared.key.KeyRow.{KeyRow}
 use Rattle.chpw_table.specs.State.{State, keys_held, kept_count, new_count, key_row_of, opening_principal, opening_of}
 use Rattle.chpw_table.specs.Laws.{HoldsFew}
 use Rattle.chpw_table.proofs.HoldingLemmas.{kept_at_least}
 use Rattle.chpw_table.proofs.KeyLemmas.{keys_in, keys_put, put}
-use Rattle.chpw_journal.specs.declared.record.Record.{Record}
-use Rattle.chpw_journal.specs.declared.record.Record.TheVariants as record_of
+use Rattle.chpw_record.specs.declared.record.Record.{Record}
+use Rattle.chpw_record.specs.declared.record.Record.TheVariants as record_of
 use Rattle.chpw_journal.specs.JournalText.{with_record, restored, IsNextRecord, AreNext}
 use Rattle.chpw_journal.specs.Known.{IsKnown, AreKnown}
 

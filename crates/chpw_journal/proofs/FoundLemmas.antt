@@ -1,15 +1,16 @@
 -- What is found again of records that lead to what a state covers, and of the runs that go on from that state.
 use Rattle.std.proofs.Common.{◌≡◌, ℕ, ◌≤◌, List, ◌++◌, true, sym, ◌∙◌, ap, arith}
 use Rattle.chpw_table.specs.State.{State, keys_held, kept_count, new_count}
-use Rattle.chpw_journal.specs.declared.record.Record.{Record}
-use Rattle.chpw_journal.specs.Records.{records_text}
+use Rattle.chpw_record.specs.declared.record.Record.{Record}
+use Rattle.chpw_record.specs.Records.{records_text}
 use Rattle.chpw_journal.specs.JournalText.{restored, is_cut_off, AreNext, Begins, Reading, whole, IsReading}
 use Rattle.chpw_journal.specs.Runs.{Run, journals, records_in, last_state}
 use Rattle.chpw_journal.specs.Joined.{FollowOn}
 use Rattle.chpw_journal.specs.Known.{AreKnown, IsFoundAgain}
 use Rattle.chpw_journal.proofs.CountLemmas.{count_runs}
 use Rattle.chpw_journal.proofs.CoverLemmas.{Covers, restored_kept, restored_alike, restored_some, restored_none, restored_count, known_restored, next_covered}
-use Rattle.chpw_journal.proofs.RecordsLemmas.{records_joined, restored_joined, next_joined}
+use Rattle.chpw_record.proofs.RecordLemmas.{records_joined}
+use Rattle.chpw_journal.proofs.RecordsLemmas.{restored_joined, next_joined}
 use Rattle.chpw_journal.proofs.RunLemmas.{Follows, runs_next, same_itself, records_are_journals}
 use Rattle.chpw_journal.proofs.StopLemmas.{reads_one}
 

@@ -4,15 +4,15 @@ use Rattle.std.specs.Prelude.{IsSome, IfSome}
 use Rattle.std.specs.Io.KnownBytes.{Consumes, IsAtEnd}
 use Rattle.chpw_rules.specs.Limits.{is_in, kvnos, iteration_counts}
 use Rattle.chpw_table.specs.declared.history.Entry.{Entry}
-use Rattle.chpw_table.specs.declared.key.KeyRow.{KeyRow}
+use Rattle.chpw_record.specs.declared.key.KeyRow.{KeyRow}
 use Rattle.chpw_table.specs.State.{Fixed, State, new_count, opening_of}
 use Rattle.chpw_table.specs.Decision.{newest_kvno}
 use Rattle.chpw_table.specs.Agreement.{Agrees}
 use Rattle.chpw_table.specs.History.{step_entry, outcome, is_accepted, IsLegal}
 use Rattle.chpw_table.specs.Journal.{journal}
 use Rattle.chpw_table.proofs.AgreementLemmas.{agrees_itself}
-use Rattle.chpw_journal.specs.declared.record.Record.{Record}
-use Rattle.chpw_journal.specs.Records.{records_text}
+use Rattle.chpw_record.specs.declared.record.Record.{Record}
+use Rattle.chpw_record.specs.Records.{records_text}
 use Rattle.chpw_journal.specs.JournalText.{restored, Reading, whole, bad_record, unknown_principal, wrong_version, IsReading}
 use Rattle.chpw_journal.specs.Restoring.{IsRestored}
 use Rattle.chpw_journal.specs.Runs.{SameKeys, IsSound, BringsWhole, AreWhole, Run, AreRuns, KeepCount, journals, records_in, last_state}

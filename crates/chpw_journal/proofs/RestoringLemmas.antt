@@ -8,20 +8,21 @@ use Rattle.chpw_table.specs.State.{State}
 use Rattle.chpw_table.specs.Agreement.{Held, Agrees}
 use Rattle.chpw_table.specs.Restoring.{IsKeyRefused}
 use Rattle.chpw_table.proofs.AgreementLemmas.{agrees_itself}
-use Rattle.chpw_journal.specs.declared.change.Change.{Change}
-use Rattle.chpw_journal.specs.declared.record.Record.{Record}
-use Rattle.chpw_journal.specs.declared.record.Record.TheVariants as record_of
+use Rattle.chpw_record.specs.declared.record.Change.{Change}
+use Rattle.chpw_record.specs.declared.record.Record.{Record}
+use Rattle.chpw_record.specs.declared.record.Record.TheVariants as record_of
 use Rattle.chpw_journal.specs.declared.fault.RestoreFault.{RestoreFault}
 use Rattle.chpw_journal.specs.declared.fault.RestoreFault.TheVariants.{BadRecord, WrongVersion, UnknownPrincipal, CannotRead, Memory}
 use Rattle.chpw_journal.specs.declared.restoring.Restored.{Restored}
-use Rattle.chpw_journal.specs.Records.{ChangeFits, RecordFits, body_text, record_text, records_text, stated_length, is_record_length}
+use Rattle.chpw_record.specs.Records.{ChangeFits, RecordFits, body_text, record_text, records_text, stated_length, is_record_length, framed}
 use Rattle.chpw_journal.specs.JournalText.{restored, IsOfUnknown, is_cut_off, HasBadLength, HasBadBody, Begins}
-use Rattle.chpw_journal.specs.NextRecord.{framed}
 use Rattle.chpw_journal.specs.Restoring.{is_there, IsRestored, IsRefused}
 use Rattle.chpw_journal.specs.Taking.{IsRecordRefused, TakesRecord, IsRecordFault, IsSoFar}
-use Rattle.chpw_journal.proofs.CutLemmas.{header_states, length_short}
+use Rattle.chpw_record.proofs.LengthLemmas.{length_short, text_short}
+use Rattle.chpw_journal.proofs.CutLemmas.{header_states}
 use Rattle.read_fully.proofs.FillingLemmas.{consumes_none, consumes_more}
-use Rattle.chpw_journal.proofs.RecordsLemmas.{records_more, restored_joined, next_more, text_short, framed_is, framed_same}
+use Rattle.chpw_record.proofs.RecordLemmas.{records_more, framed_is, framed_same}
+use Rattle.chpw_journal.proofs.RecordsLemmas.{restored_joined, next_more}
 
 abbrev pub start_of : Held → Restored
 start_of before = record { table = before; records = 0; kept = 0; torn = false }

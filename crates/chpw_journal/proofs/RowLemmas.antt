@@ -10,17 +10,17 @@ use Rattle.chpw_rules.specs.declared.config.PrincipalRow.{PrincipalRow}
 use Rattle.chpw_rules.specs.Names.{is_name, is_same_name}
 use Rattle.chpw_rules.specs.Limits.{is_in, key_counts, kvnos, iteration_counts}
 use Rattle.chpw_rules.specs.Fitting.{key_fits, descend_from, kvnos_descend, principal_fits}
-use Rattle.chpw_table.specs.declared.key.KeyRow.{KeyRow}
+use Rattle.chpw_record.specs.declared.key.KeyRow.{KeyRow}
 use Rattle.chpw_table.specs.State.{Fixed, State, keys_held, kept_count, new_count, key_row_of, opening_principal}
 use Rattle.chpw_table.specs.Decision.{newest_kvno}
 use Rattle.chpw_table.proofs.BoolLemmas.{and_left, and_right}
 use Rattle.chpw_table.proofs.HoldingLemmas.{kept_at_least, principals_of_fits}
 use Rattle.chpw_table.proofs.KeyLemmas.{keys_in, keys_put, put}
 use Rattle.chpw_table.proofs.NameLemmas.{is_same_name-Decides}
-use Rattle.chpw_journal.specs.declared.change.Change.{Change}
-use Rattle.chpw_journal.specs.declared.record.Record.{Record}
-use Rattle.chpw_journal.specs.declared.record.Record.TheVariants as record_of
-use Rattle.chpw_journal.specs.Records.{ChangeFits, RecordFits}
+use Rattle.chpw_record.specs.declared.record.Change.{Change}
+use Rattle.chpw_record.specs.declared.record.Record.{Record}
+use Rattle.chpw_record.specs.declared.record.Record.TheVariants as record_of
+use Rattle.chpw_record.specs.Records.{ChangeFits, RecordFits}
 use Rattle.chpw_journal.specs.JournalText.{with_record, restored, IsNextRecord}
 use Rattle.chpw_journal.specs.Runs.{SameKeys, records_in, last_state}
 use Rattle.chpw_journal.specs.Compact.{KeyInRange, IsAfter, AreInRow, AreKeptInRow, HoldsInRow}

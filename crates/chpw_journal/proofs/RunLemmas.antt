@@ -12,7 +12,7 @@ use Rattle.chpw_table.specs.declared.request.Opened.{Opened}
 use Rattle.chpw_table.specs.declared.history.Event.{Event}
 use Rattle.chpw_table.specs.declared.history.Event.TheVariants.{Ask, Raise}
 use Rattle.chpw_table.specs.declared.history.Entry.{Entry}
-use Rattle.chpw_table.specs.declared.key.KeyRow.{KeyRow}
+use Rattle.chpw_record.specs.declared.key.KeyRow.{KeyRow}
 use Rattle.chpw_table.specs.Requests.{target_of}
 use Rattle.chpw_table.specs.State.{State, keys_held, kept_count, new_count}
 use Rattle.chpw_table.specs.Verdicts.{is_done}
@@ -26,12 +26,13 @@ use Rattle.chpw_table.specs.Restoring.{with_kept_key, with_kept_count, IsNextKey
 use Rattle.chpw_table.proofs.AppendLemmas.{verdict_written}
 use Rattle.chpw_table.proofs.DoneLemmas.{done_key_row, done_held, done_version}
 use Rattle.chpw_table.proofs.KeyLemmas.{keys_after, keys_put, put, kept_some, newest_put}
-use Rattle.chpw_journal.specs.declared.record.Record.{Record}
-use Rattle.chpw_journal.specs.Records.{RecordFits, record_text, records_text}
+use Rattle.chpw_record.specs.declared.record.Record.{Record}
+use Rattle.chpw_record.specs.Records.{RecordFits, record_text, records_text}
 use Rattle.chpw_journal.specs.JournalText.{restored, AreNext, Begins}
 use Rattle.chpw_journal.specs.Runs.{record_by, records_of, SameKeys, IsSound, BringsWhole, AreWhole, Run, AreRuns, journals, records_in, last_state}
 use Rattle.chpw_journal.specs.Laws.{ReadsJournals, RecordsAreJournals, RestoresKeys}
-use Rattle.chpw_journal.proofs.RecordsLemmas.{records_joined, restored_joined, next_joined}
+use Rattle.chpw_record.proofs.RecordLemmas.{records_joined}
+use Rattle.chpw_journal.proofs.RecordsLemmas.{restored_joined, next_joined}
 use Rattle.chpw_journal.proofs.StopLemmas.{reads_one}
 
 -- ---- an accepted entry

@@ -1,109 +1,23 @@
 -- Where the records of a journal stop: a text comes to one thing.
-use Rattle.std.proofs.Common.{◌≡◌, ◌≢◌, ℕ, zero, suc, ◌+◌, ◌^◌, ◌≤◌, ◌<◌, List, [], ◌∷◌, ◌++◌, length, take, drop, Bool, true, false, ◌&&◌, ⊎_elim, Option, Some, None, refl, sym, ◌∙◌, ap, subst, arith, lit<, length-append, length-take, append_assoc}
-use Rattle.std.specs.Prelude.{◌⊎◌, nat_eq, nat_lt, IsSome}
-use Rattle.std.specs.Int.{from_be_bytes, to_be_bytes, w16, w32}
-use Rattle.std.proofs.lemmas.Nat.{from_be_bytes-to_be_bytes_4}
-use Rattle.std.specs.List.{flat_map, list_all}
+use Rattle.std.proofs.Common.{◌≡◌, ◌≢◌, ℕ, zero, suc, ◌+◌, ◌≤◌, ◌<◌, List, [], ◌∷◌, ◌++◌, length, take, Bool, true, false, ⊎_elim, Option, Some, None, refl, sym, ◌∙◌, ap, subst, arith, lit<, length-append, length-take, append_assoc}
+use Rattle.std.specs.Prelude.{◌⊎◌, nat_lt, IsSome}
+use Rattle.std.specs.Int.{to_be_bytes, w16}
 use Rattle.std.proofs.Math.Bool.{and-false}
 use Rattle.std.proofs.lemmas.Bool.Decides.{nat_tests}
 use Rattle.std.proofs.lemmas.Option.{none-some}
-use Rattle.chpw_rules.specs.Names.{is_component}
-use Rattle.chpw_rules.specs.Limits.{is_in, component_counts, component_lengths, iteration_counts}
-use Rattle.chpw_table.specs.declared.key.KeyRow.{KeyRow}
+use Rattle.chpw_record.specs.declared.key.KeyRow.{KeyRow}
+use Rattle.chpw_record.specs.declared.record.Change.{Change}
+use Rattle.chpw_record.specs.declared.record.Record.{Record}
+use Rattle.chpw_record.specs.declared.record.Record.TheVariants as record_of
+use Rattle.chpw_record.specs.Records.{ChangeFits, RecordFits, body_text, framed, record_text, records_text, stated_length, is_record_length}
+use Rattle.chpw_record.proofs.LengthLemmas.{text_range}
+use Rattle.chpw_record.proofs.RecordLemmas.{framed_is, same_record}
 use Rattle.chpw_table.specs.State.{State, keys_held}
-use Rattle.chpw_table.specs.Journal.{part_bytes, name_bytes, version_bytes}
 use Rattle.chpw_table.specs.Decision.{newest_kvno}
 use Rattle.chpw_table.specs.Restoring.{IsNextKey}
-use Rattle.chpw_table.proofs.BoolLemmas.{and_left, and_right}
-use Rattle.chpw_journal.specs.declared.change.Change.{Change}
-use Rattle.chpw_journal.specs.declared.record.Record.{Record}
-use Rattle.chpw_journal.specs.declared.record.Record.TheVariants as record_of
-use Rattle.chpw_journal.specs.RecordKeys.{key_at}
-use Rattle.chpw_journal.specs.Records.{ChangeFits, RecordFits, change_text, body_text, record_text, records_text, stated_length, change_lengths, is_record_length}
 use Rattle.chpw_journal.specs.JournalText.{restored, AreNext, IsNextRecord, IsOfUnknown, with_record, is_cut_off, HasBadLength, HasBadBody, Begins, Reading, whole, bad_record, unknown_principal, wrong_version, IsReading}
-use Rattle.chpw_journal.specs.NextRecord.{framed}
 use Rattle.chpw_journal.specs.Laws.{FrontsAreCutOff}
-use Rattle.chpw_journal.proofs.ListLemmas.{front_same}
-use Rattle.chpw_journal.proofs.PartsLemmas.{same_parts}
-use Rattle.chpw_journal.proofs.VersionLemmas.{version_length, key_back, kvno_short, count_short}
-use Rattle.chpw_journal.proofs.CutLemmas.{of_change, header_states, cut_off_body, cut_off_header}
-use Rattle.chpw_journal.proofs.RecordsLemmas.{text_short, framed_is, framed_same}
-
--- ---- a change's text is that of no other
-
-tails : (m n : ℕ) (xs ys : List ℕ) → m ∷ xs ≡ n ∷ ys → xs ≡ ys
-tails m n xs ys h = cc
-
-same_change : (c d : Change) → ChangeFits c → ChangeFits d → change_text c ≡ change_text d → c ≡ d
-same_change c d f g e =
-    let l : length (version_bytes c.key) ≡ length (version_bytes d.key) = version_length c.key f.aes128 f.aes256 ∙ sym (version_length d.key g.aes128 g.aes256) in
-    let r = front_same (version_bytes c.key) (name_bytes c.name) (version_bytes d.key) (name_bytes d.name) l e in
-    let k : c.key ≡ d.key =
-    sym (key_back c.key (kvno_short c.key.kvno f.kvno) (count_short c.key.count f.count) f.aes128 f.aes256)
-    ∙ (ap key_at r.0 ∙ key_back d.key (kvno_short d.key.kvno g.kvno) (count_short d.key.count g.count) g.aes128 g.aes256) in
-    let p = same_parts c.name.parts d.name.parts (tails (length c.name.parts) (length d.name.parts) _ _ r.1) in
-    λ i. record { name = record { parts = p i }; key = k i }
-
--- ---- the length of a record
-
-low_component : (n : ℕ) → is_in component_lengths n ≡ true → 1 ≤ n
-low_component n h = grind (arith, nat_tests)
-
-low_parts : (parts : List (List ℕ)) → (is_in component_counts (length parts) && list_all is_component parts) ≡ true → 2 ≤ length (flat_map part_bytes parts)
-low_parts [] h = cc
-low_parts (p ∷ ps) h =
-    let one : 1 ≤ length p = low_component (length p) (and_left (is_component p) (list_all is_component ps) (and_right (is_in component_counts (length (p ∷ ps))) (list_all is_component (p ∷ ps)) h)) in
-    omega (arith, length-append p (flat_map part_bytes ps), one)
-
-in_range : (n : ℕ) → 60 ≤ n → n ≤ 1090 → is_in change_lengths n ≡ true
-in_range n h g = grind (arith, nat_tests)
-
-low_change : (c : Change) → ChangeFits c → 60 ≤ length (change_text c)
-low_change c f =
-    let v = version_length c.key f.aes128 f.aes256 in
-    let n = low_parts c.name.parts f.name in
-    let s : length (change_text c) ≡ length (version_bytes c.key) + length (name_bytes c.name) = length-append (version_bytes c.key) (name_bytes c.name) in
-    omega (arith, s, v, n)
-
-pub text_range : (r : Record) → RecordFits r → is_record_length (length (body_text r)) ≡ true
-text_range (record_of.Change c) f = of_change (length (change_text c)) (in_range (length (change_text c)) (low_change c f) (text_short (record_of.Change c) f))
-text_range (record_of.Raise count) f = refl
-text_range (record_of.Base c) f = of_change (length (change_text c)) (in_range (length (change_text c)) (low_change c f) (text_short (record_of.Change c) f))
-
--- ---- a record's text is that of no other
-
-same_count : (m n : ℕ) → is_in iteration_counts m ≡ true → is_in iteration_counts n ≡ true → to_be_bytes w32 m ≡ to_be_bytes w32 n → m ≡ n
-same_count m n f g e = sym (from_be_bytes-to_be_bytes_4 m (count_short m f)) ∙ (ap (from_be_bytes w32) e ∙ from_be_bytes-to_be_bytes_4 n (count_short n g))
-
--- texts of two kinds aren't the same
-heads : (m n : ℕ) (xs ys : List ℕ) → m ∷ xs ≡ n ∷ ys → m ≡ n
-heads m n xs ys h = cc
-
-apart_kinds : (m n : ℕ) (xs ys : List ℕ) → nat_eq m n ≡ false → m ∷ xs ≡ n ∷ ys → ⊥
-apart_kinds m n xs ys d h = let same = heads m n xs ys h in grind (arith, nat_tests)
-
--- a base's text is that of its change, but for the kind
-same_base : (c d : Change) → ChangeFits c → ChangeFits d → body_text (record_of.Base c) ≡ body_text (record_of.Base d) → c ≡ d
-same_base c d f g e = same_change c d f g (ap (λ (xs : List ℕ). 1 ∷ xs) (tails 3 3 (drop 1 (change_text c)) (drop 1 (change_text d)) e))
-
-same_body : (r q : Record) → RecordFits r → RecordFits q → body_text r ≡ body_text q → r ≡ q
-same_body (record_of.Change c) (record_of.Change d) f g e = ap record_of.Change (same_change c d f g e)
-same_body (record_of.Change c) (record_of.Raise n) f g e = absurd (apart_kinds 1 2 _ _ refl e)
-same_body (record_of.Change c) (record_of.Base d) f g e = absurd (apart_kinds 1 3 _ _ refl e)
-same_body (record_of.Raise m) (record_of.Change d) f g e = absurd (apart_kinds 2 1 _ _ refl e)
-same_body (record_of.Raise m) (record_of.Raise n) f g e = ap record_of.Raise (same_count m n f g (tails 2 2 _ _ e))
-same_body (record_of.Raise m) (record_of.Base d) f g e = absurd (apart_kinds 2 3 _ _ refl e)
-same_body (record_of.Base c) (record_of.Change d) f g e = absurd (apart_kinds 3 1 _ _ refl e)
-same_body (record_of.Base c) (record_of.Raise n) f g e = absurd (apart_kinds 3 2 _ _ refl e)
-same_body (record_of.Base c) (record_of.Base d) f g e = ap record_of.Base (same_base c d f g e)
-
-small : (r : Record) → RecordFits r → length (body_text r) < 2 ^ 16
-small r f = omega (arith, text_short r f)
-
-same_record : (r q : Record) (x y : List ℕ) → RecordFits r → RecordFits q → record_text r ++ x ≡ record_text q ++ y → (r ≡ q) × (x ≡ y)
-same_record r q x y f g e =
-    let t = framed_same (body_text r) x (body_text q) y (small r f) (small q g) (ap (λ (xs : List ℕ). xs ++ x) (framed_is r) ∙ (e ∙ ap (λ (xs : List ℕ). xs ++ y) (sym (framed_is q)))) in
-    (same_body r q f g t.0, t.1)
+use Rattle.chpw_journal.proofs.CutLemmas.{header_states, cut_off_body, cut_off_header}
 
 states : (c : Record) (left : List ℕ) → RecordFits c → stated_length (record_text c ++ left) ≡ length (body_text c)
 states c left f =

@@ -5,8 +5,8 @@ use Rattle.std.specs.Prelude.{codes, pos}
 use Rattle.chpw_table.specs.declared.table.Principal.{Principal}
 use Rattle.chpw_table.specs.State.{State, keys_held, new_count}
 use Rattle.chpw_table.proofs.Worked.{alice, bob, admin, our_realm, key_row}
-use Rattle.chpw_journal.specs.declared.record.Record.TheVariants as record_of
-use Rattle.chpw_journal.specs.Records.{record_text}
+use Rattle.chpw_record.specs.declared.record.Record.TheVariants as record_of
+use Rattle.chpw_record.specs.Records.{record_text}
 use Rattle.chpw_journal.specs.JournalText.{with_record, restored}
 use Rattle.chpw_journal.specs.Compact.{compacted, are_same_keys}
 

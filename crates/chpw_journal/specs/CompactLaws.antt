@@ -5,9 +5,9 @@ use Rattle.chpw_rules.specs.declared.config.Config.{Config}
 use Rattle.chpw_rules.specs.Fitting.{config_fits}
 use Rattle.chpw_table.specs.State.{State, keys_held, kept_count, new_count, opening_of}
 use Rattle.chpw_table.specs.Agreement.{Held, Agrees}
-use Rattle.chpw_journal.specs.declared.record.Record.{Record}
+use Rattle.chpw_record.specs.declared.record.Record.{Record}
 use Rattle.chpw_journal.specs.declared.restoring.Restored.{Restored}
-use Rattle.chpw_journal.specs.Records.{records_text}
+use Rattle.chpw_record.specs.Records.{records_text}
 use Rattle.chpw_journal.specs.JournalText.{restored, is_cut_off, AreNext, Reading, whole, IsReading}
 use Rattle.chpw_journal.specs.Restoring.{IsRestored}
 use Rattle.chpw_journal.specs.Runs.{Run, journals, records_in, last_state}

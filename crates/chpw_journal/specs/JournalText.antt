@@ -1,15 +1,15 @@
 -- What a journal's text comes to: its whole records, in their order, and behind them one that is cut
 -- off; or its first fault. Records are counted from 1, and each is tested as J1, J3, J2.
 use Rattle.std.specs.Prelude.{◌≡◌, ◌≢◌, ℕ, ◌+◌, ◌≤◌, List, [], ◌∷◌, ◌++◌, length, Bool, true, false, ◌&&◌, ◌||◌, nat_lt, ◌⊎◌, Some, None, IsSome}
-use Rattle.chpw_table.specs.declared.key.KeyRow.{KeyRow}
+use Rattle.chpw_record.specs.declared.key.KeyRow.{KeyRow}
 use Rattle.chpw_table.specs.State.{State, keys_held}
 use Rattle.chpw_table.specs.Decision.{newest_kvno}
 use Rattle.chpw_table.specs.Restoring.{with_kept_key, with_kept_count, IsNextKey}
 use Rattle.chpw_table.specs.BaseKeys.{with_base_key}
-use Rattle.chpw_journal.specs.declared.change.Change.{Change}
-use Rattle.chpw_journal.specs.declared.record.Record.{Record}
-use Rattle.chpw_journal.specs.declared.record.Record.TheVariants as record_of
-use Rattle.chpw_journal.specs.Records.{RecordFits, record_text, records_text, stated_length, is_record_length}
+use Rattle.chpw_record.specs.declared.record.Change.{Change}
+use Rattle.chpw_record.specs.declared.record.Record.{Record}
+use Rattle.chpw_record.specs.declared.record.Record.TheVariants as record_of
+use Rattle.chpw_record.specs.Records.{RecordFits, record_text, records_text, stated_length, is_record_length}
 
 -- the state after a record: a change does to its principal what an accepted request did, a raise leaves
 -- no lower count, and a base leaves its principal no other key

@@ -4,8 +4,8 @@ use Rattle.chpw_rules.specs.declared.name.Name.{Name}
 use Rattle.chpw_rules.specs.declared.config.Config.{Config}
 use Rattle.chpw_rules.specs.Fitting.{config_fits}
 use Rattle.chpw_table.specs.State.{State, keys_held, new_count, opening_of}
-use Rattle.chpw_journal.specs.declared.record.Record.{Record}
-use Rattle.chpw_journal.specs.Records.{RecordFits, record_text, records_text}
+use Rattle.chpw_record.specs.declared.record.Record.{Record}
+use Rattle.chpw_record.specs.Records.{RecordFits, record_text, records_text}
 use Rattle.chpw_journal.specs.JournalText.{restored, is_cut_off, Reading, whole, IsReading}
 use Rattle.chpw_journal.specs.Runs.{IsSound, Run, AreRuns, KeepCount, journals, records_in, last_state}
 

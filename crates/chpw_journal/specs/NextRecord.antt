@@ -4,12 +4,8 @@ use Rattle.std.specs.Int.{to_be_bytes, w16}
 use Rattle.std.specs.Io.KnownBytes.{Consumes, IsAtEnd}
 use Rattle.chpw_journal.specs.declared.reading.Next.{Next}
 use Rattle.chpw_journal.specs.declared.reading.Next.TheVariants as next
-use Rattle.chpw_journal.specs.Records.{is_record_length}
+use Rattle.chpw_record.specs.Records.{framed, is_record_length}
 use Rattle.chpw_journal.specs.JournalText.{is_cut_off, HasBadLength}
-
--- a record from behind its length, and the length before it
-abbrev pub framed : List ℕ → List ℕ
-framed body = to_be_bytes w16 (length body) ++ body
 
 -- the two bytes of a length that a record may have
 abbrev pub IsHeader : List ℕ → ℕ → Type 0

@@ -1,14 +1,14 @@
 //! A compact journal, written.
 ghost use Rattle.std.specs.Prelude.{◌≡◌, ◌++◌, IfOk, OnOk, true, length};
 ghost use Rattle.chpw_rules.specs.Names.{is_name};
-ghost use Rattle.chpw_journal.specs.declared.record.Record.TheVariants as record_of;
-ghost use Rattle.chpw_journal.specs.Records.{record_text, records_text};
+ghost use Rattle.chpw_record.specs.declared.record.Record.TheVariants as record_of;
+ghost use Rattle.chpw_record.specs.Records.{record_text, records_text};
 ghost use Rattle.chpw_journal.specs.Compact.{are_same_keys, compacted, key_records, name_records, raise_records, AreWholeRecords};
 ghost use Rattle.chpw_journal.specs.Runs.{IsWholeKey};
 
-use crate::record::BASE_KIND;
+use chpw_record::{KeyRow, base_bytes, raise_bytes, record_bytes};
 use chpw_rules::Name;
-use chpw_table::{KeyRow, Table, raise_bytes, record_bytes};
+use chpw_table::Table;
 use std::alloc::{AllocError, Global};
 
 /// The text of a journal that, restored onto the opening, gives each of its principals the keys that the held
@@ -91,8 +91,7 @@ fn put_base(text: &mut Vec<u8>, name: &Name, key: &KeyRow) -> Result<(), AllocEr
     ensures whole { OnOk result (IsWholeKey key.now) }
 {
     read_key(key);
-    let mut record = record_bytes(*text.allocator(), name, key)?;
-    record[2] = BASE_KIND;
+    let record = base_bytes(*text.allocator(), name, key)?;
     text.extend_from_slice(record.as_slice())
 }
 

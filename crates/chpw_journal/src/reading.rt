@@ -1,23 +1,15 @@
 //! A journal's records, read one after the other.
 ghost use Rattle.std.specs.Prelude.{◌≡◌, ◌≤◌, IfOk, length};
 ghost use Rattle.std.specs.Int.{from_be_bytes, to_be_bytes, w16};
-ghost use Rattle.chpw_journal.specs.Records.{is_record_length};
 ghost use Rattle.chpw_journal.specs.NextRecord.{IsNext, IsBody, CountsDown};
 
-use crate::record::RAISE_LENGTH;
-use chpw_rules::Limits;
+use chpw_record::is_record_length;
 use read_fully::{Filled, fill, fill_vec};
 use std::alloc::{AllocError, Global};
 use std::io::Read;
 
 /// Reads for a journal, at the most, interrupted ones counted.
 pub const MAX_READS: u64 = 4_294_967_296;
-
-/// The lengths of changes and bases: 58 bytes, and 1 to 8 components of 1 to 128 bytes, each behind its length.
-const CHANGE_LENGTHS: Limits = Limits {
-    low: 60,
-    high: 1090,
-};
 
 /// What comes next in a journal.
 #[derive(Drop)]
@@ -52,17 +44,10 @@ pub fn next_record<R: Read>(
         Filled::Fault(_) => return Ok(Next::CannotRead),
     }
     let length = length_in(&header);
-    if !is_length(length) {
+    if !is_record_length(length) {
         return Ok(Next::BadLength);
     }
     read_body(alloc, reader, length, reads)
-}
-
-// Whether a record may have this length.
-fn is_length(length: usize) -> bool
-    ensures value { result ≡ is_record_length length }
-{
-    length == RAISE_LENGTH || CHANGE_LENGTHS.allow(length)
 }
 
 // The length in two bytes, high byte first.

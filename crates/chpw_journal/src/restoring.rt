@@ -3,14 +3,14 @@ ghost use Rattle.std.specs.Prelude.{◌≡◌, ◌+◌, ◌-◌, ◌*◌, ◌≤
 ghost use Rattle.chpw_rules.specs.Limits.{is_in};
 ghost use Rattle.chpw_table.specs.State.{State};
 ghost use Rattle.chpw_table.specs.Agreement.{Agrees};
-ghost use Rattle.chpw_journal.specs.Records.{RecordFits};
+ghost use Rattle.chpw_record.specs.Records.{RecordFits};
 ghost use Rattle.chpw_journal.specs.JournalText.{IsNextRecord, with_record};
 ghost use Rattle.chpw_journal.specs.Restoring.{IsRestored, IsRefused};
 ghost use Rattle.chpw_journal.specs.Taking.{TakesRecord, IsRecordFault, IsRecordRefused};
 
 use crate::fault::RestoreFault;
 use crate::reading::{MAX_READS, Next, next_record};
-use crate::record::Record;
+use chpw_record::Record;
 use chpw_table::{KeyFault, Table};
 use std::alloc::Global;
 use std::io::Read;

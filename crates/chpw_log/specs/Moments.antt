@@ -1,7 +1,7 @@
 -- A moment as it is printed (RFC 3339 section 5.6): `YYYY-MM-DDTHH:MM:SS.FFFFFFZ`.
 use Rattle.std.specs.Prelude.{◌≡◌, ℕ, pos, ◌+ℤ◌, ◌*ℤ◌, List}
 use Rattle.chpw_table.specs.declared.times.Moment.{Moment}
-use Rattle.chpw_times.specs.Printed as printed
+use Rattle.chpw_printing.specs.Times as printed
 
 abbrev pub moment_text : Moment → List ℕ
 moment_text m = printed.time_text m.seconds m.micros

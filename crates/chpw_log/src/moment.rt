@@ -4,8 +4,8 @@ ghost use Rattle.chpw_printing.specs.Quoting.{is_field};
 ghost use Rattle.chpw_table.specs.Times.{IsMoment};
 ghost use Rattle.chpw_log.specs.Moments.{moment_text};
 
+use chpw_printing::put_time;
 use chpw_table::Moment;
-use chpw_times::put_time;
 use std::alloc::AllocError;
 
 /// Puts a moment at the end: `2026-11-25T06:31:50.123456Z`. Its seconds are 0 to

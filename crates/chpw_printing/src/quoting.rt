@@ -7,7 +7,7 @@ use chpw_rules::Name;
 use std::alloc::AllocError;
 
 /// Puts a principal at the end as it is printed: its name, `@` and its realm.
-#[tactic(auto, using(crate::proofs::PrintedLemmas::principal_field))]
+#[tactic(auto, using(crate::proofs::QuotingLemmas::principal_field))]
 pub fn put_principal(text: &mut Vec<u8>, realm: &[u8], name: &Name) -> Result<(), AllocError>
     ensures value { OnOk result (text.new.items ≡ text.old.items ++ principal_text realm.now name.now) }
     ensures field { OnOk result (is_field (principal_text realm.now name.now) ≡ true) }
@@ -71,7 +71,7 @@ fn put_byte(text: &mut Vec<u8>, byte: u8) -> Result<(), AllocError>
 }
 
 // A text's byte as it is, where it is printed and no `\`; else `\x` and two hexadecimal digits.
-#[tactic(auto, using(crate::proofs::PrintedLemmas::graphic_printed))]
+#[tactic(auto, using(crate::proofs::QuotingLemmas::graphic_printed))]
 fn put_words_byte(text: &mut Vec<u8>, byte: u8) -> Result<(), AllocError>
     ensures value { OnOk result (text.new.items ≡ text.old.items ++ words_byte byte) }
     ensures printed { are_printed (words_byte byte) ≡ true }

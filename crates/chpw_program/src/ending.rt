@@ -4,7 +4,7 @@ ghost use Rattle.std.specs.Io.KnownBytes.{Appends};
 ghost use Rattle.chpw_program.specs.Endings.{has_line, line_of, status_of, told_of};
 
 use chpw_commands::DrillFault;
-use chpw_keys::KeysFault;
+use chpw_import::KeysFault;
 use chpw_service::ServeFault;
 use std::fmt;
 use std::io::{self, Write};

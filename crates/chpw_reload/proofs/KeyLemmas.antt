@@ -8,12 +8,12 @@ use Rattle.chpw_rules.specs.declared.config.Config.{Config}
 use Rattle.chpw_rules.specs.declared.config.KeyBytes.{KeyBytes}
 use Rattle.chpw_rules.specs.declared.config.PrincipalRow.{PrincipalRow}
 use Rattle.chpw_rules.specs.Names.{is_same_name}
-use Rattle.chpw_table.specs.declared.key.KeyRow.{KeyRow}
+use Rattle.chpw_record.specs.declared.key.KeyRow.{KeyRow}
 use Rattle.chpw_table.specs.declared.table.Principal.{Principal}
 use Rattle.chpw_table.specs.State.{State, keys_held, key_row_of, opening_principal}
 use Rattle.chpw_table.proofs.KeyLemmas.{keys_in}
 use Rattle.chpw_table.proofs.NameLemmas.{is_same_name-Decides}
-use Rattle.chpw_held.specs.Configurations.{key_bytes_of, names_of, row_of}
+use Rattle.chpw_report.specs.Configurations.{key_bytes_of, names_of, row_of}
 use Rattle.chpw_reload.specs.Next.{is_unknown, lacked, next_state}
 
 -- the first of two, where it is there

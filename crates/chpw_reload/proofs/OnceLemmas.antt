@@ -16,7 +16,7 @@ use Rattle.chpw_rules.specs.Fitting.{are_distinct, is_same_principal, none_again
 use Rattle.chpw_table.specs.State.{State}
 use Rattle.chpw_table.proofs.BoolLemmas.{and_left, and_right, both}
 use Rattle.chpw_table.proofs.OrderLemmas.{same_name_ties, same_name_turned}
-use Rattle.chpw_held.specs.Configurations.{names_of, row_of}
+use Rattle.chpw_report.specs.Configurations.{names_of, row_of}
 use Rattle.chpw_reload.specs.Next.{is_unknown, lacked, next_config}
 use Rattle.chpw_reload.proofs.KeyLemmas.{is_among, among_principals}
 

@@ -5,12 +5,13 @@ use Rattle.std.proofs.Math.Seq.{drop-append_seam}
 use Rattle.chpw_rules.specs.declared.config.Config.{Config}
 use Rattle.chpw_table.specs.State.{State}
 use Rattle.chpw_table.specs.Agreement.{Held, Agrees}
-use Rattle.chpw_journal.specs.declared.record.Record.{Record}
-use Rattle.chpw_journal.specs.Records.{records_text}
+use Rattle.chpw_record.specs.declared.record.Record.{Record}
+use Rattle.chpw_record.specs.Records.{records_text}
 use Rattle.chpw_journal.specs.JournalText.{restored, whole, IsReading}
 use Rattle.chpw_journal.specs.Restoring.{IsRestored}
-use Rattle.chpw_journal.proofs.RecordsLemmas.{records_joined, restored_joined, next_joined}
-use Rattle.chpw_held.specs.Held.{opening}
+use Rattle.chpw_record.proofs.RecordLemmas.{records_joined}
+use Rattle.chpw_journal.proofs.RecordsLemmas.{restored_joined, next_joined}
+use Rattle.chpw_report.specs.Held.{opening}
 use Rattle.chpw_reload.specs.Next.{next_state}
 use Rattle.chpw_reload.specs.Comparing.{MayFollow}
 use Rattle.chpw_reload.specs.Laws.{TwoPartsAreOne, ReloadedIsReload}

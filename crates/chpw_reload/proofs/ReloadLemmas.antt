@@ -4,10 +4,10 @@ use Rattle.std.specs.Prelude.{option_map, IsSome, IfSome, ℤ, negsuc}
 use Rattle.std.proofs.lemmas.List.{take_all, take-take}
 use Rattle.chpw_rules.specs.declared.name.Name.{Name}
 use Rattle.chpw_rules.specs.declared.config.Config.{Config}
-use Rattle.chpw_table.specs.declared.key.KeyRow.{KeyRow}
+use Rattle.chpw_record.specs.declared.key.KeyRow.{KeyRow}
 use Rattle.chpw_table.specs.State.{Fixed, State, keys_held, kept_count, new_count, opening_of}
 use Rattle.chpw_table.specs.Times.{is_later}
-use Rattle.chpw_journal.specs.declared.record.Record.{Record}
+use Rattle.chpw_record.specs.declared.record.Record.{Record}
 use Rattle.chpw_journal.specs.JournalText.{restored, AreNext}
 use Rattle.chpw_journal.specs.Runs.{SameKeys, IsSound, Run, records_in, last_state}
 use Rattle.chpw_journal.specs.Known.{AreKnown}
@@ -18,7 +18,7 @@ use Rattle.chpw_journal.proofs.RunLemmas.{Follows, runs_next}
 use Rattle.chpw_journal.proofs.JoinedLemmas.{tables_may_open}
 use Rattle.chpw_journal.proofs.CoverLemmas.{Covers, restored_kept, restored_alike, restored_some, restored_was, restored_none, restored_few, restored_count, opening_few, known_alike, next_covered, next_are_known}
 use Rattle.chpw_journal.proofs.FoundLemmas.{found_again, reads_again}
-use Rattle.chpw_held.specs.Held.{opening}
+use Rattle.chpw_report.specs.Held.{opening}
 use Rattle.chpw_reload.specs.Next.{settings_of, next_config, next_state}
 use Rattle.chpw_reload.specs.Comparing.{kept_by_both}
 use Rattle.chpw_reload.specs.Reloads.{IsRenewed, IsReload}

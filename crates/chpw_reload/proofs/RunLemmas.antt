@@ -14,7 +14,7 @@ use Rattle.chpw_table.specs.declared.verdict.Verdict.TheVariants.{Skew, Replay}
 use Rattle.chpw_table.specs.declared.history.Event.{Event}
 use Rattle.chpw_table.specs.declared.history.Event.TheVariants.{Ask, Raise}
 use Rattle.chpw_table.specs.declared.history.Entry.{Entry}
-use Rattle.chpw_table.specs.declared.key.KeyRow.{KeyRow}
+use Rattle.chpw_record.specs.declared.key.KeyRow.{KeyRow}
 use Rattle.chpw_table.specs.Requests.{id_of, is_same_id, target_of}
 use Rattle.chpw_table.specs.State.{Fixed, State, keys_held, is_used, kept_count, new_count}
 use Rattle.chpw_table.specs.Times.{is_far, is_later, clock_at}

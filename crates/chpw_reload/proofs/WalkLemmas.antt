@@ -3,12 +3,12 @@ use Rattle.std.proofs.Common.{◌≡◌, ℕ, zero, suc, List, [], ◌∷◌, ma
 use Rattle.std.specs.Prelude.{slice_get}
 use Rattle.chpw_rules.specs.declared.name.Name.{Name}
 use Rattle.chpw_rules.specs.Names.{is_same_name}
-use Rattle.chpw_table.specs.declared.key.KeyRow.{KeyRow}
+use Rattle.chpw_record.specs.declared.key.KeyRow.{KeyRow}
 use Rattle.chpw_table.specs.declared.table.Principal.{Principal}
 use Rattle.chpw_table.specs.State.{State}
 use Rattle.chpw_table.proofs.KeyLemmas.{keys_in}
 use Rattle.chpw_table.proofs.NameLemmas.{is_same_name-Decides}
-use Rattle.chpw_held.specs.Configurations.{names_of}
+use Rattle.chpw_report.specs.Configurations.{names_of}
 use Rattle.chpw_journal.proofs.ListLemmas.{take_whole}
 use Rattle.chpw_reload.specs.Comparing.{HoldAlike}
 

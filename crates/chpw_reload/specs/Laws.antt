@@ -4,20 +4,20 @@ use Rattle.chpw_rules.specs.declared.name.Name.{Name}
 use Rattle.chpw_rules.specs.declared.config.Config.{Config}
 use Rattle.chpw_rules.specs.Fitting.{config_fits}
 use Rattle.chpw_table.specs.declared.request.RequestId.{RequestId}
-use Rattle.chpw_table.specs.declared.key.KeyRow.{KeyRow}
+use Rattle.chpw_record.specs.declared.key.KeyRow.{KeyRow}
 use Rattle.chpw_table.specs.State.{State, keys_held, is_used, kept_count, new_count, opening_of}
 use Rattle.chpw_table.specs.Times.{is_later}
 use Rattle.chpw_table.specs.Agreement.{Held, Agrees}
-use Rattle.chpw_journal.specs.declared.record.Record.{Record}
+use Rattle.chpw_record.specs.declared.record.Record.{Record}
 use Rattle.chpw_journal.specs.declared.restoring.Restored.{Restored}
-use Rattle.chpw_journal.specs.Records.{records_text}
+use Rattle.chpw_record.specs.Records.{records_text}
 use Rattle.chpw_journal.specs.JournalText.{restored, is_cut_off, AreNext, Reading, whole, IsReading}
 use Rattle.chpw_journal.specs.Restoring.{IsRestored}
 use Rattle.chpw_journal.specs.Runs.{IsSound, Run, journals, records_in, last_state}
 use Rattle.chpw_journal.specs.Joined.{FollowOn}
 use Rattle.chpw_journal.specs.Known.{AreKnown, IsFoundAgain}
 use Rattle.chpw_journal.specs.Compact.{compacted, AreWholeRecords, MayCompact}
-use Rattle.chpw_held.specs.Held.{opening}
+use Rattle.chpw_report.specs.Held.{opening}
 use Rattle.chpw_reload.specs.declared.renewal.Renewal.{Renewal}
 use Rattle.chpw_reload.specs.declared.reloading.Reloaded.{Reloaded}
 use Rattle.chpw_reload.specs.Comparing.{kept_by_both, HoldAlike}

@@ -4,7 +4,7 @@ use Rattle.std.specs.Prelude.{ℕ, max, List, [], ◌++◌, map, filter, Bool, i
 use Rattle.chpw_rules.specs.declared.name.Name.{Name}
 use Rattle.chpw_rules.specs.declared.config.Config.{Config}
 use Rattle.chpw_table.specs.State.{State, keys_held, new_count, opening_of}
-use Rattle.chpw_held.specs.Configurations.{names_of, row_of}
+use Rattle.chpw_report.specs.Configurations.{names_of, row_of}
 
 -- what a file sets beside its principals; the service's own keys are no part of a table
 abbrev pub settings_of : Config → Config

@@ -6,7 +6,7 @@ use Rattle.chpw_table.specs.State.{State}
 use Rattle.chpw_table.specs.Agreement.{Held, Agrees}
 use Rattle.chpw_table.specs.History.{IsLegal, outcome}
 use Rattle.chpw_table.specs.declared.history.Entry.{Entry}
-use Rattle.chpw_journal.specs.declared.record.Record.{Record}
+use Rattle.chpw_record.specs.declared.record.Record.{Record}
 use Rattle.chpw_journal.specs.Runs.{AreWhole, Run, last_state}
 use Rattle.chpw_reload.specs.Reloads.{IsReload}
 

@@ -8,7 +8,7 @@ use Rattle.chpw_table.specs.Agreement.{Held, Agrees}
 use Rattle.chpw_journal.specs.declared.fault.RestoreFault.{RestoreFault}
 use Rattle.chpw_journal.specs.declared.restoring.Restored.{Restored}
 use Rattle.chpw_journal.specs.JournalFile.{IsReadFrom, IsRefusedFrom}
-use Rattle.chpw_held.specs.Held.{opening}
+use Rattle.chpw_report.specs.Held.{opening}
 use Rattle.chpw_reload.specs.declared.fault.ReloadFault.{ReloadFault}
 use Rattle.chpw_reload.specs.declared.fault.ReloadFault.TheVariants.{Realm, Journal, Keys, Limits, Memory}
 use Rattle.chpw_reload.specs.declared.renewal.Renewal.{Renewal}

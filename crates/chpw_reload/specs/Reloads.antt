@@ -3,9 +3,9 @@ use Rattle.std.specs.Prelude.{List}
 use Rattle.chpw_rules.specs.declared.config.Config.{Config}
 use Rattle.chpw_table.specs.State.{State}
 use Rattle.chpw_table.specs.Agreement.{Agrees}
-use Rattle.chpw_journal.specs.declared.record.Record.{Record}
+use Rattle.chpw_record.specs.declared.record.Record.{Record}
 use Rattle.chpw_journal.specs.JournalText.{restored, AreNext}
-use Rattle.chpw_held.specs.Held.{opening}
+use Rattle.chpw_report.specs.Held.{opening}
 use Rattle.chpw_reload.specs.Next.{settings_of, next_state}
 use Rattle.chpw_reload.specs.Comparing.{MayFollow}
 

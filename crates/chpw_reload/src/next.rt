@@ -3,10 +3,10 @@ ghost use Rattle.std.specs.Prelude.{◌≡◌, ◌++◌, IfOk, OnOk, map, max, t
 ghost use Rattle.std.specs.List.Sorted.{IsStrictlySortedBy};
 ghost use Rattle.chpw_rules.specs.Fitting.{are_distinct, is_same_principal};
 ghost use Rattle.chpw_rules.specs.Names.{name_cmp};
-ghost use Rattle.chpw_held.specs.Configurations.{names_of, row_of};
+ghost use Rattle.chpw_report.specs.Configurations.{names_of, row_of};
 ghost use Rattle.chpw_reload.specs.Next.{lacked as lacked_names, next_config};
 
-use chpw_held::{held_config, held_row};
+use chpw_report::{held_config, held_row};
 use chpw_rules::{Config, Items, Name, Policy, PrincipalRow};
 use chpw_table::Table;
 use std::alloc::{AllocError, Global};

@@ -6,7 +6,7 @@ use Rattle.chpw_table.specs.Agreement.{Agrees}
 use Rattle.chpw_table.specs.State.{State, opening_of}
 use Rattle.chpw_table.specs.declared.times.Moment.{Moment}
 use Rattle.chpw_journal.specs.JournalText.{restored, AreNext}
-use Rattle.chpw_journal.specs.declared.record.Record.{Record}
+use Rattle.chpw_record.specs.declared.record.Record.{Record}
 use Rattle.chpw_journal.specs.declared.journal_file.Journal.{Journal}
 
 -- for 300 seconds where there was a journal, else not at all: a moment is refused up to this second

@@ -4,9 +4,9 @@ use Rattle.chpw_config.specs.Settings.{settings_of}
 use Rattle.chpw_rules.specs.declared.config.Config.{Config}
 use Rattle.chpw_report.specs.declared.form.Form.TheVariants as told_as
 use Rattle.chpw_report.specs.Reports.{report}
-use Rattle.chpw_held.specs.declared.holding.HeldTable.{HeldTable}
-use Rattle.chpw_held.specs.Configurations.{config_held}
-use Rattle.chpw_held.specs.Held.{IsHeld}
+use Rattle.chpw_report.specs.declared.holding.HeldTable.{HeldTable}
+use Rattle.chpw_report.specs.Configurations.{config_held}
+use Rattle.chpw_report.specs.Held.{IsHeld}
 use Rattle.chpw_invocation.specs.declared.invocation.TableForm.{TableForm}
 use Rattle.chpw_invocation.specs.declared.invocation.TableForm.TheVariants.{Lines, Configuration, Keys}
 use Rattle.chpw_invocation.specs.declared.invocation.TableOptions.{TableOptions}

@@ -2,7 +2,7 @@
 ghost use Rattle.std.specs.Prelude.{◌≡◌, ◌≤◌, ◌<◌, ◌-◌, ◌^◌, IfOk, IfErr, IfSome, false};
 ghost use Rattle.chpw_book.specs.Starting.{table_of, workers_of};
 ghost use Rattle.chpw_journal.specs.Compact.{AreWholeRecords, compacted};
-ghost use Rattle.chpw_journal.specs.Records.{records_text};
+ghost use Rattle.chpw_record.specs.Records.{records_text};
 ghost use Rattle.chpw_reload.specs.Compacting.{GoesWith};
 ghost use Rattle.chpw_service.specs.Following.{reopened};
 ghost use Rattle.chpw_service.specs.declared.fault.ServeFault.TheVariants.{Memory};

@@ -6,14 +6,15 @@ use Rattle.chpw_table.specs.declared.request.Opened.{Opened}
 use Rattle.chpw_table.specs.declared.outcome.Refused.{Refused}
 use Rattle.chpw_table.specs.declared.verdict.Verdict.{Verdict}
 use Rattle.chpw_table.specs.declared.raising.RaiseVerdict.{RaiseVerdict}
-use Rattle.chpw_table.specs.declared.key.KeyRow.{KeyRow}
+use Rattle.chpw_record.specs.declared.key.KeyRow.{KeyRow}
 use Rattle.chpw_table.specs.Requests.{target_of}
 use Rattle.chpw_table.specs.State.{State}
 use Rattle.chpw_table.specs.Verdicts.{is_done}
 use Rattle.chpw_table.specs.Step.{step}
 use Rattle.chpw_table.specs.Raising.{step_raise, IsRaise}
 use Rattle.chpw_table.specs.History.{IsDecided, missing}
-use Rattle.chpw_table.specs.Journal.{appended, record_bytes}
+use Rattle.chpw_record.specs.Records.{record_bytes}
+use Rattle.chpw_table.specs.Journal.{appended}
 use Rattle.chpw_table.specs.Agreement.{Held, Agrees}
 use Rattle.chpw_table.specs.Refusals.{IsFirst, AsksPositive, IsRefused}
 use Rattle.chpw_table.proofs.AgreementLemmas.{same_verdict, same_missing, same_new_key, agrees_step, same_raise_verdict, agrees_raise, agrees_onward}

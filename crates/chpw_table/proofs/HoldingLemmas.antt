@@ -15,7 +15,7 @@ use Rattle.chpw_rules.specs.Fitting as rules
 use Rattle.chpw_table.specs.declared.request.Opened.{Opened}
 use Rattle.chpw_table.specs.Requests.{target_of}
 use Rattle.chpw_table.specs.Entering.{with_keys_at}
-use Rattle.chpw_table.specs.declared.key.KeyRow.{KeyRow}
+use Rattle.chpw_record.specs.declared.key.KeyRow.{KeyRow}
 use Rattle.chpw_table.specs.declared.table.Principal.{Principal}
 use Rattle.chpw_table.specs.State.{State, key_row_of, opening_principal, keys_held, kept_count, new_count}
 use Rattle.chpw_table.specs.Step.{with_key, new_key}

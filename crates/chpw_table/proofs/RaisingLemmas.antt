@@ -8,7 +8,8 @@ use Rattle.chpw_table.specs.declared.raising.RaiseVerdict.TheVariants.{NotHigher
 use Rattle.chpw_table.specs.State.{State, new_count}
 use Rattle.chpw_table.specs.Times.{clock_at}
 use Rattle.chpw_table.specs.Raising.{raise_verdict, is_raised, is_unwritten, after_raise, step_raise}
-use Rattle.chpw_table.specs.Journal.{raise_bytes, raise_appended}
+use Rattle.chpw_record.specs.Records.{raise_bytes}
+use Rattle.chpw_table.specs.Journal.{raise_appended}
 use Rattle.chpw_table.specs.Agreement.{Held, Agrees}
 use Rattle.chpw_table.specs.Entering.{held_after, with_event, with_broken, with_raise, raise_written, held_raise, IsRaiseEntered}
 use Rattle.chpw_table.proofs.HeldIdLemmas.{held_raise_agrees}

@@ -1,7 +1,7 @@
 -- The key that a compact journal begins a principal with, its base, put back.
 use Rattle.std.specs.Prelude.{◌≡◌, IsSome, None, map}
 use Rattle.chpw_rules.specs.declared.name.Name.{Name}
-use Rattle.chpw_table.specs.declared.key.KeyRow.{KeyRow}
+use Rattle.chpw_record.specs.declared.key.KeyRow.{KeyRow}
 use Rattle.chpw_table.specs.declared.table.restoring.KeyFault.{KeyFault}
 use Rattle.chpw_table.specs.declared.table.restoring.KeyFault.TheVariants.{UnknownPrincipal, WrongVersion, Memory}
 use Rattle.chpw_table.specs.State.{State, keys_held}

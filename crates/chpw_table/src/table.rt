@@ -25,9 +25,10 @@ mod step;
 mod wanted;
 
 use crate::counts::Counts;
-use crate::key::{KeyRow, counts_of, kvno_of};
+use crate::key::{counts_of, kvno_of};
 use crate::request::RequestId;
 use crate::standing::StandingRules;
+use chpw_record::KeyRow;
 use chpw_rules::{Config, Items, Name, Policy};
 use opening::opening_table;
 use ordered_keys::{KeyTree, Keyed};

@@ -3,8 +3,8 @@ ghost use Rattle.std.specs.Prelude.{◌≤◌};
 
 use crate::words::{behind, bytes, count, joined, said};
 use case_lines::Census;
+use chpw_import::write_keytab;
 use chpw_invocation::{ImportOptions, LONGEST_REALM, USUAL_COUNT};
-use chpw_keys::write_keytab;
 use std::alloc::{AllocError, Global};
 use std::io::{self, Error, ErrorKind};
 

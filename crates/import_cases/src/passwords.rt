@@ -2,8 +2,8 @@
 ghost use Rattle.std.specs.Prelude.{◌≤◌};
 
 use crate::words::{behind, bytes, count, joined, said};
+use chpw_import::write_password;
 use chpw_invocation::{KeyOptions, LONGEST_REALM};
-use chpw_keys::write_password;
 use chpw_rules::Name;
 use std::alloc::Global;
 use std::io::{self, Error, ErrorKind};

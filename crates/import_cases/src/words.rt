@@ -1,7 +1,7 @@
 //! The words of a case, and what is shown of a text.
 ghost use Rattle.std.specs.Prelude.{◌≤◌, IfOk};
 
-use chpw_keys::KeysFault;
+use chpw_import::KeysFault;
 use hex::decode;
 use std::alloc::{AllocError, Global};
 use std::io::{self, Error, ErrorKind};

@@ -1,7 +1,7 @@
 //! Why no keys are brought in.
 use crate::command_line::words;
+use chpw_import::{KeysFault, tell_keytab, tell_password};
 use chpw_invocation::{Invocation, command_of};
-use chpw_keys::{KeysFault, tell_keytab, tell_password};
 use std::alloc::Global;
 use std::fs;
 

@@ -1,13 +1,8 @@
 //! A journal's bytes, put together from pieces.
 use crate::refusal::Refusal;
+use chpw_record::{KeyRow, base_bytes, raise_bytes, record_bytes};
 use chpw_rules::Name;
-use chpw_table::{KeyRow, raise_bytes, record_bytes};
 use std::alloc::Global;
-
-// The kinds of records with a key: a change, and a base.
-const CHANGE_KIND: u8 = 1;
-
-const BASE_KIND: u8 = 3;
 
 /// The journal with these pieces: `nothing`; `NAME KVNO`, the record of a change, its keys' bytes of that number;
 /// `base NAME KVNO`, that of a base; `raise COUNT`, that of a raise.
@@ -37,13 +32,18 @@ fn add_piece(alloc: Global, journal: &mut Vec<u8>, piece: &str) -> Result<(), Re
                 .extend_from_slice(&raise_bytes(number(count)?))
                 .map_err(Refusal::from)
         }
-        Some(("base", words)) => add_key(alloc, journal, BASE_KIND, words),
-        Some(_) => add_key(alloc, journal, CHANGE_KIND, piece),
+        Some(("base", words)) => add_key(alloc, journal, true, words),
+        Some(_) => add_key(alloc, journal, false, piece),
     }
 }
 
-/// Adds a record of this kind with `NAME KVNO`.
-fn add_key(alloc: Global, journal: &mut Vec<u8>, kind: u8, words: &str) -> Result<(), Refusal> {
+/// Adds a base or a change with `NAME KVNO`.
+fn add_key(
+    alloc: Global,
+    journal: &mut Vec<u8>,
+    is_base: bool,
+    words: &str,
+) -> Result<(), Refusal> {
     let Some((name, kvno)) = words.split_once(' ') else {
         return Err(Refusal::NoSuchCase);
     };
@@ -51,10 +51,11 @@ fn add_key(alloc: Global, journal: &mut Vec<u8>, kind: u8, words: &str) -> Resul
         return Err(Refusal::NoSuchCase);
     };
     let key = key(number(kvno)?);
-    let mut record = record_bytes(alloc, &name, &key)?;
-    if let Some(place) = record.as_mut_slice().get_mut(2) {
-        *place = kind;
-    }
+    let record = if is_base {
+        base_bytes(alloc, &name, &key)?
+    } else {
+        record_bytes(alloc, &name, &key)?
+    };
     journal.extend_from_slice(&record).map_err(Refusal::from)
 }
 

@@ -3,8 +3,7 @@ ghost use Rattle.std.specs.Prelude.{◌≡◌, true};
 ghost use Rattle.chpw_rules.specs.Fitting.{config_fits};
 
 use chpw_config::read_config;
-use chpw_held::{HeldTable, held_from, write_configuration};
-use chpw_report::{Form, write_report};
+use chpw_report::{Form, HeldTable, held_from, write_configuration, write_report};
 use chpw_rules::Config;
 use std::alloc::Global;
 use std::io::{Error, ErrorKind, Result};

@@ -1,8 +1,7 @@
 //! Large tables.
 use crate::holding::{Found, found_in, report};
 use crate::telling::{made_configuration, print_likeness};
-use chpw_held::HeldTable;
-use chpw_report::Form;
+use chpw_report::{Form, HeldTable};
 use std::alloc::Global;
 use std::io::{Result, Write};
 

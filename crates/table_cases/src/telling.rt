@@ -3,8 +3,7 @@ use crate::holding::{Found, configuration, found_in, report};
 use crate::journal::journal_of;
 use case_lines::Census;
 use chpw_config::read_config;
-use chpw_held::HeldTable;
-use chpw_report::Form;
+use chpw_report::{Form, HeldTable};
 use std::alloc::Global;
 use std::io::{Error, ErrorKind, Result, Write};
 

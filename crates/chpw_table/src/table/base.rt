@@ -10,7 +10,7 @@ ghost use Rattle.chpw_table.specs.BaseKeys.{with_base_key, IsBaseRefused};
 
 use super::changing::with_front;
 use super::{KeyFault, Table};
-use crate::key::KeyRow;
+use chpw_record::KeyRow;
 use chpw_rules::{Items, Name};
 
 impl Table {

@@ -9,12 +9,12 @@ ghost use Rattle.chpw_table.specs.Verdicts.{is_done};
 ghost use Rattle.chpw_table.specs.Step.{new_key, with_key};
 ghost use Rattle.chpw_table.specs.Holding.{are_holders};
 ghost use Rattle.chpw_table.specs.Entering.{with_keys_at, IsAt};
-ghost use Rattle.chpw_table.specs.Journal.{record_bytes as record_bytes_spec};
+ghost use Rattle.chpw_record.specs.Records.{record_bytes as record_bytes_spec};
 
 use super::{Principal, Table, kept_by};
-use crate::journal::record_bytes;
-use crate::key::{KeyRow, kvno_of, newest};
+use crate::key::{kvno_of, newest};
 use crate::request::Opened;
+use chpw_record::{KeyRow, record_bytes};
 use chpw_rules::{Items, Name};
 use ordered_keys::place_of;
 use std::alloc::{AllocError, Global};

@@ -4,15 +4,16 @@ ghost use Rattle.chpw_rules.specs.Limits.{is_in, entry_counts, iteration_counts}
 ghost use Rattle.chpw_table.specs.State.{State};
 ghost use Rattle.chpw_table.specs.Times.{IsMoment};
 ghost use Rattle.chpw_table.specs.Raising.{raise_verdict, is_raised, step_raise, IsRaise, would_raise};
-ghost use Rattle.chpw_table.specs.Journal.{raise_appended, raise_bytes as raise_bytes_spec};
+ghost use Rattle.chpw_record.specs.Records.{raise_bytes as raise_bytes_spec};
+ghost use Rattle.chpw_table.specs.Journal.{raise_appended};
 ghost use Rattle.chpw_table.specs.Agreement.{Agrees};
 ghost use Rattle.chpw_table.specs.Entering.{with_broken, with_raise, raise_written, IsRaiseEntered};
 
 use super::Table;
-use crate::journal::raise_bytes;
 use crate::raising::{Full, Raise, RaiseVerdict};
 use crate::sink::JournalSink;
 use crate::times::Moment;
+use chpw_record::raise_bytes;
 use ordered_keys::KeyTree;
 
 impl Table {

@@ -10,7 +10,8 @@ ghost use Rattle.chpw_table.specs.Restoring.{with_kept_count, with_kept_key, wit
 
 use super::changing::{put_keys, with_front};
 use super::{Table, kept_by};
-use crate::key::{KeyRow, kvno_of};
+use crate::key::kvno_of;
+use chpw_record::KeyRow;
 use chpw_rules::{Items, Name};
 use std::alloc::AllocError;
 

@@ -1,8 +1,8 @@
 use Rattle.std.proofs.Common.{◌≡◌, ◌≤◌, ◌++◌, ◌∷◌, ℕ, List, length, ◌∙◌, ap, arith, append_assoc}
 use Rattle.std.proofs.lemmas.Grind.{common_steps}
 use Rattle.std.proofs.lemmas.Result.{on_ok_weaker}
-use Rattle.chpw_journal.specs.declared.record.Record.TheVariants as record_of
-use Rattle.chpw_journal.specs.Records.{record_text, records_text}
+use Rattle.chpw_record.specs.declared.record.Record.TheVariants as record_of
+use Rattle.chpw_record.specs.Records.{record_text, records_text}
 use Rattle.chpw_journal.specs.Compact.{key_records}
 use Rattle.chpw_journal.proofs.CompactTextLemmas.{change_text, change_whole}
 use Rattle.chpw_journal.proofs.compact.+put_keys.Goals as goal

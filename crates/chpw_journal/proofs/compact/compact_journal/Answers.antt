@@ -3,8 +3,8 @@ use Rattle.std.specs.Prelude.{slice_get}
 use Rattle.std.specs.List.{flat_map}
 use Rattle.chpw_rules.specs.declared.name.Name.{Name}
 use Rattle.chpw_table.specs.declared.table.Principal.{Principal}
-use Rattle.chpw_journal.specs.declared.record.Record.{Record}
-use Rattle.chpw_journal.specs.Records.{records_text}
+use Rattle.chpw_record.specs.declared.record.Record.{Record}
+use Rattle.chpw_record.specs.Records.{records_text}
 use Rattle.chpw_journal.specs.Compact.{name_records, raise_records, AreWholeRecords}
 use Rattle.chpw_journal.proofs.ListLemmas.{take_more, take_whole}
 use Rattle.chpw_journal.proofs.CompactTextLemmas.{names_more, names_whole}

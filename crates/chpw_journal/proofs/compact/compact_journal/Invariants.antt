@@ -3,7 +3,7 @@ use Rattle.std.specs.List.{flat_map}
 use Rattle.chpw_rules.specs.declared.name.Name.{Name}
 use Rattle.chpw_table.specs.declared.table.Principal.{Principal}
 use Rattle.chpw_table.specs.State.{State}
-use Rattle.chpw_journal.specs.Records.{records_text}
+use Rattle.chpw_record.specs.Records.{records_text}
 use Rattle.chpw_journal.specs.Compact.{name_records, raise_records, AreWholeRecords}
 use Rattle.chpw_journal.proofs.compact.compact_journal.Given as goal
 

@@ -3,7 +3,7 @@ use Rattle.std.specs.Int.{from_be_bytes, w16}
 use Rattle.std.proofs.lemmas.List.{take_all}
 use Rattle.std.proofs.lemmas.Result.{IfOk-weaker}
 use Rattle.chpw_journal.specs.declared.reading.Next.{Next}
-use Rattle.chpw_journal.specs.Records.{is_record_length, stated_length}
+use Rattle.chpw_record.specs.Records.{is_record_length, stated_length}
 use Rattle.chpw_journal.specs.NextRecord.{IsNext, IsBody}
 use Rattle.chpw_journal.proofs.reading.next_record.Goals as goal
 

@@ -1,9 +1,8 @@
 use Rattle.std.proofs.Common.{◌≡◌, ℕ, ◌≤◌, List, length, true, sym, ◌∙◌, ap, subst, arith}
 use Rattle.std.specs.Io.KnownBytes.{Consumes}
 use Rattle.std.proofs.lemmas.Result.{err_from_is_err_and}
-use Rattle.chpw_journal.specs.Records.{is_record_length}
-use Rattle.chpw_journal.specs.NextRecord.{framed}
-use Rattle.chpw_journal.proofs.CutLemmas.{length_most}
+use Rattle.chpw_record.specs.Records.{is_record_length, framed}
+use Rattle.chpw_record.proofs.LengthLemmas.{length_most}
 use Rattle.chpw_journal.proofs.RestoringLemmas.{so_far_next, ended, bad_length, cannot_read, record_fault}
 use Rattle.chpw_journal.proofs.restoring.restore.Goals as goal
 

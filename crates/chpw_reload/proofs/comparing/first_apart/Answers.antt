@@ -3,7 +3,7 @@ use Rattle.std.specs.Prelude.{slice_get}
 use Rattle.std.proofs.lemmas.List.Elements.{All-append}
 use Rattle.chpw_rules.specs.declared.name.Name.{Name}
 use Rattle.chpw_journal.proofs.ListLemmas.{take_more}
-use Rattle.chpw_held.specs.Configurations.{names_of}
+use Rattle.chpw_report.specs.Configurations.{names_of}
 use Rattle.chpw_reload.specs.Comparing.{HoldAlike}
 use Rattle.chpw_reload.proofs.WalkLemmas.{all_of_one, all_alike}
 use Rattle.chpw_reload.proofs.comparing.first_apart.Goals as goal

@@ -3,7 +3,7 @@ use Rattle.std.specs.Prelude.{slice_get}
 use Rattle.std.proofs.lemmas.List.Elements.{filter-append}
 use Rattle.chpw_rules.specs.declared.name.Name.{Name}
 use Rattle.chpw_journal.proofs.ListLemmas.{take_more, take_whole}
-use Rattle.chpw_held.specs.Configurations.{names_of}
+use Rattle.chpw_report.specs.Configurations.{names_of}
 use Rattle.chpw_reload.specs.Next.{is_unknown}
 use Rattle.chpw_reload.proofs.lacking.lacked.Goals as goal
 
