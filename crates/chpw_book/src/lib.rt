@@ -9,6 +9,7 @@ mod closing;
 mod deciding;
 mod desk;
 mod history;
+pub mod laws;
 mod naming;
 mod pass;
 mod raising;
