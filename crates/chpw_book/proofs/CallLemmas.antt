@@ -14,7 +14,7 @@ use Rattle.chpw_table.proofs.AgreementLemmas.{same_missing}
 use Rattle.chpw_table.proofs.StandingLemmas.{refused_anyway_law}
 use Rattle.chpw_decider.specs.Deciding.{IsFinal}
 use Rattle.chpw_decider.specs.Entered.{AsksFor}
-use Rattle.chpw_book.specs.Stored.{Stored, Replays}
+use Rattle.chpw_book.specs.Recorded.{RecordedView, IsLinearized}
 use Rattle.chpw_book.specs.Calls.{AsksAfter, LacksAfter}
 
 -- Full is told of a full table alone
@@ -35,8 +35,8 @@ asks_for t counts missed (NeedKeys given) e h = ((λ none. h.1 (e ∙ none)), h.
 asks_for t counts missed Memory e h = tt
 
 -- the table's own refusal is one after the history
-pub asks_of_first : (opening : State) (workers : ℕ) (b : Stored) (now : Moment) (o : Opened) (f : DecideFault)
-    → Replays opening workers b → IsFirst b.table (missing b.table.state now o) f → AsksAfter opening now o f
+pub asks_of_first : (opening : State) (workers : ℕ) (b : RecordedView) (now : Moment) (o : Opened) (f : DecideFault)
+    → IsLinearized opening workers b → IsFirst b.table (missing b.table.state now o) f → AsksAfter opening now o f
 asks_of_first opening workers b now o f k h = record {
   before = b.history;
   legal = k.legal;
@@ -44,7 +44,7 @@ asks_of_first opening workers b now o f k h = record {
 }
 
 -- so is what it lacks
-pub lacks_after : (opening : State) (workers : ℕ) (b : Stored) (now : Moment) (o : Opened) → Replays opening workers b → LacksAfter opening now o (missing b.table.state now o)
+pub lacks_after : (opening : State) (workers : ℕ) (b : RecordedView) (now : Moment) (o : Opened) → IsLinearized opening workers b → LacksAfter opening now o (missing b.table.state now o)
 lacks_after opening workers b now o k = record {
   before = b.history;
   legal = k.legal;

@@ -12,14 +12,14 @@ use Rattle.chpw_decider.specs.Entered.{AsksFor}
 use Rattle.chpw_book.specs.declared.raising.RaiseFault.{RaiseFault}
 use Rattle.chpw_book.specs.declared.raising.RaiseFault.TheVariants.{Full, Memory}
 use Rattle.chpw_book.specs.Receipts.{next_entry}
-use Rattle.chpw_book.specs.Stored.{Gains}
-use Rattle.chpw_book.specs.Passes.{Carried}
+use Rattle.chpw_book.specs.Recorded.{Gains}
+use Rattle.chpw_book.specs.Passes.{PassView}
 use Rattle.chpw_book.specs.Publishing.{Tells}
 
 -- The pass has one receipt more: that of its worker's next entry behind some history that replays from
 -- the opening, with this moment and event, whose verdict is the one that the one-thread machine gives
 -- there. Of the accepted changes it is told where its own is one.
-pub record Notes (opening : State) (mine more : Carried) (now : Moment) (event : Event) : Type 0 where
+pub record Notes (opening : State) (mine more : PassView) (now : Moment) (event : Event) : Type 0 where
   pub before : List Entry
   pub entry : Entry
   pub entry_is : entry ≡ next_entry before mine.worker now entry.io_failed event

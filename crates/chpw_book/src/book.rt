@@ -15,7 +15,7 @@ ghost use Rattle.chpw_table.specs.Raising.{is_raised};
 ghost use Rattle.chpw_table.specs.Versions.{accepted};
 ghost use Rattle.chpw_decider.specs.Deciding.{IsCompletedFrom, IsFinal};
 ghost use Rattle.chpw_book.specs.Closing.{IsRefusal, IsWhole, is_full};
-ghost use Rattle.chpw_book.specs.Stored.{Replays, Adds};
+ghost use Rattle.chpw_book.specs.Recorded.{IsLinearized, Adds};
 ghost use Rattle.chpw_book.specs.Calls.{Notes, AsksAfter, LacksAfter, IsFirstFault};
 ghost use Rattle.chpw_table.specs.History.{missing};
 ghost use Rattle.chpw_book.specs.Passes.{new_pass};
@@ -26,8 +26,8 @@ use crate::closing::{BookRefused, CloseFault, Closed};
 use crate::naming::DeskName;
 use crate::pass::Pass;
 use crate::raising::RaiseFault;
+use crate::recorded::RecordedTable;
 use crate::rows::rows_of;
-use crate::store::Store;
 use crate::unnamed::{StartFault, UnnamedDesk};
 use chpw_decider::JournaledTable;
 use chpw_table::{Counts, Entry, JournalSink, Moment, Opened, RaiseVerdict, Refused, Verdict};
@@ -40,22 +40,22 @@ use std::sync::ledger::Share;
 /// The table with its history, and the shelf whose versions lookups show beside the lock.
 ///
 /// Its type keeps that the published list is the history's accepted changes, and that of the history all
-/// that `Replays` says. A book is taken apart at a close, or when its desk is given up.
+/// that `IsLinearized` says. A book is taken apart at a close, or when its desk is given up.
 pub struct Book<D: DeskName, S: JournalSink> {
-    pub(crate) store: Store<D, S>,
+    pub(crate) recorded: RecordedTable<D, S>,
     pub(crate) shelf: Shelf<D>,
 }
 
 impl<D: DeskName, S: JournalSink> Model for Book<D, S> {
     ghost use Rattle.chpw_fronts.specs.Pens.{opening_state};
-    ghost use Rattle.chpw_book.specs.Publishing.{Booked, Publishes};
+    ghost use Rattle.chpw_book.specs.Publishing.{BookView, IsPublished};
 
-    ghost Value = { Booked };
+    ghost Value = { BookView };
 
-    ghost view = { λ b. record { kept = b.store; list = b.shelf.list } };
+    ghost view = { λ b. record { kept = b.recorded; list = b.shelf.list } };
 
     ghost invariant = { λ b.
-        Publishes (opening_state D.root) b.store.history b.store.table.state.broken b.shelf };
+        IsPublished (opening_state D.root) b.recorded.history b.recorded.table.state.broken b.shelf };
 }
 
 impl<D: DeskName, S: JournalSink> Book<D, S> {
@@ -101,8 +101,8 @@ impl<D: DeskName, S: JournalSink> Book<D, S> {
                 return Err(fault);
             }
         };
-        match Store::start(alloc, totals, JournaledTable::of(table, sink), workers) {
-            Ok(store) => Ok((Book { store, shelf }, passes)),
+        match RecordedTable::start(alloc, totals, JournaledTable::of(table, sink), workers) {
+            Ok(recorded) => Ok((Book { recorded, shelf }, passes)),
             Err(_) => {
                 shelf.end(rt);
                 Err(StartFault::Memory)
@@ -113,10 +113,10 @@ impl<D: DeskName, S: JournalSink> Book<D, S> {
     /// The entries so far.
     pub fn history(&self) -> &[Entry]
         ensures value { result.now ≡ self.now.kept.history }
-        ensures replays { Replays (opening_state D.root) D.workers self.now.kept }
+        ensures linearized { IsLinearized (opening_state D.root) D.workers self.now.kept }
         ensures published { self.now.list ≡ accepted (opening_state D.root) self.now.kept.history }
     {
-        self.store.history()
+        self.recorded.history()
     }
 
     /// The counts under which `decide` would look at keys that the digest lacks, were the history not
@@ -127,7 +127,7 @@ impl<D: DeskName, S: JournalSink> Book<D, S> {
         ensures after { LacksAfter (opening_state D.root) now opened.now result }
         ensures positive { All (λ n. 1 ≤ n) result }
     {
-        self.store.missing(now, opened)
+        self.recorded.missing(now, opened)
     }
 
     /// One event: an entry of the pass's worker at the end, and its receipt in the pass. Where it was
@@ -155,7 +155,7 @@ impl<D: DeskName, S: JournalSink> Book<D, S> {
             (accepted (opening_state D.root) self.old.kept.history) }
     {
         self.shelf.has(pass.told());
-        let verdict = self.store.decide(&mut self.shelf, pass, now, opened)?;
+        let verdict = self.recorded.decide(&mut self.shelf, pass, now, opened)?;
         tell(rt, &mut self.shelf, pass, verdict);
         Ok(verdict)
     }
@@ -188,7 +188,7 @@ impl<D: DeskName, S: JournalSink> Book<D, S> {
     {
         self.shelf.has(pass.told());
         let verdict = self
-            .store
+            .recorded
             .decide_deriving(&mut self.shelf, pass, now, opened, password, salt)?;
         tell(rt, &mut self.shelf, pass, verdict);
         Ok(verdict)
@@ -219,7 +219,7 @@ impl<D: DeskName, S: JournalSink> Book<D, S> {
             (accepted (opening_state D.root) self.old.kept.history) }
     {
         self.shelf.has(pass.told());
-        let verdict = self.store.raise(&mut self.shelf, pass, now, count)?;
+        let verdict = self.recorded.raise(&mut self.shelf, pass, now, count)?;
         tell_raise(rt, &mut self.shelf, pass, verdict);
         Ok(verdict)
     }
@@ -238,7 +238,7 @@ impl<D: DeskName, S: JournalSink> Book<D, S> {
         ensures refusal { IfErr result (λ r. IsRefusal self.kept.history (is_full self.kept.table)
             D.workers passes.items r.fault) }
         ensures back { IfErr result (λ r. (r.book ≡ self) × (r.passes.items ≡ passes.items)) }
-        ensures replays { Replays (opening_state D.root) D.workers self.kept }
+        ensures linearized { IsLinearized (opening_state D.root) D.workers self.kept }
     {
         match self.close_fault(passes.as_slice()) {
             None => Ok(self.into_closed(rt)),
@@ -256,9 +256,9 @@ impl<D: DeskName, S: JournalSink> Book<D, S> {
             (is_full self.now.kept.table) D.workers passes.now) }
         ensures refusal { IfSome result (λ fault. IsRefusal self.now.kept.history
             (is_full self.now.kept.table) D.workers passes.now fault) }
-        ensures replays { Replays (opening_state D.root) D.workers self.now.kept }
+        ensures linearized { IsLinearized (opening_state D.root) D.workers self.now.kept }
     {
-        self.store.close_fault(passes)
+        self.recorded.close_fault(passes)
     }
 
     // What is left of it, once no lookup reads.
@@ -266,11 +266,11 @@ impl<D: DeskName, S: JournalSink> Book<D, S> {
         ensures history { result.history.items ≡ self.kept.history }
         ensures table { result.table ≡ self.kept.table }
         ensures told { S.told result.sink ≡ self.kept.told }
-        ensures replays { Replays (opening_state D.root) D.workers self.kept }
+        ensures linearized { IsLinearized (opening_state D.root) D.workers self.kept }
     {
-        let Book { store, shelf } = self;
+        let Book { recorded, shelf } = self;
         shelf.end(rt);
-        store.into_closed()
+        recorded.into_closed()
     }
 
     /// Lets go of the book, with its history, once no lookup reads.
@@ -278,9 +278,9 @@ impl<D: DeskName, S: JournalSink> Book<D, S> {
     where
         S: Drop,
     {
-        let Book { store, shelf } = self;
+        let Book { recorded, shelf } = self;
         shelf.end(rt);
-        store.abandon();
+        recorded.abandon();
     }
 }
 

@@ -13,9 +13,9 @@ pub mod laws;
 mod naming;
 mod pass;
 mod raising;
+mod recorded;
 mod rows;
 mod standing;
-mod store;
 mod unnamed;
 
 pub use agreeing::agree;
