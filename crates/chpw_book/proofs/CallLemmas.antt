@@ -14,8 +14,14 @@ use Rattle.chpw_table.proofs.AgreementLemmas.{same_missing}
 use Rattle.chpw_table.proofs.StandingLemmas.{refused_anyway_law}
 use Rattle.chpw_decider.specs.Deciding.{IsFinal}
 use Rattle.chpw_decider.specs.Entered.{AsksFor}
+use Rattle.chpw_table.specs.declared.history.Event.{Event}
+use Rattle.chpw_book.specs.Passes.{PassView}
 use Rattle.chpw_book.specs.Recorded.{RecordedView, IsLinearized}
-use Rattle.chpw_book.specs.Calls.{AsksAfter, LacksAfter}
+use Rattle.chpw_book.specs.Calls.{Adds, Notes, AsksAfter, LacksAfter}
+
+-- what happens under the lock happens at the desk
+pub notes_of : (opening : State) (b later : RecordedView) (mine more : PassView) (now : Moment) (event : Event) → Adds opening b later mine more now event → Notes opening mine more now event
+notes_of opening b later mine more now event h = record { before = b.history; entry = h.entry; happens = h.happens }
 
 -- Full is told of a full table alone
 pub full_at : (t : Held) (counts : List ℕ) (f : DecideFault) → IsFirst t counts f → f ≡ Full → t.events ≡ t.max_entries

@@ -22,7 +22,7 @@ use Rattle.chpw_versions.specs.Known.{Known, Shelved}
 use Rattle.chpw_versions.specs.Rows.{Rowed}
 use Rattle.chpw_versions.specs.Looking.{LooksUp}
 use Rattle.chpw_book.specs.Passes.{PassView}
-use Rattle.chpw_book.specs.Recorded.{RecordedView, IsLinearized, Adds, new_recorded}
+use Rattle.chpw_book.specs.Recorded.{RecordedView, IsLinearized, Enters, Grows, new_recorded}
 
 -- what lies under the lock: the table with its history, and the published list
 pub record BookView : Type 0 where
@@ -49,9 +49,11 @@ pub record Shelves (before : State) (broken : Bool) (event : Event) (s t : Shelv
   pub waits : is_accepted event ≡ true → t.waiting ≡ Some (change_by before event)
   pub free : is_accepted event ≡ false → broken ≡ false → t.waiting ≡ None
 
--- an event's entry is stored, and its change waits to be published
+-- For the proofs: an event's entry is recorded, and its change waits to be published.
 pub record IsRecorded (opening : State) (workers : ℕ) (before later : RecordedView) (mine more : PassView) (s t : Shelved) (now : Moment) (event : Event) : Type 0 where
-  pub adds : Adds before later mine more now event
+  pub entry : Entry
+  pub enters : Enters before.history entry mine more now event
+  pub grows : Grows before later mine.worker entry
   pub place : more.place ≡ mine.place
   pub saw : IsPrefix mine.place.seen s.list
   pub shelves : Shelves before.table.state later.table.state.broken event s t

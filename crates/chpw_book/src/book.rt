@@ -15,8 +15,8 @@ ghost use Rattle.chpw_table.specs.Raising.{is_raised};
 ghost use Rattle.chpw_table.specs.Versions.{accepted};
 ghost use Rattle.chpw_decider.specs.Deciding.{IsCompletedFrom, IsFinal};
 ghost use Rattle.chpw_book.specs.Closing.{IsRefusal, IsWhole, is_full};
-ghost use Rattle.chpw_book.specs.Recorded.{IsLinearized, Adds};
-ghost use Rattle.chpw_book.specs.Calls.{Notes, AsksAfter, LacksAfter, IsFirstFault};
+ghost use Rattle.chpw_book.specs.Recorded.{IsLinearized};
+ghost use Rattle.chpw_book.specs.Calls.{Adds, AsksAfter, LacksAfter, IsFirstFault};
 ghost use Rattle.chpw_table.specs.History.{missing};
 ghost use Rattle.chpw_book.specs.Passes.{new_pass};
 ghost use Rattle.chpw_book.specs.Starting.{IsNamed, table_of, workers_of};
@@ -30,7 +30,9 @@ use crate::recorded::RecordedTable;
 use crate::rows::rows_of;
 use crate::unnamed::{StartFault, UnnamedDesk};
 use chpw_decider::JournaledTable;
-use chpw_table::{Counts, Entry, JournalSink, Moment, Opened, RaiseVerdict, Refused, Verdict};
+use chpw_table::{
+    Counts, DecideFault, Entry, JournalSink, Moment, Opened, RaiseVerdict, Refused, Verdict,
+};
 use chpw_versions::Shelf;
 use std::alloc::Global;
 use std::marker::Model;
@@ -144,12 +146,10 @@ impl<D: DeskName, S: JournalSink> Book<D, S> {
         opened: Opened,
     ) -> Result<Verdict, Refused>
         requires moment { IsMoment now }
-        ensures adds { IfOk result (λ v.
-            Adds self.old.kept self.new.kept pass.old pass.new now (Ask opened v)) }
+        ensures adds { IfOk result (λ v. Adds (opening_state D.root) self.old.kept self.new.kept
+            pass.old pass.new now (Ask opened v)) }
         ensures refused { IfErr result (λ r. IsRefused self.old.kept.table now opened r) }
         ensures unchanged { OnErr result ((self.new ≡ self.old) × (pass.new ≡ pass.old)) }
-        ensures notes { IfOk result (λ v.
-            Notes (opening_state D.root) pass.old pass.new now (Ask opened v)) }
         ensures asks { IfErr result (λ r. AsksAfter (opening_state D.root) now opened r.fault) }
         ensures told { IsPrefix pass.old.place.told
             (accepted (opening_state D.root) self.old.kept.history) }
@@ -174,24 +174,34 @@ impl<D: DeskName, S: JournalSink> Book<D, S> {
     ) -> Result<Verdict, Refused>
         requires moment { IsMoment now }
         requires salt { salt.now ≡ salt_of (target_of opened) }
-        ensures adds { IfOk result (λ v. (counts : _) × Adds self.old.kept self.new.kept
-            pass.old pass.new now (Ask (completed password.now counts opened) v)) }
+        ensures adds { IfOk result (λ v. (counts : _) × Adds (opening_state D.root)
+            self.old.kept self.new.kept pass.old pass.new now
+            (Ask (completed password.now counts opened) v)) }
         ensures never { IfErr result (λ r. IsFinal r.fault) }
         ensures full { IfErr result (λ r.
             r.fault ≡ Full → self.old.kept.table.events ≡ self.old.kept.table.max_entries) }
         ensures unchanged { IfErr result (λ r. (self.new ≡ self.old) × (pass.new ≡ pass.old)
             × IsCompletedFrom password.now opened r.opened) }
-        ensures notes { IfOk result (λ v. (counts : _) × Notes (opening_state D.root)
-            pass.old pass.new now (Ask (completed password.now counts opened) v)) }
         ensures told { IsPrefix pass.old.place.told
             (accepted (opening_state D.root) self.old.kept.history) }
     {
-        self.shelf.has(pass.told());
-        let verdict = self
-            .recorded
-            .decide_deriving(&mut self.shelf, pass, now, opened, password, salt)?;
-        tell(rt, &mut self.shelf, pass, verdict);
-        Ok(verdict)
+        let refused = match self.decide(rt, pass, now, opened) {
+            Ok(verdict) => return Ok(verdict),
+            Err(refused) => refused,
+        };
+        let Refused { fault, mut opened } = refused;
+        match fault {
+            DecideFault::NeedKeys(counts) => {
+                if opened.complete(password, salt, &counts).is_err() {
+                    return Err(Refused {
+                        fault: DecideFault::Memory,
+                        opened,
+                    });
+                }
+                self.decide(rt, pass, now, opened)
+            }
+            fault => Err(Refused { fault, opened }),
+        }
     }
 
     /// Raises the iteration count of new keys to this one, 1 to 16,777,216: an entry of the pass's
@@ -209,12 +219,10 @@ impl<D: DeskName, S: JournalSink> Book<D, S> {
     ) -> Result<RaiseVerdict, RaiseFault>
         requires moment { IsMoment now }
         requires count { is_in iteration_counts count ≡ true }
-        ensures adds { IfOk result (λ v.
-            Adds self.old.kept self.new.kept pass.old pass.new now (Raise count v)) }
+        ensures adds { IfOk result (λ v. Adds (opening_state D.root) self.old.kept self.new.kept
+            pass.old pass.new now (Raise count v)) }
         ensures first { IfErr result (λ fault. IsFirstFault self.old.kept.table fault) }
         ensures unchanged { OnErr result ((self.new ≡ self.old) × (pass.new ≡ pass.old)) }
-        ensures notes { IfOk result (λ v.
-            Notes (opening_state D.root) pass.old pass.new now (Raise count v)) }
         ensures told { IsPrefix pass.old.place.told
             (accepted (opening_state D.root) self.old.kept.history) }
     {

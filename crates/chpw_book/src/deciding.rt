@@ -1,7 +1,7 @@
 //! One decision of the table, with its entry.
 ghost use Rattle.std.specs.Prelude.{◌≡◌, ◌<◌, IfOk, IfErr, OnOk, OnErr, true, length, vec_len, vec_capacity};
 ghost use mathlib.Core.List.{IsPrefix};
-ghost use Rattle.chpw_table.specs.declared.outcome.DecideFault.TheVariants.{Full, Memory};
+ghost use Rattle.chpw_table.specs.declared.outcome.DecideFault.TheVariants.{Memory};
 ghost use Rattle.chpw_fronts.specs.Pens.{opening_state};
 ghost use Rattle.chpw_table.specs.declared.history.Event.TheVariants.{Ask};
 ghost use Rattle.chpw_table.specs.declared.verdict.Verdict.TheVariants.{Done};
@@ -12,10 +12,8 @@ ghost use Rattle.chpw_table.specs.Agreement.{Agrees};
 ghost use Rattle.chpw_table.specs.Preparing.{IsReady};
 ghost use Rattle.chpw_table.specs.Times.{IsMoment};
 ghost use Rattle.chpw_table.specs.Requests.{target_of};
-ghost use Rattle.chpw_table.specs.Completing.{salt_of, completed};
 ghost use Rattle.chpw_table.specs.Refusals.{IsRefused};
 ghost use Rattle.chpw_table.specs.Verdicts.{is_done};
-ghost use Rattle.chpw_decider.specs.Deciding.{IsCompletedFrom, IsFinal};
 ghost use Rattle.chpw_journal.specs.Runs.{IsWholeKey};
 ghost use Rattle.chpw_book.specs.Recorded.{IsLinearized};
 ghost use Rattle.chpw_book.specs.Publishing.{IsRecorded, IsPublished, with_waiting};
@@ -81,50 +79,6 @@ impl<D: DeskName, S: JournalSink> RecordedTable<D, S> {
         self.history
             .add(&mut pass.calls, now, io_failed, event, copy);
         Ok(verdict)
-    }
-
-    /// The same, with the digest completed for this password as far as keys are missing, so that none
-    /// are asked for; `salt` is that of `Opened::salt`. The request that a refusal hands back may have
-    /// more of them.
-    pub(crate) fn decide_deriving(
-        &mut self,
-        shelf: &mut Shelf<D>,
-        pass: &mut Pass<D>,
-        now: Moment,
-        opened: Opened,
-        password: &[u8],
-        salt: &[u8],
-    ) -> Result<Verdict, Refused>
-        requires moment { IsMoment now }
-        requires salt { salt.now ≡ salt_of (target_of opened) }
-        requires published { IsPublished (opening_state D.root) self.old.history
-            self.old.table.state.broken shelf.old }
-        ensures recorded { IfOk result (λ v. (counts : _) × IsRecorded (opening_state D.root) D.workers
-            self.old self.new pass.old pass.new shelf.old shelf.new now
-            (Ask (completed password.now counts opened) v)) }
-        ensures never { IfErr result (λ r. IsFinal r.fault) }
-        ensures full { IfErr result (λ r.
-            r.fault ≡ Full → self.old.table.events ≡ self.old.table.max_entries) }
-        ensures unchanged { IfErr result (λ r. (self.new ≡ self.old) × (pass.new ≡ pass.old)
-            × (shelf.new ≡ shelf.old) × IsCompletedFrom password.now opened r.opened) }
-    {
-        let refused = match self.decide(shelf, pass, now, opened) {
-            Ok(verdict) => return Ok(verdict),
-            Err(refused) => refused,
-        };
-        let Refused { fault, mut opened } = refused;
-        match fault {
-            DecideFault::NeedKeys(counts) => {
-                if opened.complete(password, salt, &counts).is_err() {
-                    return Err(Refused {
-                        fault: DecideFault::Memory,
-                        opened,
-                    });
-                }
-                self.decide(shelf, pass, now, opened)
-            }
-            fault => Err(Refused { fault, opened }),
-        }
     }
 }
 

@@ -101,15 +101,14 @@ returns-clause-recorded g c =
     let pass_is = c.pass.view_is ∙ c.prepare.ensures.same in
     let saw : IsPrefix c.pass.inside.place.seen c.args.shelf.now.list = subst (λ (p : PassView). IsPrefix p.place.seen c.args.shelf.now.list) (sym pass_is) c.in_ok-prepared.ensures.saw in
     rw (← c.self.view_is, ← pass_is) (record {
-      adds = record {
-        entry = e;
-        entry_is = refl;
+      entry = e;
+      enters = record { entry_is = refl; receipts = mine; share = c.add.ensures.share; same = (c.add.ensures.worker.0, refl) };
+      grows = record {
         history = pushed;
         counts = c.add.ensures.counts ∙ ap (λ (n : ℕ). slice_set b.counts w n) number;
         room = steps.room;
         events = steps.events;
         limit = steps.max_entries;
-        gains = record { receipts = mine; share = c.add.ensures.share; same = (c.add.ensures.worker.0, refl) };
       };
       place = refl;
       saw = saw;

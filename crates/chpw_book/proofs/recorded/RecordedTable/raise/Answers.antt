@@ -94,15 +94,14 @@ returns-clause-recorded g c =
     let pass_is = c.pass.view_is ∙ c.has_room.ensures.same in
     let saw : IsPrefix c.pass.inside.place.seen c.args.shelf.now.list = subst (λ (p : PassView). IsPrefix p.place.seen c.args.shelf.now.list) (sym pass_is) c.in_ok-has_room.ensures.saw in
     rw (← c.self.view_is, ← pass_is) (record {
-      adds = record {
-        entry = e;
-        entry_is = refl;
+      entry = e;
+      enters = record { entry_is = refl; receipts = mine; share = c.add.ensures.share; same = (c.add.ensures.worker.0, refl) };
+      grows = record {
         history = pushed;
         counts = c.add.ensures.counts ∙ ap (λ (n : ℕ). slice_set b.counts w n) number;
         room = c.in-Ok.ensures.room;
         events = c.in-Ok.ensures.counts.0;
         limit = c.in-Ok.ensures.counts.2;
-        gains = record { receipts = mine; share = c.add.ensures.share; same = (c.add.ensures.worker.0, refl) };
       };
       place = refl;
       saw = saw;
