@@ -21,20 +21,20 @@ use Rattle.chpw_versions.specs.declared.rows.Row.{Row}
 use Rattle.chpw_versions.specs.Known.{Known, Shelved}
 use Rattle.chpw_versions.specs.Rows.{Rowed}
 use Rattle.chpw_versions.specs.Looking.{LooksUp}
-use Rattle.chpw_book.specs.Passes.{Carried}
-use Rattle.chpw_book.specs.Stored.{Stored, Replays, Adds, new_store}
+use Rattle.chpw_book.specs.Passes.{PassView}
+use Rattle.chpw_book.specs.Recorded.{RecordedView, IsLinearized, Enters, Grows, new_recorded}
 
 -- what lies under the lock: the table with its history, and the published list
-pub record Booked : Type 0 where
-  pub kept : Stored
+pub record BookView : Type 0 where
+  pub kept : RecordedView
   pub list : List Accepted
 
 -- over this table, with no entry yet, for so many workers
-abbrev pub new_book : Held → ℕ → Option (List ℕ) → Booked
-new_book t workers told = record { kept = new_store t workers told; list = [] }
+abbrev pub new_book : Held → ℕ → Option (List ℕ) → BookView
+new_book t workers told = record { kept = new_recorded t workers told; list = [] }
 
 -- the published list is the history's accepted changes, and, unless the journal is broken, none waits
-pub record Publishes (opening : State) (history : List Entry) (broken : Bool) (s : Shelved) : Type 0 where
+pub record IsPublished (opening : State) (history : List Entry) (broken : Bool) (s : Shelved) : Type 0 where
   pub list : s.list ≡ accepted opening history
   pub free : broken ≡ false → s.waiting ≡ None
 
@@ -49,13 +49,15 @@ pub record Shelves (before : State) (broken : Bool) (event : Event) (s t : Shelv
   pub waits : is_accepted event ≡ true → t.waiting ≡ Some (change_by before event)
   pub free : is_accepted event ≡ false → broken ≡ false → t.waiting ≡ None
 
--- an event's entry is stored, and its change waits to be published
-pub record IsStored (opening : State) (workers : ℕ) (before later : Stored) (mine more : Carried) (s t : Shelved) (now : Moment) (event : Event) : Type 0 where
-  pub adds : Adds before later mine more now event
+-- For the proofs: an event's entry is recorded, and its change waits to be published.
+pub record IsRecorded (opening : State) (workers : ℕ) (before later : RecordedView) (mine more : PassView) (s t : Shelved) (now : Moment) (event : Event) : Type 0 where
+  pub entry : Entry
+  pub enters : Enters before.history entry mine more now event
+  pub grows : Grows before later mine.worker entry
   pub place : more.place ≡ mine.place
   pub saw : IsPrefix mine.place.seen s.list
   pub shelves : Shelves before.table.state later.table.state.broken event s t
-  pub replays : Replays opening workers before × Replays opening workers later
+  pub linearized : IsLinearized opening workers before × IsLinearized opening workers later
   pub few : length later.history < 2 ^ 31
 
 -- the change that waited has joined the list

@@ -15,8 +15,8 @@ ghost use Rattle.chpw_table.specs.Raising.{is_raised};
 ghost use Rattle.chpw_table.specs.Versions.{accepted};
 ghost use Rattle.chpw_decider.specs.Deciding.{IsCompletedFrom, IsFinal};
 ghost use Rattle.chpw_book.specs.Closing.{IsRefusal, IsWhole, is_full};
-ghost use Rattle.chpw_book.specs.Stored.{Replays, Adds};
-ghost use Rattle.chpw_book.specs.Calls.{Notes, AsksAfter, LacksAfter, IsFirstFault};
+ghost use Rattle.chpw_book.specs.Recorded.{IsLinearized};
+ghost use Rattle.chpw_book.specs.Calls.{Adds, AsksAfter, LacksAfter, IsFirstFault};
 ghost use Rattle.chpw_table.specs.History.{missing};
 ghost use Rattle.chpw_book.specs.Passes.{new_pass};
 ghost use Rattle.chpw_book.specs.Starting.{IsNamed, table_of, workers_of};
@@ -26,11 +26,13 @@ use crate::closing::{BookRefused, CloseFault, Closed};
 use crate::naming::DeskName;
 use crate::pass::Pass;
 use crate::raising::RaiseFault;
+use crate::recorded::RecordedTable;
 use crate::rows::rows_of;
-use crate::store::Store;
 use crate::unnamed::{StartFault, UnnamedDesk};
 use chpw_decider::JournaledTable;
-use chpw_table::{Counts, Entry, JournalSink, Moment, Opened, RaiseVerdict, Refused, Verdict};
+use chpw_table::{
+    Counts, DecideFault, Entry, JournalSink, Moment, Opened, RaiseVerdict, Refused, Verdict,
+};
 use chpw_versions::Shelf;
 use std::alloc::Global;
 use std::marker::Model;
@@ -40,22 +42,22 @@ use std::sync::ledger::Share;
 /// The table with its history, and the shelf whose versions lookups show beside the lock.
 ///
 /// Its type keeps that the published list is the history's accepted changes, and that of the history all
-/// that `Replays` says. A book is taken apart at a close, or when its desk is given up.
+/// that `IsLinearized` says. A book is taken apart at a close, or when its desk is given up.
 pub struct Book<D: DeskName, S: JournalSink> {
-    pub(crate) store: Store<D, S>,
+    pub(crate) recorded: RecordedTable<D, S>,
     pub(crate) shelf: Shelf<D>,
 }
 
 impl<D: DeskName, S: JournalSink> Model for Book<D, S> {
     ghost use Rattle.chpw_fronts.specs.Pens.{opening_state};
-    ghost use Rattle.chpw_book.specs.Publishing.{Booked, Publishes};
+    ghost use Rattle.chpw_book.specs.Publishing.{BookView, IsPublished};
 
-    ghost Value = { Booked };
+    ghost Value = { BookView };
 
-    ghost view = { λ b. record { kept = b.store; list = b.shelf.list } };
+    ghost view = { λ b. record { kept = b.recorded; list = b.shelf.list } };
 
     ghost invariant = { λ b.
-        Publishes (opening_state D.root) b.store.history b.store.table.state.broken b.shelf };
+        IsPublished (opening_state D.root) b.recorded.history b.recorded.table.state.broken b.shelf };
 }
 
 impl<D: DeskName, S: JournalSink> Book<D, S> {
@@ -101,8 +103,8 @@ impl<D: DeskName, S: JournalSink> Book<D, S> {
                 return Err(fault);
             }
         };
-        match Store::start(alloc, totals, JournaledTable::of(table, sink), workers) {
-            Ok(store) => Ok((Book { store, shelf }, passes)),
+        match RecordedTable::start(alloc, totals, JournaledTable::of(table, sink), workers) {
+            Ok(recorded) => Ok((Book { recorded, shelf }, passes)),
             Err(_) => {
                 shelf.end(rt);
                 Err(StartFault::Memory)
@@ -113,10 +115,10 @@ impl<D: DeskName, S: JournalSink> Book<D, S> {
     /// The entries so far.
     pub fn history(&self) -> &[Entry]
         ensures value { result.now ≡ self.now.kept.history }
-        ensures replays { Replays (opening_state D.root) D.workers self.now.kept }
+        ensures linearized { IsLinearized (opening_state D.root) D.workers self.now.kept }
         ensures published { self.now.list ≡ accepted (opening_state D.root) self.now.kept.history }
     {
-        self.store.history()
+        self.recorded.history()
     }
 
     /// The counts under which `decide` would look at keys that the digest lacks, were the history not
@@ -127,7 +129,7 @@ impl<D: DeskName, S: JournalSink> Book<D, S> {
         ensures after { LacksAfter (opening_state D.root) now opened.now result }
         ensures positive { All (λ n. 1 ≤ n) result }
     {
-        self.store.missing(now, opened)
+        self.recorded.missing(now, opened)
     }
 
     /// One event: an entry of the pass's worker at the end, and its receipt in the pass. Where it was
@@ -144,18 +146,16 @@ impl<D: DeskName, S: JournalSink> Book<D, S> {
         opened: Opened,
     ) -> Result<Verdict, Refused>
         requires moment { IsMoment now }
-        ensures adds { IfOk result (λ v.
-            Adds self.old.kept self.new.kept pass.old pass.new now (Ask opened v)) }
+        ensures adds { IfOk result (λ v. Adds (opening_state D.root) self.old.kept self.new.kept
+            pass.old pass.new now (Ask opened v)) }
         ensures refused { IfErr result (λ r. IsRefused self.old.kept.table now opened r) }
         ensures unchanged { OnErr result ((self.new ≡ self.old) × (pass.new ≡ pass.old)) }
-        ensures notes { IfOk result (λ v.
-            Notes (opening_state D.root) pass.old pass.new now (Ask opened v)) }
         ensures asks { IfErr result (λ r. AsksAfter (opening_state D.root) now opened r.fault) }
         ensures told { IsPrefix pass.old.place.told
             (accepted (opening_state D.root) self.old.kept.history) }
     {
         self.shelf.has(pass.told());
-        let verdict = self.store.decide(&mut self.shelf, pass, now, opened)?;
+        let verdict = self.recorded.decide(&mut self.shelf, pass, now, opened)?;
         tell(rt, &mut self.shelf, pass, verdict);
         Ok(verdict)
     }
@@ -174,24 +174,34 @@ impl<D: DeskName, S: JournalSink> Book<D, S> {
     ) -> Result<Verdict, Refused>
         requires moment { IsMoment now }
         requires salt { salt.now ≡ salt_of (target_of opened) }
-        ensures adds { IfOk result (λ v. (counts : _) × Adds self.old.kept self.new.kept
-            pass.old pass.new now (Ask (completed password.now counts opened) v)) }
+        ensures adds { IfOk result (λ v. (counts : _) × Adds (opening_state D.root)
+            self.old.kept self.new.kept pass.old pass.new now
+            (Ask (completed password.now counts opened) v)) }
         ensures never { IfErr result (λ r. IsFinal r.fault) }
         ensures full { IfErr result (λ r.
             r.fault ≡ Full → self.old.kept.table.events ≡ self.old.kept.table.max_entries) }
         ensures unchanged { IfErr result (λ r. (self.new ≡ self.old) × (pass.new ≡ pass.old)
             × IsCompletedFrom password.now opened r.opened) }
-        ensures notes { IfOk result (λ v. (counts : _) × Notes (opening_state D.root)
-            pass.old pass.new now (Ask (completed password.now counts opened) v)) }
         ensures told { IsPrefix pass.old.place.told
             (accepted (opening_state D.root) self.old.kept.history) }
     {
-        self.shelf.has(pass.told());
-        let verdict = self
-            .store
-            .decide_deriving(&mut self.shelf, pass, now, opened, password, salt)?;
-        tell(rt, &mut self.shelf, pass, verdict);
-        Ok(verdict)
+        let refused = match self.decide(rt, pass, now, opened) {
+            Ok(verdict) => return Ok(verdict),
+            Err(refused) => refused,
+        };
+        let Refused { fault, mut opened } = refused;
+        match fault {
+            DecideFault::NeedKeys(counts) => {
+                if opened.complete(password, salt, &counts).is_err() {
+                    return Err(Refused {
+                        fault: DecideFault::Memory,
+                        opened,
+                    });
+                }
+                self.decide(rt, pass, now, opened)
+            }
+            fault => Err(Refused { fault, opened }),
+        }
     }
 
     /// Raises the iteration count of new keys to this one, 1 to 16,777,216: an entry of the pass's
@@ -209,17 +219,15 @@ impl<D: DeskName, S: JournalSink> Book<D, S> {
     ) -> Result<RaiseVerdict, RaiseFault>
         requires moment { IsMoment now }
         requires count { is_in iteration_counts count ≡ true }
-        ensures adds { IfOk result (λ v.
-            Adds self.old.kept self.new.kept pass.old pass.new now (Raise count v)) }
+        ensures adds { IfOk result (λ v. Adds (opening_state D.root) self.old.kept self.new.kept
+            pass.old pass.new now (Raise count v)) }
         ensures first { IfErr result (λ fault. IsFirstFault self.old.kept.table fault) }
         ensures unchanged { OnErr result ((self.new ≡ self.old) × (pass.new ≡ pass.old)) }
-        ensures notes { IfOk result (λ v.
-            Notes (opening_state D.root) pass.old pass.new now (Raise count v)) }
         ensures told { IsPrefix pass.old.place.told
             (accepted (opening_state D.root) self.old.kept.history) }
     {
         self.shelf.has(pass.told());
-        let verdict = self.store.raise(&mut self.shelf, pass, now, count)?;
+        let verdict = self.recorded.raise(&mut self.shelf, pass, now, count)?;
         tell_raise(rt, &mut self.shelf, pass, verdict);
         Ok(verdict)
     }
@@ -238,7 +246,7 @@ impl<D: DeskName, S: JournalSink> Book<D, S> {
         ensures refusal { IfErr result (λ r. IsRefusal self.kept.history (is_full self.kept.table)
             D.workers passes.items r.fault) }
         ensures back { IfErr result (λ r. (r.book ≡ self) × (r.passes.items ≡ passes.items)) }
-        ensures replays { Replays (opening_state D.root) D.workers self.kept }
+        ensures linearized { IsLinearized (opening_state D.root) D.workers self.kept }
     {
         match self.close_fault(passes.as_slice()) {
             None => Ok(self.into_closed(rt)),
@@ -256,9 +264,9 @@ impl<D: DeskName, S: JournalSink> Book<D, S> {
             (is_full self.now.kept.table) D.workers passes.now) }
         ensures refusal { IfSome result (λ fault. IsRefusal self.now.kept.history
             (is_full self.now.kept.table) D.workers passes.now fault) }
-        ensures replays { Replays (opening_state D.root) D.workers self.now.kept }
+        ensures linearized { IsLinearized (opening_state D.root) D.workers self.now.kept }
     {
-        self.store.close_fault(passes)
+        self.recorded.close_fault(passes)
     }
 
     // What is left of it, once no lookup reads.
@@ -266,11 +274,11 @@ impl<D: DeskName, S: JournalSink> Book<D, S> {
         ensures history { result.history.items ≡ self.kept.history }
         ensures table { result.table ≡ self.kept.table }
         ensures told { S.told result.sink ≡ self.kept.told }
-        ensures replays { Replays (opening_state D.root) D.workers self.kept }
+        ensures linearized { IsLinearized (opening_state D.root) D.workers self.kept }
     {
-        let Book { store, shelf } = self;
+        let Book { recorded, shelf } = self;
         shelf.end(rt);
-        store.into_closed()
+        recorded.into_closed()
     }
 
     /// Lets go of the book, with its history, once no lookup reads.
@@ -278,9 +286,9 @@ impl<D: DeskName, S: JournalSink> Book<D, S> {
     where
         S: Drop,
     {
-        let Book { store, shelf } = self;
+        let Book { recorded, shelf } = self;
         shelf.end(rt);
-        store.abandon();
+        recorded.abandon();
     }
 }
 

@@ -96,6 +96,7 @@ impl<D: DeskName, S: JournalSink> Desk<D, S> {
     ///
     /// `now` has seconds from 0 to `chpw_table::LAST_SECOND`. Refused as `Table::decide` refuses, and
     /// then the pass is as before, but that it notes `Full`.
+    #[tactic(auto, using(crate::proofs::CallLemmas::notes_of))]
     pub fn decide<R: Wait>(
         &self,
         rt: &R,
@@ -119,6 +120,7 @@ impl<D: DeskName, S: JournalSink> Desk<D, S> {
     /// The same, with the digest completed for this password under the lock, as far as keys are
     /// missing, so that none are asked for. The request that a refusal hands back may have more of
     /// them.
+    #[tactic(auto, using(crate::proofs::CallLemmas::notes_of))]
     pub fn decide_deriving<R: Wait>(
         &self,
         rt: &R,
@@ -152,6 +154,7 @@ impl<D: DeskName, S: JournalSink> Desk<D, S> {
     ///
     /// `now` has seconds from 0 to `chpw_table::LAST_SECOND`. After a fault the pass is as before, but
     /// that it notes `Full`.
+    #[tactic(auto, using(crate::proofs::CallLemmas::notes_of))]
     pub fn raise<R: Wait>(
         &self,
         rt: &R,

@@ -10,12 +10,12 @@ ghost use Rattle.chpw_table.specs.Agreement.{Agrees};
 ghost use Rattle.chpw_table.specs.Raising.{would_raise};
 ghost use Rattle.chpw_table.specs.Times.{IsMoment};
 ghost use Rattle.chpw_book.specs.Calls.{IsFirstFault};
-ghost use Rattle.chpw_book.specs.Stored.{Replays};
-ghost use Rattle.chpw_book.specs.Publishing.{IsStored, Publishes, with_waiting};
+ghost use Rattle.chpw_book.specs.Recorded.{IsLinearized};
+ghost use Rattle.chpw_book.specs.Publishing.{IsRecorded, IsPublished, with_waiting};
 
 use crate::naming::DeskName;
 use crate::pass::Pass;
-use crate::store::Store;
+use crate::recorded::RecordedTable;
 use chpw_table::{Entry, Event, JournalSink, Moment, RaiseVerdict, Receipt, Table};
 use chpw_versions::Shelf;
 use std::alloc::AllocError;
@@ -40,7 +40,7 @@ impl From<AllocError> for RaiseFault {
     }
 }
 
-impl<D: DeskName, S: JournalSink> Store<D, S> {
+impl<D: DeskName, S: JournalSink> RecordedTable<D, S> {
     /// One raise: an entry of the pass's worker at the end, and its receipt in the pass. The count that
     /// it sets waits on the shelf; putting it there is the last growth before the journal is appended
     /// to.
@@ -56,14 +56,14 @@ impl<D: DeskName, S: JournalSink> Store<D, S> {
     ) -> Result<RaiseVerdict, RaiseFault>
         requires moment { IsMoment now }
         requires count { is_in iteration_counts count ≡ true }
-        requires publishes { Publishes (opening_state D.root) self.old.history
+        requires published { IsPublished (opening_state D.root) self.old.history
             self.old.table.state.broken shelf.old }
-        ensures stored { IfOk result (λ v. IsStored (opening_state D.root) D.workers self.old self.new
+        ensures recorded { IfOk result (λ v. IsRecorded (opening_state D.root) D.workers self.old self.new
             pass.old pass.new shelf.old shelf.new now (Raise count v)) }
         ensures first { IfErr result (λ fault. IsFirstFault self.old.table fault) }
         ensures unchanged { OnErr result
             ((self.new ≡ self.old) × (pass.new ≡ pass.old) × (shelf.new ≡ shelf.old)) }
-        ensures replays { Replays (opening_state D.root) D.workers self.old }
+        ensures linearized { IsLinearized (opening_state D.root) D.workers self.old }
     {
         has_room(self.journaled.table(), shelf, pass)?;
         make_room(
@@ -120,7 +120,7 @@ fn make_room<D: DeskName>(
     requires room { table.now.events < table.now.max_entries }
     requires kept { (es : _) × IsLegal (opening_state D.root) es
         × Agrees table.now.state (outcome (opening_state D.root) es)
-        × Publishes (opening_state D.root) es table.now.state.broken shelf.old }
+        × IsPublished (opening_state D.root) es table.now.state.broken shelf.old }
     ensures same { (entries.new.items ≡ entries.old.items)
         × (receipts.new.items ≡ receipts.old.items) }
     ensures places { OnOk result ((vec_len entries.new < vec_capacity entries.new)

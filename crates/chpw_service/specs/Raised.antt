@@ -5,7 +5,7 @@ use Rattle.chpw_table.specs.State.{State}
 use Rattle.chpw_table.specs.declared.times.Moment.{Moment}
 use Rattle.chpw_table.specs.declared.history.Event.TheVariants.{Raise}
 use Rattle.chpw_book.specs.Calls.{Notes}
-use Rattle.chpw_book.specs.Passes.{Carried, raise_refused_with}
+use Rattle.chpw_book.specs.Passes.{PassView, raise_refused_with}
 use Rattle.chpw_table.specs.declared.raising.RaiseVerdict.{RaiseVerdict}
 use Rattle.chpw_table.specs.declared.raising.RaiseVerdict.TheVariants as verdict
 use Rattle.chpw_book.specs.declared.raising.RaiseFault.{RaiseFault}
@@ -29,7 +29,7 @@ raised_line Full = codes "history full"
 
 -- a raise to this count was asked of a desk, by a pass and at a moment that the clock gave: this was told of it, and the
 -- pass has its receipt, or was refused
-pub record IsRaise {C : Type 0} (gives : C → Moment → C → Type 0) (opening : State) (before after : C) (mine more : Carried)
+pub record IsRaise {C : Type 0} (gives : C → Moment → C → Type 0) (opening : State) (before after : C) (mine more : PassView)
     (count : ℕ) (told : Option RaiseTold) : Type 0 where
   pub now : Moment
   pub given : gives before now after
@@ -39,12 +39,12 @@ pub record IsRaise {C : Type 0} (gives : C → Moment → C → Type 0) (opening
   pub refused : IfErr raised (λ fault. more ≡ raise_refused_with fault mine)
 
 -- it was asked by the first of these passes, and the others are as they were
-abbrev pub IsRaiseOfFirst : {C : Type 0} → (C → Moment → C → Type 0) → State → C → C → List Carried → List Carried → ℕ → Type 0
+abbrev pub IsRaiseOfFirst : {C : Type 0} → (C → Moment → C → Type 0) → State → C → C → List PassView → List PassView → ℕ → Type 0
 IsRaiseOfFirst gives opening before after [] new count = new ≡ []
 IsRaiseOfFirst gives opening before after (mine ∷ others) new count =
-    (more : Carried) × (told : RaiseTold) × (new ≡ more ∷ others) × IsRaise gives opening before after mine more count (Some told)
+    (more : PassView) × (told : RaiseTold) × (new ≡ more ∷ others) × IsRaise gives opening before after mine more count (Some told)
 
 -- where it is wanted
-abbrev pub IsRaisedWhereAsked : {C : Type 0} → (C → Moment → C → Type 0) → State → C → C → List Carried → List Carried → Option ℕ → Type 0
+abbrev pub IsRaisedWhereAsked : {C : Type 0} → (C → Moment → C → Type 0) → State → C → C → List PassView → List PassView → Option ℕ → Type 0
 IsRaisedWhereAsked gives opening before after old new None = new ≡ old
 IsRaisedWhereAsked gives opening before after old new (Some count) = IsRaiseOfFirst gives opening before after old new count

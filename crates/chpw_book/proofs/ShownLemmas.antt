@@ -8,7 +8,7 @@ use Rattle.chpw_table.specs.Decision.{newest_kvno}
 use Rattle.chpw_table.specs.Versions.{Shown, accepted, shown_count, shown_keys}
 use Rattle.chpw_table.proofs.VersionLemmas.{shows_held, shows_count}
 use Rattle.chpw_versions.specs.Rows.{lookup_with}
-use Rattle.chpw_changes.specs.Shown.{LookupsShowHistories}
+use Rattle.chpw_book.specs.ShownLaws.{LookupsShowHistories}
 
 keys_shown : (policy seen : ℕ) (held : Option (List KeyRow))
     → option_map (lookup_with policy seen) (option_map shown_keys held) ≡ option_map (λ (keys : List KeyRow). record { kvno = newest_kvno keys; held = map (λ (k : KeyRow). k.count) keys; policy = policy; seen = seen }) held

@@ -1,4 +1,4 @@
--- What lies under the lock: what is always true of it, and what an event adds.
+-- A table with its history: what is always true of it, and what an event adds.
 use Rattle.std.specs.Prelude.{◌≡◌, ℕ, ◌+◌, ◌≤◌, ◌<◌, List, [], ◌∷◌, ◌++◌, length, Option, IfSome, replicate, slice_set}
 use Rattle.chpw_table.specs.declared.times.Moment.{Moment}
 use Rattle.chpw_table.specs.declared.history.Event.{Event}
@@ -9,10 +9,10 @@ use Rattle.chpw_table.specs.Journal.{journal}
 use Rattle.chpw_table.specs.Agreement.{Held, Agrees}
 use Rattle.chpw_journal.specs.Runs.{AreWhole}
 use Rattle.chpw_book.specs.Receipts.{IsNumbered, IsCounted, changes_of, next_entry, receipt_of}
-use Rattle.chpw_book.specs.Passes.{Carried}
+use Rattle.chpw_book.specs.Passes.{PassView}
 
 -- the table, the history, each worker's count, the accepted changes, the ledger's total, and what the sink tells
-pub record Stored : Type 0 where
+pub record RecordedView : Type 0 where
   pub table : Held
   pub history : List Entry
   pub counts : List ℕ
@@ -21,13 +21,13 @@ pub record Stored : Type 0 where
   pub told : Option (List ℕ)
 
 -- no entry yet, of so many workers
-abbrev pub new_store : Held → ℕ → Option (List ℕ) → Stored
-new_store t workers told = record { table = t; history = []; counts = replicate workers 0; changes = 0; total = 0; told = told }
+abbrev pub new_recorded : Held → ℕ → Option (List ℕ) → RecordedView
+new_recorded t workers told = record { table = t; history = []; counts = replicate workers 0; changes = 0; total = 0; told = told }
 
--- the one-thread machine, replaying the history from the opening, gives each verdict stored and leads to
--- the table; what each accepted entry brings in is whole; each worker's calls stand in it once each,
--- numbered; what the sink tells is its journal
-pub record Replays (opening : State) (workers : ℕ) (b : Stored) : Type 0 where
+-- What the workers did at the same time equals what one thread does with the history, entry by entry from
+-- the opening: it gives each verdict stored and leads to the table. What each accepted entry brings in is
+-- whole; each worker's calls stand in it once each, numbered; what the sink tells is its journal.
+pub record IsLinearized (opening : State) (workers : ℕ) (b : RecordedView) : Type 0 where
   pub legal : IsLegal opening b.history
   pub agrees : Agrees b.table.state (outcome opening b.history)
   pub whole : AreWhole opening b.history
@@ -39,19 +39,18 @@ pub record Replays (opening : State) (workers : ℕ) (b : Stored) : Type 0 where
   pub journal : IfSome b.told (λ bytes. bytes ≡ journal opening b.history)
   pub room : length b.history ≤ b.table.events
 
--- the pass has the receipt of this entry more, which stands behind these
-pub record Gains (before : List Entry) (entry : Entry) (mine more : Carried) : Type 0 where
+-- This entry after those: the next of the pass's worker, with this moment and event. The pass has its
+-- receipt, and one more in its share of the ledger.
+pub record Enters (before : List Entry) (entry : Entry) (mine more : PassView) (now : Moment) (event : Event) : Type 0 where
+  pub entry_is : entry ≡ next_entry before mine.worker now entry.io_failed event
   pub receipts : more.receipts ≡ mine.receipts ++ receipt_of before entry ∷ []
   pub share : more.share ≡ mine.share + 1
   pub same : (more.worker ≡ mine.worker) × (more.was_full ≡ mine.was_full)
 
--- one entry more, the next of this pass's worker, with this moment and event; and its receipt
-pub record Adds (before later : Stored) (mine more : Carried) (now : Moment) (event : Event) : Type 0 where
-  pub entry : Entry
-  pub entry_is : entry ≡ next_entry before.history mine.worker now entry.io_failed event
+-- the table had room, and the history has this entry of this worker more
+pub record Grows (before later : RecordedView) (worker : ℕ) (entry : Entry) : Type 0 where
   pub history : later.history ≡ before.history ++ entry ∷ []
-  pub counts : later.counts ≡ slice_set before.counts mine.worker entry.number
+  pub counts : later.counts ≡ slice_set before.counts worker entry.number
   pub room : before.table.events < before.table.max_entries
   pub events : later.table.events ≡ before.table.events + 1
   pub limit : later.table.max_entries ≡ before.table.max_entries
-  pub gains : Gains before.history entry mine more

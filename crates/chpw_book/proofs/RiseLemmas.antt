@@ -30,8 +30,8 @@ use Rattle.chpw_table.proofs.KeyLemmas.{done_raises_target}
 use Rattle.chpw_table.proofs.VersionLemmas.{shows_held, shows_count}
 use Rattle.chpw_decider.proofs.KeepingLemmas.{legal_on, outcome_on}
 use Rattle.chpw_versions.specs.Rising.{IsNextVersion, AreNextVersions}
-use Rattle.chpw_changes.specs.Versions.{VersionsRise}
-use Rattle.chpw_changes.proofs.ChangeLemmas.{accepted_on}
+use Rattle.chpw_book.specs.RisingLaws.{VersionsRise}
+use Rattle.chpw_book.proofs.ChangeLemmas.{accepted_on}
 
 done_alone : (v : Verdict) → is_done v ≡ true → v ≡ Done
 done_alone Done h = refl

@@ -1,7 +1,7 @@
 //! Laws of the accepted changes.
-ghost use Rattle.chpw_changes.specs.Histories.{EntryAddsItsChange, ChangesAreCounted, BeginningsAreHistories, KeptListsGoOn, NamesAreTheOpenings};
-ghost use Rattle.chpw_changes.specs.Versions.{VersionsRise, LaterListsShowNoOlder, LaterListsShowNoLower};
-ghost use Rattle.chpw_changes.specs.Shown.{LookupsShowHistories};
+ghost use Rattle.chpw_book.specs.ChangeLaws.{EntryAddsItsChange, ChangesAreCounted, BeginningsAreHistories, KeptListsGoOn, NamesAreTheOpenings};
+ghost use Rattle.chpw_book.specs.RisingLaws.{VersionsRise, LaterListsShowNoOlder, LaterListsShowNoLower};
+ghost use Rattle.chpw_book.specs.ShownLaws.{LookupsShowHistories};
 
 /// An accepted entry adds its change to the list, and no other adds any; the list is as long as
 /// there are accepted entries; each beginning of it is the list of a beginning of the history. A

@@ -9,25 +9,25 @@ use Rattle.chpw_table.specs.Raising.{would_raise}
 use Rattle.chpw_table.specs.Agreement.{Held, Agrees}
 use Rattle.chpw_table.proofs.AgreementLemmas.{agrees_itself}
 use Rattle.chpw_fronts.specs.Pens.{opening_state}
-use Rattle.chpw_book.specs.Passes.{Carried}
+use Rattle.chpw_book.specs.Passes.{PassView}
 use Rattle.chpw_book.specs.Receipts.{next_entry, receipt_of}
-use Rattle.chpw_book.specs.Stored.{Stored, Replays}
-use Rattle.chpw_book.specs.Publishing.{Publishes, with_waiting}
+use Rattle.chpw_book.specs.Recorded.{RecordedView, IsLinearized}
+use Rattle.chpw_book.specs.Publishing.{IsPublished, with_waiting}
 use Rattle.chpw_book.proofs.CallLemmas.{err_of}
 use Rattle.chpw_book.proofs.GrowsLemmas.{kept_event}
 use Rattle.chpw_book.proofs.RaiseLemmas.{raise_shelves}
-use Rattle.chpw_book.proofs.store.Store.raise.Goals as goal
+use Rattle.chpw_book.proofs.recorded.RecordedTable.raise.Goals as goal
 
 pub make_room-requires : goal.make_room-requires
 make_room-requires g c =
     let kept = c.self.invariant.0 in
     let same = c.table-2.ensures.value in
     let opening : State = opening_state g.D.ListName.root in
-    let b : Stored = record { table = c.self.inside.journaled.table; history = c.self.inside.history.entries.items; counts = c.self.inside.history.counts.items; changes = c.self.inside.history.changes; total = c.self.inside.history.totals.total; told = g.S.JournalSink.told c.self.inside.journaled.sink } in
-    let published : Publishes opening b.history b.table.state.broken c.args.shelf.now = subst (λ (x : Stored). Publishes opening x.history x.table.state.broken c.args.shelf.now) (sym c.self.view_is) c.requires.publishes in
+    let b : RecordedView = record { table = c.self.inside.journaled.table; history = c.self.inside.history.entries.items; counts = c.self.inside.history.counts.items; changes = c.self.inside.history.changes; total = c.self.inside.history.totals.total; told = g.S.JournalSink.told c.self.inside.journaled.sink } in
+    let published : IsPublished opening b.history b.table.state.broken c.args.shelf.now = subst (λ (x : RecordedView). IsPublished opening x.history x.table.state.broken c.args.shelf.now) (sym c.self.view_is) c.requires.published in
     record {
       room = subst (λ (t : Held). t.events < t.max_entries) (c.table.ensures.value ∙ sym same) c.in_ok-has_room.ensures.room;
-      kept = (b.history, kept.legal, subst (λ (t : Held). Agrees t.state (outcome opening b.history)) (sym same) kept.agrees, subst (λ (t : Held). Publishes opening b.history t.state.broken c.args.shelf.now) (sym same) published);
+      kept = (b.history, kept.legal, subst (λ (t : Held). Agrees t.state (outcome opening b.history)) (sym same) kept.agrees, subst (λ (t : Held). IsPublished opening b.history t.state.broken c.args.shelf.now) (sym same) published);
     }
 
 -- there was room
@@ -60,8 +60,8 @@ add-requires-clause-changes g c = rw c.make_room.ensures.same.0 c.self.invariant
 pub invariant_of-self-2 : goal.invariant_of-self-2
 invariant_of-self-2 g c =
     let opening : State = opening_state g.D.ListName.root in
-    let b : Stored = record { table = c.self.inside.journaled.table; history = c.self.inside.history.entries.items; counts = c.self.inside.history.counts.items; changes = c.self.inside.history.changes; total = c.self.inside.history.totals.total; told = g.S.JournalSink.told c.self.inside.journaled.sink } in
-    let kept : Replays opening g.D.DeskName.workers b = c.self.invariant.0 in
+    let b : RecordedView = record { table = c.self.inside.journaled.table; history = c.self.inside.history.entries.items; counts = c.self.inside.history.counts.items; changes = c.self.inside.history.changes; total = c.self.inside.history.totals.total; told = g.S.JournalSink.told c.self.inside.journaled.sink } in
+    let kept : IsLinearized opening g.D.DeskName.workers b = c.self.invariant.0 in
     let s : State = outcome opening b.history in
     let made = c.in-Ok.raise in
     let w = c.pass.inside.calls.worker in
@@ -72,11 +72,11 @@ invariant_of-self-2 g c =
       c.self.invariant.1,
     )
 
-pub returns-clause-stored : goal.returns-clause-stored
+pub returns-clause-recorded : goal.returns-clause-recorded
 unfolding invariant_of-self-2
-returns-clause-stored g c =
+returns-clause-recorded g c =
     let opening : State = opening_state g.D.ListName.root in
-    let b : Stored = record { table = c.self.inside.journaled.table; history = c.self.inside.history.entries.items; counts = c.self.inside.history.counts.items; changes = c.self.inside.history.changes; total = c.self.inside.history.totals.total; told = g.S.JournalSink.told c.self.inside.journaled.sink } in
+    let b : RecordedView = record { table = c.self.inside.journaled.table; history = c.self.inside.history.entries.items; counts = c.self.inside.history.counts.items; changes = c.self.inside.history.changes; total = c.self.inside.history.totals.total; told = g.S.JournalSink.told c.self.inside.journaled.sink } in
     let made = c.in-Ok.raise in
     let t : Held = c.raise.new.self.table in
     let w = c.pass.inside.calls.worker in
@@ -84,29 +84,28 @@ returns-clause-stored g c =
     let pushed : c.add.new.self.entries.items ≡ b.history ++ e ∷ [] = rw (← c.make_room.ensures.same.0) c.add.ensures.entry in
     let mine : c.add.new.calls.receipts.items ≡ c.pass.inside.calls.receipts.items ++ receipt_of b.history e ∷ [] =
     rw (← c.make_room.ensures.same.0, ← c.make_room.ensures.same.1) c.add.ensures.receipt in
-    let later : Replays opening g.D.DeskName.workers _ = (invariant_of-self-2 g c).0 in
+    let later : IsLinearized opening g.D.DeskName.workers _ = (invariant_of-self-2 g c).0 in
     let few : length c.add.new.self.entries.items < 2147483648 = let room = later.room in let most : t.events ≤ 1048576 = c.in-Ok.ensures.few in omega (arith, room, most) in
-    let kept : Replays opening g.D.DeskName.workers b = c.self.invariant.0 in
+    let kept : IsLinearized opening g.D.DeskName.workers b = c.self.invariant.0 in
     let below : w < length b.counts = let all = kept.all in let own = c.pass.invariant.2 in omega (arith, all, own) in
     let number : slice_index b.counts w + 1 ≡ e.number = ap (λ (n : ℕ). n + 1) (kept.counted.counts_are w below) in
     let waits : c.make_room.new.shelf ≡ with_waiting (would_raise b.table c.args.count) (Count c.args.count) c.args.shelf.now = rw (← c.table-2.ensures.value) c.in_ok-make_room.ensures.ok in
-    let published : Publishes opening b.history b.table.state.broken c.args.shelf.now = subst (λ (x : Stored). Publishes opening x.history x.table.state.broken c.args.shelf.now) (sym c.self.view_is) c.requires.publishes in
+    let published : IsPublished opening b.history b.table.state.broken c.args.shelf.now = subst (λ (x : RecordedView). IsPublished opening x.history x.table.state.broken c.args.shelf.now) (sym c.self.view_is) c.requires.published in
     let pass_is = c.pass.view_is ∙ c.has_room.ensures.same in
-    let saw : IsPrefix c.pass.inside.place.seen c.args.shelf.now.list = subst (λ (p : Carried). IsPrefix p.place.seen c.args.shelf.now.list) (sym pass_is) c.in_ok-has_room.ensures.saw in
+    let saw : IsPrefix c.pass.inside.place.seen c.args.shelf.now.list = subst (λ (p : PassView). IsPrefix p.place.seen c.args.shelf.now.list) (sym pass_is) c.in_ok-has_room.ensures.saw in
     rw (← c.self.view_is, ← pass_is) (record {
-      adds = record {
-        entry = e;
-        entry_is = refl;
+      entry = e;
+      enters = record { entry_is = refl; receipts = mine; share = c.add.ensures.share; same = (c.add.ensures.worker.0, refl) };
+      grows = record {
         history = pushed;
         counts = c.add.ensures.counts ∙ ap (λ (n : ℕ). slice_set b.counts w n) number;
         room = c.in-Ok.ensures.room;
         events = c.in-Ok.ensures.counts.0;
         limit = c.in-Ok.ensures.counts.2;
-        gains = record { receipts = mine; share = c.add.ensures.share; same = (c.add.ensures.worker.0, refl) };
       };
       place = refl;
       saw = saw;
       shelves = raise_shelves b.table c.args.count made.verdict made.io_failed t.state.broken c.args.shelf.now c.make_room.new.shelf c.in-Ok.ensures.room published.free (c.in-Ok.ensures.legal b.table.state (agrees_itself b.table.state)).verdict_is c.in-Ok.ensures.broken waits;
-      replays = (kept, later);
+      linearized = (kept, later);
       few = few;
     })

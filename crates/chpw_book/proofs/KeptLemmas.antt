@@ -17,8 +17,8 @@ use Rattle.chpw_table.specs.History.{is_accepted, step_event, step_entry, outcom
 use Rattle.chpw_table.specs.Versions.{change_of, change_by, entry_change, accepted}
 use Rattle.chpw_table.proofs.AgreementLemmas.{same_new_key}
 use Rattle.chpw_table.proofs.KeyLemmas.{keys_after, put}
-use Rattle.chpw_changes.specs.Histories.{KeptListsGoOn, NamesAreTheOpenings}
-use Rattle.chpw_changes.proofs.ChangeLemmas.{accepted_on}
+use Rattle.chpw_book.specs.ChangeLaws.{KeptListsGoOn, NamesAreTheOpenings}
+use Rattle.chpw_book.proofs.ChangeLemmas.{accepted_on}
 
 -- states that agree make the same change of an event
 pub same_change : (t s : State) (event : Event) → Agrees t s → change_by t event ≡ change_by s event
