@@ -1,6 +1,6 @@
 //! A worker, and what it answers to a message.
 ghost use Rattle.std.specs.Prelude.{◌≡◌, ℕ, List, Option, Some, []};
-ghost use Rattle.chpw_answer.specs.Answering.{Answering, Unanswered};
+ghost use Rattle.chpw_serve.specs.Answering.{Answering, Unanswered};
 ghost use Rattle.chpw_serve.specs.Serving.{stream_state, message_too_long, IsServed};
 ghost use Rattle.chpw_serve.specs.declared.serving.Ended.{Ended};
 ghost use Rattle.chpw_pool.specs.Pools.{peer_in};
@@ -8,10 +8,9 @@ ghost use Rattle.chpw_pool.specs.Turns.{IsReplyBehind, fills_at, has_changed_beh
 
 use crate::engine::Engine;
 use crate::follower::JournalEnd;
-use chpw_answer::{Gate, Messages};
 use chpw_connections::Taken;
 use chpw_decider::Decider;
-use chpw_serve::{Clock, Ended, Words, serve_stream};
+use chpw_serve::{Clock, Ended, Gate, Messages, Words, serve_stream};
 use chpw_table::Receipt;
 use std::alloc::Global;
 use std::net::SocketAddr;

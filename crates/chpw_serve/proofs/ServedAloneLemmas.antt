@@ -12,14 +12,14 @@ use Rattle.chpw_table.specs.Agreement.{Held}
 use Rattle.chpw_table.specs.History.{IsLegal}
 use Rattle.chpw_table.specs.Replies.{Answer}
 use Rattle.chpw_decider.specs.Keeping.{Kept, IsKept, entries}
-use Rattle.chpw_answer.specs.declared.messages.Seal.{Seal}
-use Rattle.chpw_answer.specs.Requests.{Opens, refused, opened}
-use Rattle.chpw_answer.specs.Answers.{IsAnswer}
-use Rattle.chpw_answer.specs.Hearing.{Heard, HearsUnanswered}
+use Rattle.chpw_serve.specs.declared.messages.Seal.{Seal}
+use Rattle.chpw_serve.specs.Requests.{Opens, refused, opened}
+use Rattle.chpw_serve.specs.Answers.{IsAnswer}
+use Rattle.chpw_serve.specs.Hearing.{Heard, HearsUnanswered}
 use Rattle.chpw_decider.specs.Making.{Makes}
 use Rattle.chpw_serve.specs.declared.serving.Ended.{Ended}
 use Rattle.chpw_serve.specs.declared.serving.Ended.TheVariants as end
-use Rattle.chpw_answer.specs.InTurn.{InTurn}
+use Rattle.chpw_serve.specs.InTurn.{InTurn}
 use Rattle.chpw_serve.specs.Serving.{StreamState, stream_state, Around, Turn, Refuses, IsEnd, IsServed, TakesAtMostOne, message_too_long}
 use Rattle.chpw_serve.specs.StreamReplies.{Draw, Run, written_for, replies}
 use Rattle.chpw_serve.specs.ServedAlone.{AnsweringAlone, AddsOneAlone, run_of, IsDrawnFor, AreDrawnFor, left_behind, IsEndOf, Leaves, Writes, HasDrawn, AreReceipts, AreMore, IsServedAlone}

@@ -3,10 +3,10 @@ use Rattle.std.proofs.Common.{◌≡◌, ℕ, ◌+◌, ◌≤◌, ◌<◌, List,
 use Rattle.chpw_frame.specs.Stream.{too_long}
 use Rattle.chpw_frame.specs.Receiving.{TakesPiece}
 use Rattle.chpw_table.specs.declared.times.Moment.{Moment}
-use Rattle.chpw_answer.specs.Hearing.{Heard}
+use Rattle.chpw_serve.specs.Hearing.{Heard}
 use Rattle.chpw_serve.specs.declared.serving.Ended.{Ended}
 use Rattle.chpw_serve.specs.declared.serving.Ended.TheVariants as end
-use Rattle.chpw_answer.specs.InTurn.{InTurn}
+use Rattle.chpw_serve.specs.InTurn.{InTurn}
 use Rattle.chpw_serve.specs.Serving.{StreamState, Turn, Serves, EndsBy, IsServed, IsRefused}
 use Rattle.chpw_serve.proofs.DrawLemmas.{drawn_on}
 

@@ -12,13 +12,13 @@ use Rattle.chpw_table.specs.History.{outcome}
 use Rattle.chpw_table.specs.Replies.{Answer}
 use Rattle.chpw_decider.specs.Keeping.{Kept, IsFullAt, IsOpenedLike, entries}
 use Rattle.chpw_decider.specs.Making.{Makes}
-use Rattle.chpw_answer.specs.declared.messages.Seal.{Seal}
-use Rattle.chpw_answer.specs.Requests.{Request, Opens, refused, opened, opened_under}
-use Rattle.chpw_answer.specs.Hearing.{Heard}
-use Rattle.chpw_answer.specs.Answering.{Answering, Unanswered}
+use Rattle.chpw_serve.specs.declared.messages.Seal.{Seal}
+use Rattle.chpw_serve.specs.Requests.{Request, Opens, refused, opened, opened_under}
+use Rattle.chpw_serve.specs.Hearing.{Heard}
+use Rattle.chpw_serve.specs.Answering.{Answering, Unanswered}
 use Rattle.chpw_serve.specs.declared.serving.Ended.{Ended}
 use Rattle.chpw_serve.specs.declared.serving.Ended.TheVariants as end
-use Rattle.chpw_answer.specs.InTurn.{InTurn}
+use Rattle.chpw_serve.specs.InTurn.{InTurn}
 use Rattle.chpw_serve.specs.Serving.{StreamState, TakesAtMostOne, message_too_long}
 use Rattle.chpw_serve.specs.StreamReplies.{Draw, Run, verdict_of, is_full, run_after, replies}
 

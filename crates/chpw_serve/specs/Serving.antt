@@ -6,11 +6,11 @@ use Rattle.chpw_frame.specs.Stream.{Piece, message, ended, cut_off, too_long, se
 use Rattle.chpw_frame.specs.Receiving.{TakesPiece, TakesLength, ConsumesSome, AppendsFront}
 use Rattle.chpw_table.specs.declared.times.Moment.{Moment}
 use Rattle.chpw_table.specs.Replies.{Answer, by_error}
-use Rattle.chpw_answer.specs.declared.gate.Spot.TheVariants as spot
-use Rattle.chpw_answer.specs.Hearing.{Heard, passed, refusal as heard_refusal}
+use Rattle.chpw_serve.specs.declared.gate.Spot.TheVariants as spot
+use Rattle.chpw_serve.specs.Hearing.{Heard, passed, refusal as heard_refusal}
 use Rattle.chpw_serve.specs.declared.serving.Ended.{Ended}
 use Rattle.chpw_serve.specs.declared.serving.Ended.TheVariants as end
-use Rattle.chpw_answer.specs.InTurn.{InTurn}
+use Rattle.chpw_serve.specs.InTurn.{InTurn}
 
 -- the reply to a message above 65,535 bytes, of which none is read
 abbrev pub message_too_long : Answer

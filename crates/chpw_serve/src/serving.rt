@@ -1,14 +1,16 @@
 //! Serving a stream.
 ghost use Rattle.std.specs.Prelude.{◌≡◌, IfSome};
-ghost use Rattle.chpw_answer.specs.Answering.{Answering, Unanswered};
-ghost use Rattle.chpw_answer.specs.Hearing.{HearsNothing};
-ghost use Rattle.chpw_answer.specs.Holding.{answer_in};
+ghost use Rattle.chpw_serve.specs.Answering.{Answering, Unanswered};
+ghost use Rattle.chpw_serve.specs.Hearing.{HearsNothing};
+ghost use Rattle.chpw_serve.specs.Holding.{answer_in};
 ghost use Rattle.chpw_serve.specs.Serving.{stream_state, message_too_long, IsServed, IsRefused, Passes};
-ghost use Rattle.chpw_answer.specs.declared.gate.NoGate.{NoGate};
+ghost use Rattle.chpw_serve.specs.declared.gate.NoGate.{NoGate};
 ghost use Rattle.chpw_serve.specs.ServedAlone.{AnsweringAlone, AddsOneAlone, IsServedAlone};
 
+use crate::answering::answer_message;
 use crate::draws::{Clock, Words, draw};
-use chpw_answer::{Gate, Messages, NoGate, Spot, answer_message};
+use crate::gate::{Gate, NoGate, Spot};
+use crate::messages::Messages;
 use chpw_decider::{Alone, Decider};
 use chpw_frame::{Received, read_tcp, write_tcp};
 use chpw_table::JournalSink;

@@ -9,7 +9,7 @@ use Rattle.chpw_table.specs.declared.verdict.Verdict.{Verdict}
 use Rattle.chpw_table.specs.declared.verdict.Verdict.TheVariants.{Broken}
 use Rattle.chpw_table.specs.Requests.{client_of}
 use Rattle.chpw_table.specs.Replies.{Answer, answer_of}
-use Rattle.chpw_answer.specs.Hearing.{Heard, passed, decision, refusal}
+use Rattle.chpw_serve.specs.Hearing.{Heard, passed, decision, refusal}
 use Rattle.chpw_log.specs.Lines.{Outcome, target_asked, line_with}
 
 -- the line of a message that opened, of this moment; that of one that didn't, which may be held back, with its peer;

@@ -2,14 +2,14 @@
 ghost use Rattle.std.specs.Prelude.{◌≡◌, ◌<◌, IfOk, map, vec_len};
 ghost use Rattle.std.specs.List.{range_with_len};
 ghost use Rattle.chpw_table.specs.Times.{IsMoment};
-ghost use Rattle.chpw_answer.specs.Holding.{answer_in};
-ghost use Rattle.chpw_answer.specs.InTurn.{InTurn};
+ghost use Rattle.chpw_serve.specs.Holding.{answer_in};
+ghost use Rattle.chpw_serve.specs.InTurn.{InTurn};
 ghost use Rattle.chpw_log.specs.Lines.{line_of};
 ghost use Rattle.chpw_service.specs.Noting.{Noted, opened as opened_line, unopened, journal_failed, decided_line, refused_line, failed_under};
 
 use crate::logging::{Log, LogLines};
-use chpw_answer::{Gate, Spot};
 use chpw_log::{Asked, Line, News};
+use chpw_serve::{Gate, Spot};
 use chpw_table::{Event, Moment, Opened, Receipt, Verdict};
 use krb_protocol::Refusal;
 use std::alloc::{AllocError, Global};
@@ -64,7 +64,7 @@ pub(crate) fn log_gates<'l, R: Wait + Eprint>(
 
 impl<L: Lines> Gate for Logging<L> {
     ghost use Rattle.std.specs.Prelude.{◌≡◌};
-    ghost use Rattle.chpw_answer.specs.InTurn.{InTurn};
+    ghost use Rattle.chpw_serve.specs.InTurn.{InTurn};
     ghost use Rattle.chpw_service.specs.Noting.{noted};
 
     ghost hears = { λ a h b. (b.worker ≡ a.worker) × InTurn L.takes a.lines (noted a.worker h) b.lines };

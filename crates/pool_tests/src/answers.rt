@@ -4,12 +4,12 @@ ghost use Rattle.chpw_book.specs.Starting.{IsNamed, workers_of};
 
 use crate::gates::Together;
 use crate::realm::{CHANGED, name_of, opening, request, told};
-use chpw_answer::{Gate, NoGate, answer};
 use chpw_book::{AtDesk, CloseRefused, Closed, Desk, DeskName, Pass, UnnamedDesk};
 use chpw_client::Sent;
 use chpw_decider::Decider;
 use chpw_journal::MemorySink;
 use chpw_messages::Service;
+use chpw_serve::{Gate, NoGate, answer};
 use chpw_table::{Entry, Lookup, Moment};
 use std::alloc::Global;
 use std::marker::Brand;

@@ -1,5 +1,5 @@
 //! What holds workers: a gate.
-use chpw_answer::{Gate, Spot};
+use chpw_serve::{Gate, Spot};
 use chpw_table::{Moment, Opened, Receipt};
 use krb_protocol::Refusal;
 use std::sync::{Barrier, Wait};
@@ -12,7 +12,7 @@ pub struct Together<'a, R: Wait> {
 }
 
 impl<R: Wait> Gate for Together<'_, R> {
-    ghost use Rattle.chpw_answer.specs.Hearing.{HearsNothing};
+    ghost use Rattle.chpw_serve.specs.Hearing.{HearsNothing};
 
     ghost hears = { HearsNothing };
 

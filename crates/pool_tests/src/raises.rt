@@ -8,11 +8,11 @@ use crate::answers::{
 };
 use crate::overtaken::Overtaken;
 use crate::realm::{CHANGED, name_of, opening, request};
-use chpw_answer::{Gate, NoGate, Spot};
 use chpw_book::{AtDesk, Desk, DeskName, Pass, UnnamedDesk};
 use chpw_client::Sent;
 use chpw_journal::{MemorySink, Restored, restore};
 use chpw_messages::Service;
+use chpw_serve::{Gate, NoGate, Spot};
 use chpw_table::{Entry, Event, Lookup, Moment, Opened, RaiseVerdict, Receipt, Verdict};
 use krb_protocol::Refusal;
 use std::alloc::Global;
@@ -32,7 +32,7 @@ struct Raises<'a, D: DeskName, R: Wait + Abort> {
 }
 
 impl<D: DeskName, R: Wait + Abort> Gate for Raises<'_, D, R> {
-    ghost use Rattle.chpw_answer.specs.Hearing.{HearsNothing};
+    ghost use Rattle.chpw_serve.specs.Hearing.{HearsNothing};
 
     ghost hears = { HearsNothing };
 

@@ -3,8 +3,7 @@
 use crate::messages::Message;
 use crate::serving::{How, ended_text, serve_by, stream_of};
 use crate::world::{Setting, World};
-use chpw_answer::{Gate, Spot};
-use chpw_serve::Ended;
+use chpw_serve::{Ended, Gate, Spot};
 use chpw_table::{Event, Moment, Opened, Receipt};
 use fake_streams::Way;
 use krb_protocol::Refusal;
@@ -19,7 +18,7 @@ struct Noting {
 
 // Without memory only a part is noted, and the case has another answer.
 impl Gate for Noting {
-    ghost use Rattle.chpw_answer.specs.Hearing.{HearsNothing};
+    ghost use Rattle.chpw_serve.specs.Hearing.{HearsNothing};
 
     ghost hears = { HearsNothing };
 

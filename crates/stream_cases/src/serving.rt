@@ -3,11 +3,10 @@
 use crate::clock::{Counting, Standing};
 use crate::messages::{Message, no_case, show_reply};
 use crate::world::{Holding, Setting, World};
-use chpw_answer::{Gate, Messages};
 use chpw_decider::{Alone, Decider};
 use chpw_frame::{Received, read_tcp, write_tcp};
 use chpw_journal::MemorySink;
-use chpw_serve::{Ended, serve_alone, serve_stream};
+use chpw_serve::{Ended, Gate, Messages, serve_alone, serve_stream};
 use fake_streams::{Course, Giver, Taker, Way};
 use std::alloc::Global;
 use std::io;

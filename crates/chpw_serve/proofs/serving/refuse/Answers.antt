@@ -1,6 +1,6 @@
 use Rattle.std.proofs.Common.{refl, subst, None}
 use Rattle.chpw_table.specs.Replies.{Answer}
-use Rattle.chpw_answer.specs.Hearing.{refusal}
+use Rattle.chpw_serve.specs.Hearing.{refusal}
 use Rattle.chpw_serve.proofs.serving.refuse.Goals as goal
 
 pub returns-in-Err : goal.returns-in-Err

@@ -1,6 +1,6 @@
 use Rattle.std.proofs.Common.{subst, ◌≤◌}
 use Rattle.chpw_table.specs.Agreement.{Held}
-use Rattle.chpw_answer.specs.Hearing.{HearsNothing}
+use Rattle.chpw_serve.specs.Hearing.{HearsNothing}
 use Rattle.chpw_serve.proofs.ServedAloneLemmas.{served_alone_of, at_most}
 use Rattle.chpw_serve.proofs.serving.serve_alone.Goals as goal
 

@@ -1,5 +1,5 @@
 use Rattle.std.proofs.Common.{◌-◌}
-use Rattle.chpw_answer.specs.Answering.{Answering, Unanswered}
+use Rattle.chpw_serve.specs.Answering.{Answering, Unanswered}
 use Rattle.chpw_serve.specs.Serving.{stream_state, message_too_long}
 use Rattle.chpw_serve.proofs.ServingLemmas.{SoFar}
 use Rattle.chpw_serve.proofs.serving.serve_stream.Given as goal

@@ -10,7 +10,7 @@ use Rattle.chpw_table.specs.Requests.{named_or}
 use Rattle.chpw_table.specs.Replies.{Answer}
 use Rattle.chpw_table.specs.Derivations.{digest_from}
 use Rattle.chpw_table.specs.Completing.{salt_of}
-use Rattle.chpw_answer.specs.declared.messages.Seal.{Seal}
+use Rattle.chpw_serve.specs.declared.messages.Seal.{Seal}
 
 -- what the KRB-PRIV held
 pub data Content : Type 0 where

@@ -1,12 +1,12 @@
 //! The answer to one message.
 ghost use Rattle.std.specs.Prelude.{◌≡◌, ◌≤◌, ◌<◌, Bool, length, IfOk, OnErr};
 ghost use Rattle.chpw_table.specs.Times.{IsMoment};
-ghost use Rattle.chpw_answer.specs.Holding.{IsReplyTime, answer_in};
-ghost use Rattle.chpw_answer.specs.Answers.{history_full as full_answer, reply as reply_to};
-ghost use Rattle.chpw_answer.specs.Answering.{Answering, Unanswered};
+ghost use Rattle.chpw_serve.specs.Holding.{IsReplyTime, answer_in};
+ghost use Rattle.chpw_serve.specs.Answers.{history_full as full_answer, reply as reply_to};
+ghost use Rattle.chpw_serve.specs.Answering.{Answering, Unanswered};
 
 use crate::completing::derive_wanted;
-use crate::drawing::Drawing;
+use crate::draws::Drawing;
 use crate::gate::{Gate, Spot};
 use crate::messages::{Incoming, Messages, OpenResult, Seal};
 use crate::telling::decide_telling;

@@ -6,8 +6,8 @@ use Rattle.chpw_table.specs.declared.history.Receipt.{Receipt}
 use Rattle.chpw_table.specs.declared.verdict.Verdict.{Verdict}
 use Rattle.chpw_table.specs.Replies.{Answer, by_error, answer_of}
 use Rattle.chpw_decider.specs.Deciding.{AddsReceipt}
-use Rattle.chpw_answer.specs.declared.messages.Seal.{Seal}
-use Rattle.chpw_answer.specs.Requests.{Request, Opens, refused, opened, opened_under}
+use Rattle.chpw_serve.specs.declared.messages.Seal.{Seal}
+use Rattle.chpw_serve.specs.Requests.{Request, Opens, refused, opened, opened_under}
 
 -- where the history has no room for one event more
 abbrev pub history_full : Answer

@@ -5,12 +5,12 @@ use Rattle.chpw_table.specs.declared.request.Opened.{Opened}
 use Rattle.chpw_table.specs.declared.history.Receipt.{Receipt}
 use Rattle.chpw_table.specs.declared.verdict.Verdict.{Verdict}
 use Rattle.chpw_decider.specs.Deciding.{AddsReceipt, AddsCompleted, IsCompletedFrom}
-use Rattle.chpw_answer.specs.declared.deciding.Decision.{Decision}
-use Rattle.chpw_answer.specs.declared.deciding.Decision.TheVariants as decision
-use Rattle.chpw_answer.specs.declared.deciding.Try.{Try}
-use Rattle.chpw_answer.specs.declared.deciding.Try.TheVariants as try
-use Rattle.chpw_answer.specs.Answers.{history_full}
-use Rattle.chpw_answer.specs.Hearing.{Heard, decision as decided, refusal, IsKvnoBehind}
+use Rattle.chpw_serve.specs.declared.deciding.Decision.{Decision}
+use Rattle.chpw_serve.specs.declared.deciding.Decision.TheVariants as decision
+use Rattle.chpw_serve.specs.declared.deciding.Try.{Try}
+use Rattle.chpw_serve.specs.declared.deciding.Try.TheVariants as try
+use Rattle.chpw_serve.specs.Answers.{history_full}
+use Rattle.chpw_serve.specs.Hearing.{Heard, decision as decided, refusal, IsKvnoBehind}
 
 abbrev pub IsDecision : Type 0 → Decision → List ℕ → Opened → Moment → List Receipt → List Receipt → Type 0
 IsDecision full (decision.Verdict v) password before now old new = AddsCompleted old new now password before v

@@ -9,7 +9,7 @@ use Rattle.chpw_table.specs.Wanted.{wanted}
 use Rattle.chpw_table.specs.History.{missing}
 use Rattle.chpw_table.specs.Decision.{verdict}
 use Rattle.chpw_table.specs.Step.{step}
-use Rattle.chpw_answer.specs.Requests.{Request, opened_under}
+use Rattle.chpw_serve.specs.Requests.{Request, opened_under}
 
 abbrev pub judged : State → Request → Opened
 judged s q = opened_under (wanted s (target_of (opened_under [] q)).name) q

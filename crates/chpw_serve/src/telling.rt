@@ -1,7 +1,7 @@
 //! What a gate is told of a decision.
 ghost use Rattle.std.specs.Prelude.{◌≡◌, ◌<◌, IfOk, OnErr};
 ghost use Rattle.chpw_table.specs.Times.{IsMoment};
-ghost use Rattle.chpw_answer.specs.Trying.{IsVerdict, HearsVerdict, HearsLast, EndsWithVerdict};
+ghost use Rattle.chpw_serve.specs.Trying.{IsVerdict, HearsVerdict, HearsLast, EndsWithVerdict};
 
 use crate::answering::history_full;
 use crate::deciding::{Decision, decide};

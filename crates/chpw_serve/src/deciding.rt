@@ -1,7 +1,7 @@
 //! The decision of a request, with keys derived as they are wanted.
 ghost use Rattle.std.specs.Prelude.{◌≡◌, IfOk, OnErr};
 ghost use Rattle.chpw_table.specs.Times.{IsMoment};
-ghost use Rattle.chpw_answer.specs.Trying.{IsTry, IsDecision};
+ghost use Rattle.chpw_serve.specs.Trying.{IsTry, IsDecision};
 
 use crate::completing::derive_more;
 use chpw_decider::Decider;

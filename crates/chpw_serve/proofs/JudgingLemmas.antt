@@ -24,8 +24,8 @@ use Rattle.chpw_table.specs.Step.{step, new_key, with_key, after}
 use Rattle.chpw_table.specs.History.{missing}
 use Rattle.chpw_table.proofs.WantedLemmas.{ascends_once, lacking_all}
 use Rattle.chpw_decider.proofs.CompletingLemmas.{has_all}
-use Rattle.chpw_answer.specs.Requests.{Request, Content, new_password, bad_data, opened_under}
-use Rattle.chpw_answer.specs.Judging.{judged, JudgedAlike}
+use Rattle.chpw_serve.specs.Requests.{Request, Content, new_password, bad_data, opened_under}
+use Rattle.chpw_serve.specs.Judging.{judged, JudgedAlike}
 
 itself : (n : ℕ) → (n == n) ≡ true
 itself n = grind (arith, nat_tests)

@@ -10,7 +10,7 @@ use Rattle.chpw_table.specs.Requests.{target_of}
 use Rattle.chpw_table.proofs.DerivationLemmas.{with_counts_there, with_counts_new}
 use Rattle.chpw_table.specs.Completing.{completed, salt_of}
 use Rattle.chpw_decider.specs.Deciding.{IsCompletedFrom}
-use Rattle.chpw_answer.specs.Requests.{Request, Content, new_password, opened_under, password_in}
+use Rattle.chpw_serve.specs.Requests.{Request, Content, new_password, opened_under, password_in}
 
 with_none : (p s : List ℕ) (d : Derivation) → with_counts p s d [] ≡ d
 with_none p s d = append-nil d

@@ -1,12 +1,12 @@
 use Rattle.std.proofs.Common.{◌≡◌, ◌≤◌, ◌∙◌, ap, sym, subst, inl, inr, refl, List, [], ◌∷◌, ℕ, length, Vec, Global, Option}
 use Rattle.chpw_table.specs.declared.verdict.Verdict.{Verdict}
 use Rattle.chpw_decider.specs.Deciding.{IsCompletedFrom}
-use Rattle.chpw_answer.specs.declared.gate.Spot.TheVariants as spot
-use Rattle.chpw_answer.specs.Hearing.{Heard, passed}
-use Rattle.chpw_answer.proofs.AnsweringLemmas.{answers_full, answers_verdict}
-use Rattle.chpw_answer.proofs.HearingLemmas.{on_err, hears_refused, hears_opened, hears_request, told_refused, told_opened}
-use Rattle.chpw_answer.proofs.answering.answer_message.Goals as goal
-use Rattle.chpw_answer.proofs.answering.answer_message.Goals.{in-None+in_ok-bytes-in-None, in-Some+in_ok-bytes-in-Some}
+use Rattle.chpw_serve.specs.declared.gate.Spot.TheVariants as spot
+use Rattle.chpw_serve.specs.Hearing.{Heard, passed}
+use Rattle.chpw_serve.proofs.AnsweringLemmas.{answers_full, answers_verdict}
+use Rattle.chpw_serve.proofs.HearingLemmas.{on_err, hears_refused, hears_opened, hears_request, told_refused, told_opened}
+use Rattle.chpw_serve.proofs.answering.answer_message.Goals as goal
+use Rattle.chpw_serve.proofs.answering.answer_message.Goals.{in-None+in_ok-bytes-in-None, in-Some+in_ok-bytes-in-Some}
 
 items_of : (a b : Vec ℕ Global) → a ≡ b → a.items ≡ b.items
 items_of a b e = ap (λ (v : Vec ℕ Global). v.items) e

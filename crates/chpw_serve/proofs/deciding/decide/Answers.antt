@@ -4,10 +4,10 @@ use Rattle.chpw_table.specs.Completing.{completed}
 use Rattle.chpw_table.specs.declared.history.Receipt.{Receipt}
 use Rattle.chpw_table.specs.declared.outcome.DecideFault.{DecideFault}
 use Rattle.chpw_decider.specs.Deciding.{AddsReceipt, MayBe}
-use Rattle.chpw_answer.specs.declared.deciding.Try.{Try}
-use Rattle.chpw_answer.specs.Trying.{IsTry}
-use Rattle.chpw_answer.proofs.CompletingLemmas.{completed_on}
-use Rattle.chpw_answer.proofs.deciding.decide.Goals as goal
+use Rattle.chpw_serve.specs.declared.deciding.Try.{Try}
+use Rattle.chpw_serve.specs.Trying.{IsTry}
+use Rattle.chpw_serve.proofs.CompletingLemmas.{completed_on}
+use Rattle.chpw_serve.proofs.deciding.decide.Goals as goal
 
 pub loop-preserved : goal.loop-preserved
 loop-preserved g c =

@@ -8,15 +8,15 @@ use Rattle.chpw_table.specs.declared.verdict.Verdict.{Verdict}
 use Rattle.chpw_table.specs.Replies.{Answer}
 use Rattle.chpw_table.specs.Completing.{completed}
 use Rattle.chpw_decider.specs.Deciding.{AddsReceipt, IsCompletedFrom}
-use Rattle.chpw_answer.specs.declared.messages.Seal.{Seal}
-use Rattle.chpw_answer.specs.declared.messages.Incoming.{Incoming}
-use Rattle.chpw_answer.specs.declared.messages.OpenResult.{OpenResult}
-use Rattle.chpw_answer.specs.declared.messages.OpenResult.TheVariants as program
-use Rattle.chpw_answer.specs.Requests.{Request, Opens, refused, opened, opened_under, password_in}
-use Rattle.chpw_answer.specs.Holding.{IsIncoming, IsOpenResult, answer_in}
-use Rattle.chpw_answer.specs.Answers.{history_full, reply, AnswersRequest, IsAnswer}
-use Rattle.chpw_answer.specs.Trying.{IsVerdict}
-use Rattle.chpw_answer.proofs.CompletingLemmas.{completed_on, under}
+use Rattle.chpw_serve.specs.declared.messages.Seal.{Seal}
+use Rattle.chpw_serve.specs.declared.messages.Incoming.{Incoming}
+use Rattle.chpw_serve.specs.declared.messages.OpenResult.{OpenResult}
+use Rattle.chpw_serve.specs.declared.messages.OpenResult.TheVariants as program
+use Rattle.chpw_serve.specs.Requests.{Request, Opens, refused, opened, opened_under, password_in}
+use Rattle.chpw_serve.specs.Holding.{IsIncoming, IsOpenResult, answer_in}
+use Rattle.chpw_serve.specs.Answers.{history_full, reply, AnswersRequest, IsAnswer}
+use Rattle.chpw_serve.specs.Trying.{IsVerdict}
+use Rattle.chpw_serve.proofs.CompletingLemmas.{completed_on, under}
 
 module _ (error_frame : Answer → Moment → List ℕ) (private_frame : Seal → Answer → List ℕ → List ℕ) (full : Type 0) (words : List ℕ) (now : Moment) (old new : List Receipt) where
   -- a full history

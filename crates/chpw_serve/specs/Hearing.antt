@@ -8,10 +8,10 @@ use Rattle.chpw_table.specs.declared.history.Receipt.{Receipt}
 use Rattle.chpw_table.specs.declared.verdict.Verdict.{Verdict}
 use Rattle.chpw_table.specs.declared.verdict.Verdict.TheVariants.{Done}
 use Rattle.chpw_table.specs.Replies.{Answer}
-use Rattle.chpw_answer.specs.declared.gate.Spot.{Spot}
-use Rattle.chpw_answer.specs.declared.gate.Spot.TheVariants as spot
-use Rattle.chpw_answer.specs.Requests.{Opens, refused, opened, opened_under}
-use Rattle.chpw_answer.specs.Answers.{history_full}
+use Rattle.chpw_serve.specs.declared.gate.Spot.{Spot}
+use Rattle.chpw_serve.specs.declared.gate.Spot.TheVariants as spot
+use Rattle.chpw_serve.specs.Requests.{Opens, refused, opened, opened_under}
+use Rattle.chpw_serve.specs.Answers.{history_full}
 
 -- that the worker came by a place; the decision of a request from a peer at a moment, by its receipt, and the
 -- version of the new key behind a change; or the refusal of a message, with its request where one was opened

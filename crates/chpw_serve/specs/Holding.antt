@@ -2,11 +2,11 @@
 use Rattle.std.specs.Prelude.{◌≡◌, ◌<◌, ◌≤ℤ◌, pos, negsuc, []}
 use Rattle.krb_protocol.specs.declared.refusal.Refusal.{Refusal}
 use Rattle.chpw_table.specs.Replies.{Answer, by_error}
-use Rattle.chpw_answer.specs.declared.messages.Seal.{Seal}
-use Rattle.chpw_answer.specs.declared.messages.Incoming.{Incoming}
-use Rattle.chpw_answer.specs.declared.messages.OpenResult.{OpenResult}
-use Rattle.chpw_answer.specs.declared.messages.OpenResult.TheVariants as program
-use Rattle.chpw_answer.specs.Requests.{Request, Opens, refused, opened, opened_under, password_in}
+use Rattle.chpw_serve.specs.declared.messages.Seal.{Seal}
+use Rattle.chpw_serve.specs.declared.messages.Incoming.{Incoming}
+use Rattle.chpw_serve.specs.declared.messages.OpenResult.{OpenResult}
+use Rattle.chpw_serve.specs.declared.messages.OpenResult.TheVariants as program
+use Rattle.chpw_serve.specs.Requests.{Request, Opens, refused, opened, opened_under, password_in}
 
 abbrev pub answer_in : Refusal → Answer
 answer_in r = by_error r.code r.error r.text.now

@@ -3,11 +3,11 @@ use Rattle.std.specs.Prelude.{◌≡◌, ◌≤◌, ℕ, List, length, Bool, Opt
 use Rattle.chpw_table.specs.declared.times.Moment.{Moment}
 use Rattle.chpw_table.specs.declared.history.Receipt.{Receipt}
 use Rattle.chpw_table.specs.Replies.{Answer}
-use Rattle.chpw_answer.specs.declared.messages.Seal.{Seal}
-use Rattle.chpw_answer.specs.Requests.{Opens}
-use Rattle.chpw_answer.specs.Answers.{IsAnswer, is_opened}
-use Rattle.chpw_answer.specs.InTurn.{InTurn}
-use Rattle.chpw_answer.specs.Hearing.{Heard, HearsOpened, HearsUnanswered}
+use Rattle.chpw_serve.specs.declared.messages.Seal.{Seal}
+use Rattle.chpw_serve.specs.Requests.{Opens}
+use Rattle.chpw_serve.specs.Answers.{IsAnswer, is_opened}
+use Rattle.chpw_serve.specs.InTurn.{InTurn}
+use Rattle.chpw_serve.specs.Hearing.{Heard, HearsOpened, HearsUnanswered}
 
 -- these bytes, which fit a frame, answer a message from this peer, which opened or not; who decides went on: its
 -- receipts are these, and it may be full with them; and the gate heard just what came of the message

@@ -12,18 +12,18 @@ use Rattle.chpw_table.specs.declared.verdict.Verdict.{Verdict}
 use Rattle.chpw_table.specs.Replies.{Answer}
 use Rattle.chpw_table.specs.Completing.{completed}
 use Rattle.chpw_decider.specs.Deciding.{IsCompletedFrom}
-use Rattle.chpw_answer.specs.declared.messages.Seal.{Seal}
-use Rattle.chpw_answer.specs.declared.messages.Incoming.{Incoming}
-use Rattle.chpw_answer.specs.declared.messages.OpenResult.{OpenResult}
-use Rattle.chpw_answer.specs.declared.messages.OpenResult.TheVariants as program
-use Rattle.chpw_answer.specs.declared.gate.Spot.TheVariants as spot
-use Rattle.chpw_answer.specs.Requests.{Request, Opens, refused, opened, opened_under, password_in}
-use Rattle.chpw_answer.specs.Holding.{IsIncoming, IsOpenResult, answer_in}
-use Rattle.chpw_answer.specs.Answers.{history_full, AnswersRequest, IsAnswer, is_opened}
-use Rattle.chpw_answer.specs.InTurn.{InTurn}
-use Rattle.chpw_answer.specs.Hearing.{Heard, passed, decision, refusal, HearsRequest, HearsOpened, IsKvnoBehind}
-use Rattle.chpw_answer.specs.Trying.{IsVerdict, HearsVerdict}
-use Rattle.chpw_answer.proofs.CompletingLemmas.{completed_on, under}
+use Rattle.chpw_serve.specs.declared.messages.Seal.{Seal}
+use Rattle.chpw_serve.specs.declared.messages.Incoming.{Incoming}
+use Rattle.chpw_serve.specs.declared.messages.OpenResult.{OpenResult}
+use Rattle.chpw_serve.specs.declared.messages.OpenResult.TheVariants as program
+use Rattle.chpw_serve.specs.declared.gate.Spot.TheVariants as spot
+use Rattle.chpw_serve.specs.Requests.{Request, Opens, refused, opened, opened_under, password_in}
+use Rattle.chpw_serve.specs.Holding.{IsIncoming, IsOpenResult, answer_in}
+use Rattle.chpw_serve.specs.Answers.{history_full, AnswersRequest, IsAnswer, is_opened}
+use Rattle.chpw_serve.specs.InTurn.{InTurn}
+use Rattle.chpw_serve.specs.Hearing.{Heard, passed, decision, refusal, HearsRequest, HearsOpened, IsKvnoBehind}
+use Rattle.chpw_serve.specs.Trying.{IsVerdict, HearsVerdict}
+use Rattle.chpw_serve.proofs.CompletingLemmas.{completed_on, under}
 
 pub on_err : {T E : Type 0} {P : Type 0} (r : Result T E) → P → OnErr r P
 on_err (Ok x) p = tt

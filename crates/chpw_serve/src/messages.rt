@@ -3,9 +3,9 @@ ghost use Rattle.std.specs.Prelude.{◌≡◌, ◌≤◌, ◌<◌, ℕ, List, le
 ghost use Rattle.chpw_table.specs.declared.times.Moment.{Moment};
 ghost use Rattle.chpw_table.specs.Times.{IsMoment};
 ghost use Rattle.chpw_table.specs.Replies.{Answer, by_private};
-ghost use Rattle.chpw_answer.specs.declared.messages.Seal.{Seal};
-ghost use Rattle.chpw_answer.specs.Requests.{Opens};
-ghost use Rattle.chpw_answer.specs.Holding.{IsInTime, IsOpenResult, IsReplyTime, answer_in};
+ghost use Rattle.chpw_serve.specs.declared.messages.Seal.{Seal};
+ghost use Rattle.chpw_serve.specs.Requests.{Opens};
+ghost use Rattle.chpw_serve.specs.Holding.{IsInTime, IsOpenResult, IsReplyTime, answer_in};
 
 use chpw_rules::Items;
 use chpw_table::{Moment, Opened};

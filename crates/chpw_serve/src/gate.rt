@@ -1,8 +1,8 @@
 //! What a worker passes with each message.
 ghost use Rattle.std.specs.Prelude.{◌<◌, None, option_map};
 ghost use Rattle.chpw_table.specs.Times.{IsMoment};
-ghost use Rattle.chpw_answer.specs.Holding.{answer_in};
-ghost use Rattle.chpw_answer.specs.Hearing.{Heard, passed, decision, refusal as refusal_of};
+ghost use Rattle.chpw_serve.specs.Holding.{answer_in};
+ghost use Rattle.chpw_serve.specs.Hearing.{Heard, passed, decision, refusal as refusal_of};
 
 use chpw_table::{Moment, Opened, Receipt};
 use krb_protocol::Refusal;
@@ -47,7 +47,7 @@ pub trait Gate {
 pub struct NoGate;
 
 impl Gate for NoGate {
-    ghost use Rattle.chpw_answer.specs.Hearing.{HearsNothing};
+    ghost use Rattle.chpw_serve.specs.Hearing.{HearsNothing};
 
     ghost hears = { HearsNothing };
 
