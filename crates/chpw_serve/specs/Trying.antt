@@ -10,7 +10,7 @@ use Rattle.chpw_serve.specs.declared.deciding.Decision.TheVariants as decision
 use Rattle.chpw_serve.specs.declared.deciding.Try.{Try}
 use Rattle.chpw_serve.specs.declared.deciding.Try.TheVariants as try
 use Rattle.chpw_serve.specs.Answers.{history_full}
-use Rattle.chpw_serve.specs.Hearing.{Heard, decision as decided, refusal, IsKvnoBehind}
+use Rattle.chpw_serve.specs.Hearing.{Heard, decision as decided, refusal, IsKvnoOf}
 
 abbrev pub IsDecision : Type 0 → Decision → List ℕ → Opened → Moment → List Receipt → List Receipt → Type 0
 IsDecision full (decision.Verdict v) password before now old new = AddsCompleted old new now password before v
@@ -26,16 +26,16 @@ IsTry full (try.Verdict v) password before now old new = AddsReceipt old new now
 IsTry full (try.Full o) password before now old new = (new ≡ old) × full × (o ≡ before)
 IsTry full (try.Again o) password before now old new = (new ≡ old) × IsCompletedFrom password before o
 
--- what the gate is told of a verdict: the last receipt; where the history is full, the request
+-- what an observer hears of a verdict: the last receipt; where the history is full, the request
 abbrev pub HearsLast : {G : Type 0} → (G → Heard → G → Type 0) → List ℕ → Moment → (Option ℕ → Type 0) → List Receipt → G → G → Type 0
-HearsLast hears peer now made receipts gate later =
-    (r : Receipt) × (kvno : Option ℕ) × (slice_get receipts (length receipts - 1) ≡ Some r) × IsKvnoBehind made r.entry.event kvno
-    × hears gate (decided peer now r kvno) later
+HearsLast hears peer now made receipts observer later =
+    (r : Receipt) × (kvno : Option ℕ) × (slice_get receipts (length receipts - 1) ≡ Some r) × IsKvnoOf made r.entry.event kvno
+    × hears observer (decided peer now r kvno) later
 
 abbrev pub HearsVerdict : {G : Type 0} → (G → Heard → G → Type 0) → List ℕ → Moment → (Option ℕ → Type 0) → List Receipt → List ℕ → Opened → Option Verdict → G → G → Type 0
-HearsVerdict hears peer now made receipts password before (Some v) gate later = HearsLast hears peer now made receipts gate later
-HearsVerdict hears peer now made receipts password before None gate later =
-    (o : Opened) × IsCompletedFrom password before o × hears gate (refusal peer now (Some o) history_full) later
+HearsVerdict hears peer now made receipts password before (Some v) observer later = HearsLast hears peer now made receipts observer later
+HearsVerdict hears peer now made receipts password before None observer later =
+    (o : Opened) × IsCompletedFrom password before o × hears observer (refusal peer now (Some o) history_full) later
 
 -- the last receipt is of this decision
 abbrev pub EndsWithVerdict : List Receipt → Moment → Verdict → Type 0

@@ -8,8 +8,9 @@ ghost use Rattle.chpw_serve.specs.Answering.{Answering, Unanswered};
 use crate::completing::derive_wanted;
 use crate::draws::Drawing;
 use crate::gate::{Gate, Spot};
+use crate::hearing::decide_heard;
 use crate::messages::{Incoming, Messages, OpenResult, Seal};
-use crate::telling::decide_telling;
+use crate::observer::Observer;
 use chpw_decider::Decider;
 use chpw_table::{Moment, Verdict};
 use krb_protocol::Refusal;
@@ -25,9 +26,9 @@ pub struct Answered {
 
 /// The reply to a message from this peer, an IPv4 address, high byte first. Its request is judged at
 /// the moment `now`, whose seconds are 0 to `chpw_table::LAST_SECOND`, and microseconds below
-/// 1,000,000; the words make its confounders and its sequence number. The gate hears what came of it.
-/// After `AllocError` there may be a receipt more, of which the gate heard.
-pub fn answer<M: Messages, D: Decider, G: Gate>(
+/// 1,000,000; the words make its confounders and its sequence number. The observer hears what came of it.
+/// After `AllocError` there may be a receipt more, of which the observer heard.
+pub fn answer<M: Messages, D: Decider, G: Gate + Observer>(
     alloc: Global,
     service: &M,
     peer: [u8; 4],
@@ -41,18 +42,18 @@ pub fn answer<M: Messages, D: Decider, G: Gate>(
     requires micros { now.micros < 1000000 }
     ensures answers { IfOk result (λ bytes. (is_open : Bool)
         × Answering (M.error_frame service.now) (M.private_frame service.now) D.may_be_full D.gathered
-        D.follows D.made G.hears (M.opens service.now peer) peer
+        D.follows D.made G.passes G.hears (M.opens service.now peer) peer
         message.now words now decider.old decider.new gate.old gate.new bytes.items is_open) }
-    ensures refused { OnErr result (Unanswered D.gathered D.follows D.made G.hears (M.opens service.now peer) peer
-        message.now now decider.old decider.new gate.old gate.new) }
+    ensures refused { OnErr result (Unanswered D.gathered D.follows D.made G.passes G.hears
+        (M.opens service.now peer) peer message.now now decider.old decider.new gate.old gate.new) }
 {
     let drawn = Drawing { now, words };
     let answer = answer_message(alloc, service, peer, message, decider, gate, drawn)?;
     Ok(answer.bytes)
 }
 
-/// The same, with whether the message opened.
-pub fn answer_message<M: Messages, D: Decider, G: Gate>(
+/// As `answer`, with whether the message opened.
+pub fn answer_message<M: Messages, D: Decider, G: Gate + Observer>(
     alloc: Global,
     service: &M,
     peer: [u8; 4],
@@ -63,10 +64,10 @@ pub fn answer_message<M: Messages, D: Decider, G: Gate>(
 ) -> Result<Answered, AllocError>
     ensures answers { IfOk result (λ a.
         Answering (M.error_frame service.now) (M.private_frame service.now) D.may_be_full D.gathered
-        D.follows D.made G.hears (M.opens service.now peer) peer
+        D.follows D.made G.passes G.hears (M.opens service.now peer) peer
         message.now drawn.words drawn.now decider.old decider.new gate.old gate.new a.bytes.items a.opened) }
-    ensures refused { OnErr result (Unanswered D.gathered D.follows D.made G.hears (M.opens service.now peer) peer
-        message.now drawn.now decider.old decider.new gate.old gate.new) }
+    ensures refused { OnErr result (Unanswered D.gathered D.follows D.made G.passes G.hears
+        (M.opens service.now peer) peer message.now drawn.now decider.old decider.new gate.old gate.new) }
 {
     let incoming = match service.open(alloc, peer, message)? {
         OpenResult::Opened(incoming) => incoming,
@@ -92,7 +93,7 @@ pub fn answer_message<M: Messages, D: Decider, G: Gate>(
         password.as_slice(),
     )?;
     gate.at(Spot::Opened);
-    let verdict = decide_telling(decider, gate, peer, drawn.now, ready, password.as_slice())?;
+    let verdict = decide_heard(decider, gate, peer, drawn.now, ready, password.as_slice())?;
     let bytes = match verdict {
         None => service.make_error(alloc, history_full(), drawn.now)?,
         Some(verdict) => reply(alloc, service, &seal, verdict, drawn)?,

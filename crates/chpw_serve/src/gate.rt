@@ -1,9 +1,5 @@
-//! What a worker passes with each message.
-ghost use Rattle.std.specs.Prelude.{◌<◌, None, option_map};
-ghost use Rattle.chpw_table.specs.Times.{IsMoment};
-ghost use Rattle.chpw_serve.specs.Holding.{answer_in};
-ghost use Rattle.chpw_serve.specs.Hearing.{Heard, passed, decision, refusal as refusal_of};
-
+//! A gate that workers pass.
+use crate::observer::Observer;
 use chpw_table::{Moment, Opened, Receipt};
 use krb_protocol::Refusal;
 
@@ -16,42 +12,32 @@ pub enum Spot {
     Answered,
 }
 
-/// What a worker passes with each message: a test can hold the worker there, and a log hears there what
-/// came of the message.
+/// What a worker passes with each message that opened: a test can hold it there.
 pub trait Gate {
-    /// Hearing this in the first state, it is in the second.
-    ghost hears: { Self → Heard → Self → Type 0 };
+    /// Passed at this place in the first state, it is in the second.
+    ghost passes: { Self → Spot → Self → Type 0 };
 
-    /// The worker comes by this place with a message that opened.
+    /// The worker comes to this place.
     fn at(&mut self, spot: Spot)
-        ensures heard { hears self.old (passed spot) self.new };
-
-    /// A request from this peer, an IPv4 address, high byte first, was decided at this moment: this is its
-    /// receipt. `kvno` is the version of the new key behind a change, and none behind another decision.
-    fn decided(&mut self, peer: [u8; 4], now: Moment, receipt: &Receipt, kvno: Option<u32>)
-        requires moment { IsMoment now }
-        requires micros { now.micros < 1000000 }
-        ensures heard { hears self.old (decision peer now receipt.now kvno) self.new };
-
-    /// A message from this peer was not decided: it didn't open, was too long, or came to a full history,
-    /// and is answered so at this moment. Of the last there is the request.
-    fn refused(&mut self, peer: [u8; 4], now: Moment, opened: Option<&Opened>, refusal: &Refusal)
-        requires moment { IsMoment now }
-        requires micros { now.micros < 1000000 }
-        ensures heard { hears self.old
-            (refusal_of peer now (option_map (λ o. o.now) opened.entry) (answer_in refusal.now)) self.new };
+        ensures passed { passes self.old spot self.new };
 }
 
-/// A gate that holds nobody, and takes no note of what it hears.
+/// A gate that holds nobody, and an observer that takes no note.
 #[derive(Clone, Copy, Drop)]
 pub struct NoGate;
 
 impl Gate for NoGate {
-    ghost use Rattle.chpw_serve.specs.Hearing.{HearsNothing};
+    ghost use Rattle.chpw_serve.specs.Hearing.{HoldsNobody};
 
-    ghost hears = { HearsNothing };
+    ghost passes = { HoldsNobody };
 
     fn at(&mut self, _spot: Spot) {}
+}
+
+impl Observer for NoGate {
+    ghost use Rattle.chpw_serve.specs.Hearing.{NotesNothing};
+
+    ghost hears = { NotesNothing };
 
     fn decided(&mut self, _peer: [u8; 4], _now: Moment, _receipt: &Receipt, _kvno: Option<u32>) {}
 

@@ -7,15 +7,17 @@ mod completing;
 mod deciding;
 mod draws;
 mod gate;
+mod hearing;
 pub mod laws;
 mod messages;
+mod observer;
 mod serving;
-mod telling;
 mod worker_words;
 
 pub use answering::{Answered, answer, answer_message};
 pub use draws::{Clock, Drawing, Words};
 pub use gate::{Gate, NoGate, Spot};
 pub use messages::{Incoming, Messages, OpenResult, Seal};
+pub use observer::Observer;
 pub use serving::{Ended, MAX_MESSAGES, serve_alone, serve_stream};
 pub use worker_words::WorkerWords;

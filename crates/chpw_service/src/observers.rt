@@ -1,4 +1,4 @@
-//! What a worker passes with its messages: what it hears there goes into the log.
+//! What hears what comes of a worker's messages, and puts it into the log.
 ghost use Rattle.std.specs.Prelude.{◌≡◌, ◌<◌, IfOk, map, vec_len};
 ghost use Rattle.std.specs.List.{range_with_len};
 ghost use Rattle.chpw_table.specs.Times.{IsMoment};
@@ -9,7 +9,7 @@ ghost use Rattle.chpw_service.specs.Noting.{Noted, opened as opened_line, unopen
 
 use crate::logging::{Log, LogLines};
 use chpw_log::{Asked, Line, News};
-use chpw_serve::{Gate, Spot};
+use chpw_serve::{Gate, Observer, Spot};
 use chpw_table::{Event, Moment, Opened, Receipt, Verdict};
 use krb_protocol::Refusal;
 use std::alloc::{AllocError, Global};
@@ -35,7 +35,7 @@ pub trait Lines {
         ensures taken { takes self.old (journal_failed now) self.new };
 }
 
-/// What this worker passes with its messages.
+/// Hears what comes of this worker's messages; a gate that holds nobody.
 #[derive(Drop)]
 pub struct Logging<L: Lines> {
     lines: L,
@@ -43,33 +43,39 @@ pub struct Logging<L: Lines> {
 }
 
 /// One for each worker, in their order.
-pub(crate) fn log_gates<'l, R: Wait + Eprint>(
+pub(crate) fn log_observers<'l, R: Wait + Eprint>(
     alloc: Global,
     log: &'l Log<'l, R>,
     workers: u8,
 ) -> Result<Vec<Logging<LogLines<'l, R>>>, AllocError>
-    ensures count { IfOk result (λ gates. vec_len gates ≡ workers) }
-    ensures workers { IfOk result (λ gates.
-        map (λ gate. gate.worker) gates.items ≡ range_with_len 0 workers) }
+    ensures count { IfOk result (λ observers. vec_len observers ≡ workers) }
+    ensures workers { IfOk result (λ observers.
+        map (λ observer. observer.worker) observers.items ≡ range_with_len 0 workers) }
 {
-    let mut gates = Vec::with_capacity(alloc, usize::from(workers))?;
+    let mut observers = Vec::with_capacity(alloc, usize::from(workers))?;
     for worker in 0..workers {
-        gates.push(Logging {
+        observers.push(Logging {
             lines: LogLines { log },
             worker,
         })?;
     }
-    Ok(gates)
+    Ok(observers)
 }
 
 impl<L: Lines> Gate for Logging<L> {
+    ghost use Rattle.chpw_serve.specs.Hearing.{HoldsNobody};
+
+    ghost passes = { HoldsNobody };
+
+    fn at(&mut self, _spot: Spot) {}
+}
+
+impl<L: Lines> Observer for Logging<L> {
     ghost use Rattle.std.specs.Prelude.{◌≡◌};
     ghost use Rattle.chpw_serve.specs.InTurn.{InTurn};
     ghost use Rattle.chpw_service.specs.Noting.{noted};
 
     ghost hears = { λ a h b. (b.worker ≡ a.worker) × InTurn L.takes a.lines (noted a.worker h) b.lines };
-
-    fn at(&mut self, _spot: Spot) {}
 
     // A raise is no message's.
     fn decided(&mut self, peer: [u8; 4], now: Moment, receipt: &Receipt, kvno: Option<u32>) {
