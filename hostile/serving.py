@@ -27,7 +27,7 @@ NO_REQUEST = bytes.fromhex("0006ff800000")
 # the most bytes of a message, and the most seconds that a read waits
 LONGEST = 65_535
 PATIENCE = 10
-# the record of a change of alice, and one of bob's (docs/RULES, The journal)
+# the record of a change of alice, and one of bob's (docs/PROTOCOL, The journal)
 ALICES, BOBS = 66, 64
 
 

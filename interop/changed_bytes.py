@@ -1,5 +1,5 @@
 """What comes of a message or a journal of which one byte is changed, or which is cut short: worked out
-from docs/RULES.md, docs/JOURNAL.md and the rules of DER (X.690), with Python's own library alone. Nothing is
+from docs/PROTOCOL.md and the rules of DER (X.690), with Python's own library alone. Nothing is
 deciphered: a sealed text opens where it is the one that the client made, and no other does.
 
     python3 interop/changed_bytes.py stream      # answers of crates/stream_cases, by the line

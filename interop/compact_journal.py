@@ -1,4 +1,4 @@
-"""What a compact journal has, and what restoring it gives: worked out from docs/JOURNAL.md, with Python's own
+"""What a compact journal has, and what restoring it gives: worked out from docs/PROTOCOL.md, with Python's own
 library alone.
 
     python3 interop/compact_journal.py     # at the top: each line `compact: ..` of crates/journal_cases, and its answer

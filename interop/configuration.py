@@ -1,5 +1,5 @@
 #!/usr/bin/env python3
-"""Makes the service's configuration (docs/CONFIGURATION.md) from a keytab.
+"""Makes the service's configuration (docs/ADMIN.md) from a keytab.
 
     configuration.py KEYTAB [ACTOR:TARGET ..] > FILE
 

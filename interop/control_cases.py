@@ -3,7 +3,7 @@
 
     python3 interop/control_cases.py < crates/control_cases/stdin > crates/control_cases/stdout
 
-The commands, faults and lines are docs/CONTROL.md's, the times datetime's.
+The commands, faults and lines are docs/PROTOCOL.md's and docs/ADMIN.md's, the times datetime's.
 """
 import datetime
 import sys

@@ -4,7 +4,7 @@
     python3 interop/import_cases.py < crates/import_cases/stdin > crates/import_cases/stdout
 
 The layout is that of MIT's keytabs, format 0x0502; which keys a configuration can have, and in which order
-they stand, says docs/CONFIGURATION.md.
+they stand, says docs/PROTOCOL.md.
 """
 import collections
 import struct

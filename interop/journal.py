@@ -1,5 +1,5 @@
 #!/usr/bin/env python3
-"""Reads a journal (docs/JOURNAL.md), and writes records of one.
+"""Reads a journal (docs/PROTOCOL.md), and writes records of one.
 
     journal.py FILE
 

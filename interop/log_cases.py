@@ -3,14 +3,14 @@
 
     python3 interop/log_cases.py < crates/log_cases/stdin > crates/log_cases/stdout
 
-The codes, errors and texts are docs/RULES.md's, the times datetime's, the addresses ipaddress's.
+The codes, errors and texts are docs/PROTOCOL.md's, the times datetime's, the addresses ipaddress's.
 """
 import datetime
 import ipaddress
 import string
 import sys
 
-# the rows of the decision (docs/RULES.md): code, error, text
+# the rows of the decision (docs/PROTOCOL.md): code, error, text
 ROWS = {
     "Skew": (3, 37, "clock skew too great"),
     "Replay": (3, 34, "request replayed"),
@@ -91,7 +91,7 @@ def limited(words):
     return shown + (told(others) if others else "")
 
 
-# what happens to the service (docs/RULES.md), and the names of its numbers
+# what happens to the service (docs/PROTOCOL.md), and the names of its numbers
 EVENTS = {
     "started": ["principals", "iterations", "quiet-until"],
     "reloaded": ["principals", "iterations"],

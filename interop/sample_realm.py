@@ -1,4 +1,4 @@
-"""The configuration of a realm for tests and benches (docs/CONFIGURATION.md): EXAMPLE.COM, with a
+"""The configuration of a realm for tests and benches (docs/ADMIN.md): EXAMPLE.COM, with a
 service key of 32 bytes 5a and kvno 3, and these principals, each with a key that nobody knows the
 password of. The service's own client makes its tickets itself, so any keys will do.
 

@@ -1,6 +1,5 @@
-"""What `table` tells of a configuration and a journal: worked out from docs/RULES.md, docs/JOURNAL.md and
-docs/CONFIGURATION.md, with Python's own library alone. It reads the cases of crates/table_cases, and prints
-their answers.
+"""What `table` tells of a configuration and a journal: worked out from docs/PROTOCOL.md and
+docs/ADMIN.md, with Python's own library alone. It reads the cases of crates/table_cases, and prints their answers.
 
     python3 interop/table_cases.py < crates/table_cases/stdin > crates/table_cases/stdout
 """
@@ -65,7 +64,7 @@ def opening(text):
     return table
 
 
-# ---- the journal (docs/JOURNAL.md)
+# ---- the journal (docs/PROTOCOL.md)
 
 
 def number(text):
@@ -133,7 +132,7 @@ def restored(text, journal):
     return table
 
 
-# ---- what is told (docs/RULES.md)
+# ---- what is told (docs/PROTOCOL.md)
 
 
 def quoted(text):

@@ -3,7 +3,7 @@
 
     plain_table.py table --config FILE --journal FILE --as keys|configuration
 
-It knows the configuration as own_journal.py writes it, by its lines, and each kind of record (docs/JOURNAL.md).
+It knows the configuration as own_journal.py writes it, by its lines, and each kind of record (docs/PROTOCOL.md).
 """
 
 import argparse

@@ -215,7 +215,7 @@ fn read_settings(alloc: Global, file: &Table) -> Result<Config, ConfigError>
 ///
 /// A text that `toml` refuses is `NotToml` of the file. Then the parts are walked: the service,
 /// its keys, the policy, the rules, the principals, each followed by its keys; within a table its
-/// keys in the order of `docs/CONFIGURATION.md`. A key may be missing, of the wrong kind, not
+/// keys in the order of `docs/ADMIN.md`. A key may be missing, of the wrong kind, not
 /// hexadecimal, or out of range; these are looked for in this order. `Memory` may come anywhere.
 pub fn read_config(alloc: Global, text: &str) -> Result<Config, ConfigError>
     ensures value { UnlessMemory result (settings_of text.now) }

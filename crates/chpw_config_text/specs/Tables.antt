@@ -1,4 +1,4 @@
--- The TOML table that a configuration is written as, with the keys of `docs/CONFIGURATION.md`. The
+-- The TOML table that a configuration is written as, with the keys of `docs/ADMIN.md`. The
 -- members of a table stand in the order of their keys, as a `toml::Table` has them, and not in the
 -- order in which a file is read.
 use Rattle.std.specs.Prelude.{ℕ, pos, List, codes, map, Option, Some, None}

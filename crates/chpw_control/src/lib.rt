@@ -1,4 +1,4 @@
-//! The control socket of the service (docs/CONTROL.md): which command a line is, and what is answered. No socket, clock
+//! The control socket of the service (docs/PROTOCOL.md): which command a line is, and what is answered. No socket, clock
 //! or thread is in it: whoever has those hands in what came, and writes what is answered.
 #![tactic(auto)]
 

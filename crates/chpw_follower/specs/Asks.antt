@@ -1,4 +1,4 @@
--- What a follower is asked, and what it answers (docs/FOLLOWER.md). A mark is a number of bytes of the journal, from
+-- What a follower is asked, and what it answers (docs/PROTOCOL.md). A mark is a number of bytes of the journal, from
 -- its beginning.
 use Rattle.std.specs.Prelude.{ℕ, List, [], ◌∷◌, ◌++◌, Bool, ◌&&◌, Option, Some, None, is_none, nat_eq, nat_le, nat_lt, max, codes, if◌then◌else◌}
 use Rattle.std.specs.Fmt.{decimal}

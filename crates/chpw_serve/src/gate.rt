@@ -1,4 +1,6 @@
 //! A gate that workers pass.
+ghost use Rattle.chpw_serve.specs.declared.gate.Spot.{Spot};
+
 use crate::observer::Observer;
 use chpw_table::{Moment, Opened, Receipt};
 use krb_protocol::Refusal;

@@ -42,7 +42,7 @@ aes256 = 'a6a6a6a6a6a6a6a6a6a6a6a6a6a6a6a6a6a6a6a6a6a6a6a6a6a6a6a6a6a6a6a6'
 ";
 
 /// Alice's change to version 8 under 5 iterations, with keys of bytes a8, and a raise to 5 before it
-/// (docs/JOURNAL.md).
+/// (docs/PROTOCOL.md).
 const TABLE_JOURNAL: [&[u8]; 4] = [
     b"\x00\x05\x02\x00\x00\x00\x05",
     b"\x00\x40\x01\x00\x00\x00\x08\x00\x00\x00\x05",

@@ -108,7 +108,7 @@ fn journal_of(alloc: Global, principals: u32, changes: u32) -> Result<Vec<u8>> {
     Ok(journal)
 }
 
-// Adds a record of a change of a principal, docs/JOURNAL.md's.
+// Adds a record of a change of a principal, docs/PROTOCOL.md's.
 fn add_record(journal: &mut Vec<u8>, kvno: u32, number: u32) -> Result<()> {
     journal.extend_from_slice(b"\x00\x46\x01")?;
     journal.extend_from_slice(&kvno.to_be_bytes())?;
