@@ -140,6 +140,6 @@ fn put_priv(page: &mut Page, found: &ApOpened, text: &[u8]) -> Result<(), Stop> 
 fn service(page: &mut Page) -> Result<(), Stop> {
     let config = configured(page.alloc())?;
     let service = called(Service::of(page.alloc(), &config))?;
-    page.hexadecimal(chpw_answer::Messages::realm(&service));
+    page.hexadecimal(chpw_serve::Messages::realm(&service));
     Ok(())
 }

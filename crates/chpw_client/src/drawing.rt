@@ -1,7 +1,7 @@
 //! The random words of a request.
 ghost use Rattle.std.specs.Prelude.{◌≡◌, ◌++◌};
 ghost use Rattle.krb_msgs.specs.Making.{word_bytes};
-ghost use Rattle.chpw_answer.specs.InTurn.{InTurn};
+ghost use Rattle.chpw_serve.specs.InTurn.{InTurn};
 ghost use Rattle.chpw_client.specs.Words.{words_of};
 
 use chpw_serve::Words;

@@ -3,7 +3,7 @@ ghost use Rattle.std.specs.Prelude.{◌≡◌, ◌≤◌, ◌<◌, ◌≤ℤ◌,
 ghost use Rattle.std.specs.List.{list_all};
 ghost use Rattle.chpw_rules.specs.Fitting.{config_fits, service_key_fits};
 ghost use Rattle.chpw_rules.specs.Names.{is_name};
-ghost use Rattle.chpw_answer.specs.InTurn.{InTurn};
+ghost use Rattle.chpw_serve.specs.InTurn.{InTurn};
 ghost use Rattle.chpw_client.specs.Requests.{IsRequest};
 ghost use Rattle.chpw_client.specs.Questions.{IsAskable, latest_second, question_of};
 ghost use Rattle.chpw_client.specs.Configured.{IsFirstKey};

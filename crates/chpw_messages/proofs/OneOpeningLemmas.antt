@@ -22,7 +22,7 @@ use Rattle.chpw_frame.specs.Asked.{asks}
 use Rattle.chpw_frame.specs.ChangeData.{change_value, Finds}
 use Rattle.chpw_frame.specs.Framing.{ap_of, first_fault, old_request_version, request_versions, tail_of, version_of}
 use Rattle.chpw_frame.proofs.ChangeLemmas.{asks_complete}
-use Rattle.chpw_answer.specs.Requests.{Content, new_password, bad_private, bad_data, opened}
+use Rattle.chpw_serve.specs.Requests.{Content, new_password, bad_private, bad_data, opened}
 use Rattle.chpw_messages.specs.Opening.{Asks, IsContent, IsUserData, OpensAs, OpensFramed, OpensParts, request_of, stamp_in, target_in}
 use Rattle.chpw_messages.specs.OneOpening.{MessagesOpenOnce}
 

@@ -10,7 +10,7 @@ use Rattle.krb_msgs.specs.ApExchange.{OpensAp}
 use Rattle.krb_msgs.specs.declared.service_keys.ServiceKey.{ServiceKey}
 use Rattle.krb_msgs.specs.declared.ap_exchange.ApOpened.{ApOpened}
 use Rattle.krb_msgs.proofs.OpenedLemmas.{opened_times_fit}
-use Rattle.chpw_answer.specs.Holding.{IsReplyTime}
+use Rattle.chpw_serve.specs.Holding.{IsReplyTime}
 use Rattle.chpw_messages.specs.Opening.{seal_of}
 
 -- a number that isn't less than another

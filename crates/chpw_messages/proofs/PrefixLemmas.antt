@@ -28,7 +28,7 @@ use Rattle.chpw_frame.specs.declared.fault.FrameFault.TheVariants.{BadLength, Ba
 use Rattle.chpw_frame.specs.Framing.{ap_length_of, ap_of, first_fault, is_past_end, is_whole, number_at, request_versions, tail_of, version_of}
 use Rattle.chpw_frame.specs.Stream.{longest}
 use Rattle.chpw_frame.proofs.Tests.{is_below, is_same, not_below, not_below_is}
-use Rattle.chpw_answer.specs.Requests.{Opens, Request, bad_data, opened}
+use Rattle.chpw_serve.specs.Requests.{Opens, Request, bad_data, opened}
 use Rattle.chpw_messages.specs.Opening.{IsContent, OpensAs, OpensFramed, OpensParts, OpensTo, request_of, stamp_in}
 use Rattle.chpw_messages.specs.Prefixes.{KrbPrivsFollow, PrefixesOpen, cut_short, shortened}
 use Rattle.chpw_frame.proofs.FramingLemmas.{cleared, neither}

@@ -16,8 +16,8 @@ use Rattle.krb_msgs.proofs.ReplyFittingLemmas.{ap_rep_parts_fit, errors_fit, pri
 use Rattle.chpw_table.specs.declared.times.Moment.{Moment}
 use Rattle.chpw_table.specs.Times.{IsMoment}
 use Rattle.chpw_table.specs.Replies.{Answer, by_error}
-use Rattle.chpw_answer.specs.declared.messages.Seal.{Seal}
-use Rattle.chpw_answer.specs.Holding.{IsReplyTime}
+use Rattle.chpw_serve.specs.declared.messages.Seal.{Seal}
+use Rattle.chpw_serve.specs.Holding.{IsReplyTime}
 use Rattle.chpw_messages.specs.Service.{IsRealm}
 use Rattle.chpw_messages.specs.Replies.{ap_rep_part, error_record, priv_part, seq_number_of}
 

@@ -11,7 +11,7 @@ use Rattle.chpw_frame.specs.declared.change_data.ChangeData.{ChangeData}
 use Rattle.chpw_frame.specs.declared.change_data.ChangeTarget.{ChangeTarget}
 use Rattle.chpw_frame.specs.ChangeData.{IsChange, change_value}
 use Rattle.chpw_frame.proofs.FramingLemmas.{framed_is_whole}
-use Rattle.chpw_answer.specs.Requests.{new_password}
+use Rattle.chpw_serve.specs.Requests.{new_password}
 use Rattle.chpw_messages.specs.Opening.{IsUserData, OpensFramed, OpensParts, target_in}
 use Rattle.std.specs.Prelude.{option_map, ◌==◌}
 use Rattle.chpw_messages.specs.Laws.{FramesOpen, PartsOpen, SaysChange}

@@ -6,9 +6,9 @@ use Rattle.krb_msgs.specs.declared.private_message.Private.{Private}
 use Rattle.krb_msgs.specs.declared.fault.PrivFault.{PrivFault}
 use Rattle.krb_msgs.specs.PrivateMessages.{OpensPriv}
 use Rattle.chpw_table.specs.declared.request.Target.{Target}
-use Rattle.chpw_answer.specs.declared.messages.OpenResult as program
-use Rattle.chpw_answer.specs.Requests.{Content, Opens, body_under, password_in}
-use Rattle.chpw_answer.specs.Holding.{IsOpenResult}
+use Rattle.chpw_serve.specs.declared.messages.OpenResult as program
+use Rattle.chpw_serve.specs.Requests.{Content, Opens, body_under, password_in}
+use Rattle.chpw_serve.specs.Holding.{IsOpenResult}
 use Rattle.chpw_messages.specs.declared.content.Content as held
 use Rattle.chpw_messages.specs.Opening.{IsContent, OpensParts, OpensTo, stamp_in}
 

@@ -19,7 +19,7 @@ use Rattle.chpw_frame.specs.declared.change_data.ChangeData.{ChangeData}
 use Rattle.chpw_frame.specs.Framing.{framed, header_length, old_request_version, request_versions}
 use Rattle.chpw_frame.specs.Stream.{longest}
 use Rattle.chpw_frame.specs.ChangeData.{change_value}
-use Rattle.chpw_answer.specs.Requests.{Opens, Request, opened, new_password}
+use Rattle.chpw_serve.specs.Requests.{Opens, Request, opened, new_password}
 use Rattle.chpw_messages.specs.Opening.{OpensParts, OpensTo, request_of, target_in}
 
 -- User-data that asks for a change: in the earlier protocol the new password itself, with no target;

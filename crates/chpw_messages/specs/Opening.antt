@@ -24,8 +24,8 @@ use Rattle.chpw_frame.specs.Faults as frame
 use Rattle.chpw_rules.specs.declared.name.Name.{Name}
 use Rattle.chpw_table.specs.declared.request.Target.{Target}
 use Rattle.chpw_table.specs.Replies.{by_error}
-use Rattle.chpw_answer.specs.declared.messages.Seal.{Seal}
-use Rattle.chpw_answer.specs.Requests.{Content, new_password, bad_private, bad_data, Request, Opens, refused, opened}
+use Rattle.chpw_serve.specs.declared.messages.Seal.{Seal}
+use Rattle.chpw_serve.specs.Requests.{Content, new_password, bad_private, bad_data, Request, Opens, refused, opened}
 
 -- ---- the new password
 

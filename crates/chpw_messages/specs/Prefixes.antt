@@ -11,7 +11,7 @@ use Rattle.chpw_frame.specs.Faults.{refusal_of}
 use Rattle.chpw_frame.specs.Framing.{ap_length_of, header_length, tail_of}
 use Rattle.chpw_frame.specs.Stream.{longest}
 use Rattle.chpw_frame.specs.declared.fault.FrameFault.TheVariants.{BadLength, BadParts}
-use Rattle.chpw_answer.specs.Requests.{Opens, Request, bad_data, opened}
+use Rattle.chpw_serve.specs.Requests.{Opens, Request, bad_data, opened}
 use Rattle.chpw_messages.specs.Opening.{OpensTo, refused_by}
 
 -- its first n bytes, with n as message length

@@ -11,7 +11,7 @@ use Rattle.krb_msgs.specs.Making.{ap_rep_of, ap_rep_part_of, error_of, priv_of, 
 use Rattle.chpw_frame.specs.Framing.{framed, reply_version}
 use Rattle.chpw_table.specs.declared.times.Moment.{Moment}
 use Rattle.chpw_table.specs.Replies.{Answer}
-use Rattle.chpw_answer.specs.declared.messages.Seal.{Seal}
+use Rattle.chpw_serve.specs.declared.messages.Seal.{Seal}
 
 -- the result code, and the text
 abbrev pub user_data : Answer → List ℕ

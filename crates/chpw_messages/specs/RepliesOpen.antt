@@ -12,8 +12,8 @@ use Rattle.chpw_frame.specs.Framing.{ap_of, first_fault, reply_versions, tail_of
 use Rattle.chpw_table.specs.Replies.{Answer, by_error, by_private}
 use Rattle.chpw_table.specs.Times.{IsMoment}
 use Rattle.chpw_table.specs.declared.times.Moment.{Moment}
-use Rattle.chpw_answer.specs.declared.messages.Seal.{Seal}
-use Rattle.chpw_answer.specs.Holding.{IsReplyTime}
+use Rattle.chpw_serve.specs.declared.messages.Seal.{Seal}
+use Rattle.chpw_serve.specs.Holding.{IsReplyTime}
 use Rattle.chpw_messages.specs.Service.{IsRealm}
 use Rattle.chpw_messages.specs.Replies.{error_frame, private_frame}
 

@@ -1,8 +1,8 @@
 //! What a KRB-PRIV asks (RFC 4120 section 3.5.2, RFC 3244 section 2).
 ghost use Rattle.std.specs.Prelude.{◌≡◌, [], IfOk, option_map};
 ghost use Rattle.chpw_table.specs.declared.request.Target.{Target};
-ghost use Rattle.chpw_answer.specs.Requests as requests;
-ghost use Rattle.chpw_answer.specs.Requests.{body_under, new_password};
+ghost use Rattle.chpw_serve.specs.Requests as requests;
+ghost use Rattle.chpw_serve.specs.Requests.{body_under, new_password};
 ghost use Rattle.chpw_messages.specs.Opening.{Asks, IsAsked, content_despite, target_in};
 ghost use Rattle.chpw_messages.specs.Holds.{HoldsContent, IsHeld};
 

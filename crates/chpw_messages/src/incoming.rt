@@ -1,14 +1,14 @@
 //! A request that opened, as it is judged and replied to.
 ghost use Rattle.std.specs.Prelude.{◌≡◌, ℤ, Option, IfOk};
-ghost use Rattle.chpw_answer.specs.Requests as requests;
-ghost use Rattle.chpw_answer.specs.Holding.{IsIncoming};
+ghost use Rattle.chpw_serve.specs.Requests as requests;
+ghost use Rattle.chpw_serve.specs.Holding.{IsIncoming};
 ghost use Rattle.chpw_messages.specs.Opening.{request_of, seal_of};
 ghost use Rattle.chpw_messages.specs.Holds.{IsHeld};
 
 use crate::content::Content;
 use crate::names::name_of;
-use chpw_answer::{Incoming, Seal};
 use chpw_rules::Items;
+use chpw_serve::{Incoming, Seal};
 use chpw_table::Opened;
 use krb_msgs::ApOpened;
 use krb_protocol::{TICKET_INITIAL, TICKET_INVALID};

@@ -2,12 +2,12 @@
 ghost use Rattle.std.specs.Prelude.{◌≡◌, ◌≤◌, length, IfOk, take, drop};
 ghost use Rattle.krb_msgs.specs.Making.{word_bytes};
 ghost use Rattle.chpw_table.specs.Replies.{by_private};
-ghost use Rattle.chpw_answer.specs.Holding.{IsReplyTime};
+ghost use Rattle.chpw_serve.specs.Holding.{IsReplyTime};
 ghost use Rattle.chpw_messages.specs.Replies.{ap_rep_part, ap_rep_text, priv_part as priv_part_of, priv_text, private_frame, seq_number_of};
 
 use crate::replies::user_data;
-use chpw_answer::Seal;
 use chpw_frame::join_reply;
+use chpw_serve::Seal;
 use krb_der::{EncApRepPart, EncKrbPrivPart, KerberosTime, Microseconds, SeqNumber};
 use krb_msgs::{make_ap_rep, make_priv, priv_part, word_bytes};
 use std::alloc::{AllocError, Global};

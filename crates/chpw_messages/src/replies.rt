@@ -2,7 +2,7 @@
 ghost use Rattle.std.specs.Prelude.{◌≡◌, ◌≤◌, ◌<◌, ◌+◌, ◌++◌, length, Some, IfOk};
 ghost use Rattle.std.specs.Int.{to_be_bytes, w16};
 ghost use Rattle.chpw_table.specs.Times.{IsMoment};
-ghost use Rattle.chpw_answer.specs.Holding.{answer_in};
+ghost use Rattle.chpw_serve.specs.Holding.{answer_in};
 ghost use Rattle.chpw_messages.specs.Service.{IsRealm};
 ghost use Rattle.chpw_messages.specs.Replies.{error_frame, error_record};
 

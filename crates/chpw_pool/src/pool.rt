@@ -10,9 +10,8 @@ use crate::engine::{Engine, outcome_of};
 use crate::follower::{JournalEnd, NoFollower};
 use crate::terms::Terms;
 use crate::worker::{Worker, work};
-use chpw_answer::{Gate, Messages, NoGate};
 use chpw_book::{AtDesk, Desk, DeskName, Pass};
-use chpw_serve::WorkerWords;
+use chpw_serve::{Gate, Messages, NoGate, Observer, WorkerWords};
 use chpw_table::JournalSink;
 use std::alloc::{AllocError, Global};
 use std::net::{Net, OpenListener, TcpListener, TcpStream};
@@ -79,13 +78,13 @@ pub fn run_pool<
     run_pool_by(rt, alloc, rt, listener, service, desk, passes, terms)
 }
 
-/// `run_pool` with a gate for each worker.
+/// `run_pool` with a gate for each worker, which is its observer too.
 pub fn run_pool_with<
     R: Threads + Wait + Net + time::Clock + Sync,
     M: Messages + Sync,
     D: DeskName + Send + Sync,
     S: JournalSink + Send,
-    G: Gate + Send + Drop,
+    G: Gate + Observer + Send + Drop,
 >(
     rt: &R,
     alloc: Global,
@@ -176,7 +175,7 @@ fn run_gated<
     M: Messages + Sync,
     D: DeskName + Send + Sync,
     S: JournalSink + Send,
-    G: Gate + Send + Drop,
+    G: Gate + Observer + Send + Drop,
     J: JournalEnd + Sync,
 >(
     rt: &R,
@@ -251,7 +250,7 @@ pub fn run_shift<
     M: Messages + Sync,
     D: DeskName + Send + Sync,
     S: JournalSink + Send,
-    G: Gate + Send + Drop,
+    G: Gate + Observer + Send + Drop,
     J: JournalEnd + Sync,
     W: Meanwhile + Drop,
 >(
@@ -286,7 +285,7 @@ fn run_workers<
     M: Messages + Sync,
     D: DeskName + Send + Sync,
     S: JournalSink + Send,
-    G: Gate + Send + Drop,
+    G: Gate + Observer + Send + Drop,
     J: JournalEnd + Sync,
     W: Meanwhile + Drop,
 >(
@@ -330,7 +329,7 @@ fn begin<
     M: Messages,
     D: DeskName,
     S: JournalSink,
-    G: Gate,
+    G: Gate + Observer,
     J: JournalEnd,
 >(
     rt: &'a R,

@@ -1,6 +1,6 @@
 //! A worker, and what it answers to a message.
 ghost use Rattle.std.specs.Prelude.{◌≡◌, ℕ, List, Option, Some, []};
-ghost use Rattle.chpw_answer.specs.Answering.{Answering, Unanswered};
+ghost use Rattle.chpw_serve.specs.Answering.{Answering, Unanswered};
 ghost use Rattle.chpw_serve.specs.Serving.{stream_state, message_too_long, IsServed};
 ghost use Rattle.chpw_serve.specs.declared.serving.Ended.{Ended};
 ghost use Rattle.chpw_pool.specs.Pools.{peer_in};
@@ -8,10 +8,9 @@ ghost use Rattle.chpw_pool.specs.Turns.{IsReplyBehind, fills_at, has_changed_beh
 
 use crate::engine::Engine;
 use crate::follower::JournalEnd;
-use chpw_answer::{Gate, Messages};
 use chpw_connections::Taken;
 use chpw_decider::Decider;
-use chpw_serve::{Clock, Ended, Words, serve_stream};
+use chpw_serve::{Clock, Ended, Gate, Messages, Observer, Words, serve_stream};
 use chpw_table::Receipt;
 use std::alloc::Global;
 use std::net::SocketAddr;
@@ -21,7 +20,7 @@ use std::time;
 /// What a worker answers each message with. The next one goes on where the last one left off: so a worker draws each
 /// word once.
 #[derive(Drop)]
-pub(crate) struct Worker<'a, M, K: Decider, G: Gate, C: Clock, X: Words> {
+pub(crate) struct Worker<'a, M, K: Decider, G: Gate + Observer, C: Clock, X: Words> {
     pub alloc: Global,
     pub service: &'a M,
     pub decider: K,
@@ -45,7 +44,7 @@ pub(crate) fn work<
     R: Wait + time::Clock,
     M: Messages,
     K: Decider,
-    G: Gate,
+    G: Gate + Observer,
     C: Clock,
     X: Words,
     E,
@@ -104,18 +103,18 @@ fn fills(receipts: &[Receipt], room: Option<u32>) -> bool
 
 // Answers a message of a peer, from memory to memory. The message stands behind its length, one that is too long is
 // its length alone. None where memory ran out.
-fn reply_to<M: Messages, K: Decider, G: Gate, C: Clock, X: Words>(
+fn reply_to<M: Messages, K: Decider, G: Gate + Observer, C: Clock, X: Words>(
     peer: [u8; 4],
     message: &[u8],
     worker: &mut Worker<'_, M, K, G, C, X>,
 ) -> Option<Reply>
     ensures replied { (ended : Ended) × (bytes : List ℕ) × (left : Option (List ℕ))
         × IsServed (Answering (M.error_frame worker.old.service.now)
-        (M.private_frame worker.old.service.now) K.may_be_full K.gathered K.follows K.made G.hears
+        (M.private_frame worker.old.service.now) K.may_be_full K.gathered K.follows K.made G.passes G.hears
         (M.opens worker.old.service.now peer) peer)
-        (Unanswered K.gathered K.follows K.made G.hears (M.opens worker.old.service.now peer) peer)
+        (Unanswered K.gathered K.follows K.made G.passes G.hears (M.opens worker.old.service.now peer) peer)
         (λ now. M.error_frame worker.old.service.now message_too_long now)
-        C.gives X.gives G.hears peer ended
+        C.gives X.gives G.passes G.hears peer ended
         (stream_state (Some message.now) worker.old.decider (Some []) worker.old.clock worker.old.words worker.old.gate.now)
         (stream_state left worker.new.decider (Some bytes) worker.new.clock worker.new.words worker.new.gate.now)
         × IsReplyBehind ended bytes result }

@@ -13,10 +13,11 @@ use Rattle.chpw_table.specs.Agreement.{Held}
 use Rattle.chpw_table.specs.History.{IsLegal}
 use Rattle.chpw_table.specs.Replies.{Answer}
 use Rattle.chpw_decider.specs.Keeping.{Kept, IsFullAt, entries}
-use Rattle.chpw_answer.specs.declared.messages.Seal.{Seal}
-use Rattle.chpw_answer.specs.Requests.{Opens}
-use Rattle.chpw_answer.specs.Hearing.{Heard}
-use Rattle.chpw_answer.specs.InTurn.{InTurn}
+use Rattle.chpw_serve.specs.declared.messages.Seal.{Seal}
+use Rattle.chpw_serve.specs.Requests.{Opens}
+use Rattle.chpw_serve.specs.declared.gate.Spot.{Spot}
+use Rattle.chpw_serve.specs.Hearing.{Heard}
+use Rattle.chpw_serve.specs.InTurn.{InTurn}
 use Rattle.chpw_serve.specs.Serving.{StreamState, Turn, Serves, Answers, message_too_long}
 use Rattle.chpw_serve.specs.StreamReplies.{Draw, Run, run_after, written_for, replies}
 use Rattle.chpw_serve.specs.ServedAlone.{AnsweringAlone, AddsOneAlone, IsDrawnFor, AreDrawnFor, left_behind, AreReceipts}
@@ -40,12 +41,12 @@ moments_of draws = map (λ (d : Draw). d.moment) draws
 abbrev pub words_of : List Draw → List ℕ
 words_of draws = flat_map (λ (d : Draw). d.words) draws
 
-module _ {C X G : Type 0} (error_frame : Answer → Moment → List ℕ) (private_frame : Seal → Answer → List ℕ → List ℕ) (opens : List ℕ → Opens → Type 0) (hears : G → Heard → G → Type 0) (peer : List ℕ) (moments : C → Moment → C → Type 0) (random : X → ℕ → X → Type 0) where
+module _ {C X G : Type 0} (error_frame : Answer → Moment → List ℕ) (private_frame : Seal → Answer → List ℕ → List ℕ) (opens : List ℕ → Opens → Type 0) (passes : G → Spot → G → Type 0) (hears : G → Heard → G → Type 0) (peer : List ℕ) (moments : C → Moment → C → Type 0) (random : X → ℕ → X → Type 0) where
   abbrev pub refusal : Moment → List ℕ
   refusal now = error_frame message_too_long now
 
   abbrev pub ServesAlone : StreamState C X Kept G → Turn → StreamState C X Kept G → Type 0
-  ServesAlone before t after = Serves (AnsweringAlone hears error_frame private_frame opens peer) (AddsOneAlone hears opens peer) refusal moments random hears peer before t after
+  ServesAlone before t after = Serves (AnsweringAlone passes hears error_frame private_frame opens peer) (AddsOneAlone passes hears opens peer) refusal moments random passes hears peer before t after
 
   -- the opening stays
   pub opening_stays : (start : StreamState C X Kept G) (turns : List Turn) (last : StreamState C X Kept G) → InTurn ServesAlone start turns last → last.decider.opening ≡ start.decider.opening
@@ -79,7 +80,7 @@ module _ {C X G : Type 0} (error_frame : Answer → Moment → List ℕ) (privat
     IsTurn before t after = Answered error_frame private_frame opens opening before.decider.receipts after.decider.receipts t.text t.words t.moment t.reply
 
     -- a turn is one of the machine
-    pub turn_of : (is_written : Bool) (before after : StreamState C X Kept G) (t : Turn) → Answers (AnsweringAlone hears error_frame private_frame opens peer) (AddsOneAlone hears opens peer) refusal moments random hears peer is_written before t after → after.decider.opening ≡ opening
+    pub turn_of : (is_written : Bool) (before after : StreamState C X Kept G) (t : Turn) → Answers (AnsweringAlone passes hears error_frame private_frame opens peer) (AddsOneAlone passes hears opens peer) refusal moments random passes hears peer is_written before t after → after.decider.opening ≡ opening
         → IsFront error_frame private_frame opens opening all legal room after.decider.receipts → IsTurn before t after
     turn_of is_written before after t a like front =
         let rs = after.decider.receipts in

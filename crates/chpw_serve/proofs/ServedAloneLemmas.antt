@@ -12,14 +12,15 @@ use Rattle.chpw_table.specs.Agreement.{Held}
 use Rattle.chpw_table.specs.History.{IsLegal}
 use Rattle.chpw_table.specs.Replies.{Answer}
 use Rattle.chpw_decider.specs.Keeping.{Kept, IsKept, entries}
-use Rattle.chpw_answer.specs.declared.messages.Seal.{Seal}
-use Rattle.chpw_answer.specs.Requests.{Opens, refused, opened}
-use Rattle.chpw_answer.specs.Answers.{IsAnswer}
-use Rattle.chpw_answer.specs.Hearing.{Heard, HearsUnanswered}
+use Rattle.chpw_serve.specs.declared.messages.Seal.{Seal}
+use Rattle.chpw_serve.specs.Requests.{Opens, refused, opened}
+use Rattle.chpw_serve.specs.Answers.{IsAnswer}
+use Rattle.chpw_serve.specs.declared.gate.Spot.{Spot}
+use Rattle.chpw_serve.specs.Hearing.{Heard, AreCallsUnanswered}
 use Rattle.chpw_decider.specs.Making.{Makes}
 use Rattle.chpw_serve.specs.declared.serving.Ended.{Ended}
 use Rattle.chpw_serve.specs.declared.serving.Ended.TheVariants as end
-use Rattle.chpw_answer.specs.InTurn.{InTurn}
+use Rattle.chpw_serve.specs.InTurn.{InTurn}
 use Rattle.chpw_serve.specs.Serving.{StreamState, stream_state, Around, Turn, Refuses, IsEnd, IsServed, TakesAtMostOne, message_too_long}
 use Rattle.chpw_serve.specs.StreamReplies.{Draw, Run, written_for, replies}
 use Rattle.chpw_serve.specs.ServedAlone.{AnsweringAlone, AddsOneAlone, run_of, IsDrawnFor, AreDrawnFor, left_behind, IsEndOf, Leaves, Writes, HasDrawn, AreReceipts, AreMore, IsServedAlone}
@@ -29,12 +30,12 @@ pub at_most : (b : Bool) (m n : ℕ) → MatchBool b (m ≡ n) (m < n) → m ≤
 at_most true m n h = omega (arith, h)
 at_most false m n h = omega (arith, h)
 
-module _ {C X G : Type 0} (error_frame : Answer → Moment → List ℕ) (private_frame : Seal → Answer → List ℕ → List ℕ) (opens : List ℕ → Opens → Type 0) (hears : G → Heard → G → Type 0) (peer : List ℕ) (moments : C → Moment → C → Type 0) (random : X → ℕ → X → Type 0) where
+module _ {C X G : Type 0} (error_frame : Answer → Moment → List ℕ) (private_frame : Seal → Answer → List ℕ → List ℕ) (opens : List ℕ → Opens → Type 0) (passes : G → Spot → G → Type 0) (hears : G → Heard → G → Type 0) (peer : List ℕ) (moments : C → Moment → C → Type 0) (random : X → ℕ → X → Type 0) where
   abbrev refused_by : Moment → List ℕ
   refused_by now = error_frame message_too_long now
 
   abbrev EndsAlone : Ended → ℕ → StreamState C X Kept G → StreamState C X Kept G → Type 0
-  EndsAlone e n last final = IsEnd (AnsweringAlone hears error_frame private_frame opens peer) (AddsOneAlone hears opens peer) refused_by moments random hears peer e n last final
+  EndsAlone e n last final = IsEnd (AnsweringAlone passes hears error_frame private_frame opens peer) (AddsOneAlone passes hears opens peer) refused_by moments random passes hears peer e n last final
 
   -- the receipts grow, and the opening stays, at the end too
   Grows : Kept → Kept → Type 0
@@ -53,14 +54,14 @@ module _ {C X G : Type 0} (error_frame : Answer → Moment → List ℕ) (privat
   AddsAtMostOne old new = (own : List Receipt) × (new ≡ old ++ own) × (length own ≤ 1)
 
   -- where memory ran out there is a receipt more at the most
-  one_at_most : (text : List ℕ) (now : Moment) (before after : Kept) (gate later : G) → AddsOneAlone hears opens peer text now before after gate later → AddsAtMostOne before.receipts after.receipts
-  one_at_most text now before after gate later h = heard_one h.hears_it
+  one_at_most : (text : List ℕ) (now : Moment) (before after : Kept) (gate later : G) → AddsOneAlone passes hears opens peer text now before after gate later → AddsAtMostOne before.receipts after.receipts
+  one_at_most text now before after gate later h = one_of h.calls_are
     where
-      heard_one : HearsUnanswered peer now (Makes after) before.receipts after.receipts (opens text) h.heard → AddsAtMostOne before.receipts after.receipts
-      heard_one (inl k) = ([], k.0 ∙ sym (append-nil before.receipts), omega arith)
-      heard_one (inr (refused a, o, k)) = ([], k.0 ∙ sym (append-nil before.receipts), omega arith)
-      heard_one (inr (opened q, o, inl k)) = ([], k.0 ∙ sym (append-nil before.receipts), omega arith)
-      heard_one (inr (opened q, o, inr k)) = (k.0 ∷ [], k.2, omega arith)
+      one_of : AreCallsUnanswered peer now (Makes after) before.receipts after.receipts (opens text) h.calls → AddsAtMostOne before.receipts after.receipts
+      one_of (inl k) = ([], k.0 ∙ sym (append-nil before.receipts), omega arith)
+      one_of (inr (refused a, o, k)) = ([], k.0 ∙ sym (append-nil before.receipts), omega arith)
+      one_of (inr (opened q, o, inl k)) = ([], k.0 ∙ sym (append-nil before.receipts), omega arith)
+      one_of (inr (opened q, o, inr k)) = (k.0 ∷ [], k.2, omega arith)
 
   end_grows : (e : Ended) (n : ℕ) (last final : StreamState C X Kept G) → EndsAlone e n last final → Grows last.decider final.decider
   unfolding Grows
@@ -74,7 +75,7 @@ module _ {C X G : Type 0} (error_frame : Answer → Moment → List ℕ) (privat
   end_grows e n last final (less, h) = stays last.decider final.decider h.1.1
 
   module _ (start last final : StreamState C X Kept G) (legal : IsLegal start.decider.opening.state (entries final.decider.receipts)) (room : start.decider.opening.events + length final.decider.receipts ≤ start.decider.opening.max_entries)
-      (turns : List Turn) (stream : List ℕ) (w : Chain error_frame private_frame opens hears peer moments random start.decider.opening final.decider.receipts legal room start last turns stream)
+      (turns : List Turn) (stream : List ℕ) (w : Chain error_frame private_frame opens passes hears peer moments random start.decider.opening final.decider.receipts legal room start last turns stream)
       (like : final.decider.opening ≡ start.decider.opening) where
     abbrev limit : ℕ
     limit = start.decider.opening.max_entries
@@ -203,34 +204,34 @@ module _ {C X G : Type 0} (error_frame : Answer → Moment → List ℕ) (privat
     ends end.WriteFault (less, inl h) =
         let t : Turn = h.0 in
         let next = took (message t.text) w.rest last.left final.left w.left h.1 in
-        let one = turn_of error_frame private_frame opens hears peer moments random start.decider.opening final.decider.receipts legal room false last final t h.2 like ([], sym (append-nil final.decider.receipts)) in
+        let one = turn_of error_frame private_frame opens passes hears peer moments random start.decider.opening final.decider.receipts legal room false last final t h.2 like ([], sym (append-nil final.decider.receipts)) in
         let d : Draw = one.draw in
         close end.WriteFault (d ∷ []) one.own [] (omega (arith, less))
-        (drawn_first error_frame private_frame opens hears peer moments random start.decider.opening final.decider.receipts legal room last final t w.rest one [] h.2.nine next.0, tt)
+        (drawn_first error_frame private_frame opens passes hears peer moments random start.decider.opening final.decider.receipts legal room last final t w.rest one [] h.2.nine next.0, tt)
         (one.own, [], sym (append-nil one.own), one.own_are, refl) (none_but one.own one.added) refl
         tt (left_now (message t.text) next.0 next.1)
         (clock_then d (subst (λ (m : Moment). moments last.around.clock m final.around.clock) (sym one.moment_is) h.2.moment))
         (words_then d (subst (λ (ws : List ℕ). InTurn random last.around.words ws final.around.words) (sym one.words_are) h.2.words))
-        (front_then d (sent t.reply) (first error_frame private_frame opens hears peer moments random start.decider.opening final.decider.receipts legal room last final t w.rest one [] next.0 ∙ append-nil (sent t.reply)) h.3)
+        (front_then d (sent t.reply) (first error_frame private_frame opens passes hears peer moments random start.decider.opening final.decider.receipts legal room last final t w.rest one [] next.0 ∙ append-nil (sent t.reply)) h.3)
 
   -- the whole, where the history kept in the end is legal and has room
-  pub served_alone : (e : Ended) (start final : StreamState C X Kept G) (stream : List ℕ) → IsServed (AnsweringAlone hears error_frame private_frame opens peer) (AddsOneAlone hears opens peer) refused_by moments random hears peer e start final
+  pub served_alone : (e : Ended) (start final : StreamState C X Kept G) (stream : List ℕ) → IsServed (AnsweringAlone passes hears error_frame private_frame opens peer) (AddsOneAlone passes hears opens peer) refused_by moments random passes hears peer e start final
       → start.left ≡ Some stream → IsKept final.decider → final.decider.table.events ≤ final.decider.table.max_entries → IsServedAlone error_frame private_frame opens moments random e stream start final
   unfolding Grows
   served_alone e start final stream h is kept few =
       let last = h.last in
       let grown = end_grows e (length h.turns) last final h.end_is in
-      let like : final.decider.opening ≡ start.decider.opening = grown.1 ∙ opening_stays error_frame private_frame opens hears peer moments random start h.turns last h.served in
+      let like : final.decider.opening ≡ start.decider.opening = grown.1 ∙ opening_stays error_frame private_frame opens passes hears peer moments random start h.turns last h.served in
       let legal : IsLegal start.decider.opening.state (entries final.decider.receipts) = subst (λ (o : Held). IsLegal o.state (entries final.decider.receipts)) like kept.legal in
       let events : start.decider.opening.events + length final.decider.receipts ≡ final.decider.table.events = ap (λ (o : Held). o.events + length final.decider.receipts) (sym like) ∙ sym kept.events in
       let limit : final.decider.table.max_entries ≡ start.decider.opening.max_entries = kept.limit ∙ ap (λ (o : Held). o.max_entries) like in
       let room : start.decider.opening.events + length final.decider.receipts ≤ start.decider.opening.max_entries = omega (arith, events, limit, few) in
-      let w = chain error_frame private_frame opens hears peer moments random start.decider.opening final.decider.receipts legal room start h.turns last stream h.served is refl grown.0 in
+      let w = chain error_frame private_frame opens passes hears peer moments random start.decider.opening final.decider.receipts legal room start h.turns last stream h.served is refl grown.0 in
       ends start last final legal room h.turns stream w like e h.end_is
 
   -- where the reader tells its bytes
   pub served_alone_of : (e : Ended) (left rest : Option (List ℕ)) (before after : Kept) (old new : Option (List ℕ)) (clock then : C) (words later : X) (gate passed : G)
-      → IsServed (AnsweringAlone hears error_frame private_frame opens peer) (AddsOneAlone hears opens peer) refused_by moments random hears peer e (stream_state left before old clock words gate) (stream_state rest after new then later passed)
+      → IsServed (AnsweringAlone passes hears error_frame private_frame opens peer) (AddsOneAlone passes hears opens peer) refused_by moments random passes hears peer e (stream_state left before old clock words gate) (stream_state rest after new then later passed)
       → IsKept after → after.table.events ≤ after.table.max_entries
       → IfSome left (λ stream. (gate passed : G) × IsServedAlone error_frame private_frame opens moments random e stream (stream_state left before old clock words gate) (stream_state rest after new then later passed))
   served_alone_of e None rest before after old new clock then words later gate passed h kept few = tt

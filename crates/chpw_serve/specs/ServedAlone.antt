@@ -12,26 +12,27 @@ use Rattle.chpw_table.specs.History.{outcome}
 use Rattle.chpw_table.specs.Replies.{Answer}
 use Rattle.chpw_decider.specs.Keeping.{Kept, IsFullAt, IsOpenedLike, entries}
 use Rattle.chpw_decider.specs.Making.{Makes}
-use Rattle.chpw_answer.specs.declared.messages.Seal.{Seal}
-use Rattle.chpw_answer.specs.Requests.{Request, Opens, refused, opened, opened_under}
-use Rattle.chpw_answer.specs.Hearing.{Heard}
-use Rattle.chpw_answer.specs.Answering.{Answering, Unanswered}
+use Rattle.chpw_serve.specs.declared.messages.Seal.{Seal}
+use Rattle.chpw_serve.specs.Requests.{Request, Opens, refused, opened, opened_under}
+use Rattle.chpw_serve.specs.declared.gate.Spot.{Spot}
+use Rattle.chpw_serve.specs.Hearing.{Heard}
+use Rattle.chpw_serve.specs.Answering.{Answering, Unanswered}
 use Rattle.chpw_serve.specs.declared.serving.Ended.{Ended}
 use Rattle.chpw_serve.specs.declared.serving.Ended.TheVariants as end
-use Rattle.chpw_answer.specs.InTurn.{InTurn}
+use Rattle.chpw_serve.specs.InTurn.{InTurn}
 use Rattle.chpw_serve.specs.Serving.{StreamState, TakesAtMostOne, message_too_long}
 use Rattle.chpw_serve.specs.StreamReplies.{Draw, Run, verdict_of, is_full, run_after, replies}
 
 -- what a message is answered by a table that one thread has alone
-abbrev pub AnsweringAlone : {G : Type 0} → (G → Heard → G → Type 0) → (Answer → Moment → List ℕ) → (Seal → Answer → List ℕ → List ℕ) → (List ℕ → Opens → Type 0) → List ℕ
+abbrev pub AnsweringAlone : {G : Type 0} → (G → Spot → G → Type 0) → (G → Heard → G → Type 0) → (Answer → Moment → List ℕ) → (Seal → Answer → List ℕ → List ℕ) → (List ℕ → Opens → Type 0) → List ℕ
     → List ℕ → List ℕ → Moment → Kept → Kept → G → G → List ℕ → Bool → Type 0
-AnsweringAlone hears error_frame private_frame opens peer text words now before after gate later bytes is_open =
-    Answering error_frame private_frame IsFullAt (λ (k : Kept). k.receipts) IsOpenedLike Makes hears opens peer text words now before after gate later bytes is_open
+AnsweringAlone passes hears error_frame private_frame opens peer text words now before after gate later bytes is_open =
+    Answering error_frame private_frame IsFullAt (λ (k : Kept). k.receipts) IsOpenedLike Makes passes hears opens peer text words now before after gate later bytes is_open
 
 -- a receipt was added, or none
-abbrev pub AddsOneAlone : {G : Type 0} → (G → Heard → G → Type 0) → (List ℕ → Opens → Type 0) → List ℕ → List ℕ → Moment → Kept → Kept → G → G → Type 0
-AddsOneAlone hears opens peer text now before after gate later =
-    Unanswered (λ (k : Kept). k.receipts) IsOpenedLike Makes hears opens peer text now before after gate later
+abbrev pub AddsOneAlone : {G : Type 0} → (G → Spot → G → Type 0) → (G → Heard → G → Type 0) → (List ℕ → Opens → Type 0) → List ℕ → List ℕ → Moment → Kept → Kept → G → G → Type 0
+AddsOneAlone passes hears opens peer text now before after gate later =
+    Unanswered (λ (k : Kept). k.receipts) IsOpenedLike Makes passes hears opens peer text now before after gate later
 
 -- the machine after the history so far
 abbrev pub run_of : Kept → Run

@@ -8,10 +8,10 @@ use Rattle.chpw_table.specs.State.{State}
 use Rattle.chpw_table.specs.Decision.{verdict}
 use Rattle.chpw_table.specs.Step.{step}
 use Rattle.chpw_table.specs.Replies.{Answer}
-use Rattle.chpw_answer.specs.declared.messages.Seal.{Seal}
-use Rattle.chpw_answer.specs.Requests.{Request, Opens, refused, opened}
-use Rattle.chpw_answer.specs.Judging.{judged}
-use Rattle.chpw_answer.specs.Answers.{history_full, reply}
+use Rattle.chpw_serve.specs.declared.messages.Seal.{Seal}
+use Rattle.chpw_serve.specs.Requests.{Request, Opens, refused, opened}
+use Rattle.chpw_serve.specs.Judging.{judged}
+use Rattle.chpw_serve.specs.Answers.{history_full, reply}
 use Rattle.chpw_serve.specs.Serving.{message_too_long}
 
 -- what is drawn for a message: its moment, its nine words, whether its append fails, and what it

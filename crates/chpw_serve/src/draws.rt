@@ -2,10 +2,18 @@
 ghost use Rattle.std.specs.Prelude.{◌≡◌, ℕ, ◌<◌, length};
 ghost use Rattle.chpw_table.specs.declared.times.Moment.{Moment};
 ghost use Rattle.chpw_table.specs.Times.{IsMoment};
-ghost use Rattle.chpw_answer.specs.InTurn.{InTurn};
+ghost use Rattle.chpw_serve.specs.InTurn.{InTurn};
 
-use chpw_answer::Drawing;
 use chpw_table::Moment;
+
+/// What is drawn for a message: the moment of its answer, its microseconds below 1,000,000, and nine
+/// random words.
+#[derive(Clone, Copy, Drop)]
+pub struct Drawing {
+    pub now: Moment,
+    pub words: [u32; 9],
+    ghost range: { IsMoment now × (now.micros < 1000000) },
+}
 
 /// A clock.
 pub trait Clock {

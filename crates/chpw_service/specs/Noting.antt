@@ -1,4 +1,4 @@
--- What the log notes of what a gate hears.
+-- What the log notes of what it hears.
 use Rattle.std.specs.Prelude.{ℕ, List, [], ◌∷◌, ◌++◌, Option, Some, None}
 use Rattle.chpw_table.specs.declared.times.Moment.{Moment}
 use Rattle.chpw_table.specs.declared.request.Opened.{Opened}
@@ -9,7 +9,7 @@ use Rattle.chpw_table.specs.declared.verdict.Verdict.{Verdict}
 use Rattle.chpw_table.specs.declared.verdict.Verdict.TheVariants.{Broken}
 use Rattle.chpw_table.specs.Requests.{client_of}
 use Rattle.chpw_table.specs.Replies.{Answer, answer_of}
-use Rattle.chpw_answer.specs.Hearing.{Heard, passed, decision, refusal}
+use Rattle.chpw_serve.specs.Hearing.{Heard, decision, refusal}
 use Rattle.chpw_log.specs.Lines.{Outcome, target_asked, line_with}
 
 -- the line of a message that opened, of this moment; that of one that didn't, which may be held back, with its peer;
@@ -51,9 +51,8 @@ abbrev pub noted_event : ℕ → List ℕ → Moment → Event → Option ℕ �
 noted_event worker peer now (Ask o v) kvno = failed_under now v ++ opened now (decided_line worker peer now o v kvno) ∷ []
 noted_event worker peer now (Raise count v) kvno = []
 
--- by the gate of this worker
+-- by the observer of this worker
 abbrev pub noted : ℕ → Heard → List Noted
-noted worker (passed spot) = []
 noted worker (decision peer now r kvno) = noted_event worker peer now r.entry.event kvno
 noted worker (refusal peer now (Some o) a) = opened now (refused_line worker peer now o a) ∷ []
 noted worker (refusal peer now None a) = unopened now peer (unopened_line worker peer now a) ∷ []

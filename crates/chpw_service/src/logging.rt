@@ -7,8 +7,8 @@ ghost use Rattle.chpw_service.specs.Faults.{IsOfClash, IsOfLog, IsUnlogged};
 
 use crate::facts::Facts;
 use crate::fault::ServeFault;
-use crate::gates::Lines;
 use crate::notices::{Losses, Notice, is_first};
+use crate::observers::Lines;
 use crate::places::keep_apart;
 use crate::raising::RaiseTold;
 use crate::sheets::{Sheet, is_standard_error};
@@ -369,7 +369,7 @@ impl Book<'_> {
     }
 }
 
-/// The lines of a log, as a worker's gate puts them. They go to a file or a terminal that the others share, so nothing is
+/// The lines of a log, as a worker's observer puts them. They go to a file or a terminal that the others share, so nothing is
 /// told of them here.
 #[derive(Drop)]
 pub struct LogLines<'l, R> {

@@ -13,10 +13,10 @@ use crate::facts::time_of;
 use crate::fault::ServeFault;
 use crate::files::{is_shared, read_seed, read_settings};
 use crate::followed::{ControlTerms, FollowerTerms, JournalLength, journal_length};
-use crate::gates::{Logging, log_gates};
 use crate::histories::{Hall, Opened, Opening, Rules, first_opening, start_desk};
 use crate::logging::{Log, LogLines, log_of};
 use crate::notices::Notice;
+use crate::observers::{Logging, log_observers};
 use crate::raising::raise_where_asked;
 use crate::running::{serve_from, told};
 use crate::starting::open_table;
@@ -310,9 +310,16 @@ fn engine_of<'a, 'l, R: Net + Wait + Eprint>(
     ensures workers { IfOk result (λ engine. workers_at engine ≡ workers) }
     ensures fault { IfErr result IsLate }
 {
-    match log_gates(alloc, log, workers) {
+    match log_observers(alloc, log, workers) {
         Err(_) => Err(ServeFault::Memory),
-        Ok(gates) => match Engine::of(rt, alloc, terms.seed, terms.bounds(), gates, datagrams) {
+        Ok(observers) => match Engine::of(
+            rt,
+            alloc,
+            terms.seed,
+            terms.bounds(),
+            observers,
+            datagrams,
+        ) {
             Err(fault) => Err(told(fault)),
             Ok(engine) => Ok(engine),
         },

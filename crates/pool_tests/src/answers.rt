@@ -4,12 +4,12 @@ ghost use Rattle.chpw_book.specs.Starting.{IsNamed, workers_of};
 
 use crate::gates::Together;
 use crate::realm::{CHANGED, name_of, opening, request, told};
-use chpw_answer::{Gate, NoGate, answer};
 use chpw_book::{AtDesk, CloseRefused, Closed, Desk, DeskName, Pass, UnnamedDesk};
 use chpw_client::Sent;
 use chpw_decider::Decider;
 use chpw_journal::MemorySink;
 use chpw_messages::Service;
+use chpw_serve::{Gate, NoGate, Observer, answer};
 use chpw_table::{Entry, Lookup, Moment};
 use std::alloc::Global;
 use std::marker::Brand;
@@ -27,7 +27,7 @@ const WORDS: [u32; 9] = [1, 2, 3, 4, 5, 6, 7, 8, 9];
 pub const ROOM: usize = 1000;
 
 // What a client of this machine prints of a worker's answer to its request.
-pub fn answered<D: DeskName, G: Gate, R: Wait + Abort>(
+pub fn answered<D: DeskName, G: Gate + Observer, R: Wait + Abort>(
     rt: &R,
     alloc: Global,
     service: &Service,
@@ -41,7 +41,7 @@ pub fn answered<D: DeskName, G: Gate, R: Wait + Abort>(
 }
 
 // The same of a worker at any place.
-pub fn answered_at<P: Decider, G: Gate, R: Abort>(
+pub fn answered_at<P: Decider, G: Gate + Observer, R: Abort>(
     rt: &R,
     alloc: Global,
     service: &Service,

@@ -1,5 +1,5 @@
 //! What holds workers: a gate.
-use chpw_answer::{Gate, Spot};
+use chpw_serve::{Gate, Observer, Spot};
 use chpw_table::{Moment, Opened, Receipt};
 use krb_protocol::Refusal;
 use std::sync::{Barrier, Wait};
@@ -12,9 +12,9 @@ pub struct Together<'a, R: Wait> {
 }
 
 impl<R: Wait> Gate for Together<'_, R> {
-    ghost use Rattle.chpw_answer.specs.Hearing.{HearsNothing};
+    ghost use Rattle.chpw_serve.specs.Hearing.{HoldsNobody};
 
-    ghost hears = { HearsNothing };
+    ghost passes = { HoldsNobody };
 
     fn at(&mut self, spot: Spot) {
         match spot {
@@ -24,6 +24,12 @@ impl<R: Wait> Gate for Together<'_, R> {
             Spot::Answered => {}
         }
     }
+}
+
+impl<R: Wait> Observer for Together<'_, R> {
+    ghost use Rattle.chpw_serve.specs.Hearing.{NotesNothing};
+
+    ghost hears = { NotesNothing };
 
     fn decided(&mut self, _peer: [u8; 4], _now: Moment, _receipt: &Receipt, _kvno: Option<u32>) {}
 

@@ -8,11 +8,11 @@ use crate::answers::{
 };
 use crate::overtaken::Overtaken;
 use crate::realm::{CHANGED, name_of, opening, request};
-use chpw_answer::{Gate, NoGate, Spot};
 use chpw_book::{AtDesk, Desk, DeskName, Pass, UnnamedDesk};
 use chpw_client::Sent;
 use chpw_journal::{MemorySink, Restored, restore};
 use chpw_messages::Service;
+use chpw_serve::{Gate, NoGate, Observer, Spot};
 use chpw_table::{Entry, Event, Lookup, Moment, Opened, RaiseVerdict, Receipt, Verdict};
 use krb_protocol::Refusal;
 use std::alloc::Global;
@@ -32,9 +32,7 @@ struct Raises<'a, D: DeskName, R: Wait + Abort> {
 }
 
 impl<D: DeskName, R: Wait + Abort> Gate for Raises<'_, D, R> {
-    ghost use Rattle.chpw_answer.specs.Hearing.{HearsNothing};
-
-    ghost hears = { HearsNothing };
+    ghost passes = { λ before spot after. Unit {0} };
 
     fn at(&mut self, spot: Spot) {
         match spot {
@@ -45,6 +43,12 @@ impl<D: DeskName, R: Wait + Abort> Gate for Raises<'_, D, R> {
             Spot::Answered => {}
         }
     }
+}
+
+impl<D: DeskName, R: Wait + Abort> Observer for Raises<'_, D, R> {
+    ghost use Rattle.chpw_serve.specs.Hearing.{NotesNothing};
+
+    ghost hears = { NotesNothing };
 
     fn decided(&mut self, _peer: [u8; 4], _now: Moment, _receipt: &Receipt, _kvno: Option<u32>) {}
 

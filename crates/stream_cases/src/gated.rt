@@ -3,8 +3,7 @@
 use crate::messages::Message;
 use crate::serving::{How, ended_text, serve_by, stream_of};
 use crate::world::{Setting, World};
-use chpw_answer::{Gate, Spot};
-use chpw_serve::Ended;
+use chpw_serve::{Ended, Gate, Observer, Spot};
 use chpw_table::{Event, Moment, Opened, Receipt};
 use fake_streams::Way;
 use krb_protocol::Refusal;
@@ -19,9 +18,7 @@ struct Noting {
 
 // Without memory only a part is noted, and the case has another answer.
 impl Gate for Noting {
-    ghost use Rattle.chpw_answer.specs.Hearing.{HearsNothing};
-
-    ghost hears = { HearsNothing };
+    ghost passes = { λ before spot after. Unit {0} };
 
     fn at(&mut self, spot: Spot) {
         let _ = self.passed.push_str(match spot {
@@ -29,6 +26,10 @@ impl Gate for Noting {
             Spot::Answered => "answered; ",
         });
     }
+}
+
+impl Observer for Noting {
+    ghost hears = { λ before what after. Unit {0} };
 
     fn decided(&mut self, peer: [u8; 4], now: Moment, receipt: &Receipt, kvno: Option<u32>) {
         let entry = &receipt.entry;

@@ -3,11 +3,10 @@
 use crate::clock::{Counting, Standing};
 use crate::messages::{Message, no_case, show_reply};
 use crate::world::{Holding, Setting, World};
-use chpw_answer::{Gate, Messages};
 use chpw_decider::{Alone, Decider};
 use chpw_frame::{Received, read_tcp, write_tcp};
 use chpw_journal::MemorySink;
-use chpw_serve::{Ended, serve_alone, serve_stream};
+use chpw_serve::{Ended, Gate, Messages, Observer, serve_alone, serve_stream};
 use fake_streams::{Course, Giver, Taker, Way};
 use std::alloc::Global;
 use std::io;
@@ -89,7 +88,7 @@ fn serve(alloc: Global, world: &mut World, how: How, stream: &[u8]) -> Outcome {
 }
 
 /// Serves a stream by any decider and past any gate, over whoever opens and makes messages.
-pub fn serve_by<M: Messages, D: Decider, G: Gate>(
+pub fn serve_by<M: Messages, D: Decider, G: Gate + Observer>(
     alloc: Global,
     messages: &M,
     decider: &mut D,

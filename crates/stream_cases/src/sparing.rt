@@ -1,7 +1,7 @@
 //! Whoever opens messages, and has no memory for the replies to those that opened.
 ghost use Rattle.std.specs.Prelude.{◌≡◌};
 
-use chpw_answer::{Messages, OpenResult, Seal};
+use chpw_serve::{Messages, OpenResult, Seal};
 use chpw_table::Moment;
 use krb_protocol::Refusal;
 use std::alloc::{AllocError, Global};

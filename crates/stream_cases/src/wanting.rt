@@ -5,7 +5,7 @@ use crate::serving::{How, Outcome, ended_text, serve_by, shown_replies, stream_o
 use crate::sparing::Sparing;
 use crate::watched::{Mood, Watched};
 use crate::world::{Holding, Setting, World};
-use chpw_answer::NoGate;
+use chpw_serve::NoGate;
 use std::alloc::Global;
 use std::io;
 
