@@ -1,4 +1,4 @@
-//! What a principal asks.
+//! A principal's request.
 use crate::realm::bytes;
 use chpw_rules::Name;
 use chpw_table::{Body, Digest, Moment, Opened};
