@@ -25,7 +25,7 @@ pub(crate) struct Seat {
 /// All callers at the control socket, each in a slot of its own.
 ///
 /// `status` and `stop` are answered at once, each for itself. The other commands are orders: they are carried out one
-/// after the other, in another thread than the caller's.
+/// after the other, beside the thread that has the sockets.
 #[derive(Drop)]
 pub struct Callers {
     seats: Slab<Seat>,

@@ -24,7 +24,7 @@ pub enum Command {
 }
 
 impl Command {
-    /// Whether it is an order: carried out in another thread than the reactor, one at a time.
+    /// Whether it is an order: carried out beside the thread that has the sockets, one at a time.
     pub fn is_order(&self) -> bool
         ensures value { result ≡ is_order self.now }
     {

@@ -58,8 +58,7 @@ impl Answered {
     }
 
     /// A message was answered with this reply. Answers of five seconds ago and older are dropped, and then the oldest
-    /// ones, while there are too many or they hold too many bytes. An answer that holds too many by itself isn't kept
-    /// either.
+    /// ones, while there are too many or they hold too many bytes. If this one holds too many by itself, none is kept.
     pub fn keep(&mut self, sender: Sender, message: Vec<u8>, reply: Vec<u8>, now: u64)
         ensures value { self.new ≡ behind_keep self.old (record { sender = sender; message = message.items; reply = reply.items; moment = now }) }
         ensures few { length self.new ≤ 1024 }

@@ -1,4 +1,4 @@
-//! Streams, served.
+//! Serving streams.
 
 use crate::clock::{Counting, Standing};
 use crate::messages::{Message, no_case, show_reply};
@@ -15,7 +15,7 @@ use std::io;
 /// The client's address.
 pub const PEER: [u8; 4] = [127, 0, 0, 1];
 
-/// How a stream is served: at which second, and how reader and writer do.
+/// How a stream is served: at which second, and how reader and writer behave.
 #[derive(Clone, Copy, Drop)]
 pub struct How {
     pub clock: Standing,
@@ -24,7 +24,7 @@ pub struct How {
 }
 
 impl How {
-    /// `at N`, and how the reader does.
+    /// `at N`, and how the reader behaves.
     pub fn of(text: &str) -> How {
         let mut second = 0;
         for word in text.split(',') {
@@ -40,7 +40,7 @@ impl How {
     }
 }
 
-/// What came of a stream.
+/// The result of a stream.
 #[derive(Drop)]
 pub struct Outcome {
     pub written: Vec<u8>,
@@ -65,7 +65,7 @@ fn writer_of(alloc: Global, how: How) -> Taker {
     }
 }
 
-/// Serves a stream by a table that one thread has alone.
+/// Serves a stream by a table that one thread owns.
 fn serve(alloc: Global, world: &mut World, how: How, stream: &[u8]) -> Outcome {
     let mut reader = reader_of(how, stream);
     let mut writer = writer_of(alloc, how);
@@ -88,7 +88,7 @@ fn serve(alloc: Global, world: &mut World, how: How, stream: &[u8]) -> Outcome {
     }
 }
 
-/// Serves a stream by any decider and past any gate, over whoever opens and makes messages.
+/// Serves a stream by any decider and past any gate, with any maker of messages.
 pub fn serve_by<M: Messages, D: Decider, G: Gate>(
     alloc: Global,
     messages: &M,
@@ -152,7 +152,7 @@ fn send(stream: &mut Taker, message: &[u8]) -> io::Result<()> {
     }
 }
 
-/// Serves a stream in a world of its own: what came of it, and what its table holds then.
+/// Serves a stream in a world of its own: the result, and what its table then holds.
 pub fn serve_anew(
     alloc: Global,
     setting: &Setting,
@@ -166,7 +166,7 @@ pub fn serve_anew(
     served
 }
 
-/// What came of a stream, with what a table holds.
+/// The result of a stream, with what a table holds.
 pub fn with_holding(
     alloc: Global,
     outcome: Outcome,
@@ -176,7 +176,7 @@ pub fn with_holding(
     Ok((outcome, holding))
 }
 
-/// Each reply, how the stream ended, and what the table holds then.
+/// Each reply, how the stream ended, and what the table then holds.
 pub fn served(
     alloc: Global,
     setting: &Setting,
@@ -186,7 +186,7 @@ pub fn served(
     served_as(alloc, setting, how, messages, &stream_of(alloc, messages)?)
 }
 
-/// The same where these bytes are the stream.
+/// Likewise, with these bytes as the stream.
 pub fn served_as(
     alloc: Global,
     setting: &Setting,
@@ -200,7 +200,7 @@ pub fn served_as(
     Ok(shown)
 }
 
-/// The replies in their order, each to its message, with what divides them behind each.
+/// The replies in their order, each to its message, each followed by a separator.
 pub fn shown_replies(alloc: Global, messages: &[&Message], written: &[u8]) -> io::Result<String> {
     let mut left = written;
     let mut shown = String::new(alloc);
