@@ -1,4 +1,4 @@
-//! The program's commands, with their help.
+//! The program's commands, with their help texts.
 ghost use Rattle.std.specs.Prelude.{◌≡◌, codes, false, IfOk, map};
 ghost use Rattle.clap.specs.Simple.{App, Shape, new_shape, with_subcommand};
 ghost use Rattle.clap.specs.Words.{app_of};
@@ -211,7 +211,7 @@ const NO_INITIAL_HELP: &str = "Makes a ticket without the flag initial, as one f
 const OLD_HELP: &str =
     "Asks in the earlier protocol, version 0x0001, for the client's own password: without --target";
 
-// A command with this name, these texts, in a line and below its options, and these options.
+// A command with this name, these texts (one in the list, one below the options), and these options.
 fn described<'a>(
     alloc: Global,
     name: &'a str,
@@ -342,7 +342,7 @@ fn client<'a>(alloc: Global) -> Result<Command<'a>, AllocError>
     described(alloc, "client", CLIENT, CLIENT_MORE, &options)
 }
 
-// The program with one command more below it, where memory hasn't run out for either.
+// The program with one more subcommand, unless memory has run out for either.
 fn with_command<'a>(
     program: Result<Command<'a>, AllocError>,
     below: Result<Command<'a>, AllocError>,
@@ -354,7 +354,7 @@ fn with_command<'a>(
     program?.subcommand(below?)
 }
 
-// The program with a version, of which a command has to be named.
+// The program with a version, which requires a command.
 fn leading<'a>(alloc: Global) -> Command<'a>
     ensures shape { app_of result ≡ specs_of.leading (specs_of.alone (new_shape (codes "chpw_server"))) }
     ensures local { specs_of.IsLocal result }
