@@ -3,8 +3,8 @@ use Rattle.std.specs.Prelude.{ℕ, ◌-◌, ◌^◌, ◌==◌, nat_lt, if◌then
 use Rattle.chpw_pool.specs.declared.tokens.Reported.{Reported}
 use Rattle.chpw_pool.specs.declared.tokens.Reported.TheVariants.{Listener, Follower, Datagrams, Connection, Control}
 
--- Four have the greatest numbers, besides that of a wake; connections have the numbers of their slots; all others are
--- the control socket's and its callers'.
+-- Listener, follower and datagram socket have the three greatest numbers besides that of a wake; connections have the
+-- numbers of their slots; all others are the control socket's, its callers' or a wake's.
 abbrev pub reported_by : ℕ → ℕ → Reported
 reported_by token connections =
     if token == 2 ^ 64 - 1 then Listener

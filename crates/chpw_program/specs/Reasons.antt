@@ -1,4 +1,4 @@
--- Why a fault came, as it is told behind the fault's line.
+-- Why a fault came, as it is printed after the fault's line.
 use Rattle.std.specs.Prelude.{ℕ, Bool, List, ◌++◌, codes, string_bytes, nat_lt}
 use Rattle.std.specs.Fmt.{decimal}
 use Rattle.chpw_program.specs.declared.reasons.Reason.{Reason}

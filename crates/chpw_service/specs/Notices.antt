@@ -1,4 +1,4 @@
--- What a service that goes on tells on standard error.
+-- Notices on standard error of a service that goes on.
 use Rattle.std.specs.Prelude.{ℕ, List, ◌++◌, codes}
 use Rattle.std.specs.Fmt.{decimal}
 use Rattle.chpw_service.specs.declared.notices.Notice.{Notice}

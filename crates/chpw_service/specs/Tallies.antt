@@ -16,7 +16,7 @@ use Rattle.chpw_book.specs.Closing.{HasCalls, IsRefusal, is_full}
 use Rattle.chpw_book.specs.declared.closing.CloseFault.{CloseFault}
 use Rattle.chpw_service.specs.declared.closing.Tally.{Tally}
 
--- the line that tells what a history was
+-- the line about a history
 abbrev pub tally_line : Tally → List ℕ
 tally_line t = codes "entries " ++ decimal t.entries ++ codes " changes " ++ decimal t.changes
 
@@ -28,8 +28,8 @@ changes_a_password (Raise count verdict) = false
 abbrev pub password_changes : List Entry → ℕ
 password_changes history = count_by (λ (e : Entry). changes_a_password e.event) history
 
--- the entries and changes of a history that the one-thread machine replays from the opening to this table, in
--- which what the accepted entries bring in is whole, and each worker's calls are the receipts that its pass has
+-- the entries and changes of a history that the one-thread machine replays from the opening to this table, in which
+-- what the accepted entries add is well-formed, and each worker's calls are the receipts of its pass
 pub record IsTally (opening : State) (workers : ℕ) (passes : List Carried) (tally : Tally) (table : Held) : Type 0 where
   pub history : List Entry
   pub legal : IsLegal opening history

@@ -1,4 +1,4 @@
-//! What a worker passes with its messages: what it hears there goes into the log.
+//! What a worker passes with its messages, and writes into the log.
 ghost use Rattle.std.specs.Prelude.{◌≡◌, ◌<◌, IfOk, map, vec_len};
 ghost use Rattle.std.specs.List.{range_with_len};
 ghost use Rattle.chpw_table.specs.Times.{IsMoment};
@@ -17,7 +17,7 @@ use std::sync::Wait;
 
 /// Where the lines of a log go.
 pub trait Lines {
-    /// Taking this in the first state, it is in the second.
+    /// Taking this leads from the first state to the second.
     ghost takes: { Self → Noted → Self → Type 0 };
 
     /// The line of a message that opened.
@@ -71,7 +71,7 @@ impl<L: Lines> Gate for Logging<L> {
 
     fn at(&mut self, _spot: Spot) {}
 
-    // A raise is no message's.
+    // A raise belongs to no message.
     fn decided(&mut self, peer: [u8; 4], now: Moment, receipt: &Receipt, kvno: Option<u32>) {
         if let Event::Ask { opened, verdict } = &receipt.entry.event {
             tell_failed(&mut self.lines, now, *verdict);
@@ -100,7 +100,7 @@ impl<L: Lines> Gate for Logging<L> {
     }
 }
 
-// Tells where the journal did not take the change that was decided so.
+// Reports it if the journal did not take the change that was decided so.
 fn tell_failed<L: Lines>(lines: &mut L, now: Moment, verdict: Verdict)
     requires moment { IsMoment now }
     requires micros { now.micros < 1000000 }
@@ -111,7 +111,7 @@ fn tell_failed<L: Lines>(lines: &mut L, now: Moment, verdict: Verdict)
     }
 }
 
-// Puts the line of a decision.
+// Writes the line of a decision.
 fn put_decided<L: Lines>(
     lines: &mut L,
     worker: u8,
@@ -137,7 +137,7 @@ fn put_decided<L: Lines>(
     });
 }
 
-// Puts the line of a request that came to a full history.
+// Writes the line of a request that came to a full history.
 fn put_full<L: Lines>(
     lines: &mut L,
     worker: u8,

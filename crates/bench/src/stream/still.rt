@@ -1,4 +1,4 @@
-//! A clock that stands still, and words that count.
+//! A clock that stands still, and words that count up.
 
 use chpw_serve::Clock;
 use chpw_table::Moment;
