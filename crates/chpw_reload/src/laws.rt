@@ -34,8 +34,9 @@ pub fn later_starts()
     ensures again { StartsFindAgain }
 {}
 
-/// When a compact journal (`chpw_journal::compact_journal`) may be made: over a table that a file opens with, of a table
-/// that a service left which began with that file, or reloaded it last. `chpw_journal::laws::compact` says what it gives.
+/// When a compact journal (`chpw_journal::compact_journal`) may be made: over a table that a file opens with, for a
+/// table that was left by a service which began with that file or reloaded it last. `chpw_journal::laws::compact` says
+/// what it gives.
 pub fn compacting()
     ensures reload { ReloadsMayCompact }
     ensures start { StartsMayCompact }

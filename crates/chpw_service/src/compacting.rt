@@ -48,8 +48,8 @@ pub(crate) enum CompactFault<'a> {
 }
 
 /// Copies the configuration that is held to a new file, as `table --as configuration` prints it, and reads what the
-/// configuration opens with. What an earlier replacement left beside the journal is removed first: if that is the path
-/// of the copy, the removal makes room for it, and the copy is then in the way of the new journal, so it is refused.
+/// configuration opens with. What an earlier, unfinished replacement left beside the journal is removed first. A copy
+/// at that very path is in the way of the new journal, which is then refused.
 pub(crate) fn begin_compaction<'a, R: Files<File = File> + AllocGlobal>(
     rt: &R,
     options: &ServeOptions<'a>,
