@@ -139,7 +139,7 @@ fn list_fault(
             Some(elements) if counts.allow(elements.len()) => return Ok(None),
             Some(_) => {
                 let counts = range_text(alloc, counts)?;
-                format!(in alloc; " must stand {} times", counts.as_str())?
+                format!(in alloc; " must appear {} times", counts.as_str())?
             }
         },
     };

@@ -16,9 +16,9 @@ words_of BadName = codes "a name has 1 to 8 components of 1 to 128 bytes, in UTF
 words_of NoVersion = codes "a version is at least 1"
 words_of OtherType = codes "only 17 and 18 can be used"
 words_of KeyLength = []
-words_of Repeated = codes "an entry put there later has the same name, kvno and etype"
+words_of Repeated = codes "a later entry has the same name, kvno and etype"
 words_of Unpaired = []
-words_of BehindGap = codes "behind a version that is missing or left out"
+words_of BehindGap = codes "older than a version that is missing or skipped"
 words_of TooManyKeys = codes "there are 16 keys already"
 words_of TooManyPrincipals = codes "there are 10000 principals already"
 
@@ -42,7 +42,7 @@ entry_text e =
 
 -- where it stands, what it is, and why it is left out
 abbrev pub left_text : KeytabEntry → Reason → List ℕ
-left_text e why = codes "at " ++ decimal e.place ++ codes ": left out: " ++ entry_text e ++ codes ": " ++ reason_text e why
+left_text e why = codes "at " ++ decimal e.place ++ codes ": skipped: " ++ entry_text e ++ codes ": " ++ reason_text e why
 
 -- behind the file's name
 abbrev pub line_of : List ℕ → Reason → Option KeytabEntry → List ℕ

@@ -84,7 +84,7 @@ fn put_left(text: &mut Vec<u8>, entry: &KeytabEntry, why: Reason) -> Result<(), 
 {
     text.extend_from_slice(b"at ")?;
     put_number(text, entry.place as u64)?;
-    text.extend_from_slice(b": left out: ")?;
+    text.extend_from_slice(b": skipped: ")?;
     put_entry(text, entry)?;
     text.extend_from_slice(b": ")?;
     put_reason(text, entry, why)
@@ -142,8 +142,8 @@ fn words_of(why: Reason) -> &'static [u8]
         }
         Reason::NoVersion => b"a version is at least 1",
         Reason::OtherType => b"only 17 and 18 can be used",
-        Reason::Repeated => b"an entry put there later has the same name, kvno and etype",
-        Reason::BehindGap => b"behind a version that is missing or left out",
+        Reason::Repeated => b"a later entry has the same name, kvno and etype",
+        Reason::BehindGap => b"older than a version that is missing or skipped",
         Reason::TooManyKeys => b"there are 16 keys already",
         Reason::TooManyPrincipals => b"there are 10000 principals already",
     }

@@ -23,9 +23,9 @@ const NO_PASSWORD: &str = "either '--password <TEXT>' or '--password-file <FILE>
 const NO_COMMAND: &str =
     "a value for '<COMMAND>' is one of: status, reload, reopen-log, stop, compact";
 
-const NO_FILE: &str = "the command 'compact' wants a '<FILE>'";
+const NO_FILE: &str = "the command 'compact' requires a '<FILE>'";
 
-const SPARE_FILE: &str = "no command but 'compact' takes a '<FILE>'";
+const SPARE_FILE: &str = "only the command 'compact' takes a '<FILE>'";
 
 const NO_FORM: &str = "a value for '--as <FORM>' is one of: lines, configuration, keys";
 

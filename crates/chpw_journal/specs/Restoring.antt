@@ -1,5 +1,5 @@
 -- What restoring gives: the table after a journal's records, how many there are, how many bytes they
--- have, and whether a torn record stands behind them; or the journal's first fault.
+-- have, and whether a torn record begins after them; or the journal's first fault.
 use Rattle.std.specs.Prelude.{◌≡◌, ℕ, List, [], ◌∷◌, ◌++◌, length, Bool, true, false, Option, codes}
 use Rattle.std.specs.Fmt.{decimal}
 use Rattle.std.specs.Io.KnownBytes.{Consumes, IsAtEnd}

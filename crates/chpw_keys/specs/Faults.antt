@@ -12,10 +12,10 @@ use Rattle.chpw_keys.specs.declared.fault.KeysFault.{KeysFault}
 use Rattle.chpw_keys.specs.declared.fault.KeysFault.TheVariants.{BadName, CannotRead, Keytab, EmptyPassword, CannotPrint, Memory}
 
 abbrev pub keytab_text : KeytabFault → List ℕ
-keytab_text NotKeytab = codes "no keytab of format 0x0502"
+keytab_text NotKeytab = codes "not a keytab of format 0x0502"
 keytab_text (CutOff place) = codes "the record at " ++ decimal place ++ codes " is cut off"
 keytab_text (BadLength place) = codes "the length at " ++ decimal place ++ codes " is -2147483648"
-keytab_text (BadEntry place) = codes "a field of the record at " ++ decimal place ++ codes " ends behind it"
+keytab_text (BadEntry place) = codes "a field of the record at " ++ decimal place ++ codes " extends past its end"
 
 abbrev pub line_of : KeysFault → List ℕ
 line_of BadName = codes "bad argument"

@@ -54,16 +54,16 @@ impl fmt::Display for Reason<'_> {
     fn fmt<W: fmt::Write>(&self, f: &mut fmt::Formatter<W>) -> fmt::Result {
         match self {
             Reason::Missing(file) => write!(f, "{file}: no such file"),
-            Reason::NoFolder(file) => write!(f, "{file}: no such folder"),
+            Reason::NoFolder(file) => write!(f, "{file}: no such directory"),
             Reason::Forbidden(file) => write!(f, "{file}: permission denied"),
-            Reason::Folder(file) => write!(f, "{file}: a folder"),
+            Reason::Folder(file) => write!(f, "{file}: is a directory"),
             Reason::Special(file) => write!(f, "{file}: not a regular file"),
             Reason::Short(file) => write!(f, "{file}: fewer than 32 bytes"),
-            Reason::Held(file) => write!(f, "{file}: another process has it"),
+            Reason::Held(file) => write!(f, "{file}: in use by another process"),
             Reason::InWords(file, words) => write!(f, "{file}: {}", words.as_str()),
             Reason::InUse(port) => write!(f, "port {port}: in use"),
             Reason::Privileged(port) => {
-                write!(f, "port {port}: a privilege is wanted below port 1024")
+                write!(f, "port {port}: ports below 1024 require a privilege")
             }
         }
     }

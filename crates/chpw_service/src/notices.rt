@@ -32,35 +32,35 @@ impl fmt::Display for Notice<'_> {
 
     fn fmt<W: fmt::Write>(&self, f: &mut fmt::Formatter<W>) -> fmt::Result {
         match self {
-            Notice::LogLost(log) => write!(f, "{log}: a line of the log is lost, and maybe more"),
+            Notice::LogLost(log) => write!(f, "{log}: a line of the log was lost; further losses are not reported"),
             Notice::JournalFailed(journal) => {
                 write!(
                     f,
-                    "{journal}: journal failed: no change is taken until a restart"
+                    "{journal}: journal failed: no change is accepted until a restart"
                 )
             }
-            Notice::OutputLost => { f.write_str("standard output: a line is lost, and maybe more") }
+            Notice::OutputLost => { f.write_str("standard output: a line was lost; further losses are not reported") }
             Notice::Expired(count) => {
                 write!(
                     f,
-                    "messages dropped that waited 5 seconds for a worker: {count}"
+                    "messages dropped after waiting 5 seconds for a worker: {count}"
                 )
             }
             Notice::Unconfirmed(socket) => {
                 write!(
                     f,
-                    "{socket}: a change was answered that the follower has not confirmed, and maybe more"
+                    "{socket}: a change was answered before the follower confirmed it; more are not reported until it confirms one"
                 )
             }
-            Notice::Shared(file) => write!(f, "{file}: others may read or write it"),
+            Notice::Shared(file) => write!(f, "{file}: other users may read or write it"),
             Notice::Lacked(count) => {
                 write!(
                     f,
-                    "principals that the configuration lacks: {count}; no start is possible once one changes its password"
+                    "principals missing from the configuration: {count}; the service cannot start once one of them changes its password"
                 )
             }
             Notice::TailCut(journal, kept) => {
-                write!(f, "{journal}: a torn tail was cut off behind {kept} bytes")
+                write!(f, "{journal}: a torn tail was cut off after {kept} bytes")
             }
         }
     }

@@ -32,7 +32,7 @@ pub fn tell_table<'a, R: Files<File = File> + Print + Eprint + AllocGlobal>(
 {
     if let Some(behind) = write_table(rt, options, &mut io::writer(rt))? {
         let _ = eprintln!(rt;
-            "{}: a torn record stands behind {behind} bytes",
+            "{}: a torn record begins after {behind} bytes",
             options.journal
         );
     }

@@ -123,7 +123,7 @@ const LINES: [(&str, &str); 63] = [
     ("control status", "--socket"),
     ("control --socket s start", "reopen-log"),
     ("control --socket s start f", "reopen-log"),
-    ("control --socket s compact", "wants"),
+    ("control --socket s compact", "requires"),
     ("control --socket s stop now", "'compact'"),
     ("control --socket s compact a b", "unexpected"),
     // a request

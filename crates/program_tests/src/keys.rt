@@ -11,7 +11,7 @@ const UNBROUGHT: [(&str, &str); 7] = [
     ("import --keytab .", "cannot read ."),
     (
         "import --keytab no.keytab",
-        "no.keytab: no keytab of format 0x0502",
+        "no.keytab: not a keytab of format 0x0502",
     ),
     (
         "key --name alice --password-file missing",
