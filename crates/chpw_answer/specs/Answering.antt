@@ -1,4 +1,4 @@
--- A message answered: the bytes of the reply, who decides, and what the gate hears.
+-- A message answered: the bytes of the reply, the decider, and what the gate hears.
 use Rattle.std.specs.Prelude.{◌≡◌, ◌≤◌, ℕ, List, length, Bool, Option}
 use Rattle.chpw_table.specs.declared.times.Moment.{Moment}
 use Rattle.chpw_table.specs.declared.history.Receipt.{Receipt}
@@ -9,8 +9,8 @@ use Rattle.chpw_answer.specs.Answers.{IsAnswer, is_opened}
 use Rattle.chpw_answer.specs.InTurn.{InTurn}
 use Rattle.chpw_answer.specs.Hearing.{Heard, HearsOpened, HearsUnanswered}
 
--- these bytes, which fit a frame, answer a message from this peer, which opened or not; who decides went on: its
--- receipts are these, and it may be full with them; and the gate heard just what came of the message
+-- these bytes, which fit a frame, answer a message from this peer, which opened or not; the decider went on: its
+-- receipts are these, and it may be full with them; and the gate heard exactly the result of the message
 pub record Answering {D G : Type 0} (error_frame : Answer → Moment → List ℕ) (private_frame : Seal → Answer → List ℕ → List ℕ) (full : D → List Receipt → Type 0) (gathered : D → List Receipt) (follows : D → D → Type 0) (made : D → Option ℕ → Type 0) (hears : G → Heard → G → Type 0) (opens : List ℕ → Opens → Type 0) (peer text words : List ℕ) (now : Moment) (before after : D) (gate later : G) (bytes : List ℕ) (is_open : Bool) : Type 0 where
   pub reply : IsAnswer error_frame private_frame (full after (gathered after)) (opens text) words now (gathered before) (gathered after) bytes
   pub fits : length bytes ≤ 65535
@@ -20,7 +20,7 @@ pub record Answering {D G : Type 0} (error_frame : Answer → Moment → List �
   pub hears_it : HearsOpened peer now (made after) (gathered before) (gathered after) reply.0 heard
   pub in_turn : InTurn hears gate heard later
 
--- memory ran out: who decides went on, with a receipt more at the most, and the gate heard of that one
+-- memory ran out: the decider went on, with at most one more receipt, and the gate heard of that one
 pub record Unanswered {D G : Type 0} (gathered : D → List Receipt) (follows : D → D → Type 0) (made : D → Option ℕ → Type 0) (hears : G → Heard → G → Type 0) (opens : List ℕ → Opens → Type 0) (peer text : List ℕ) (now : Moment) (before after : D) (gate later : G) : Type 0 where
   pub goes_on : follows before after
   pub heard : List Heard

@@ -23,10 +23,10 @@ pub struct Answered {
     pub opened: bool,
 }
 
-/// The reply to a message from this peer, an IPv4 address, high byte first. Its request is judged at
-/// the moment `now`, whose seconds are 0 to `chpw_table::LAST_SECOND`, and microseconds below
-/// 1,000,000; the words make its confounders and its sequence number. The gate hears what came of it.
-/// After `AllocError` there may be a receipt more, of which the gate heard.
+/// The reply to a message from this peer, an IPv4 address, high byte first. Its request is judged at the moment `now`,
+/// whose seconds are 0 to `chpw_table::LAST_SECOND`, and microseconds below 1,000,000; the words make its confounders
+/// and its sequence number. The gate hears the result. After `AllocError` there may be one more receipt, of which the
+/// gate heard.
 pub fn answer<M: Messages, D: Decider, G: Gate>(
     alloc: Global,
     service: &M,
@@ -51,7 +51,7 @@ pub fn answer<M: Messages, D: Decider, G: Gate>(
     Ok(answer.bytes)
 }
 
-/// The same, with whether the message opened.
+/// The reply, with whether the message opened.
 pub fn answer_message<M: Messages, D: Decider, G: Gate>(
     alloc: Global,
     service: &M,
@@ -103,7 +103,7 @@ pub fn answer_message<M: Messages, D: Decider, G: Gate>(
     })
 }
 
-/// What a full history is answered with.
+/// The answer when the history is full.
 pub(crate) fn history_full() -> Refusal
     ensures value { answer_in result ≡ full_answer }
 {

@@ -16,25 +16,24 @@ pub enum Spot {
     Answered,
 }
 
-/// What a worker passes with each message: a test can hold the worker there, and a log hears there what
-/// came of the message.
+/// What a worker passes with each message: a test can hold the worker there, and a log hears the result of the message.
 pub trait Gate {
-    /// Hearing this in the first state, it is in the second.
+    /// Hearing this leads from the first state to the second.
     ghost hears: { Self → Heard → Self → Type 0 };
 
-    /// The worker comes by this place with a message that opened.
+    /// The worker passes this place with a message that opened.
     fn at(&mut self, spot: Spot)
         ensures heard { hears self.old (passed spot) self.new };
 
-    /// A request from this peer, an IPv4 address, high byte first, was decided at this moment: this is its
-    /// receipt. `kvno` is the version of the new key behind a change, and none behind another decision.
+    /// A request from this peer, an IPv4 address, high byte first, was decided at this moment: this is its receipt.
+    /// `kvno` is the version of the new key after a change, and none after another decision.
     fn decided(&mut self, peer: [u8; 4], now: Moment, receipt: &Receipt, kvno: Option<u32>)
         requires moment { IsMoment now }
         requires micros { now.micros < 1000000 }
         ensures heard { hears self.old (decision peer now receipt.now kvno) self.new };
 
-    /// A message from this peer was not decided: it didn't open, was too long, or came to a full history,
-    /// and is answered so at this moment. Of the last there is the request.
+    /// A message from this peer was not decided: it didn't open, was too long, or came to a full history, and is
+    /// answered so at this moment. In the last case there is the request.
     fn refused(&mut self, peer: [u8; 4], now: Moment, opened: Option<&Opened>, refusal: &Refusal)
         requires moment { IsMoment now }
         requires micros { now.micros < 1000000 }
@@ -42,7 +41,7 @@ pub trait Gate {
             (refusal_of peer now (option_map (λ o. o.now) opened.entry) (answer_in refusal.now)) self.new };
 }
 
-/// A gate that holds nobody, and takes no note of what it hears.
+/// A gate that holds nobody and ignores what it hears.
 #[derive(Clone, Copy, Drop)]
 pub struct NoGate;
 

@@ -1,4 +1,4 @@
-//! How a message is answered, over whoever opens and makes messages and whoever decides.
+//! How a message is answered, for any maker of messages and any decider.
 #![tactic(auto)]
 
 mod answering;

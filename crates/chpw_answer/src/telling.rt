@@ -1,4 +1,4 @@
-//! What a gate is told of a decision.
+//! What a gate hears of a decision.
 ghost use Rattle.std.specs.Prelude.{◌≡◌, ◌<◌, IfOk, OnErr};
 ghost use Rattle.chpw_table.specs.Times.{IsMoment};
 ghost use Rattle.chpw_answer.specs.Trying.{IsVerdict, HearsVerdict, HearsLast, EndsWithVerdict};
@@ -10,7 +10,7 @@ use chpw_decider::Decider;
 use chpw_table::{Moment, Opened, Verdict};
 use std::alloc::AllocError;
 
-/// Decides, and tells the gate what came of it. None where the history is full.
+/// Decides, and lets the gate hear the result. None if the history is full.
 pub(crate) fn decide_telling<D: Decider, G: Gate>(
     decider: &mut D,
     gate: &mut G,
@@ -41,7 +41,7 @@ pub(crate) fn decide_telling<D: Decider, G: Gate>(
     }
 }
 
-/// Tells a gate of the decision whose receipt the decider put last.
+/// Lets a gate hear the decision whose receipt the decider added last.
 fn tell_decided<D: Decider, G: Gate>(
     decider: &D,
     gate: &mut G,

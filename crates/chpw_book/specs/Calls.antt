@@ -16,9 +16,9 @@ use Rattle.chpw_book.specs.Stored.{Gains}
 use Rattle.chpw_book.specs.Passes.{Carried}
 use Rattle.chpw_book.specs.Publishing.{Tells}
 
--- The pass has one receipt more: that of its worker's next entry behind some history that replays from
--- the opening, with this moment and event, whose verdict is the one that the one-thread machine gives
--- there. Of the accepted changes it is told where its own is one.
+-- The pass has one more receipt: that of its worker's next entry after some history that replays from the opening, with
+-- this moment and event, whose verdict is the one that the one-thread machine gives there. Of the accepted changes it
+-- learns those up to its own, if that is one.
 pub record Notes (opening : State) (mine more : Carried) (now : Moment) (event : Event) : Type 0 where
   pub before : List Entry
   pub entry : Entry
@@ -27,19 +27,19 @@ pub record Notes (opening : State) (mine more : Carried) (now : Moment) (event :
   pub gains : Gains before entry mine more
   pub tells : Tells opening before (before ++ entry ∷ []) mine.place more.place (is_accepted event)
 
--- keys are asked for only where, after some such history, the decision of this request lacks just these
+-- keys are asked for only if, after some such history, the decision of this request lacks exactly these
 pub record AsksAfter (opening : State) (now : Moment) (o : Opened) (fault : DecideFault) : Type 0 where
   pub before : List Entry
   pub legal : IsLegal opening before
   pub asks : AsksFor (missing (outcome opening before) now o) fault
 
--- after some such history the decision of this request lacks just these keys
+-- after some such history the decision of this request lacks exactly these keys
 pub record LacksAfter (opening : State) (now : Moment) (o : Opened) (counts : List ℕ) : Type 0 where
   pub before : List Entry
   pub legal : IsLegal opening before
   pub lacks : counts ≡ missing (outcome opening before) now o
 
--- a raise is refused for a full table, or, where it has room, for want of memory
+-- a raise is refused for a full table, or, if it has room, for want of memory
 abbrev pub IsFirstFault : Held → RaiseFault → Type 0
 IsFirstFault t Full = t.events ≡ t.max_entries
 IsFirstFault t Memory = t.events < t.max_entries

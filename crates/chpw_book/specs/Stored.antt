@@ -1,4 +1,4 @@
--- What lies under the lock: what is always true of it, and what an event adds.
+-- What is under the lock: its invariant, and what an event adds.
 use Rattle.std.specs.Prelude.{◌≡◌, ℕ, ◌+◌, ◌≤◌, ◌<◌, List, [], ◌∷◌, ◌++◌, length, Option, IfSome, replicate, slice_set}
 use Rattle.chpw_table.specs.declared.times.Moment.{Moment}
 use Rattle.chpw_table.specs.declared.history.Event.{Event}
@@ -11,7 +11,7 @@ use Rattle.chpw_journal.specs.Runs.{AreWhole}
 use Rattle.chpw_book.specs.Receipts.{IsNumbered, IsCounted, changes_of, next_entry, receipt_of}
 use Rattle.chpw_book.specs.Passes.{Carried}
 
--- the table, the history, each worker's count, the accepted changes, the ledger's total, and what the sink tells
+-- the table, the history, each worker's count, the accepted changes, the ledger's total, and the sink's known bytes
 pub record Stored : Type 0 where
   pub table : Held
   pub history : List Entry
@@ -20,13 +20,13 @@ pub record Stored : Type 0 where
   pub total : ℕ
   pub told : Option (List ℕ)
 
--- no entry yet, of so many workers
+-- no entry yet, for this many workers
 abbrev pub new_store : Held → ℕ → Option (List ℕ) → Stored
 new_store t workers told = record { table = t; history = []; counts = replicate workers 0; changes = 0; total = 0; told = told }
 
--- the one-thread machine, replaying the history from the opening, gives each verdict stored and leads to
--- the table; what each accepted entry brings in is whole; each worker's calls stand in it once each,
--- numbered; what the sink tells is its journal
+-- the one-thread machine, replaying the history from the opening, gives each verdict stored and leads to the table;
+-- what each accepted entry adds is well-formed; each worker's calls are in it once each, numbered; the sink's known
+-- bytes are its journal
 pub record Replays (opening : State) (workers : ℕ) (b : Stored) : Type 0 where
   pub legal : IsLegal opening b.history
   pub agrees : Agrees b.table.state (outcome opening b.history)
@@ -39,13 +39,13 @@ pub record Replays (opening : State) (workers : ℕ) (b : Stored) : Type 0 where
   pub journal : IfSome b.told (λ bytes. bytes ≡ journal opening b.history)
   pub room : length b.history ≤ b.table.events
 
--- the pass has the receipt of this entry more, which stands behind these
+-- the pass has one more receipt, of this entry, which comes after these
 pub record Gains (before : List Entry) (entry : Entry) (mine more : Carried) : Type 0 where
   pub receipts : more.receipts ≡ mine.receipts ++ receipt_of before entry ∷ []
   pub share : more.share ≡ mine.share + 1
   pub same : (more.worker ≡ mine.worker) × (more.was_full ≡ mine.was_full)
 
--- one entry more, the next of this pass's worker, with this moment and event; and its receipt
+-- one more entry, the next of this pass's worker, with this moment and event; and its receipt
 pub record Adds (before later : Stored) (mine more : Carried) (now : Moment) (event : Event) : Type 0 where
   pub entry : Entry
   pub entry_is : entry ≡ next_entry before.history mine.worker now entry.io_failed event

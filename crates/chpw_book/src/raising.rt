@@ -41,12 +41,11 @@ impl From<AllocError> for RaiseFault {
 }
 
 impl<D: DeskName, S: JournalSink> Store<D, S> {
-    /// One raise: an entry of the pass's worker at the end, and its receipt in the pass. The count that
-    /// it sets waits on the shelf; putting it there is the last growth before the journal is appended
-    /// to.
+    /// One raise: an entry of the pass's worker at the end, and its receipt in the pass. The count that it sets is
+    /// prepared on the shelf, with the last growth before the journal is appended to.
     ///
-    /// `now` has seconds from 0 to `chpw_table::LAST_SECOND`, and `count` is 1 to 16,777,216. After a
-    /// fault nothing has changed: `Full`, `Memory`.
+    /// `now` has seconds from 0 to `chpw_table::LAST_SECOND`, and `count` is 1 to 16,777,216. After a fault nothing has
+    /// changed: `Full`, `Memory`.
     pub(crate) fn raise(
         &mut self,
         shelf: &mut Shelf<D>,
@@ -85,8 +84,8 @@ impl<D: DeskName, S: JournalSink> Store<D, S> {
     }
 }
 
-// Whether there is room for one event more, by a pass whose lookups showed nothing but what the shelf
-// published; else memory is wanting, since the pass's reader can't enter.
+// Whether there is room for one more event, by a pass whose lookups showed only what the shelf published; otherwise
+// refused for want of memory, since the pass's reader can't enter.
 fn has_room<D: DeskName>(
     table: &Table,
     shelf: &Shelf<D>,
@@ -107,9 +106,8 @@ fn has_room<D: DeskName>(
     }
 }
 
-// All growths of a raise for which there is room: a place in both lists, and, where it is accepted unless
-// its append fails, the change that waits on the shelf, which is the last before the journal is appended
-// to.
+// All growths of a raise for which there is room: room in both lists, and, if it is accepted unless its append fails,
+// the change on the shelf, which is the last before the journal is appended to.
 fn make_room<D: DeskName>(
     entries: &mut Vec<Entry>,
     receipts: &mut Vec<Receipt>,

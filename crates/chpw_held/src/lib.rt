@@ -1,5 +1,5 @@
-//! The table that is held: its configuration's, with the changes of its journal put back; and the
-//! configuration that its principals make.
+//! The table that is held: its configuration's, with the changes of its journal replayed; and the configuration with
+//! its principals.
 #![tactic(auto)]
 
 mod configuration;

@@ -1,5 +1,5 @@
-//! Keys brought in: the service keys and the principals' keys that a keytab holds, with what is left out of
-//! it and why; and a principal's keys of a password.
+//! Importing keys: the service keys and the principals' keys of a keytab, with the entries that are skipped and why;
+//! and a principal's keys from a password.
 #![tactic(auto)]
 
 mod entries;

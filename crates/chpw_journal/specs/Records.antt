@@ -1,8 +1,8 @@
--- The journal's format, format 3: records one after the other, with no header. A record is its length,
--- two bytes, high byte first, and then a change, a raise or a base. A change: kind 1, kvno and iteration
--- count, four bytes each, the keys of etype 17 and 18, and the name: how many components, and each behind
--- its length, one byte. A raise: kind 2 and the iteration count, four bytes. A base: kind 3, and then what
--- a change has behind its kind. Format 1 had changes alone, and format 2 changes and raises.
+-- The journal's format, format 3: records one after the other, without a header. A record is its length, two bytes,
+-- high byte first, and then a change, a raise or a base. A change: kind 1, kvno and iteration count, four bytes each,
+-- the keys of etype 17 and 18, and the name: how many components, and each after its length, one byte. A raise: kind 2
+-- and the iteration count, four bytes. A base: kind 3, and then what a change has after its kind. Format 1 had only
+-- changes, and format 2 changes and raises.
 use Rattle.std.specs.Prelude.{◌≡◌, ℕ, List, [], ◌∷◌, ◌++◌, length, take, drop, Bool, true, ◌||◌, ◌==◌}
 use Rattle.std.specs.Int.{from_be_bytes, to_be_bytes, w16, w32}
 use Rattle.chpw_rules.specs.declared.limits.Limits.{Limits}
@@ -27,11 +27,11 @@ RecordFits (record_of.Change c) = ChangeFits c
 RecordFits (record_of.Raise count) = is_in iteration_counts count ≡ true
 RecordFits (record_of.Base c) = ChangeFits c
 
--- a change's text, from behind its length
+-- a change's text, after its length
 abbrev pub change_text : Change → List ℕ
 change_text c = change_bytes c.name c.key
 
--- the same with this kind in front
+-- that text with this kind in front
 abbrev pub text_of_kind : ℕ → Change → List ℕ
 text_of_kind kind c = kind ∷ drop 1 (change_text c)
 
@@ -55,7 +55,7 @@ records_text (r ∷ rs) = record_text r ++ records_text rs
 abbrev pub stated_length : List ℕ → ℕ
 stated_length text = from_be_bytes w16 (take 2 text)
 
--- the lengths of changes and bases: 58 bytes, and 1 to 8 components of 1 to 128 bytes, each behind its length
+-- the lengths of changes and bases: 58 bytes, and 1 to 8 components of 1 to 128 bytes, each after its length
 abbrev pub change_lengths : Limits
 change_lengths = range 60 1090
 

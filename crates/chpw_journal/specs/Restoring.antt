@@ -36,7 +36,7 @@ pub record IsRestored (before : Held) (old new : Option (List ℕ)) (r : Restore
 abbrev pub AlwaysReads : Held → List ℕ → Reading → Type 0
 AlwaysReads before read reading = (s : State) (more : List ℕ) → Agrees before.state s → IsReading s (read ++ more) reading
 
--- J1, J2 and J3 are the text's first fault; where it can't be read on, what was read has none
+-- J1, J2 and J3 are the text's first fault; if it can't be read on, what was read has none
 abbrev pub IsRefused : Held → Option (List ℕ) → Option (List ℕ) → RestoreFault → Type 0
 IsRefused before old new (BadRecord n) = (read : List ℕ) × Consumes old new read × AlwaysReads before read (bad_record n)
 IsRefused before old new (WrongVersion n) = (read : List ℕ) × Consumes old new read × AlwaysReads before read (wrong_version n)

@@ -1,8 +1,8 @@
-//! Why no keys are brought in.
+//! Why no keys are written.
 use krb_keytab::KeytabFault;
 use std::fmt;
 
-/// Why no keys are brought in; displayed as the line that the program writes.
+/// Why no keys are written; displayed as the line on standard error.
 #[derive(Clone, Copy, Drop)]
 pub enum KeysFault<'a> {
     /// The name isn't one that a configuration can have.

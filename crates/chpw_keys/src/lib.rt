@@ -1,4 +1,4 @@
-//! `import` and `key`: keys that are brought in, as stanzas of a configuration on standard output.
+//! `import` and `key`: the keys of a keytab or a password, as stanzas of a configuration on standard output.
 #![tactic(auto)]
 
 mod fault;

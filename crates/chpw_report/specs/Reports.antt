@@ -1,4 +1,4 @@
--- What is told of the principals that a table holds: a text for each, in the order of their names.
+-- The report of the principals that a table holds: a text for each, in the order of their names.
 use Rattle.std.specs.Prelude.{ℕ, List, [], ◌++◌, length, map, codes}
 use Rattle.std.specs.List.{flat_map}
 use Rattle.std.specs.Option.{option_map_or}
@@ -22,7 +22,7 @@ shown_line name shown =
     name_text name ++ codes " kvno " ++ decimal shown.kvno
     ++ codes " counts" ++ flat_map number_text shown.held ++ codes "\n"
 
--- ---- lines for a KDC's tool, a line a key: principal, kvno, etype, iterations, key, salt
+-- ---- lines for a KDC's tools, a line for each key: principal, kvno, etype, iterations, key, salt
 
 -- the default salt (RFC 4120 section 4): the realm, then the name's components
 abbrev pub salt_text : List ℕ → Name → List ℕ
@@ -51,7 +51,7 @@ told_of Keys realm t name = option_map_or (keys_lines realm name) (keys_held t.s
 abbrev pub names_of : Held → List Name
 names_of t = map (λ (p : Principal). p.name) t.state.principals
 
--- behind the lines for a person: how many principals there are, and how many changes a journal had
+-- after the lines for a person: how many principals there are, and how many changes a journal had
 abbrev pub end_of : Form → ℕ → ℕ → List ℕ
 end_of Lines principals changes =
     codes "principals " ++ decimal principals ++ codes " changes " ++ decimal changes ++ codes "\n"

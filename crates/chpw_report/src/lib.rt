@@ -1,4 +1,4 @@
-//! What is told of the principals that a table holds: lines for a person, and lines for a KDC's tool.
+//! Reports of the principals that a table holds: lines for a person, and lines for a KDC's tools.
 #![tactic(auto)]
 
 mod form;
