@@ -223,7 +223,7 @@ def password(realm, name, iterations, kvno, octets):
     word = word[:-1] if has_return else word
     if not word:
         return "password: the password is empty"
-    note = " | password: a carriage return at the end is left out" if has_return else ""
+    note = " | password: a carriage return at the end is ignored" if has_return else ""
     salt = realm.encode() + b"".join(parts)
     keys = [string_to_key(size, word, salt, iterations) for size in (16, 32)]
     return " ".join(stanza(parts, [(kvno, *keys)], iterations)) + note

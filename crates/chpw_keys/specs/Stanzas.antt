@@ -47,7 +47,7 @@ key_row o name password = row_of o.realm.now name password (numbers_of o)
 
 -- a carriage return at the end of a password's file is no part of it, which a line reports
 abbrev pub note_of : List ℕ → List ℕ → List ℕ
-note_of file bytes = if has_carriage_return bytes then file ++ codes ": a carriage return at the end is left out\n" else []
+note_of file bytes = if has_carriage_return bytes then file ++ codes ": a carriage return at the end is ignored\n" else []
 
 -- the stanza of this principal with the keys of the password in a file with these bytes; a configuration can have it if
 -- it can have the name

@@ -82,7 +82,7 @@ fn write_note<'a, E: Write>(
     if !has_carriage_return(bytes) {
         return Ok(());
     }
-    match format!(in alloc; "{file}: a carriage return at the end is left out\n") {
+    match format!(in alloc; "{file}: a carriage return at the end is ignored\n") {
         Ok(line) => write_text(line.as_bytes(), notes),
         Err(_) => Err(KeysFault::CannotPrint),
     }
