@@ -17,8 +17,8 @@ use Rattle.chpw_book.specs.Passes.{Carried}
 use Rattle.chpw_book.specs.Publishing.{Tells}
 
 -- The pass has one more receipt: that of its worker's next entry after some history that replays from the opening, with
--- this moment and event, whose verdict is the one that the one-thread machine gives there. Of the accepted changes it
--- learns those up to its own, if that is one.
+-- this moment and event, whose verdict is the one that the one-thread machine gives there. If the event is accepted,
+-- the pass learns the accepted changes, its own the last.
 pub record Notes (opening : State) (mine more : Carried) (now : Moment) (event : Event) : Type 0 where
   pub before : List Entry
   pub entry : Entry

@@ -21,6 +21,7 @@ pub struct Hold {
 }
 
 impl Hold {
+    /// No append has begun, and the lookups are not over.
     pub fn new() -> Hold {
         Hold {
             held: AtomicBool::new(false),
