@@ -24,6 +24,7 @@ struct Run {
 }
 
 impl Census {
+    /// No answer has been counted.
     pub fn new(alloc: Global) -> Census {
         Census {
             kinds: Vec::new(alloc),

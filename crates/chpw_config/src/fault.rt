@@ -143,12 +143,14 @@ pub struct Location {
 impl Location {
     ghost use Rattle.chpw_config.specs.Faults.{fault_at, location};
 
+    /// The element of this index, from 0, in the part's list.
     pub fn of(part: Part, index: usize) -> Location
         ensures value { result ≡ location part index }
     {
         Location { part, index }
     }
 
+    /// The fault of this kind, found here.
     pub fn fault(self, kind: ConfigFaultKind) -> ConfigFault
         ensures value { result ≡ fault_at self kind }
     {

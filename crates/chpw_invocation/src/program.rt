@@ -15,6 +15,7 @@ use crate::options::{
 use clap::Command;
 use std::alloc::{AllocError, Global};
 
+/// The version that `--version` and `status` print.
 pub const VERSION: &str = "0.1";
 
 const ABOUT: &str = "The Kerberos change-password service kadmin/changepw (RFC 3244).";

@@ -157,7 +157,7 @@ impl<
             && matches!(self.accepting, Accepting::Ready)
     }
 
-    // Whether a datagram may have come, and may count as one more connection, after this many.
+    /// Whether a datagram may have come, and may count as one more connection, after this many.
     pub fn can_take_datagram(&self, accepted: u32) -> bool {
         self.has_datagrams && accepted < self.connections
     }

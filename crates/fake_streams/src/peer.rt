@@ -73,6 +73,7 @@ pub struct Course {
 }
 
 impl Course {
+    /// No call was made and no byte went through.
     pub fn start(way: Way) -> Course {
         Course {
             way,

@@ -10,6 +10,7 @@ pub const NOW: Moment = Moment {
     micros: 0,
 };
 
+/// The new password that it asks for.
 pub const PASSWORD: &[u8] = b"New-pass2";
 
 /// A client asks at `NOW`, with these microseconds, for a new password of its own.

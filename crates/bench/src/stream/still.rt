@@ -25,6 +25,7 @@ pub struct Words {
 }
 
 impl Words {
+    /// The words from 1 on.
     pub fn new() -> Words {
         Words { last: 0 }
     }

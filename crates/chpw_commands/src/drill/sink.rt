@@ -11,6 +11,7 @@ pub struct RequestSink {
 }
 
 impl RequestSink {
+    /// A journal without appends; `fails` says whether they fail.
     pub fn new(fails: bool) -> RequestSink
         ensures value { result ≡ record { fails = fails; failed = 0 } }
     {
