@@ -43,7 +43,7 @@ fn start(alloc: Global, text: &str) -> io::Result<World> {
     })
 }
 
-// Each message behind its length.
+// Each message after its length.
 fn stream_of(alloc: Global, messages: &[Vec<u8>]) -> io::Result<Vec<u8>> {
     let mut stream = Vec::new(alloc);
     for message in messages {

@@ -79,7 +79,7 @@ fn tell<'a, W: Write>(
         TableForm::Lines => report(alloc, Form::Lines, realm, held, writer),
         TableForm::Keys => report(alloc, Form::Keys, realm, held, writer),
         TableForm::Configuration => {
-            // The same bytes are parsed again, since the first configuration became the table.
+            // The bytes are parsed again, since the first configuration became the table.
             configuration(alloc, settings(alloc, bytes)?, held, writer)
         }
     }
