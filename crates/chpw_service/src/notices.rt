@@ -32,14 +32,19 @@ impl fmt::Display for Notice<'_> {
 
     fn fmt<W: fmt::Write>(&self, f: &mut fmt::Formatter<W>) -> fmt::Result {
         match self {
-            Notice::LogLost(log) => write!(f, "{log}: a line of the log was lost; further losses are not reported"),
+            Notice::LogLost(log) => write!(
+                f,
+                "{log}: a line of the log was lost; further losses are not reported"
+            ),
             Notice::JournalFailed(journal) => {
                 write!(
                     f,
                     "{journal}: journal failed: no change is accepted until a restart"
                 )
             }
-            Notice::OutputLost => { f.write_str("standard output: a line was lost; further losses are not reported") }
+            Notice::OutputLost => {
+                f.write_str("standard output: a line was lost; further losses are not reported")
+            }
             Notice::Expired(count) => {
                 write!(
                     f,
