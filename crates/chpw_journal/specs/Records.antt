@@ -13,7 +13,8 @@ use Rattle.chpw_journal.specs.declared.change.Change.{Change}
 use Rattle.chpw_journal.specs.declared.record.Record.{Record}
 use Rattle.chpw_journal.specs.declared.record.Record.TheVariants as record_of
 
--- a change within the limits: 1 to 8 components of 1 to 128 bytes, kvno and iteration count in range, keys of 16 and 32 bytes
+-- a change within the limits: 1 to 8 components of 1 to 128 bytes, kvno and iteration count in range, keys of 16 and 32
+-- bytes
 pub record ChangeFits (c : Change) : Type 0 where
   pub name : is_name c.name ≡ true
   pub kvno : is_in kvnos c.key.kvno ≡ true

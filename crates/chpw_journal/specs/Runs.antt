@@ -59,7 +59,8 @@ pub record Run : Type 0 where
   pub opening : State
   pub history : List Entry
 
--- each run opens with the principals that the one before it left, the first with those of a state, and has a legal history
+-- each run opens with the principals that the one before it left, the first with those of a state, and has a legal
+-- history
 abbrev pub AreRuns : State → List Run → Type 0
 AreRuns s [] = Unit {0}
 AreRuns s (r ∷ rs) = SameKeys s r.opening × IsSound r.opening × IsLegal r.opening r.history × AreWhole r.opening r.history × AreRuns (outcome r.opening r.history) rs
