@@ -33,7 +33,7 @@ class Fields:
 
     def take(self, size):
         if size > len(self.octets):
-            raise Fault(f"a field of the record at {self.place} ends behind it")
+            raise Fault(f"a field of the record at {self.place} extends past its end")
         taken, self.octets = self.octets[:size], self.octets[size:]
         return taken
 
@@ -59,7 +59,7 @@ def entry_of(octets, place):
 
 def entries_of(octets):
     if octets[:2] != b"\x05\x02":
-        raise Fault("no keytab of format 0x0502")
+        raise Fault("not a keytab of format 0x0502")
     entries, place = [], 2
     while place < len(octets):
         if place + 4 > len(octets):
@@ -107,17 +107,17 @@ def principal_keys(versions):
     for kvno in sorted(versions, reverse=True):
         if reason is None:
             if below is not None and kvno != below:
-                reason = "behind a version that is missing or left out"
+                reason = "older than a version that is missing or skipped"
                 why[kvno] = reason
                 continue
             if set(versions[kvno]) != {17, 18}:
                 lone = 35 - next(iter(versions[kvno]), 18)
                 why[kvno] = f"no key of etype {lone} has its kvno"
-                reason = "behind a version that is missing or left out"
+                reason = "older than a version that is missing or skipped"
                 continue
             if len(used) == MOST_KEYS:
                 why[kvno] = "there are 16 keys already"
-                reason = "behind a version that is missing or left out"
+                reason = "older than a version that is missing or skipped"
                 continue
             used.append(kvno)
             below = kvno - 1
@@ -141,7 +141,7 @@ def brought(octets, realm, iterations):
         held = slots.get(slot, index)
         older = min(held, index) if entries[held].timestamp <= entry.timestamp else index
         if held != index:
-            left[older] = "an entry put there later has the same name, kvno and etype"
+            left[older] = "a later entry has the same name, kvno and etype"
         slots[slot] = index if older != index or held == index else held
     found = {name: {kvno: {} for kvno in newest[name]} for name in newest}
     for (name, kvno, etype), index in slots.items():
@@ -186,7 +186,7 @@ def escaped(octets):
 
 def told(entry, why):
     name = "/".join(map(escaped, entry.name))
-    return (f"keytab: at {entry.place}: left out: {name}@{escaped(entry.realm)}, kvno {entry.kvno}, "
+    return (f"keytab: at {entry.place}: skipped: {name}@{escaped(entry.realm)}, kvno {entry.kvno}, "
             f"etype {entry.etype}: {why}")
 
 
@@ -223,7 +223,7 @@ def password(realm, name, iterations, kvno, octets):
     word = word[:-1] if has_return else word
     if not word:
         return "password: the password is empty"
-    note = " | password: a carriage return at the end is left out" if has_return else ""
+    note = " | password: a carriage return at the end is ignored" if has_return else ""
     salt = realm.encode() + b"".join(parts)
     keys = [string_to_key(size, word, salt, iterations) for size in (16, 32)]
     return " ".join(stanza(parts, [(kvno, *keys)], iterations)) + note

@@ -241,7 +241,7 @@ def told(text, journal, tell):
     except Refused as fault:
         return f"{fault}\n"
     behind = table.torn_behind
-    torn = "" if behind is None else f"a torn record stands behind {behind} bytes\n"
+    torn = "" if behind is None else f"a torn record begins after {behind} bytes\n"
     return torn + tell(table)
 
 

@@ -5,7 +5,7 @@ use crate::pools::Machine;
 use crate::stop::{Fell, Stop};
 use crate::{client, commands, desks, frames, keys, messages, pools, records, tables};
 
-/// Writes what the call of a line gives: where it fell.
+/// Writes what the call of a line gives; returns where the refused allocation fell.
 pub fn told<R: Machine>(rt: &R, page: &mut Page, line: &str) -> Result<Fell, Stop> {
     let (call, text) = line.split_once(' ').unwrap_or((line, ""));
     match call {
@@ -19,7 +19,7 @@ pub fn told<R: Machine>(rt: &R, page: &mut Page, line: &str) -> Result<Fell, Sto
     }
 }
 
-/// A call that leaves nothing behind where it is refused.
+/// A call that changes nothing when it is refused.
 fn plain(page: &mut Page, call: &str, text: &str) -> Result<(), Stop> {
     match call {
         "read" | "write" => records::told(page, call == "read", text),

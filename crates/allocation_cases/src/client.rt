@@ -33,7 +33,7 @@ fn told_of(page: &mut Page, call: &str, exchange: &Exchange) -> Result<(), Stop>
     }
 }
 
-/// What the client prints of a reply.
+/// What the client prints for a reply.
 pub fn put_line(page: &mut Page, sent: &Sent, reply: &[u8]) -> Result<(), Stop> {
     match called(client_line(page.alloc(), sent, reply))? {
         None => Err(Stop::Wrong("a reply that isn't read")),

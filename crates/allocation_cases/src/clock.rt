@@ -1,11 +1,11 @@
-//! A clock that stands still, and words that count.
+//! A clock that stands still, and words that count up.
 ghost use Rattle.std.specs.Prelude.{◌<◌};
 ghost use Rattle.chpw_table.specs.Times.{IsMoment};
 
 use chpw_serve::{Clock, Words};
 use chpw_table::Moment;
 
-/// When everything here is asked and answered.
+/// When everything in these cases is asked and answered.
 pub const NOW: Moment = Moment {
     seconds: 1_000_100,
     micros: 0,

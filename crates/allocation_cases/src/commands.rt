@@ -9,7 +9,7 @@ use chpw_rules::Config;
 use clap::error::ErrorKind;
 use std::alloc::Global;
 
-/// Bytes that a command prints here.
+/// The most bytes that a command prints in these cases.
 const PRINTED: usize = 10_000;
 
 const CONFIG: &str = "[service]
@@ -42,7 +42,7 @@ const FAULTY: &str = "[service]\nrealm = 5\n";
 const SCRIPT: &str = "realm EXAMPLE.COM
 ";
 
-/// The command, and the words behind it.
+/// The command, and the words after it.
 pub fn told(page: &mut Page, line: &str) -> Result<(), Stop> {
     let (call, text) = line.split_once(' ').unwrap_or((line, ""));
     match call {
@@ -55,7 +55,7 @@ pub fn told(page: &mut Page, line: &str) -> Result<(), Stop> {
     }
 }
 
-// The texts stand in a function of their own, since each goal of one that has them reads them whole.
+// The texts are in a function of their own, since each goal of a function with them reads them in full.
 fn config_of(kind: &str) -> &'static str {
     match kind {
         "faulty" => FAULTY,
@@ -81,7 +81,7 @@ fn put_config(page: &mut Page, config: &Config) {
     page.add(count.to_string(page.alloc()));
 }
 
-/// What a command printed; after a refusal it is to have printed nothing.
+/// What a command printed; after a refusal it must have printed nothing.
 fn printed<T>(answer: Result<T, DrillFault>, written: &[u8]) -> Result<T, Stop> {
     match answer {
         Ok(value) => Ok(value),

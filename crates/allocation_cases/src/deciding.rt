@@ -1,4 +1,4 @@
-//! Decisions, and the same again where memory was wanting.
+//! Decisions, repeated when memory was refused.
 
 use crate::page::Page;
 use crate::stop::{Fell, Stop};
@@ -6,19 +6,19 @@ use crate::world::{asked, complete, password};
 use chpw_table::{DecideFault, Opened, Refused, Verdict};
 use std::alloc::Global;
 
-/// Whoever decides requests, and is looked at.
+/// A decider whose state can be shown.
 pub trait Decides {
-    /// Decides a request that has its keys; or else they are derived of the password that is given.
+    /// Decides a request that has its keys; or the keys are derived from the password that is given.
     fn ask(&mut self, opened: Opened, password: Option<&[u8]>) -> Result<Verdict, Refused>;
 
-    /// Writes all that is seen of it.
+    /// Writes all that can be seen of it.
     fn show(&mut self, page: &mut Page);
 }
 
 /// Only want of memory may refuse.
 const ANOTHER: Stop = Stop::Wrong("another refusal");
 
-/// All that is seen.
+/// All that can be seen.
 pub fn seen<D: Decides>(alloc: Global, decider: &mut D) -> Result<Page, Stop> {
     let mut page = Page::new(alloc);
     decider.show(&mut page);
@@ -26,7 +26,7 @@ pub fn seen<D: Decides>(alloc: Global, decider: &mut D) -> Result<Page, Stop> {
     Ok(page)
 }
 
-/// That all that is seen is as it was.
+/// Checks that all that can be seen is unchanged.
 pub fn unchanged<D: Decides>(decider: &mut D, was: &Page) -> Result<(), Stop> {
     let now = seen(was.alloc(), decider)?;
     if now.text() == was.text() {
@@ -36,7 +36,7 @@ pub fn unchanged<D: Decides>(decider: &mut D, was: &Page) -> Result<(), Stop> {
     }
 }
 
-/// The verdict of a request beside the call.
+/// The verdict of a request outside the call.
 fn decided_beside<D: Decides>(
     decider: &mut D,
     opened: Opened,
@@ -48,7 +48,7 @@ fn decided_beside<D: Decides>(
     }
 }
 
-/// Why a line gives nothing whose set-up was refused.
+/// Why a line gives nothing when its set-up was refused.
 fn stop_beside(refused: &Refused) -> Stop {
     match refused.fault {
         DecideFault::Memory => Stop::Beside,
@@ -56,7 +56,7 @@ fn stop_beside(refused: &Refused) -> Stop {
     }
 }
 
-/// So many changes, each to another password.
+/// This many changes, each to another password.
 pub fn change_often<D: Decides>(alloc: Global, decider: &mut D, count: u32) -> Result<(), Stop> {
     for number in 0..count {
         let opened = complete(alloc, number)?;
@@ -65,7 +65,7 @@ pub fn change_often<D: Decides>(alloc: Global, decider: &mut D, count: u32) -> R
     Ok(())
 }
 
-/// The verdict of a request after so many changes, with its keys or to be derived.
+/// The verdict of a request after this many changes, with its keys or with keys to be derived.
 pub fn decided<D: Decides>(
     page: &mut Page,
     decider: &mut D,
@@ -109,7 +109,7 @@ fn looked_at<D: Decides>(alloc: Global, decider: &mut D, opened: &Opened) -> Res
     Ok(Before { opened, seen })
 }
 
-/// The verdict of a request, and where it fell.
+/// The verdict of a request, and where the refused allocation fell.
 fn verdict_of<D: Decides>(
     alloc: Global,
     decider: &mut D,
@@ -146,7 +146,7 @@ fn asked_again<D: Decides>(
     }
 }
 
-/// That a refusal has left all as it was, its request too.
+/// Checks that a refusal has left everything unchanged, its request too.
 fn left_alone<D: Decides>(
     decider: &mut D,
     refused: &Refused,
@@ -157,8 +157,8 @@ fn left_alone<D: Decides>(
     unchanged(decider, &was.seen)
 }
 
-/// That want of memory refused a request, and handed it back as it was; where its keys are derived it may
-/// have them.
+/// Checks that want of memory refused a request, and returned it unchanged; if its keys are to be derived it may have
+/// them.
 fn handed_back(refused: &Refused, password: Option<&[u8]>, was: &Before) -> Result<(), Stop> {
     match refused.fault {
         DecideFault::Memory => {}
@@ -171,7 +171,7 @@ fn handed_back(refused: &Refused, password: Option<&[u8]>, was: &Before) -> Resu
     }
 }
 
-/// A request decided after so many changes, and not again where it was refused.
+/// A request decided after this many changes, and not again if it was refused.
 pub fn decided_once<D: Decides>(
     page: &mut Page,
     decider: &mut D,

@@ -19,27 +19,27 @@ use std::sync::Wait;
 /// The length of a record of alice's.
 const RECORD: usize = 66;
 
-/// A worker at a desk, beside what it decides and serves.
+/// A worker at a desk, whose receipts and lookups can be shown.
 pub trait Works: Serves {
     /// Writes its receipts.
     fn show_receipts(&self, page: &mut Page);
 
-    /// Writes what it is shown of a principal.
+    /// Writes what a lookup shows of a principal.
     fn look_up(&mut self, page: &mut Page, name: &Name) -> Result<(), Stop>;
 
     /// Raises the count from 4 to 8.
     fn raise(&mut self) -> Result<RaiseVerdict, RaiseFault>;
 }
 
-/// What is asked of a desk: a call, after so many changes.
+/// What is asked of a desk: a call, after this many changes.
 #[derive(Clone, Copy, Drop)]
 struct Asked<'a> {
     call: &'a str,
     before: u32,
 }
 
-/// `start`, `decide N`, `derive N`, `serve N`, `lookup N`: the call after N changes. `leave N`: the desk is
-/// closed after a decision, which is not made again where it was refused.
+/// `start`, `decide N`, `derive N`, `serve N`, `lookup N`: the call after N changes. `leave N`: the desk is closed
+/// after a decision, which is not made again if it was refused.
 pub fn told<R: Wait>(rt: &R, page: &mut Page, line: &str) -> Result<Fell, Stop> {
     let (call, number) = line.split_once(' ').unwrap_or((line, "0"));
     let before = number.parse().unwrap_or(0);
@@ -91,7 +91,7 @@ fn with_first<D: DeskName, R: Wait>(
     }
 }
 
-/// What was told, and what the desk leaves.
+/// What the call gave, and what the desk leaves.
 fn with_left(
     page: &mut Page,
     closed: &Closed<MemorySink>,
@@ -125,7 +125,7 @@ fn with_worker<W: Works>(page: &mut Page, worker: &mut W, asked: Asked<'_>) -> R
     }
 }
 
-/// What is shown of alice.
+/// What a lookup shows of alice.
 fn looked_up<W: Works>(page: &mut Page, worker: &mut W, before: u32) -> Result<Fell, Stop> {
     let alloc = page.alloc();
     change_often(alloc, worker, before)?;
@@ -137,7 +137,7 @@ fn looked_up<W: Works>(page: &mut Page, worker: &mut W, before: u32) -> Result<F
     }
 }
 
-/// The same after a refusal, which has left the receipts as they were.
+/// The lookup after a refusal, which has left the receipts unchanged.
 fn looked_up_again<W: Works>(
     page: &mut Page,
     worker: &mut W,
@@ -161,7 +161,7 @@ fn receipts_of<W: Works>(alloc: Global, worker: &W) -> Result<Page, Stop> {
     Ok(page)
 }
 
-/// What comes of a raise.
+/// The result of a raise.
 fn raised<W: Works>(page: &mut Page, worker: &mut W, before: u32) -> Result<Fell, Stop> {
     change_often(page.alloc(), worker, before)?;
     let was = seen(page.alloc(), worker)?;
@@ -173,7 +173,7 @@ fn raised<W: Works>(page: &mut Page, worker: &mut W, before: u32) -> Result<Fell
     Ok(Fell::Nowhere)
 }
 
-/// The same after a refusal, which has left the pass as it was.
+/// The raise after a refusal, which has left the pass unchanged.
 fn raised_again<W: Works>(page: &mut Page, worker: &mut W, was: &Page) -> Result<Fell, Stop> {
     unchanged(worker, was)?;
     match worker.raise() {
@@ -210,7 +210,7 @@ pub fn closed<D: DeskName, R: Wait>(
     }
 }
 
-/// That a desk leaves so many changes, and one more unless the last was refused.
+/// Checks that a desk leaves this many changes, and one more unless the last was refused.
 fn counted(closed: &Closed<MemorySink>, before: u32, fell: Fell) -> Result<(), Stop> {
     let changes = before.saturating_add(if fell == Fell::Call { 0 } else { 1 });
     let count = changes as usize;

@@ -8,7 +8,7 @@ use chpw_frame::{
 };
 use std::alloc::Global;
 
-/// The longest part of a message here.
+/// The longest part of a message in these cases.
 const SHORT: usize = 10_000;
 
 /// `join_.. HEX HEX`, a message of these parts; `read_.. HEX`.

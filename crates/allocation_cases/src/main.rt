@@ -1,16 +1,14 @@
 //! Calls that take memory, one a line on standard input, with what each gives on standard output.
 //!
-//! The program is run with one of its allocations refused (`hostile/allocations`). A call that answers
-//! want of memory then is made again, after a look at what the refusal left; where memory was wanting
-//! beside the call, all is set up again. So a line prints the same whichever allocation was refused,
-//! unless a call answers something else, or leaves something behind: that prints `wrong` and what it
-//! was.
+//! The program is run with one of its allocations refused (`hostile/allocations`). A call that then answers want of
+//! memory is made again, after a check of what the refusal left; if memory was refused outside the call, everything is
+//! set up again. So a line prints the same whichever allocation was refused, unless a call answers something else, or
+//! leaves something changed: that prints `wrong` and what it was.
 //!
-//! `where` before a call prints in front of its line where the refused allocation fell, in brackets.
-//! `refused` means that the call answered so, `refused behind its entry` that its entry stands; after
-//! `beside` the call was not asked, and `nowhere` says that nothing was noticed. README.md has the
-//! calls. A line that begins with `#`, or is empty, is passed on. Neither reading nor printing takes
-//! memory.
+//! `where` before a call prints in front of its line where the refused allocation fell, in brackets. `refused` means
+//! that the call answered so, `refused behind its entry` that its entry stands; after `beside` the call was not made,
+//! and `nowhere` says that nothing was noticed. README.md lists the calls. A line that begins with `#`, or is empty, is
+//! copied. Neither reading nor printing takes memory.
 #![tactic(auto)]
 
 mod calls;
@@ -104,7 +102,8 @@ fn print_said(
     }
 }
 
-/// Writes what a line gives; where memory was wanting it is set up again. Where that fell.
+/// Writes what a line gives; if memory was refused outside the call, everything is set up again. Returns where the
+/// refused allocation fell.
 fn twice<R: Machine>(rt: &R, page: &mut Page, line: &str) -> Result<Fell, Stop> {
     let fell = match once(rt, page, line) {
         Err(Stop::Call) => Fell::Call,

@@ -19,7 +19,7 @@ pub const SERVICE: ServiceKey = ServiceKey {
 
 pub const KEY: Key = Key::Aes256([0x33; 32]);
 
-/// The longest text of a record here.
+/// The longest text of a record in these cases.
 const SHORT: usize = 10_000;
 
 /// Why no message is made.

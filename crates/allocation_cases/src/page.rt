@@ -4,8 +4,8 @@ use crate::stop::Stop;
 use hex::encode;
 use std::alloc::{AllocError, Global};
 
-/// A text to which parts are added. Where memory is wanting for a part, the part is left out, and that is
-/// noted: what is written here needs no look at each part, and one look at the end.
+/// A text to which parts are added. If memory is refused for a part, the part is left out, and that is noted: one check
+/// at the end replaces a check after each part.
 #[derive(Drop)]
 pub struct Page {
     alloc: Global,
@@ -31,7 +31,7 @@ impl Page {
         self.text.as_str()
     }
 
-    /// An error where a part was left out.
+    /// An error if a part was left out.
     pub fn whole(&self) -> Result<(), Stop> {
         if self.lacks {
             Err(Stop::Beside)

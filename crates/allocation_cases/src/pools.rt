@@ -1,4 +1,4 @@
-//! A pool of two workers at a desk, beside its client.
+//! A pool of two workers at a desk, together with its client.
 ghost use Rattle.std.specs.Prelude.{◌≡◌};
 ghost use Rattle.chpw_book.specs.Starting.{IsNamed};
 
@@ -24,7 +24,7 @@ use std::time::{Clock, Duration};
 /// How often the client connects, each time with the same request.
 const CONNECTIONS: u32 = 3;
 
-/// How often a pool is run at the most.
+/// The most times that a pool is run.
 const POOLS: u32 = 3;
 
 /// How long the client waits for a reply, in seconds.
@@ -110,7 +110,7 @@ fn with_desk<D: DeskName + Send + Sync, R: Machine>(
     }
 }
 
-/// The pool beside its client: where it fell.
+/// The pool together with its client: where the refused allocation fell.
 fn at_once<D: DeskName + Send + Sync, R: Machine>(
     rt: &R,
     alloc: Global,
@@ -130,7 +130,7 @@ fn at_once<D: DeskName + Send + Sync, R: Machine>(
     }
 }
 
-/// Runs the pool until it has served so many connections: whether it was refused.
+/// Runs the pool until it has served this many connections: whether it was refused.
 fn pooled<D: DeskName + Send + Sync, R: Machine>(
     rt: &R,
     alloc: Global,
@@ -163,7 +163,7 @@ fn pooled<D: DeskName + Send + Sync, R: Machine>(
     fell
 }
 
-/// The client: how often it has a reply.
+/// The client: how often it gets a reply.
 fn asked<R: Machine>(rt: &R, site: Site<'_>) -> u32 {
     let mut answered = 0u32;
     for _ in 0..CONNECTIONS {
@@ -174,7 +174,7 @@ fn asked<R: Machine>(rt: &R, site: Site<'_>) -> u32 {
     answered
 }
 
-/// Sends the request, and reads what comes: how many bytes.
+/// Sends the request, and reads the reply: how many bytes.
 fn exchange<R: Machine>(rt: &R, site: Site<'_>) -> io::Result<usize> {
     let stream = connect(rt, site.port)?;
     exchange_over(&stream, site.stream)
@@ -190,7 +190,7 @@ fn exchange_over(stream: &TcpStream, bytes: &[u8]) -> io::Result<usize> {
     reader.read(&mut reply)
 }
 
-/// A connection, tried again where the first try fails.
+/// A connection, tried again if the first try fails.
 fn connect<R: Machine>(rt: &R, port: u16) -> io::Result<TcpStream> {
     match TcpStream::connect(rt, ("127.0.0.1", port)) {
         Ok(stream) => Ok(stream),

@@ -155,7 +155,7 @@ fn made(alloc: Global, reads: bool, record: &str, text: &[u8]) -> Result<Vec<u8>
     }
 }
 
-/// The same, of messages and their sealed parts.
+/// The text of the record that was read, for messages and their sealed parts.
 fn of_message(alloc: Global, reads: bool, record: &str, text: &[u8]) -> Result<Vec<u8>, Stop> {
     match record {
         "ticket" => ticket(alloc, reads, text),

@@ -1,4 +1,4 @@
-//! What is seen of tables, receipts and passes, as text.
+//! Tables, receipts and passes, shown as text.
 
 use crate::page::Page;
 use crate::world::known;
@@ -93,14 +93,14 @@ pub fn put_receipts(page: &mut Page, receipts: &[Receipt]) {
     }
 }
 
-/// All that is seen of a table that one thread has alone.
+/// All that can be seen of a table that one thread owns.
 pub fn put_alone(page: &mut Page, alone: &Alone<MemorySink>) {
     put_receipts(page, alone.receipts());
     page.put(" ");
     put_kept(page, alone.table(), alone.sink());
 }
 
-/// All that is seen with a pass: its receipts and front, and what it is shown of each principal.
+/// All that can be seen with a pass: its receipts and front, and what lookups show of each principal.
 pub fn put_pass<D: DeskName>(page: &mut Page, desk: &Desk<D, MemorySink>, pass: &mut Pass<D>) {
     put_receipts(page, pass.receipts());
     if let Some(front) = pass.front() {

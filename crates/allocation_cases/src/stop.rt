@@ -10,11 +10,11 @@ use std::io::{self, ErrorKind};
 pub enum Fell {
     /// Nothing was noticed of one.
     Nowhere,
-    /// Beside the call.
+    /// Outside the call.
     Beside,
-    /// The call answered that memory is wanting.
+    /// The call answered want of memory.
     Call,
-    /// The same, and its entry stands.
+    /// The call answered want of memory, and its entry stands.
     Behind,
     /// A connection ended without a reply.
     Connection,
@@ -35,11 +35,11 @@ impl Fell {
 /// Why a line gives nothing.
 #[derive(Clone, Copy, Drop)]
 pub enum Stop {
-    /// The call answered that memory is wanting.
+    /// The call answered want of memory.
     Call,
-    /// Memory was wanting beside it.
+    /// Memory was refused outside it.
     Beside,
-    /// The call answered something else, or something isn't as it was.
+    /// The call answered something else, or something has changed.
     Wrong(&'static str),
 }
 
@@ -73,7 +73,7 @@ impl From<ReadError> for Stop {
     }
 }
 
-/// What the call answers whose refusal is `AllocError`.
+/// The result of a call whose refusal is `AllocError`.
 pub fn called<T>(answer: Result<T, AllocError>) -> Result<T, Stop> {
     match answer {
         Ok(value) => Ok(value),
@@ -81,12 +81,12 @@ pub fn called<T>(answer: Result<T, AllocError>) -> Result<T, Stop> {
     }
 }
 
-/// What want of memory is in the call, or else beside it.
+/// Want of memory, in the call or outside it.
 pub fn wanting(in_call: bool) -> Stop {
     if in_call { Stop::Call } else { Stop::Beside }
 }
 
-/// What a call answers that opens a message.
+/// The result of a call that opens a message.
 pub fn opened<T, F: Drop>(answer: Result<T, OpenError<F>>) -> Result<T, Stop> {
     match answer {
         Ok(value) => Ok(value),
@@ -95,7 +95,7 @@ pub fn opened<T, F: Drop>(answer: Result<T, OpenError<F>>) -> Result<T, Stop> {
     }
 }
 
-/// What a step of the set-up answers, by what it would be as the call.
+/// The result of a step of the set-up, by what it would be as the call.
 pub fn beside<T>(answer: Result<T, Stop>) -> Result<T, Stop> {
     match answer {
         Err(Stop::Call) => Err(Stop::Beside),

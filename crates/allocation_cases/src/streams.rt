@@ -1,4 +1,4 @@
-//! Streams, and the same again where memory was wanting.
+//! Streams, repeated when memory was refused.
 
 use crate::client::put_line;
 use crate::deciding::{Decides, change_often, decided, seen, unchanged};
@@ -12,10 +12,10 @@ use chpw_messages::Service;
 use chpw_serve::Ended;
 use std::alloc::Global;
 
-/// What an accepted change is answered.
+/// The answer to an accepted change.
 const CHANGED: &str = "code 0 password changed, status 0";
 
-/// Whoever serves streams, too.
+/// A decider that also serves streams.
 pub trait Serves: Decides {
     fn receipt_count(&self) -> usize;
 
@@ -66,7 +66,7 @@ fn service(alloc: Global) -> Result<Service, Stop> {
     Ok(Service::of(alloc, &config)?)
 }
 
-/// A message behind its length.
+/// A message after its length.
 fn stream_of(alloc: Global, message: &[u8]) -> Result<Vec<u8>, Stop> {
     let mut stream = Vec::with_capacity(alloc, LONGEST_MESSAGE)?;
     if message.len() > LONGEST_MESSAGE || write_tcp(&mut stream, message).is_err() {
@@ -75,12 +75,12 @@ fn stream_of(alloc: Global, message: &[u8]) -> Result<Vec<u8>, Stop> {
     Ok(stream)
 }
 
-/// The reply behind its length.
+/// The reply after its length.
 pub fn reply_of(written: &[u8]) -> &[u8] {
     written.get(4..).unwrap_or(&[])
 }
 
-/// What is written where a request is answered, unless memory is wanting.
+/// What is written when a request is answered, unless memory is refused.
 fn answer<D: Serves>(alloc: Global, decider: &mut D, request: &Request) -> Result<Vec<u8>, Stop> {
     let mut written = Vec::with_capacity(alloc, REPLIES)?;
     match decider.serve(alloc, &request.service, &request.stream, &mut written) {
@@ -112,7 +112,7 @@ fn first_answer(alloc: Global, request: &Request) -> Result<Vec<u8>, Stop> {
     answer(alloc, &mut alone, request)
 }
 
-/// `decide`, `derive` and `serve`, after so many changes.
+/// `decide`, `derive` and `serve`, after this many changes.
 pub fn decided_or_served<D: Serves>(
     page: &mut Page,
     decider: &mut D,
@@ -127,7 +127,7 @@ pub fn decided_or_served<D: Serves>(
     }
 }
 
-/// A request served after so many others, and then its bytes once more.
+/// A request served after this many others, and then its bytes once more.
 fn served<D: Serves>(page: &mut Page, decider: &mut D, before: u32) -> Result<Fell, Stop> {
     change_often(page.alloc(), decider, before)?;
     let request = Request::new(page.alloc(), before)?;
@@ -147,8 +147,7 @@ fn served_twice<D: Serves>(
     Ok(fell)
 }
 
-/// Serves a request to its entry: it is accepted, or served again where memory was wanting and it has
-/// no entry.
+/// Serves a request until it has its entry: it is accepted, or served again if memory was refused and it has no entry.
 fn change<D: Serves>(alloc: Global, decider: &mut D, request: &Request) -> Result<Fell, Stop> {
     let was = seen(alloc, decider)?;
     let count = decider.receipt_count();

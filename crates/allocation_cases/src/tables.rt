@@ -1,4 +1,4 @@
-//! Calls of chpw_rules, chpw_table and chpw_journal, and a table that one thread has alone.
+//! Calls of chpw_rules, chpw_table and chpw_journal, and a table that one thread owns.
 ghost use Rattle.std.specs.Prelude.{◌≤◌, All};
 
 use crate::clock::NOW;
@@ -33,13 +33,13 @@ fn by_alone(page: &mut Page, call: &str, before: u32) -> Result<Fell, Stop> {
     decided_or_served(page, &mut alone, call, before)
 }
 
-/// A table that one thread has alone, with no event yet.
+/// A table that one thread owns, without events.
 pub fn started(alloc: Global) -> Result<Alone<MemorySink>, Stop> {
     let sink = MemorySink::new(alloc, JOURNAL)?;
     Ok(Alone::new(alloc, table(alloc)?, sink))
 }
 
-/// The verdict of a request over a table, which hands the request back.
+/// The verdict of a request over a table, which returns the request.
 fn decided_by_table(page: &mut Page, before: u32) -> Result<Fell, Stop> {
     let mut bare = bare(page.alloc())?;
     handed_back(page, &mut bare, before)
@@ -73,7 +73,7 @@ fn added(page: &mut Page) -> Result<Fell, Stop> {
     Ok(fell)
 }
 
-/// Adds a fifth key, again where memory was wanting.
+/// Adds a fifth key, again if memory was refused.
 fn add_fifth(alloc: Global, digest: &mut Digest) -> Result<Fell, Stop> {
     let fifth = fifth_count();
     let was = seen_of(alloc, digest)?;
@@ -125,7 +125,7 @@ fn put_digest(page: &mut Page, digest: &Digest) {
     }
 }
 
-/// Calls that leave nothing behind.
+/// Calls that change nothing when they are refused.
 pub fn plain(page: &mut Page, line: &str) -> Result<(), Stop> {
     let (call, text) = line.split_once(' ').unwrap_or((line, ""));
     match call {
@@ -187,7 +187,7 @@ fn recorded(page: &mut Page) -> Result<(), Stop> {
     Ok(())
 }
 
-/// A table with so many records of alice's.
+/// A table with this many records of alice's.
 fn restored(page: &mut Page, records: u32) -> Result<(), Stop> {
     let journal = journal(page.alloc(), records)?;
     put_restored(page, &journal)
@@ -224,7 +224,7 @@ fn sink(page: &mut Page) -> Result<(), Stop> {
     Ok(())
 }
 
-/// An entry, of which a copy is to be the same.
+/// An entry, whose copy must be the same.
 fn cloned(page: &mut Page) -> Result<(), Stop> {
     let entry = entry(page.alloc())?;
     put_copy(page, &entry)

@@ -1,4 +1,4 @@
-//! Whoever decides here: a table and its journal, a table that one thread has alone, a worker at a desk.
+//! The deciders of these cases: a table and its journal, a table that one thread owns, a worker at a desk.
 
 use crate::clock::{Counting, NOW, Standing};
 use crate::deciding::Decides;
@@ -18,7 +18,7 @@ use chpw_table::{DecideFault, JournalSink, Opened, RaiseVerdict, Refused, Table,
 use std::alloc::Global;
 use std::sync::Wait;
 
-/// A table, the sink of its journal, and the request that its last decision handed back.
+/// A table, the sink of its journal, and the request that its last decision returned.
 #[derive(Drop)]
 pub struct Bare {
     pub table: Table,
@@ -27,7 +27,7 @@ pub struct Bare {
 }
 
 impl Bare {
-    /// Whether its last decision handed this request back.
+    /// Whether its last decision returned this request.
     pub fn handed_back(&self, asked: &Opened) -> bool {
         match &self.last {
             Some(opened) => opened.is_same(asked),

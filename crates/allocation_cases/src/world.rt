@@ -1,4 +1,4 @@
-//! The realm EXAMPLE.COM with alice and bob, and what alice asks there.
+//! The realm EXAMPLE.COM with alice and bob, and alice's requests.
 ghost use Rattle.std.specs.Prelude.{◌≡◌, true, IfOk};
 ghost use Rattle.chpw_rules.specs.Fitting.{config_fits};
 ghost use Rattle.chpw_rules.specs.Names.{is_name};
@@ -17,10 +17,10 @@ pub const CONFOUNDER: [u8; CONFOUNDER_LEN] = [1; CONFOUNDER_LEN];
 /// The client's address.
 pub const PEER: [u8; 4] = [127, 0, 0, 1];
 
-/// Bytes of a journal here.
+/// The bytes of a journal in these cases.
 pub const JOURNAL: usize = 10_000;
 
-/// Bytes of replies here.
+/// The bytes of replies in these cases.
 pub const REPLIES: usize = 10_000;
 
 /// The principal with this name.
@@ -71,7 +71,7 @@ pub fn sent_at(alloc: Global, now: Moment, number: u32) -> Result<Sent, Stop> {
     request(alloc, &config, &alice, password.as_str().as_bytes(), now)
 }
 
-/// A principal's request of a password.
+/// A principal's request with a password.
 fn request(
     alloc: Global,
     config: &Config,
@@ -124,7 +124,7 @@ fn opened_of(crealm: Items<u8>, client: Name, digest: Digest, cusec: u32) -> Ope
     }
 }
 
-/// The same, with the keys of its password under the one count that there is.
+/// The request with the keys of its password under the one count that there is.
 pub fn complete(alloc: Global, cusec: u32) -> Result<Opened, Stop> {
     let mut opened = asked(alloc, cusec)?;
     derive(alloc, &mut opened, cusec)?;

@@ -3,7 +3,7 @@
 //! - `pbkdf2`: one block of PBKDF2 under N iterations
 //! - `sha1`: the digest of N blocks of 64 bytes
 //! - `both`: N times both keys, the key of etype 18 being the next password
-//! - `each`: the same by a call for each key
+//! - `each`: likewise, by a call for each key
 //! - `encrypt128`, `encrypt256`: a block enciphered N times
 //! - `decrypt128`, `decrypt256`: a block deciphered N times
 //! - `unseal`: N sealed texts of 1000 bytes, each changed in one byte, tried
@@ -86,7 +86,7 @@ fn last_keys(count: u32) -> BothKeys {
     keys
 }
 
-/// The same by a call for each key.
+/// Both keys likewise, by a call for each.
 fn last_keys_each(count: u32) -> BothKeys {
     let mut keys = each_key(PASSWORD);
     for _ in 1..count {
@@ -120,7 +120,7 @@ fn times_deciphered(cipher: &Aes, count: u32) -> [u8; BLOCK_LEN] {
     block
 }
 
-/// How many of `count` texts of 1000 bytes open, whose first byte is another one each time.
+/// How many of `count` texts of 1000 bytes open, each with another first byte.
 fn unsealed_count(alloc: Global, count: u32) -> Result<u32, AllocError> {
     let key = Key::Aes256([1; 32]);
     let mut text = seal(alloc, &key, USAGE_KRB_PRIV, [0; 16], &[7; PLAIN_LEN])?;

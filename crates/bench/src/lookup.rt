@@ -89,7 +89,7 @@ fn first_change(alloc: Global) -> io::Result<Opened> {
     Ok(change(alloc, client(alloc, 0)?, 1, digest)?)
 }
 
-// All at a desk of this name, which is then given up.
+// All at a desk of this name, which is then abandoned.
 fn at_desk<'a, D, R>(
     rt: &'a R,
     hold: &'a Hold,

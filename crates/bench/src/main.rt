@@ -1,8 +1,8 @@
 //! Does one thing many times, to be measured from outside (the scripts of `bench/`).
 //!
-//! The first word of the command line names a part of the program, the next what is done of it, the third
-//! how often: `keys`, `der`, `open`, `stream`, `lookup` and `serve`. Each is a module, which says more. With
-//! no words each but `serve` is done once, or a few times.
+//! The first word of the command line names a part of the program, the next what it does, the third how often: `keys`,
+//! `der`, `open`, `stream`, `lookup` and `serve`. Each is a module, which says more. Without words each except `serve`
+//! is run once, or a few times.
 #![tactic(auto)]
 
 ghost use Rattle.std.specs.Prelude.{◌≤◌};
@@ -24,7 +24,7 @@ use std::sync::Wait;
 use std::thread::Threads;
 use std::time::Clock;
 
-/// The error of words or of an input that are none of this program's.
+/// The error for words or an input that this program doesn't know.
 fn no_such() -> io::Error {
     io::Error::from(io::ErrorKind::InvalidInput)
 }

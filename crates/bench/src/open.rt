@@ -1,5 +1,5 @@
-//! `open it N` opens an AP-REQ of a usual client with its KRB-PRIV N times. Both are the first messages of
-//! standard input. Their lengths are printed and that of the user-data.
+//! `open it N` opens an AP-REQ of a usual client with its KRB-PRIV N times. Both are the first messages of standard
+//! input. Their lengths are printed and that of the user-data.
 
 use crate::no_such;
 use krb_keys::Key;

@@ -13,7 +13,7 @@ pub struct Given {
     pub messages: Vec<Vec<u8>>,
 }
 
-/// Of the messages the first, so many at the most.
+/// The first `count` messages, or fewer.
 pub fn read_given<R: BufRead + Drop>(alloc: Global, reader: R, count: usize) -> io::Result<Given> {
     let mut given = Given {
         config: String::new(alloc),

@@ -1,8 +1,7 @@
-//! `serve PORT CLIENTS REQUESTS`: clients of a service on this machine. Each of 1 to 16, the principals `c0`,
-//! `c1` and so on of the realm EXAMPLE.COM, changes its password so often over a connection of its own, one
-//! change after the other. All requests are made before the first is sent. Printed are, for each client,
-//! how many of its changes were answered with code 0, and at the end the microseconds that it took. A
-//! client whose connection ends stops there.
+//! `serve PORT CLIENTS REQUESTS`: clients of a service on this machine. Each of 1 to 16, the principals `c0`, `c1` and
+//! so on of the realm EXAMPLE.COM, changes its password REQUESTS times over a connection of its own, one change after
+//! the other. All requests are made before the first is sent. Printed are, for each client, how many of its changes
+//! were answered with code 0, and at the end the microseconds that it took. A client whose connection ends stops there.
 
 mod client;
 

@@ -1,6 +1,6 @@
-//! `stream serve N` serves the first N messages of standard input from memory to memory, at the second
-//! 1,000,100, by a table that one thread has alone; `stream read N` reads them and no more. The bytes read
-//! and written are printed, and the count of changes.
+//! `stream serve N` serves the first N messages of standard input in memory, at the second 1,000,100, by a table that
+//! one thread owns; `stream read N` reads them and no more. The bytes read and written are printed, and the count of
+//! changes.
 
 mod still;
 
@@ -16,13 +16,13 @@ use std::alloc::Global;
 use std::io;
 use still::{Still, Words};
 
-// Bytes of the journal here.
+// The bytes of the journal in these measurements.
 const JOURNAL: usize = 10_000_000;
 
 // The client's address.
 const PEER: [u8; 4] = [127, 0, 0, 1];
 
-// What is served with.
+// The service and its table.
 #[derive(Drop)]
 struct World {
     service: Service,
@@ -43,7 +43,7 @@ fn start(alloc: Global, text: &str) -> io::Result<World> {
     })
 }
 
-// Each message behind its length.
+// Each message after its length.
 fn stream_of(alloc: Global, messages: &[Vec<u8>]) -> io::Result<Vec<u8>> {
     let mut stream = Vec::new(alloc);
     for message in messages {

@@ -24,13 +24,14 @@ struct Run {
 }
 
 impl Census {
+    /// No answer has been counted.
     pub fn new(alloc: Global) -> Census {
         Census {
             kinds: Vec::new(alloc),
         }
     }
 
-    /// Counts an answer at a place, which is after all those before.
+    /// Counts an answer at a place, which comes after all those counted before.
     pub fn add(&mut self, alloc: Global, place: usize, answer: &str) -> Result<(), AllocError> {
         let known = self
             .kinds
@@ -42,8 +43,7 @@ impl Census {
         }
     }
 
-    /// Each answer behind its count and its places, as in `3 at 0 4-5: ANSWER`, in the order in which they
-    /// first came.
+    /// Each answer after its count and its places, as in `3 at 0 4-5: ANSWER`, in the order in which they first came.
     pub fn shown(&self, alloc: Global) -> Result<String, AllocError> {
         let mut text = String::new(alloc);
         for kind in &self.kinds {

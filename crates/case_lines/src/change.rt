@@ -9,15 +9,15 @@ pub enum Change {
     Cut,
     /// They end there, and their first two say how many they are, high byte first.
     CutWithLength,
-    /// In the byte there the bits are turned that are set in this one.
+    /// The bits of the byte there that are set in this one are flipped.
     Turn(u8),
     /// The byte there becomes this one.
     Set(u8),
 }
 
 impl Change {
-    /// The change that a case tells: `prefixes`, `prefixes with their length`, `changed by 01`,
-    /// `changed to 00`, the byte in hexadecimal.
+    /// The change that a case names: `prefixes`, `prefixes with their length`, `changed by 01`, `changed to 00`, the
+    /// byte in hexadecimal.
     pub fn of(text: &str) -> Option<Change> {
         match text {
             "prefixes" => return Some(Change::Cut),
@@ -33,8 +33,8 @@ impl Change {
         }
     }
 
-    /// Those bytes with the change at this place. `None` where there is no such place, where the byte there
-    /// stays as it is, and where fewer than two are left for their length.
+    /// The bytes with the change at this place. `None` where there is no such place, where the byte there stays as it
+    /// is, and where fewer than two are left for their length.
     pub fn made(
         self,
         alloc: Global,
@@ -59,7 +59,7 @@ fn cut(alloc: Global, bytes: &[u8], place: usize) -> Result<Vec<u8>, AllocError>
     Ok(front)
 }
 
-/// The same bytes with their size in the first two; `None` where there are no two, or too many for that.
+/// The bytes with their number in the first two; `None` where there are no two, or too many for that.
 fn with_length(mut bytes: Vec<u8>) -> Option<Vec<u8>> {
     let size = u16::try_from(bytes.len()).ok()?;
     let [high, low, ..] = bytes.as_mut_slice() else {
@@ -69,7 +69,7 @@ fn with_length(mut bytes: Vec<u8>) -> Option<Vec<u8>> {
     Some(bytes)
 }
 
-/// The same bytes with another one at a place; `None` where it stands there already.
+/// The bytes with another one at a place; `None` where it is already there.
 fn with_byte(
     alloc: Global,
     bytes: &[u8],

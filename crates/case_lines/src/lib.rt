@@ -1,5 +1,5 @@
-//! What programs share that answer cases: each case is a line on standard input, and its answer stands on
-//! standard output.
+//! What the programs of cases share: each case is a line on standard input, and its answer is a line on standard
+//! output.
 #![tactic(auto)]
 
 mod census;

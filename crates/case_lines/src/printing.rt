@@ -1,9 +1,9 @@
-//! The lines, answered and printed.
+//! Reading the lines, and printing them with their answers.
 
 use std::alloc::Global;
 use std::io::{self, BufRead, BufReader, BufWriter, Write};
 
-/// Who answers cases.
+/// A program that answers cases.
 pub trait Answers {
     /// The answer to a case. An error ends the program.
     fn answer(&mut self, alloc: Global, case: &str) -> io::Result<String>;

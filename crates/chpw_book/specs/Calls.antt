@@ -36,19 +36,19 @@ pub record Notes (opening : State) (mine more : PassView) (now : Moment) (event 
   pub entry : Entry
   pub happens : Happens opening before entry mine more now event
 
--- keys are asked for only where, after some such history, the decision of this request lacks just these
+-- keys are asked for only if, after some such history, the decision of this request lacks exactly these
 pub record AsksAfter (opening : State) (now : Moment) (o : Opened) (fault : DecideFault) : Type 0 where
   pub before : List Entry
   pub legal : IsLegal opening before
   pub asks : AsksFor (missing (outcome opening before) now o) fault
 
--- after some such history the decision of this request lacks just these keys
+-- after some such history the decision of this request lacks exactly these keys
 pub record LacksAfter (opening : State) (now : Moment) (o : Opened) (counts : List ℕ) : Type 0 where
   pub before : List Entry
   pub legal : IsLegal opening before
   pub lacks : counts ≡ missing (outcome opening before) now o
 
--- a raise is refused for a full table, or, where it has room, for want of memory
+-- a raise is refused for a full table, or, if it has room, for want of memory
 abbrev pub IsFirstFault : Held → RaiseFault → Type 0
 IsFirstFault t Full = t.events ≡ t.max_entries
 IsFirstFault t Memory = t.events < t.max_entries

@@ -1,4 +1,4 @@
--- A table with its history: what is always true of it, and what an event adds.
+-- What is under the lock: its invariant, and what an event adds.
 use Rattle.std.specs.Prelude.{◌≡◌, ℕ, ◌+◌, ◌≤◌, ◌<◌, List, [], ◌∷◌, ◌++◌, length, Option, IfSome, replicate, slice_set}
 use Rattle.chpw_table.specs.declared.times.Moment.{Moment}
 use Rattle.chpw_table.specs.declared.history.Event.{Event}

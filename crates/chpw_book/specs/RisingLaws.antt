@@ -13,7 +13,7 @@ abbrev pub VersionsRise : Type 0
 VersionsRise = (opening : State) (history : List Entry) → IsLegal opening history →
     AreNextVersions opening [] (accepted opening history)
 
--- where a list goes on so, what it shows of a name is no older
+-- if a list goes on so, what it shows of a name is no older
 abbrev pub LaterListsShowNoOlder : Type 0
 LaterListsShowNoOlder = (opening : State) (before more : List Accepted) →
     (name : Name) (row : Shown) → AreNextVersions opening before more → shown opening before name ≡ Some row →

@@ -1,4 +1,4 @@
-//! What lies under the lock: the table with its history, and the versions that lookups show.
+//! What is under the lock: the table with its history, and the versions that lookups show.
 ghost use Rattle.std.specs.Prelude.{◌≡◌, ◌+◌, ◌-◌, ◌^◌, ◌<◌, ◌≤◌, [], All, IfOk, IfErr, IfSome, IfNone, OnErr, IsSome, length, map, true, false};
 ghost use Rattle.std.specs.List.{range_with_len};
 ghost use mathlib.Core.List.{IsPrefix};
@@ -41,8 +41,8 @@ use std::sync::ledger::Share;
 
 /// The table with its history, and the shelf whose versions lookups show beside the lock.
 ///
-/// Its type keeps that the published list is the history's accepted changes, and that of the history all
-/// that `IsLinearized` says. A book is taken apart at a close, or when its desk is given up.
+/// Its invariant is that the published list is the history's accepted changes, and that the history has all that
+/// `Replays` says. A book is taken apart when its desk is closed or abandoned.
 pub struct Book<D: DeskName, S: JournalSink> {
     pub(crate) recorded: RecordedTable<D, S>,
     pub(crate) shelf: Shelf<D>,
@@ -61,12 +61,10 @@ impl<D: DeskName, S: JournalSink> Model for Book<D, S> {
 }
 
 impl<D: DeskName, S: JournalSink> Book<D, S> {
-    /// A book with an empty history, and a pass for each of the workers, in their order. None has seen
-    /// or was told a change.
+    /// A book with an empty history, and a pass for each of the workers, in order. None has seen or learnt a change.
     ///
-    /// Two faults: `NoPlaces` where `Shelf::place` gives no place to a worker, and `Memory` where a
-    /// growth is refused: of the rows, the shelf, the passes or the counts, in this order. After a fault
-    /// all that was handed in is gone.
+    /// Two faults: `NoPlaces` if `Shelf::place` gives no place to a worker, and `Memory` if a growth is refused: of the
+    /// rows, the shelf, the passes or the counts, in this order. After a fault all that was given to it is gone.
     pub(crate) fn start<R: Wait>(
         rt: &R,
         alloc: Global,
@@ -121,8 +119,8 @@ impl<D: DeskName, S: JournalSink> Book<D, S> {
         self.recorded.history()
     }
 
-    /// The counts under which `decide` would look at keys that the digest lacks, were the history not
-    /// full: each at least 1, ascending, each once; none where it would look at no keys.
+    /// The counts under which `decide` would look at keys that the digest lacks, if the history were not full: each at
+    /// least 1, ascending, each once; none if it would look at no keys.
     #[tactic(auto, using(crate::proofs::CallLemmas::lacks_after))]
     pub fn missing(&self, now: Moment, opened: &Opened) -> Counts
         ensures value { result ≡ missing self.now.kept.table.state now opened.now }
@@ -132,12 +130,11 @@ impl<D: DeskName, S: JournalSink> Book<D, S> {
         self.recorded.missing(now, opened)
     }
 
-    /// One event: an entry of the pass's worker at the end, and its receipt in the pass. Where it was
-    /// accepted, its change is published then, and the pass is told of it; this waits for lookups that
-    /// still read what it changes.
+    /// One event: an entry of the pass's worker at the end, and its receipt in the pass. If it was accepted, its change
+    /// is then published, and the pass learns it; this waits for lookups that still read what it changes.
     ///
-    /// `now` has seconds from 0 to `chpw_table::LAST_SECOND`. Refused as `Table::decide` refuses, and
-    /// then nothing has changed: `Full`, `NeedKeys`, `Memory`.
+    /// `now` has seconds from 0 to `chpw_table::LAST_SECOND`. Refused as `Table::decide` refuses, with nothing changed:
+    /// `Full`, `NeedKeys`, `Memory`.
     pub fn decide<R: Wait>(
         &mut self,
         rt: &R,
@@ -160,9 +157,8 @@ impl<D: DeskName, S: JournalSink> Book<D, S> {
         Ok(verdict)
     }
 
-    /// The same, with the digest completed for this password as far as keys are missing, so that none
-    /// are asked for; `salt` is that of `Opened::salt`. The request that a refusal hands back may have
-    /// more of them.
+    /// One event with the digest completed for this password where keys are missing, so that none are asked for; `salt`
+    /// is that of `Opened::salt`. The request that a refusal returns may have more of them.
     pub fn decide_deriving<R: Wait>(
         &mut self,
         rt: &R,
@@ -204,12 +200,12 @@ impl<D: DeskName, S: JournalSink> Book<D, S> {
         }
     }
 
-    /// Raises the iteration count of new keys to this one, 1 to 16,777,216: an entry of the pass's
-    /// worker at the end, and its receipt in the pass. Where the count is raised, lookups show it then,
-    /// and the pass is told of it; this waits for lookups that still read what it changes.
+    /// Raises the iteration count of new keys to this one, 1 to 16,777,216: an entry of the pass's worker at the end,
+    /// and its receipt in the pass. If the count is raised, lookups then show it, and the pass learns it; this waits
+    /// for lookups that still read what it changes.
     ///
-    /// `now` has seconds from 0 to `chpw_table::LAST_SECOND`. Two faults, after which nothing has
-    /// changed: `Full` just where the table is, and `Memory` where it has room and a growth is refused.
+    /// `now` has seconds from 0 to `chpw_table::LAST_SECOND`. Two faults, after which nothing has changed: `Full`
+    /// exactly if the table is full, and `Memory` if it has room and a growth is refused.
     pub fn raise<R: Wait>(
         &mut self,
         rt: &R,
@@ -232,8 +228,8 @@ impl<D: DeskName, S: JournalSink> Book<D, S> {
         Ok(verdict)
     }
 
-    /// What is left of the book where these passes are all there and have their workers' receipts; otherwise
-    /// book and passes come back as they were.
+    /// What is left of the book if these passes are complete and have their workers' receipts; otherwise book and
+    /// passes are returned unchanged.
     pub(crate) fn close<R: Wait>(
         self,
         rt: &R,
@@ -258,7 +254,7 @@ impl<D: DeskName, S: JournalSink> Book<D, S> {
         }
     }
 
-    // Why these passes leave the book open; none where it may be closed.
+    // Why these passes leave the book open; none if it may be closed.
     fn close_fault(&self, passes: &[Pass<D>]) -> Option<CloseFault>
         ensures whole { IfNone result (IsWhole self.now.kept.history
             (is_full self.now.kept.table) D.workers passes.now) }
@@ -281,7 +277,7 @@ impl<D: DeskName, S: JournalSink> Book<D, S> {
         recorded.into_closed()
     }
 
-    /// Lets go of the book, with its history, once no lookup reads.
+    /// Drops the book, with its history, once no lookup reads.
     pub(crate) fn abandon<R: Wait>(self, rt: &R)
     where
         S: Drop,
@@ -292,7 +288,7 @@ impl<D: DeskName, S: JournalSink> Book<D, S> {
     }
 }
 
-// After this verdict: the change that waits is published, and the pass is told of it.
+// After this verdict: the prepared change is published, and the pass learns it.
 fn tell<D: DeskName, R: Wait>(rt: &R, shelf: &mut Shelf<D>, pass: &mut Pass<D>, verdict: Verdict)
     requires waits { is_done verdict ≡ true → IsSome shelf.old.waiting }
     requires room { length shelf.old.list + 1 < 2 ^ 31 }
@@ -308,7 +304,7 @@ fn tell<D: DeskName, R: Wait>(rt: &R, shelf: &mut Shelf<D>, pass: &mut Pass<D>, 
     }
 }
 
-// The same after this verdict on a raise.
+// After this verdict on a raise: the prepared change is published, and the pass learns it.
 fn tell_raise<D: DeskName, R: Wait>(
     rt: &R,
     shelf: &mut Shelf<D>,

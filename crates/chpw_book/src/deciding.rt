@@ -36,8 +36,8 @@ impl<D: DeskName, S: JournalSink> RecordedTable<D, S> {
     /// that it makes waits on the shelf; putting it there is the last growth before the journal is
     /// appended to.
     ///
-    /// `now` has seconds from 0 to `chpw_table::LAST_SECOND`. Refused as `Table::decide` refuses, and
-    /// then nothing has changed: `Full`, `NeedKeys`, `Memory`.
+    /// `now` has seconds from 0 to `chpw_table::LAST_SECOND`. Refused as `Table::decide` refuses, with nothing changed:
+    /// `Full`, `NeedKeys`, `Memory`.
     pub(crate) fn decide(
         &mut self,
         shelf: &mut Shelf<D>,
@@ -82,8 +82,8 @@ impl<D: DeskName, S: JournalSink> RecordedTable<D, S> {
     }
 }
 
-// Prepares a step for a pass whose lookups showed nothing but what the shelf published; else memory is
-// wanting, since the pass's reader can't enter.
+// Prepares a step for a pass whose lookups showed only what the shelf published; otherwise refused for want of memory,
+// since the pass's reader can't enter.
 fn prepare<D: DeskName, S: JournalSink>(
     journaled: &mut JournaledTable<S>,
     shelf: &Shelf<D>,
@@ -108,7 +108,7 @@ fn prepare<D: DeskName, S: JournalSink>(
     }
 }
 
-// Where the request was accepted: reads the newest key of its target, which is whole as each key that a
+// If the request was accepted: reads the newest key of its target, which has the lengths of its type as each key that a
 // table holds.
 fn read_newest(table: &Table, opened: &Opened, verdict: Verdict)
     ensures whole { is_done verdict ≡ true
@@ -123,7 +123,7 @@ fn read_newest(table: &Table, opened: &Opened, verdict: Verdict)
     }
 }
 
-// The first of some keys is whole.
+// The first of some keys has the lengths of its type.
 fn read_first(keys: &[KeyRow])
     ensures whole { FirstIsWhole keys.now }
 {
@@ -145,7 +145,7 @@ fn read_bytes<const N: usize>(bytes: &[u8; N])
     ensures length { length bytes.now ≡ N }
 {}
 
-// Whose password was to be new.
+// The principal whose password was to be changed.
 fn target_name(opened: &Opened) -> &Name
     ensures value { result.now ≡ (target_of opened.now).name }
 {
@@ -158,8 +158,8 @@ fn target_name(opened: &Opened) -> &Name
     }
 }
 
-// All growths of a step that was prepared: a place in both lists, a copy of the request, and the change
-// that waits on the shelf, which is the last before the journal is appended to.
+// All growths of a prepared step: room in both lists, a copy of the request, and the change on the shelf, which is the
+// last before the journal is appended to.
 fn make_room<D: DeskName>(
     entries: &mut Vec<Entry>,
     receipts: &mut Vec<Receipt>,

@@ -45,8 +45,8 @@ impl<D: DeskName, S: JournalSink> RecordedTable<D, S> {
     /// it sets waits on the shelf; putting it there is the last growth before the journal is appended
     /// to.
     ///
-    /// `now` has seconds from 0 to `chpw_table::LAST_SECOND`, and `count` is 1 to 16,777,216. After a
-    /// fault nothing has changed: `Full`, `Memory`.
+    /// `now` has seconds from 0 to `chpw_table::LAST_SECOND`, and `count` is 1 to 16,777,216. After a fault nothing has
+    /// changed: `Full`, `Memory`.
     pub(crate) fn raise(
         &mut self,
         shelf: &mut Shelf<D>,
@@ -85,8 +85,8 @@ impl<D: DeskName, S: JournalSink> RecordedTable<D, S> {
     }
 }
 
-// Whether there is room for one event more, by a pass whose lookups showed nothing but what the shelf
-// published; else memory is wanting, since the pass's reader can't enter.
+// Whether there is room for one more event, by a pass whose lookups showed only what the shelf published; otherwise
+// refused for want of memory, since the pass's reader can't enter.
 fn has_room<D: DeskName>(
     table: &Table,
     shelf: &Shelf<D>,
@@ -107,9 +107,8 @@ fn has_room<D: DeskName>(
     }
 }
 
-// All growths of a raise for which there is room: a place in both lists, and, where it is accepted unless
-// its append fails, the change that waits on the shelf, which is the last before the journal is appended
-// to.
+// All growths of a raise for which there is room: room in both lists, and, if it is accepted unless its append fails,
+// the change on the shelf, which is the last before the journal is appended to.
 fn make_room<D: DeskName>(
     entries: &mut Vec<Entry>,
     receipts: &mut Vec<Receipt>,

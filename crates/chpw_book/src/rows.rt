@@ -32,7 +32,7 @@ fn all_rows(alloc: Global, table: &Table) -> Result<Vec<Row>, AllocError>
     let mut place = 0u32;
     while let Some((name, shown)) = table.row_at(place) {
         rows.push(row_of(name, shown)?)?;
-        // More names than that no memory holds.
+        // No memory holds more names than that.
         let Some(next) = place.checked_add(1) else {
             return Err(AllocError);
         };

@@ -7,7 +7,7 @@ ghost use Rattle.chpw_client.specs.Words.{words_of};
 use chpw_serve::Words;
 use krb_msgs::word_bytes;
 
-/// The words of a request: of 8 words a key, of 4 a confounder.
+/// The words of a request: 8 words for a key, 4 for a confounder.
 #[derive(Clone, Copy, Drop)]
 pub(crate) struct Drawing {
     pub session: [u32; 8],

@@ -21,7 +21,7 @@ pub struct Named<'a> {
     pub text: &'a str,
 }
 
-// The value of a key, where there is one.
+// The value of a key, if it is present.
 fn get<'a>(table: &'a Table, key: &str) -> Option<&'a Value>
     ensures value { option_map (λ v. view v.now) result
         ≡ get_member key.now (table_view table.now) }
@@ -30,7 +30,7 @@ fn get<'a>(table: &'a Table, key: &str) -> Option<&'a Value>
 }
 
 impl Location {
-    // The value of a key that has to be there.
+    // The value of a required key.
     fn present<'a>(self, table: &'a Table, key: &str) -> Result<&'a Value, ConfigFault>
         ensures value { MatchResult result
             (λ value. present self key.now (table_view table.now) ≡ Ok (view value.now))
@@ -118,7 +118,7 @@ impl Location {
         }
     }
 
-    /// A text of so many bytes.
+    /// A text whose number of bytes is within the limits.
     pub fn text<'a>(
         self,
         table: &'a Table,
@@ -154,7 +154,7 @@ impl Location {
         }
     }
 
-    /// A list of so many elements.
+    /// A list whose number of elements is within the limits.
     pub fn list<'a>(
         self,
         table: &'a Table,
@@ -170,7 +170,7 @@ impl Location {
         a_list(value, counts).map_err(|kind| self.fault(kind))
     }
 
-    /// A whole number within the limits, or the default where the key is missing.
+    /// A whole number within the limits, or the default if the key is missing.
     pub fn number_or(
         self,
         table: &Table,
@@ -188,7 +188,7 @@ impl Location {
         }
     }
 
-    /// A list of so many elements, or none where the key is missing.
+    /// A list whose number of elements is within the limits, or an empty one if the key is missing.
     pub fn list_or_none<'a>(
         self,
         table: &'a Table,

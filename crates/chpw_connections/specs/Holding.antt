@@ -6,8 +6,8 @@ use Rattle.chpw_connections.specs.declared.connection.Phase.TheVariants as phase
 use Rattle.chpw_connections.specs.declared.connection.Connection.{Connection}
 use Rattle.chpw_connections.specs.Messages.{whole_behind}
 
--- those that there is room for, of the message that it reads; those of its message, or of its whole reply, which is let go
--- once all of it is out
+-- of a message that it reads, the bytes that there is room for; those of its waiting message, or of its whole reply,
+-- which is dropped once all of it is out
 abbrev pub held_by : Phase → ℕ
 held_by (phase.Reading incoming) = incoming.room
 held_by (phase.Queued message) = length message.items
@@ -37,8 +37,8 @@ size_by phase.Lingering = 0
 size_by phase.Abandoned = 0
 size_by phase.Ended = 0
 
--- how many bytes more it holds once the next ones of its message are read: of its length there is room for four bytes, and
--- from its next byte on for the whole message
+-- how many more bytes it holds once the next ones of its message are read: of its length there is room for four bytes,
+-- and from its next byte on for the whole message
 abbrev pub growth_by : Phase → ℕ
 growth_by p = size_by p - held_by p
 
@@ -46,7 +46,7 @@ abbrev pub growth_at : Option Connection → ℕ
 growth_at None = 0
 growth_at (Some c) = growth_by c.phase
 
--- since when it has been on its way: a message since there has been room for as much of it as there is now
+-- since when it has been under way: a message since there has been as much room for it as now
 abbrev pub begun_by : Phase → ℕ → ℕ
 begun_by (phase.Reading incoming) since = incoming.begun
 begun_by p since = since

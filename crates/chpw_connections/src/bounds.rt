@@ -14,6 +14,6 @@ pub struct Bounds {
     pub grace: u64,
     /// How long a message may wait for its worker.
     pub wait: u64,
-    /// How long a client may go on to send behind the last reply.
+    /// How long a client may go on sending after the last reply.
     pub linger: u64,
 }

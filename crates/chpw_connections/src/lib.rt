@@ -1,6 +1,6 @@
-//! What happens to connections: which bytes are a message, who answers it, when its reply goes out, and who is
-//! put out where there is no more room or time. No socket, clock or thread is in it: whoever has those tells what
-//! happened, and is told what to do.
+//! The state machine of connections: which bytes are a message, who answers it, when its reply is written, and who is
+//! ended for want of room or time. Without sockets, clock or threads: the caller, who has those, reports what happened
+//! and asks what to do. Moments are milliseconds of a clock that doesn't go back.
 #![tactic(auto)]
 
 mod bounds;

@@ -1,4 +1,4 @@
-//! Who has waited for its client the longest.
+//! Which connection has waited for its client the longest.
 ghost use Rattle.std.specs.Prelude.{◌≡◌, ◌+◌, ◌<◌, ◌^◌, IfSome, IfNone, Some, None};
 ghost use Rattle.slab.specs.Slab.{get};
 ghost use Rattle.chpw_connections.specs.Sets.{IsLongest, NobodyWaits, earlier};
@@ -16,9 +16,9 @@ impl Slots {
         self.longest_besides(None, Candidates::default())
     }
 
-    /// The slot of the one that has been on its way the longest of those that give way to the connection in a slot; the
-    /// one that has waited the longest of all that wait for their clients, where there is no such slot. Of the
-    /// candidates those give way that hold bytes, unless they wait for room themselves.
+    /// The slot of the one longest under way of those that give way to the connection in a slot; if there is no such
+    /// slot, the one that has waited longest of all that wait for their clients. Of the candidates those give way that
+    /// hold bytes, unless they wait for room themselves.
     pub fn longest_besides(&self, besides: Option<usize>, who: Candidates) -> Option<usize>
         ensures found { IfSome result (λ slot. IsLongestBesides self.now.connections besides who slot) }
         ensures none { IfNone result (NobodyWaitsBesides self.now.connections besides who) }
@@ -33,8 +33,8 @@ impl Slots {
         }
     }
 
-    // Since when the connection in a slot waits for its client, if it does; where room is made for another one, since
-    // when it has been on its way, if it gives way to that one.
+    // Since when the connection in a slot waits for its client, if it does; if room is made for another one, since when
+    // it has been under way, if it gives way to that one.
     fn waits_since(&self, slot: usize, besides: Option<usize>, who: Candidates) -> Option<u64>
         ensures value { result ≡ waits_besides self.now.connections besides who slot }
     {
@@ -67,7 +67,7 @@ impl Slots {
         left
     }
 
-    // How many bytes the end of the connection in a slot would let go of, where it gives way.
+    // How many bytes the end of the connection in a slot would free, if it gives way.
     fn given(&self, slot: usize, who: Candidates) -> usize
         ensures value { result ≡ given_at who (get self.now.connections slot) }
     {

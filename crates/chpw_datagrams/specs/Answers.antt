@@ -33,7 +33,8 @@ abbrev pub within : ℕ → List Answer → List Answer
 within bytes [] = []
 within bytes (a ∷ answers) = if nat_le (size_of a) bytes then a ∷ within (bytes - size_of a) answers else []
 
--- no more than 1,024 are kept, with 4 MiB of messages and replies, the newest first, and none that isn't recent beside a new one
+-- at most 1,024 are kept, with 4 MiB of messages and replies, the newest first, and none that isn't recent beside a new
+-- one
 abbrev pub behind_keep : List Answer → Answer → List Answer
 behind_keep answers a = within 4194304 (take 1024 (a ∷ filter (is_recent a.moment) answers))
 

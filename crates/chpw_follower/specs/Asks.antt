@@ -57,14 +57,14 @@ is_answer a = bytes_eq a.said (line_of a.mark)
 abbrev pub is_begun : Asked → Bool
 is_begun a = starts_with nat_eq (line_of a.mark) a.said
 
--- behind what was said: the mark is confirmed, or the answer goes on; none where it is misspoken
+-- after what was said: the mark is confirmed, or the answer goes on; none if it is misspoken
 abbrev pub behind_answer : State → Asked → Option State
 behind_answer s a =
     if is_answer a then Some (record { wanted = s.wanted; confirmed = a.mark; asked = None })
     else if is_begun a then Some (record { wanted = s.wanted; confirmed = s.confirmed; asked = Some a })
     else None
 
--- unasked nothing may be said
+-- nothing may be said unasked
 abbrev pub behind_bytes : State → List ℕ → Option State
 behind_bytes s bytes = heard s.asked bytes
   where
@@ -78,6 +78,6 @@ abbrev pub confirmed_by : Option Asked → List ℕ → Option ℕ
 confirmed_by None bytes = None
 confirmed_by (Some a) bytes = if is_answer (with_more a bytes) then Some a.mark else None
 
--- the connection has ended, and whoever waits is told so
+-- the connection has ended, and the replies that wait are released
 abbrev pub behind_loss : State → State
 behind_loss s = record { wanted = 0; confirmed = s.confirmed; asked = None }

@@ -6,7 +6,7 @@ ghost use Rattle.chpw_follower.specs.Fields.{asked_of, is_within};
 use crate::line::{Answer, answer_of};
 use std::marker::Model;
 
-/// The follower said anything but the number that it was asked.
+/// The follower said something other than the number that it was asked.
 #[derive(Clone, Copy, Debug)]
 pub struct Misspoken;
 
@@ -42,14 +42,14 @@ impl Asking {
         }
     }
 
-    /// A change waits until the KDC has so many bytes of the journal.
+    /// A change waits until the KDC has `mark` bytes of the journal.
     pub fn want(&mut self, mark: u64)
         ensures value { self.new ≡ behind_want self.old mark }
     {
         self.wanted = self.wanted.max(mark);
     }
 
-    /// Whether the KDC has so many bytes of the journal, as far as a follower has said.
+    /// Whether a follower has confirmed that the KDC has `mark` bytes of the journal.
     pub fn has(&self, mark: u64) -> bool
         ensures value { result ≡ has_mark self.now mark }
     {
@@ -63,15 +63,15 @@ impl Asking {
         self.asked.is_none() && self.confirmed < self.wanted
     }
 
-    /// Whether an answer is due.
+    /// Whether an answer is awaited.
     pub fn is_asked(&self) -> bool
         ensures value { result ≡ is_some self.now.asked }
     {
         self.asked.is_some()
     }
 
-    /// The mark to be asked for now, which counts as asked: the longest that is wanted, where that isn't confirmed and
-    /// nothing else has been asked.
+    /// The mark to be asked for now, which counts as asked: the longest that is wanted, if it isn't confirmed and no
+    /// other ask is under way.
     pub fn ask(&mut self) -> Option<u64>
         ensures mark { result ≡ asked_by self.old }
         ensures value { self.new ≡ behind_ask self.old }
@@ -84,9 +84,9 @@ impl Asking {
         self.asked
     }
 
-    /// Bytes came from the follower. The mark that it has confirmed with them, if it did; `Misspoken` where it said
-    /// anything but the very line that it was asked, or anything unasked: then whoever has the socket closes it, and
-    /// what is left is as behind `lose`.
+    /// Bytes came from the follower. The mark that it has confirmed with them, if it did; `Misspoken` if it said
+    /// anything but the very line that it was asked, or anything unasked: the caller then closes the connection, and
+    /// the state is that after `lose`.
     pub fn hear(&mut self, bytes: &[u8]) -> Result<Option<u64>, Misspoken>
         ensures value { OnOk result (behind_bytes self.old bytes.now ≡ Some self.new) }
         ensures confirmed { IfOk result (λ mark. mark ≡ confirmed_by self.old.asked bytes.now) }
@@ -118,8 +118,9 @@ impl Asking {
         }
     }
 
-    /// The connection has ended, or there is none: what was asked isn't answered any more, and what had come of an answer
-    /// is forgotten. What was confirmed stays so. Nothing is wanted any more: whoever waits is released by the caller.
+    /// The connection has ended, or there is none: what was asked will not be answered, and the beginning of an answer
+    /// is forgotten. What was confirmed stays confirmed. Nothing is wanted any more: the caller releases the replies
+    /// that wait.
     pub fn lose(&mut self)
         ensures value { self.new ≡ behind_loss self.old }
     {

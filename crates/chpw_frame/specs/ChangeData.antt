@@ -1,5 +1,5 @@
--- What a request asks (RFC 3244 section 2): a ChangePasswdData has the new password and may name
--- its principal; a realm stands only beside a name.
+-- The change that a request asks for (RFC 3244 section 2): a ChangePasswdData has the new password and may name its
+-- principal; a realm stands only beside a name.
 use Rattle.std.specs.Prelude.{◌≡◌, ℕ, List, Some, None, Result, Ok, Err, option_map, option_and_then}
 use Rattle.krb_elements.specs.Shapes.{Value, ◌&◌}
 use Rattle.krb_elements.specs.Grammar.{Spells}

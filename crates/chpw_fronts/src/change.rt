@@ -29,14 +29,14 @@ impl NumberedKey {
 }
 
 impl NumberedChange {
-    /// Stands where no change is.
+    /// A value for where there is no change.
     pub fn none() -> NumberedChange
         ensures value { result ≡ Count 0 }
     {
         NumberedChange::Count(0)
     }
 
-    /// Whether both are the same in every part.
+    /// Whether both are equal in every part.
     pub(crate) fn is_same(self, other: NumberedChange) -> bool
         ensures same { IsTrue result → self ≡ other }
     {

@@ -9,7 +9,7 @@ use crate::entry::Mark;
 use crate::list_name::ListName;
 use std::marker::{Model, PhantomData};
 
-/// A beginning of the list that was seen or told. Contracts see it as its changes.
+/// A beginning of the list that someone is known to have seen. Contracts see it as its changes.
 #[derive(Drop)]
 pub struct Front<D: ListName> {
     seen: Mark,
@@ -33,7 +33,7 @@ impl<D: ListName> Model for Front<D> {
 }
 
 impl<D: ListName> Front<D> {
-    // What was seen so far: so many changes, and the last of them.
+    // The front of this many changes with this last one, which `seen` knows.
     pub(crate) fn of(seen: Mark, len: u32, last: NumberedChange) -> Front<D>
         requires book { seen.book ≡ D.book }
         requires len { len ≡ length (changes_in D.root seen.log) }
@@ -48,7 +48,7 @@ impl<D: ListName> Front<D> {
         }
     }
 
-    /// The same without the list's name.
+    /// What the front knows, without the list's name.
     pub fn mark(&self) -> Mark
         ensures value { (result.book ≡ D.book) × (changes_in D.root result.log ≡ self.now) }
     {
@@ -62,14 +62,14 @@ impl<D: ListName> Front<D> {
         self.len
     }
 
-    /// The last of its changes; of a front without any nothing is told.
+    /// The last of its changes; of a front without any it says nothing.
     pub fn last(&self) -> NumberedChange
         ensures value { EndsWith (opening_state D.root) self.now result }
     {
         self.last
     }
 
-    /// The same front once more.
+    /// A copy of the front.
     pub fn again(&self) -> Front<D>
         ensures value { result ≡ self.now }
     {
@@ -81,8 +81,8 @@ impl<D: ListName> Front<D> {
         }
     }
 
-    /// Whether it begins the list of `len` changes which are those that `seen` knows and then `last`;
-    /// for no changes at all, whether it is empty. False is no certain answer.
+    /// Whether it begins the list of `len` changes that are those which `seen` knows and then `last`; for no changes at
+    /// all, whether it is empty. False is no certain answer.
     pub fn begins(&self, seen: &Mark, last: NumberedChange, len: u32) -> bool
         requires book { seen.now.book ≡ D.book }
         ensures some { IsTrue result

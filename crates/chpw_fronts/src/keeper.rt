@@ -1,4 +1,4 @@
-//! Whoever extends the list.
+//! The owner of the list.
 ghost use Rattle.std.specs.Prelude.{◌≡◌, ◌+◌, ◌<◌, ◌^◌, ◌++◌, ◌∷◌, [], length};
 ghost use mathlib.Core.List.{IsPrefix};
 ghost use Rattle.logbook.specs.Pages.{may_write};
@@ -15,7 +15,7 @@ use logbook::Pen;
 use std::marker::{Model, PhantomData};
 use std::mem;
 
-/// What alone extends the list of accepted changes. Contracts see it as that list.
+/// The only one that extends the list of accepted changes. Contracts see it as that list.
 #[derive(Drop)]
 pub struct Keeper<D: ListName> {
     head: Head,
@@ -45,7 +45,7 @@ impl<D: ListName> Model for Keeper<D> {
 }
 
 impl<D: ListName> Keeper<D> {
-    // The keeper of a list that was just started.
+    // The keeper of a list that was started at this moment.
     pub(crate) fn of(head: Head, pen: Pen, root: Mark) -> Keeper<D>
         requires name { (root.book ≡ D.book) × (root.log ≡ D.root) }
         requires head { head ≡ head_of root.book }
@@ -84,7 +84,7 @@ impl<D: ListName> Keeper<D> {
         self.last = change;
     }
 
-    /// The list as it is.
+    /// The whole list as a front.
     pub fn front(&self) -> Front<D>
         ensures value { result ≡ self.now }
     {

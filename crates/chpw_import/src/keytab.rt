@@ -15,7 +15,7 @@ use chpw_rules::{PrincipalRow, ServiceRow};
 use krb_keytab::{KeytabEntry, KeytabError, KeytabFault, read_keytab};
 use std::alloc::{AllocError, Global};
 
-/// What a keytab holds of a realm.
+/// The keys that a keytab has of a realm.
 #[derive(Drop)]
 pub struct Brought {
     /// The entries of the file, in its order.
@@ -24,11 +24,11 @@ pub struct Brought {
     pub service: Vec<ServiceRow>,
     /// The others, in the order of their names.
     pub principals: Vec<PrincipalRow>,
-    /// What is left out, in the order of the file.
+    /// The skipped entries, in the order of the file.
     pub left: Vec<Left>,
 }
 
-/// Why nothing is brought in.
+/// Why nothing is imported.
 #[derive(Clone, Copy, PartialEq, Eq, Debug, Drop)]
 pub enum ImportFault {
     /// The keytab has this fault.
@@ -37,15 +37,14 @@ pub enum ImportFault {
     Memory,
 }
 
-/// The keys of a realm that a keytab holds, as a configuration has them.
+/// The keys of a realm in a keytab, as a configuration has them.
 ///
-/// Of two entries of one name, kvno and encryption type the one that was put there last counts: the one with
-/// the greater timestamp, or where that is the same, the one that follows in the file. The keys of a principal are
-/// those of its newest kvno in the realm and of each one below it, as long as that has a key of both
-/// encryption types; what is behind is left out.
+/// Of two entries with one name, kvno and encryption type the later one counts: the one with the greater timestamp, or,
+/// if these are equal, the one that follows in the file. The keys of a principal are those of its newest kvno in the
+/// realm and of each one below it, as long as that has a key of both encryption types; older ones are skipped.
 ///
-/// A configuration can have what is brought in: the service's keys fit, and so do the principals where the
-/// iteration count is within 1 to 16,777,216.
+/// A configuration can have the result: the service's keys fit, and so do the principals if the iteration count is
+/// within 1 to 16,777,216.
 pub fn bring_in(
     alloc: Global,
     bytes: &[u8],
@@ -68,7 +67,7 @@ pub fn bring_in(
     }
 }
 
-// What these entries hold of a realm.
+// The keys that these entries have of a realm.
 fn brought_of(
     alloc: Global,
     entries: Vec<KeytabEntry>,

@@ -1,4 +1,4 @@
-//! Which entries of a keytab are left out.
+//! Which entries of a keytab are skipped.
 ghost use Rattle.std.specs.Prelude.{◌≡◌, Bool, IfOk, map};
 ghost use Rattle.std.specs.BTreeMap.{get};
 ghost use Rattle.std.specs.List.{list_any};
@@ -17,7 +17,7 @@ use krb_keytab::KeytabEntry;
 use std::alloc::{AllocError, Global};
 use std::collections::BTreeMap;
 
-/// What is used of a keytab: its table, and the rows that it makes, the principals in the order of their names.
+/// What is used of a keytab: its table, and the rows that it gives, the principals in the order of their names.
 #[derive(Clone, Copy, Drop)]
 pub(crate) struct Used<'a> {
     pub table: &'a Table,
@@ -25,7 +25,7 @@ pub(crate) struct Used<'a> {
     pub principals: &'a [PrincipalRow],
 }
 
-/// The entries that are left out, in the order of the file.
+/// The skipped entries, in the order of the file.
 pub(crate) fn left_of(
     alloc: Global,
     realm: &[u8],
@@ -49,7 +49,7 @@ pub(crate) fn left_of(
     Ok(left)
 }
 
-// Why the index-th entry is left out, where it is.
+// Why the index-th entry is skipped, if it is.
 fn why_left(
     alloc: Global,
     realm: &[u8],
@@ -72,7 +72,7 @@ fn why_left(
     }
 }
 
-// Why an entry with this name, whose key can be used, is left out, where it is.
+// Why an entry with this name, whose key can be used, is skipped, if it is.
 fn why_unused(
     alloc: Global,
     used: &Used<'_>,
@@ -107,7 +107,7 @@ fn is_found(found: &BTreeMap<Slot, Found>, slot: &Slot, index: usize) -> bool
     }
 }
 
-// Why a key of the service isn't used, where it isn't.
+// Why a key of the service isn't used, if it isn't.
 fn unused_of_service(entry: &KeytabEntry, service: &[ServiceRow]) -> Option<Reason>
     ensures value { result ≡ unused_of_service entry.now service.now }
 {
@@ -132,7 +132,7 @@ fn used_keys<'a>(principals: &'a [PrincipalRow], name: &Name) -> &'a [KeyBytes]
     }
 }
 
-// Why a principal's key isn't used, where it isn't.
+// Why a principal's key isn't used, if it isn't.
 fn unused(kvno: u32, newest: u32, keys: &[KeyBytes], is_pair: bool) -> Option<Reason>
     ensures value { result ≡ unused kvno newest keys.now is_pair }
 {

@@ -1,5 +1,5 @@
-//! The commands `import` and `key`: the keys that a keytab holds, with what is left out of it and why, and a principal's
-//! keys of a password, printed as stanzas of a configuration.
+//! Importing keys: the service keys and the principals' keys of a keytab, with the entries that are skipped and why;
+//! and a principal's keys from a password.
 #![tactic(auto)]
 
 mod entries;

@@ -1,4 +1,4 @@
--- For proofs: what the program's fields say.
+-- For proofs alone: what the program's fields say.
 use Rattle.std.specs.Option.{option_map}
 use Rattle.chpw_log.specs.declared.news.Told.{Told}
 use Rattle.chpw_log.specs.Lines.{Outcome, named}

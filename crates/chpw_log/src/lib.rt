@@ -1,4 +1,4 @@
-//! The text of a line in the service's log: one record for one message, as printed ASCII.
+//! The lines of the service's log: one record for one message, as printable ASCII.
 #![tactic(auto)]
 
 mod event;

@@ -1,5 +1,5 @@
-//! What is told of a message. It holds names, numbers and a reply's text alone: no password, no key and
-//! no byte of a message.
+//! The result of a message. It has only names, numbers and a reply's text: no password, no key and no byte of a
+//! message.
 ghost use Rattle.std.specs.Prelude.{◌≡◌};
 ghost use Rattle.std.specs.Option.{option_map};
 ghost use Rattle.chpw_table.specs.Requests.{client_of};
@@ -21,18 +21,18 @@ pub struct Party<'a> {
 #[derive(Clone, Copy, Drop)]
 pub struct Asked<'a> {
     pub client: Party<'a>,
-    /// None where the KRB-PRIV didn't tell it.
+    /// None if the KRB-PRIV is bad.
     pub target: Option<Party<'a>>,
 }
 
-/// What came of a message.
+/// The result of a message.
 #[derive(Clone, Copy, Drop)]
 pub enum News<'a> {
     /// It opened, and this was decided.
     Decided {
         asked: Asked<'a>,
         verdict: Verdict,
-        /// The version of the new key, where it is known.
+        /// The version of the new key, if it is known.
         kvno: Option<u32>,
     },
     /// It opened, and the history was full: it is refused with this.
@@ -46,7 +46,7 @@ pub enum News<'a> {
     },
 }
 
-/// The fields that tell what came of a message.
+/// The fields for the result of a message.
 #[derive(Clone, Copy, Drop)]
 pub(crate) struct Told<'a> {
     pub(crate) client: Option<Party<'a>>,
@@ -60,8 +60,8 @@ pub(crate) struct Told<'a> {
 }
 
 impl<'a> Asked<'a> {
-    /// What a request names: its client, and the client again as target where it names none. A request
-    /// whose KRB-PRIV is bad has no target.
+    /// What a request names: its client, and the client again as target if it names none. A request whose KRB-PRIV is
+    /// bad has no target.
     pub fn of(opened: &'a Opened) -> Asked<'a>
         ensures client { named result.client ≡ client_of opened.now }
         ensures target { option_map named result.target ≡ target_asked opened.now }
@@ -86,7 +86,7 @@ impl<'a> Asked<'a> {
 }
 
 impl<'a> News<'a> {
-    /// The fields that tell it.
+    /// The fields for it.
     pub(crate) fn told(&self) -> Told<'a>
         ensures value { said result ≡ outcome_of self.now }
     {

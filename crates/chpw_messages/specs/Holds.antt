@@ -1,4 +1,4 @@
--- For proofs alone: what the program holds of a message while it is opened.
+-- For proofs alone: what the program has of a message while it is opened.
 use Rattle.std.specs.Prelude.{◌≡◌, ℕ, ℤ, List, [], Option, Result}
 use Rattle.krb_msgs.specs.declared.service_keys.ServiceKey.{ServiceKey}
 use Rattle.krb_msgs.specs.declared.ap_exchange.ApOpened.{ApOpened}
@@ -17,17 +17,17 @@ abbrev pub IsHeld : Content → Option ℤ → held.Content → Type 0
 IsHeld content stamp h =
     ((client : Target) → h.body ≡ body_under [] client content) × (h.password ≡ password_in content) × (h.stamp ≡ stamp)
 
--- a KRB-PRIV behind this AP-REQ holds it
+-- a KRB-PRIV after this AP-REQ has it
 abbrev pub HoldsContent : List ℕ → ℕ → ApOpened → List ℕ → held.Content → Type 0
 HoldsContent realm version a tail h =
     (private : Result Private PrivFault) × OpensPriv a.subkey a.seq_number tail private
     × ((content : Content) × IsContent realm version private content × IsHeld content (stamp_in private) h)
 
--- the program holds what these parts open to
+-- the program has what these parts open to
 abbrev pub HoldsParts : List ℕ → List ServiceKey → List ℕ → ℕ → List ℕ → List ℕ → program.OpenResult → Type 0
 HoldsParts realm keys peer version ap_req tail found =
     (o : Opens) × OpensParts realm keys peer version ap_req tail o × IsOpenResult o found
 
--- the program holds what a message opens to
+-- the program has what a message opens to
 abbrev pub HoldsMessage : List ℕ → List ServiceKey → List ℕ → List ℕ → program.OpenResult → Type 0
 HoldsMessage realm keys peer bytes found = (o : Opens) × OpensTo realm keys peer bytes o × IsOpenResult o found

@@ -1,5 +1,4 @@
--- A message that is cut short, its length set to what is left (RFC 3244 section 2): it is no other
--- request.
+-- A message that is cut short, its length set to what is left (RFC 3244 section 2), is no other request.
 use Rattle.std.specs.Prelude.{◌≡◌, ◌≤◌, ◌<◌, ◌+◌, ℕ, List, ◌++◌, length, take, drop, None, nat_lt, if◌then◌else◌}
 use Rattle.std.specs.Int.{to_be_bytes, w16}
 use Rattle.krb_elements.specs.Grammar.{Spells}
@@ -33,7 +32,7 @@ PrefixesOpen = (realm : List ℕ) (keys : List ServiceKey) (peer bytes : List �
     → length bytes ≤ longest → n < length bytes
     → OpensTo realm keys peer (shortened n bytes) (cut_short n bytes q)
 
--- and the tail of a request is one, unless it is bad data
+-- the tail of a request is a KRB-PRIV, unless the request is bad data
 abbrev pub KrbPrivsFollow : Type 0
 KrbPrivsFollow = (realm : List ℕ) (keys : List ServiceKey) (peer bytes : List ℕ) (q : Request)
     → OpensTo realm keys peer bytes (opened q) → (q.content ≡ bad_data → ⊥)

@@ -28,7 +28,7 @@ error_frame realm a now = framed reply_version [] (text types.krb_error (krb_err
 
 -- ---- an AP-REP and a KRB-PRIV (RFC 4120 sections 5.5.2 and 5.7.1), made with nine random words
 
--- the sequence number of both parts, of the fifth word
+-- the sequence number of both parts, made of the fifth word
 abbrev pub seq_number_of : List ℕ → ℕ
 seq_number_of words = slice_index words 4 % 2 ^ 31
 

@@ -14,7 +14,7 @@ use krb_msgs::ApOpened;
 use krb_protocol::{TICKET_INITIAL, TICKET_INVALID};
 use std::alloc::{AllocError, Global};
 
-/// The request of an AP-REQ and the KRB-PRIV behind it.
+/// The request of an AP-REQ and the KRB-PRIV after it.
 pub(crate) fn incoming_of(
     alloc: Global,
     opened: ApOpened,
@@ -48,7 +48,7 @@ pub(crate) fn incoming_of(
     })
 }
 
-/// What the reply is made with.
+/// The keys and times that the reply is made with.
 fn seal_of(opened: &ApOpened) -> Seal
     ensures value { result ≡ seal_of opened.now }
 {

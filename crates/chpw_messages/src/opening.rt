@@ -1,4 +1,4 @@
-//! A message is opened (RFC 3244 section 2): its frame, then its AP-REQ, then its KRB-PRIV.
+//! Opening a message (RFC 3244 section 2): its frame, then its AP-REQ, then its KRB-PRIV.
 ghost use Rattle.std.specs.Prelude.{IfOk};
 ghost use Rattle.chpw_serve.specs.Holding.{IsInTime};
 ghost use Rattle.chpw_messages.specs.Holds.{HoldsMessage, HoldsParts};
@@ -27,7 +27,7 @@ pub(crate) fn open_message(
     }
 }
 
-/// The same of the parts of a message.
+/// What the parts of a message open to.
 fn open_parts(
     alloc: Global,
     realm: &[u8],

@@ -22,7 +22,7 @@ pub(crate) fn user_data(alloc: Global, code: u16, text: &str) -> Result<OctetStr
     Ok(Bytes::of(bytes))
 }
 
-/// The KRB-ERROR of this refusal.
+/// The KRB-ERROR for this refusal.
 fn krb_error(
     alloc: Global,
     realm: &[u8],
@@ -48,7 +48,7 @@ fn krb_error(
     })
 }
 
-/// The reply of a realm of 1 to 255 bytes.
+/// The KRB-ERROR reply, for a realm of 1 to 255 bytes.
 pub(crate) fn error_reply(
     alloc: Global,
     realm: &[u8],

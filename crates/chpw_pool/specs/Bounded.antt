@@ -3,7 +3,8 @@ use Rattle.std.specs.Prelude.{◌*◌}
 use Rattle.chpw_connections.specs.declared.bounds.Bounds.{Bounds}
 use Rattle.chpw_pool.specs.declared.terms.Terms.{Terms}
 
--- a message on its way is left alone for a second, waits five seconds for its worker at the most, and an end a second
+-- a message under way is left alone for a second, waits at most five seconds for its worker, and an end at most a
+-- second
 abbrev pub bounds_asked : Terms → Bounds
 bounds_asked t = record {
   connections = t.clients;

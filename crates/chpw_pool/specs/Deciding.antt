@@ -23,15 +23,15 @@ is_at sender message None = false
 is_at sender message (Some (place.Stream socket)) = false
 is_at sender message (Some (place.Datagram d)) = is_same_datagram sender message d
 
--- the same datagram of the same sender is being answered: its answer will come
+-- the same datagram of the same sender is being answered
 abbrev pub is_under_way : List (Option Place) → Sender → List ℕ → Bool
 is_under_way places sender message = list_any (is_at sender message) places
 
--- it is to be answered, and wasn't within the last five seconds
+-- it is answerable, and has no kept reply
 abbrev pub is_unanswered : Datagrams → Sender → List ℕ → ℕ → Bool
 is_unanswered d sender message now = is_answered d.port sender message && is_none (reply_for d.answered sender message now)
 
--- it is decided: no other one is
+-- it is decided; no other one is
 abbrev pub is_decided : Datagrams → List (Option Place) → Sender → List ℕ → ℕ → Bool
 is_decided d places sender message now = is_unanswered d sender message now && not (is_under_way places sender message)
 
@@ -55,7 +55,7 @@ pub record Queues (d : Datagrams) (before after : List (Option Place)) (b : Boun
   pub decided : is_decided d before sender message now ≡ true
   pub queued : IsQueued sender message before after b now number old new worker workers
 
--- this reply is kept for whoever sends the same again, or nothing is, without memory for it
+-- this reply is kept for the case that the same datagram comes again, or nothing is, without memory for it
 abbrev pub KeepsReply : List Answer → List Answer → Sender → List ℕ → List ℕ → ℕ → Type 0
 KeepsReply old new sender message reply now =
     (new ≡ behind_keep old (record { sender = sender; message = message; reply = reply; moment = now })) ⊎ (new ≡ old)

@@ -1,5 +1,5 @@
--- What a read or a write at its socket does to a connection. The bytes that a reader has left, and those that a
--- writer holds, are told where they are known.
+-- What a read or a write at its socket does to a connection, about the bytes that a reader has left and those that a
+-- writer holds, if they are known.
 use Rattle.std.specs.Prelude.{◌≡◌, ℕ, ◌≤◌, List, length, take, Option, Some, None, Bool, true, ◌&&◌, MatchBool, if◌then◌else◌, ◌⊎◌}
 use Rattle.std.specs.Io.KnownBytes.{Appends, Consumes, Keeps}
 use Rattle.slab.specs.Slab.{Slab, get, Updates}
@@ -28,25 +28,25 @@ pub record TakesNone (old new : Slab Connection) (slot : ℕ) (before after : Op
   pub kept : Keeps before after
   pub happens : Happens 0 old new slot closed ⊎ (Happens 0 old new slot failed ⊎ (new ≡ old))
 
--- what was read behind the last reply is let go
+-- what was read after the last reply is discarded
 pub record LetsGo (old new : Slab Connection) (before after : Option (List ℕ)) : Type 0 where
   pub bytes : List ℕ
   pub read : Consumes before after bytes
   pub same : new ≡ old
 
--- so many of the bytes that are left of its reply were written, from the front
+-- some of the bytes that are left of its reply were written, from the front
 pub record Gives (now : ℕ) (old new : Slab Connection) (slot : ℕ) (before after : Option (List ℕ)) : Type 0 where
   pub count : ℕ
   pub written : Appends before after (take count (left_at (get old slot)))
   pub happens : Happens now old new slot (wrote count)
 
--- nothing was written: the socket has failed, or takes nothing for now
+-- nothing was written: the socket has failed, or would block
 pub record GivesNone (old new : Slab Connection) (slot : ℕ) (before after : Option (List ℕ)) : Type 0 where
   pub kept : Keeps before after
   pub happens : Happens 0 old new slot failed ⊎ (new ≡ old)
 
 -- What one call of its socket does for a connection: what is to be done for it, or nothing. To a message that came in a
--- datagram no more bytes come: its other side has ended as soon as its reply is out.
+-- datagram no more bytes come: its other side has ended as soon as its reply is sent.
 abbrev pub Reads : Bounds → ℕ → Slab Connection → Slab Connection → ℕ → Type 0
 Reads b now old new slot = (before : Option (List ℕ)) × ((after : Option (List ℕ)) × (Takes b now old new slot before after ⊎ TakesNone old new slot before after))
 
@@ -69,12 +69,12 @@ pub data RunsTo (b : Bounds) (now slot : ℕ) : Slab Connection → Slab Connect
   goes : {old mid new : Slab Connection} → RunsTo b now slot old mid → Steps b now (todo_in (get mid slot)) mid new slot
       → RunsTo b now slot old new
 
--- A worker's reply is to be written where there is room for it, and its connection waits for it; without one, or without
+-- A worker's reply is to be written if there is room for it and its connection waits for it; without one, or without
 -- room for it, the connection ends.
 abbrev pub can_reply : Bounds → ℕ → Slab Connection → ℕ → Reply → Bool
 can_reply b now old slot r = has_room_besides b.bytes (for_reply now) old slot (length r.bytes.items) && is_answering_in (get old slot)
 
--- where it waits until the KDC has so many bytes of the journal, not before
+-- if it waits until the KDC has the journal up to a mark, not before that
 abbrev pub reply_event : Option ℕ → Reply → Event
 reply_event None r = replied r.bytes.items r.is_last
 reply_event (Some mark) r = deferred r.bytes.items r.is_last mark
@@ -92,6 +92,6 @@ Answers b now mark reply old new slot = (mid : Slab Connection) × (IsAnswered b
 abbrev pub is_short_for : Bool → Shortage → Bool
 is_short_for large s = if large then s.of_large else s.of_small
 
--- and from now on there isn't
+-- from now on there is no room for messages of this kind
 abbrev pub short_of : Bool → Shortage → Shortage
 short_of large s = if large then record s { of_large = true } else record s { of_small = true }

@@ -7,7 +7,7 @@ use chpw_control::put_error;
 use mio::net::UnixListener;
 use std::alloc::Global;
 
-/// How many connections there are, by their stages, and what the follower has of the journal.
+/// How many connections there are, by their stages, and whether the follower is behind.
 #[derive(Clone, Copy, PartialEq, Eq, Debug, Drop)]
 pub struct Standing {
     /// Those whose message is being read.
@@ -22,7 +22,7 @@ pub struct Standing {
     pub writing: usize,
     /// Those that are ending.
     pub ending: usize,
-    /// Whether the follower is asked about a change, or the last answer to one went out unconfirmed.
+    /// Whether the follower is asked about a change, or the last reply to a change was sent unconfirmed.
     pub is_behind: bool,
 }
 
@@ -43,12 +43,12 @@ impl Standing {
     }
 }
 
-/// Who answers for the service at its control socket.
+/// Answers for the service at its control socket.
 pub trait Attendant {
-    /// The socket's listener, which doesn't block; it is asked for once. None where there is no control socket.
+    /// The socket's listener, which doesn't block; it is asked for once. None without a control socket.
     fn listener(&mut self) -> Option<UnixListener>;
 
-    /// What is answered to `status`, where the connections stand so. Empty where memory is refused.
+    /// The answer to `status` for this standing of the connections. Empty if memory is refused.
     fn status(&mut self, alloc: Global, standing: &Standing) -> Vec<u8>;
 }
 

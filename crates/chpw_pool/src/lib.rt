@@ -1,5 +1,5 @@
-//! A pool of workers at one desk. One thread, the reactor, has the listener and waits for all sockets; the workers are lent
-//! one message after the other, write their replies as far as the socket takes them at once, and wait for no client.
+//! A pool of workers at one desk. One thread, the reactor, has the listener and waits for all sockets; a worker is
+//! given one message after the other, writes as much of its reply as the socket takes at once, and waits for no client.
 #![tactic(auto)]
 
 mod accepting;

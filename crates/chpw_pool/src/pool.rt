@@ -23,7 +23,7 @@ use std::{thread, time};
 /// Why a pool ended early.
 #[derive(Clone, Copy, PartialEq, Eq, Debug, Drop)]
 pub enum PoolFault {
-    /// The listener couldn't go on, or the system has no file for what watches the sockets.
+    /// The listener failed, or the system has no file for what watches the sockets.
     Accept,
     /// A worker's thread could not be started.
     Start,
@@ -31,7 +31,7 @@ pub enum PoolFault {
     Memory,
 }
 
-/// What a pool did.
+/// The result of a pool.
 #[derive(Clone, Copy, PartialEq, Eq, Debug, Drop)]
 pub struct Pool {
     /// The connections that were accepted, each until it ended.
@@ -47,13 +47,13 @@ struct Shared<'a, T: time::Clock, M, D: DeskName, S: JournalSink, J> {
     service: &'a M,
     desk: &'a Desk<D, S>,
     journal: &'a J,
-    // How many entries the history has room for; none where no other desk follows it.
+    // How many entries the history has room for; none if no other desk follows it.
     room: Option<u32>,
 }
 
-/// Serves so many connections at a desk, the messages of connection i (from 0) by worker i modulo their number, one
+/// Serves this many connections at a desk, the messages of connection i (from 0) by worker i modulo their number, one
 /// after the other; a worker draws its words from the stream of its own number, and its moments from the machine's
-/// clock. A connection's next message is read once the reply before it is out. It has the usual bounds
+/// clock. A connection's next message is read once the reply before it is written. It has the default bounds
 /// (`Terms::usual`). It returns when each connection has ended, or, after a fault, those before it; each thread has
 /// ended then.
 pub fn run_pool<
@@ -112,7 +112,7 @@ pub fn run_pool_with<
     run_gated(rt, &shared, listener, passes, terms, gates)
 }
 
-/// `run_pool` by any clock, at any listener and within any bounds.
+/// `run_pool` with any clock, listener and bounds.
 pub fn run_pool_by<
     R: Threads + Wait + Net + time::Clock + Sync,
     T: time::Clock + Sync,
@@ -160,7 +160,7 @@ fn unserved(fault: PoolFault, connections: u32) -> Pool
     }
 }
 
-/// As many gates that hold nobody.
+/// This many gates that hold nobody.
 pub fn no_gates(alloc: Global, count: usize) -> Result<Vec<NoGate>, AllocError>
     ensures { IfOk result (λ v. vec_len v ≡ count) }
 {
@@ -209,14 +209,14 @@ fn run_gated<
 
 /// What the thread that runs a shift does while the workers answer messages.
 pub trait Meanwhile {
-    /// What comes of it.
+    /// Its result.
     type Done;
 
     /// Does it, and returns once there is no more to do until the workers end.
     fn run(self) -> Self::Done;
 }
 
-// The reactor, for so many connections of a listener, with no follower.
+// The reactor, for this many connections of a listener, without a follower.
 #[derive(Drop)]
 struct Reacting<'a, R, L, G> {
     rt: &'a R,
@@ -239,11 +239,12 @@ impl<R: Wait + Net + time::Clock, L: OpenListener<Stream = TcpStream> + AsRawFd,
 #[derive(Clone, Copy, PartialEq, Eq, Debug, Drop)]
 pub struct NotStarted;
 
-/// Answers the messages of an engine's connections at a desk, until no more come, the workers are to take none (`Engine::stop`),
-/// or the desk's history has no room for one more entry: it has room for so many. They take some only once `Engine::start` was
-/// called behind a stop. The workers then finish the messages that they have, and the others wait for the next desk. The reply
-/// to a change waits for the follower where `journal` says how long the journal is. This thread does
-/// something else meanwhile, and gives back what came of that. After `NotStarted` the workers that had started may have answered some.
+/// Answers the messages of an engine's connections at a desk, until none will come any more, the workers are to take
+/// none (`Engine::stop`), or the desk's history, which has room for `room` entries, is full. They take messages only
+/// once `Engine::start` was called after a stop. The workers then finish the messages that they have, and the others
+/// wait for the next desk. The reply to a change waits for the follower if `journal` says how long the journal is. This
+/// thread runs `meanwhile`, and returns its result. After `NotStarted` the workers that had started may have answered
+/// some.
 pub fn run_shift<
     R: Threads + Wait + time::Clock + Sync,
     T: time::Clock + Sync,
@@ -278,7 +279,7 @@ pub fn run_shift<
     run_workers(rt, &shared, engine, passes, meanwhile)
 }
 
-// A thread for each worker, while this one does something else. It returns once they have ended.
+// A thread for each worker, while this one runs `meanwhile`. It returns once they have ended.
 fn run_workers<
     R: Threads + Wait + time::Clock + Sync,
     T: time::Clock + Sync,

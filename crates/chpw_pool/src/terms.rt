@@ -4,7 +4,7 @@ ghost use Rattle.chpw_pool.specs.Bounded.{bounds_asked};
 
 use chpw_connections::Bounds;
 
-/// What a pool is to do, and what its connections may hold, and for how long.
+/// What a pool is to do, what its connections may hold, and for how long.
 #[derive(Clone, Copy, Drop)]
 pub struct Terms {
     /// The seed of the random words.
@@ -19,18 +19,18 @@ pub struct Terms {
     pub idle: u16,
 }
 
-/// How many milliseconds a message may wait for its worker.
+/// The most milliseconds that a message may wait for its worker.
 const LONGEST_WAIT: u64 = 5_000;
 
-/// For how many milliseconds a message on its way is left alone.
+/// For how many milliseconds a message under way is left alone.
 const GRACE: u64 = 1_000;
 
-/// How many milliseconds a client has to end its side behind the last reply.
+/// How many milliseconds a client has to end its side after the last reply.
 const LINGER: u64 = 1_000;
 
 impl Terms {
-    /// So many connections, with the bounds that are usual: 1,024 connections at a time that hold 32 MiB and are
-    /// ended after 30 seconds.
+    /// This many connections with the default bounds: 1,024 connections at a time, which hold 32 MiB and are ended
+    /// after 30 seconds.
     pub fn usual(seed: [u8; 32], connections: u32) -> Terms
         ensures value { result ≡ record { seed = seed; connections = connections; clients = 1024; buffers = 32; idle = 30 } }
     {
@@ -43,7 +43,7 @@ impl Terms {
         }
     }
 
-    /// These bounds, in bytes and milliseconds.
+    /// These bounds in bytes and milliseconds.
     pub fn bounds(&self) -> Bounds
         ensures value { result ≡ bounds_asked self.now }
     {

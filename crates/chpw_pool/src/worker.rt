@@ -1,4 +1,4 @@
-//! A worker, and what it answers to a message.
+//! A worker, and its answer to a message.
 ghost use Rattle.std.specs.Prelude.{◌≡◌, ℕ, List, Option, Some, []};
 ghost use Rattle.chpw_serve.specs.Answering.{Answering, Unanswered};
 ghost use Rattle.chpw_serve.specs.Serving.{stream_state, message_too_long, IsServed};
@@ -17,8 +17,8 @@ use std::net::SocketAddr;
 use std::sync::Wait;
 use std::time;
 
-/// What a worker answers each message with. The next one goes on where the last one left off: so a worker draws each
-/// word once.
+/// What a worker answers each message with. The next message goes on where the last one left off, so that a worker
+/// draws each word once.
 #[derive(Drop)]
 pub(crate) struct Worker<'a, M, K: Decider, G: Gate + Observer, C: Clock, X: Words> {
     pub alloc: Global,
@@ -29,17 +29,17 @@ pub(crate) struct Worker<'a, M, K: Decider, G: Gate + Observer, C: Clock, X: Wor
     pub words: X,
 }
 
-/// A reply as it goes out, its length before it; and whether the connection ends behind it.
+/// A reply as it is sent, with its length before it; and whether the connection ends after it.
 #[derive(Drop)]
 pub(crate) struct Reply {
     pub bytes: Vec<u8>,
     pub is_last: bool,
 }
 
-/// Answers the messages of a worker's queue, until none come any more, or it is to take none for now. `room` is how
-/// many entries the desk's history has room for at its start; none where no other desk follows. The worker whose
-/// entry is the last that fits has all of them stop. The reply to a change may wait for the follower, until the KDC has the
-/// journal up to its end behind the change.
+/// Answers the messages of a worker's queue, until none will come any more, or it is to take none for now. `room` is
+/// how many entries the desk's history has room for at its start; none if no other desk follows. The worker whose entry
+/// is the last that fits stops all of them. The reply to a change may wait for the follower, until the KDC has the
+/// journal up to the change.
 pub(crate) fn work<
     R: Wait + time::Clock,
     M: Messages,
@@ -81,7 +81,7 @@ pub(crate) fn work<
     }
 }
 
-// Whether there is one receipt more than so many, and the newest is of a change.
+// Whether there is one more receipt than `before`, and the newest is of a change.
 fn has_changed(receipts: &[Receipt], before: usize) -> bool
     ensures value { result ≡ has_changed_behind before receipts.now }
 {
@@ -135,8 +135,8 @@ fn reply_to<M: Messages, K: Decider, G: Gate + Observer, C: Clock, X: Words>(
     reply_of(ended, bytes)
 }
 
-// What goes out of a message whose stream ended so. Behind a message that was too long the connection ends; a reply
-// that isn't whole doesn't go out.
+// The reply to a message whose stream ended so. After a message that was too long the connection ends; a reply that
+// isn't whole isn't sent.
 fn reply_of(ended: Ended, bytes: Vec<u8>) -> Option<Reply>
     ensures value { IsReplyBehind ended bytes.items result }
 {
@@ -153,7 +153,7 @@ fn reply_of(ended: Ended, bytes: Vec<u8>) -> Option<Reply>
     }
 }
 
-/// An IPv4 address, high byte first; that of no host where it is another one.
+/// An IPv4 address, high byte first; 0.0.0.0 for an address of another kind.
 pub(crate) fn peer_of(address: SocketAddr) -> [u8; 4]
     ensures value { result ≡ peer_in address }
 {

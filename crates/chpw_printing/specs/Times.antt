@@ -17,6 +17,6 @@ date_time time micros =
 abbrev pub time_text : ℤ → ℕ → List ℕ
 time_text seconds micros = date_time (time_octets seconds) micros
 
--- a text tells a time: its date and time of day spell these seconds (RFC 4120 section 5.2.3)
+-- a text says a time: its date and time of day spell these seconds (RFC 4120 section 5.2.3)
 abbrev pub Tells : List ℕ → ℤ → ℕ → Type 0
 Tells text seconds micros = (time : List ℕ) × IsTime time seconds × (text ≡ date_time time micros)

@@ -24,8 +24,8 @@ use std::io::Write;
 use std::net::{Net, TcpStream};
 use std::time::Clock;
 
-/// Sends the request, and prints what the reply says. The names, the password and the moment are looked at
-/// first, then the configuration and the seed are read, and then the service is called.
+/// Sends the request, and prints what the reply says. The names, the password and the moment are checked first, then
+/// the configuration and the seed are read, and then the service is called.
 #[tactic(auto, using(crate::proofs::AskingLemmas::unasked, crate::proofs::AskingLemmas::replied))]
 pub fn ask<'a, R>(rt: &R, options: ClientOptions<'a>) -> Ending<'a>
 where
@@ -146,7 +146,7 @@ fn target_of<'a>(alloc: Global, text: Option<&str>) -> Result<Option<Name>, Endi
     }
 }
 
-// The target's name; written out, since so the fact that it fits comes with it.
+// The target's name; written out, since that gives the fact that it fits.
 fn lent(target: &Option<Name>) -> Option<&Name>
     requires fits { IfSome target.now (λ name. is_name name ≡ true) }
     ensures fits { IfSome result (λ name. is_name name.now ≡ true) }
@@ -159,7 +159,7 @@ fn lent(target: &Option<Name>) -> Option<&Name>
     }
 }
 
-// The machine's moment, where a ticket of an hour ends within the year 9999.
+// The machine's moment, if a ticket of an hour ends within the year 9999.
 fn moment<'a, R: Clock>(rt: &R) -> Result<Moment, Ending<'a>>
     ensures start { IfOk result (λ now. pos 0 ≤ℤ now.seconds) }
     ensures end { IfOk result (λ now. now.seconds ≤ℤ pos latest_second) }

@@ -24,7 +24,7 @@ fn copied(rt: &(impl Env + AllocGlobal)) -> io::Result<Vec<String>> {
     Ok(words)
 }
 
-// How the program ends where they can't be had. A word that isn't UTF-8 is the one fault besides memory.
+// How the program ends if they can't be had. A word that isn't UTF-8 is the only fault besides memory.
 fn without_words<'a>(error: &io::Error) -> Ending<'a>
     ensures memory { error_kind error.now ≡ ErrorKind.OutOfMemory
         → result ≡ Ending.Early DrillFault.Memory }

@@ -21,7 +21,7 @@ use std::thread::Threads;
 use std::time::Clock;
 use std::{fs, io};
 
-/// Runs the command of these words; clap's text, where they ask for none, is an error.
+/// Runs the command of these words; if they ask for none, clap's text is an error.
 pub fn run<'a, R, W: Write>(rt: &R, errors: &mut W, words: &'a [String]) -> Ending<'a>
 where
     R: Files<File = File>
@@ -60,7 +60,7 @@ pub fn misused<'a, W: Write>(errors: &mut W, error: Error) -> Ending<'a>
     Ending::Misused
 }
 
-// The service, or the table that is held.
+// The ending of the service, or of the table.
 fn served(ended: Result<(), ServeFault<'_>>) -> Ending<'_>
     ensures value { result ≡ ending_served ended.entry }
 {
@@ -70,7 +70,7 @@ fn served(ended: Result<(), ServeFault<'_>>) -> Ending<'_>
     }
 }
 
-// The keys of a keytab or a password.
+// The ending of a keytab's or a password's keys.
 fn brought(told: Result<(), KeysFault<'_>>) -> Ending<'_>
     ensures value { result ≡ ending_brought told.entry }
 {

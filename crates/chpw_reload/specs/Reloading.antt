@@ -1,4 +1,4 @@
--- What a reload gives: a next table that agrees with the next state of a closed table and a renewed one, or a reason
+-- The result of a reload: a next table that agrees with the next state of a closed table and a renewed one, or a reason
 -- why there is none.
 use Rattle.std.specs.Prelude.{◌≡◌, ◌≢◌, ℕ, List, Option, false}
 use Rattle.chpw_rules.specs.declared.name.Name.{Name}
@@ -35,7 +35,7 @@ IsUnprepared file journal fault =
     (before : Held) × (found : RestoreFault) × Agrees before.state (opening file)
     × IsRefusedFrom before journal found × (fault ≡ fault_of found)
 
--- the rest of the journal is put back, and the next table is made of that and the closed one
+-- the rest of the journal is replayed, and the next table is made from that and the closed one
 pub record IsReloaded (r : Renewal) (rest : Option (List ℕ)) (closed : Held) (next : Reloaded) : Type 0 where
   pub renewed : Restored
   pub read : IsReadFrom r.table rest renewed

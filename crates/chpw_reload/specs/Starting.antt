@@ -1,4 +1,4 @@
--- For the proofs: what a next table starts as, before it takes over what the closed one has used.
+-- For proofs alone: what a next table starts as, before it takes over what the closed one has used.
 use Rattle.std.specs.Prelude.{◌≡◌, ◌≤◌, ◌^◌, ℕ, List, length, Option, true, false}
 use Rattle.chpw_rules.specs.declared.name.Name.{Name}
 use Rattle.chpw_rules.specs.declared.config.Config.{Config}

@@ -1,4 +1,4 @@
-//! A reload: the table that the next desk opens with, made of the closed one, the new configuration and all of the
+//! A reload: the table that the next desk opens with, made from the closed one, the new configuration and the whole
 //! journal.
 #![tactic(auto)]
 

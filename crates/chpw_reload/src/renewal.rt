@@ -1,4 +1,4 @@
-//! The table that a start would open with now: that of the new configuration, with the journal put back.
+//! The table that a start would open with now: that of the new configuration, with the journal replayed.
 ghost use Rattle.std.specs.Prelude.{◌≡◌, IfOk, IfErr, true};
 ghost use Rattle.chpw_rules.specs.Fitting.{config_fits};
 ghost use Rattle.chpw_journal.specs.JournalFile.{IsReadFrom, IsRefusedFrom};
@@ -12,21 +12,21 @@ use chpw_table::Table;
 use std::alloc::{AllocError, Global};
 use std::io::{BufReader, Read};
 
-/// The new configuration's table with the journal put back, as far as that was read.
+/// The new configuration's table with the part of the journal replayed that was read so far.
 #[derive(Drop)]
 pub struct Renewal {
     /// What the configuration sets beside its principals and the service's keys.
     pub settings: Config,
     pub table: Table,
-    /// How many records were read whole.
+    /// How many complete records were read.
     pub records: u64,
     /// Their bytes. The rest of the journal begins there.
     pub kept: u64,
 }
 
-/// The table of a new configuration with the journal so far put back, while a desk still serves. The configuration
-/// fits (`Config::fits`). The journal is read to its end; a record of which not all is there yet belongs to the
-/// rest.
+/// The table of a new configuration with the journal so far replayed, while a desk still serves. The configuration fits
+/// (`Config::fits`). The journal is read to its end; an incomplete record belongs to the rest. Refused as `Journal` or
+/// `Memory`.
 pub fn prepare<F: Read + Drop>(
     alloc: Global,
     file: Config,
@@ -82,7 +82,7 @@ fn settings(alloc: Global, file: &Config) -> Result<Config, AllocError>
     })
 }
 
-/// The table with the records of a journal put back, from where its reader stands.
+/// The table with the records of a journal replayed, from where its reader is.
 pub(crate) fn read_on<F: Read + Drop>(
     alloc: Global,
     table: Table,

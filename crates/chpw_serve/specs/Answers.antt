@@ -9,7 +9,7 @@ use Rattle.chpw_decider.specs.Deciding.{AddsReceipt}
 use Rattle.chpw_serve.specs.declared.messages.Seal.{Seal}
 use Rattle.chpw_serve.specs.Requests.{Request, Opens, refused, opened, opened_under}
 
--- where the history has no room for one event more
+-- when the history has no room for one more event
 abbrev pub history_full : Answer
 history_full = by_error KRB5_KPASSWD_HARDERROR KRB_ERR_GENERIC (codes "history full")
 

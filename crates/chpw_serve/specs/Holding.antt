@@ -1,4 +1,4 @@
--- What the program holds of a message that was opened.
+-- What the program has of a message that was opened.
 use Rattle.std.specs.Prelude.{◌≡◌, ◌<◌, ◌≤ℤ◌, pos, negsuc, []}
 use Rattle.krb_protocol.specs.declared.refusal.Refusal.{Refusal}
 use Rattle.chpw_table.specs.Replies.{Answer, by_error}
@@ -11,7 +11,7 @@ use Rattle.chpw_serve.specs.Requests.{Request, Opens, refused, opened, opened_un
 abbrev pub answer_in : Refusal → Answer
 answer_in r = by_error r.code r.error r.text.now
 
--- the program holds this request, its digest with no keys yet
+-- the program has this request, its digest with no keys yet
 abbrev pub IsIncoming : Request → Incoming → Type 0
 IsIncoming q i = (i.opened ≡ opened_under [] q) × (i.password ≡ password_in q.content) × (i.seal ≡ q.seal)
 
@@ -21,7 +21,7 @@ IsOpenResult (opened q) (program.Opened i) = IsIncoming q i
 IsOpenResult (refused a) (program.Opened i) = ⊥
 IsOpenResult (opened q) (program.Refused r) = ⊥
 
--- a reply can say these times: the years 0 to 9999, and microseconds
+-- a reply can carry these times: the years 0 to 9999, and microseconds
 abbrev pub IsReplyTime : Seal → Type 0
 IsReplyTime seal = (negsuc 62167219199 ≤ℤ seal.ctime) × (seal.ctime ≤ℤ pos 253402300799) × (seal.cusec < 1000000)
 

@@ -14,7 +14,7 @@ use Rattle.chpw_serve.specs.Requests.{Request, opened_under}
 abbrev pub judged : State → Request → Opened
 judged s q = opened_under (wanted s (target_of (opened_under [] q)).name) q
 
--- where no wanted count is missing, verdict and step are those of the request as it is judged
+-- if no wanted count is missing, verdict and step are those of the request as it is judged
 abbrev pub JudgedAlike : Type 0
 JudgedAlike = (s : State) (now : Moment) (q : Request) (counts : List ℕ) (io : Bool)
     → missing s now (opened_under counts q) ≡ []

@@ -1,5 +1,5 @@
--- What a message opens to: a refusal, or a request with its password (RFC 3244 section 2, RFC 4120
--- section 3.2.3). What is decided has a digest in the password's place.
+-- What a message opens to: a refusal, or a request with its password (RFC 3244 section 2, RFC 4120 section 3.2.3). What
+-- is decided has a digest in place of the password.
 use Rattle.std.specs.Prelude.{ℕ, ℤ, List, [], Bool, Option}
 use Rattle.chpw_rules.specs.declared.name.Name.{Name}
 use Rattle.chpw_table.specs.declared.request.Target.{Target}
@@ -12,13 +12,13 @@ use Rattle.chpw_table.specs.Derivations.{digest_from}
 use Rattle.chpw_table.specs.Completing.{salt_of}
 use Rattle.chpw_serve.specs.declared.messages.Seal.{Seal}
 
--- what the KRB-PRIV held
+-- the content of the KRB-PRIV
 pub data Content : Type 0 where
   new_password : Option Target → List ℕ → Content
   bad_private : Content
   bad_data : Content
 
--- the ticket, the authenticator and the KRB-PRIV, as far as they are judged
+-- the parts of ticket, authenticator and KRB-PRIV that are judged
 pub record Request : Type 0 where
   pub crealm : List ℕ
   pub client : Name
@@ -60,7 +60,7 @@ opened_under counts q = record {
   body = body_under counts (client_of q) q.content;
 }
 
--- the new password; no bytes where there is none
+-- the new password; no bytes if there is none
 abbrev pub password_in : Content → List ℕ
 password_in (new_password target password) = password
 password_in bad_private = []

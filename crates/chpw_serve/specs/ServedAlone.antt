@@ -1,5 +1,5 @@
--- What serving a stream over a table that one thread has alone leaves: the bytes written are the
--- replies to the bytes read.
+-- The effect of serving a stream over a table that one thread owns: the bytes written are the replies to the bytes
+-- read.
 use Rattle.std.specs.Prelude.{◌≡◌, ℕ, ◌+◌, ◌≤◌, List, [], ◌∷◌, ◌++◌, Bool, true, false, length, map, Option, Some}
 use Rattle.std.specs.List.{flat_map}
 use Rattle.std.specs.Io.KnownBytes.{Appends}
@@ -55,7 +55,7 @@ AreDrawnFor opens stream (d ∷ ds) =
     IsDrawnFor opens (next_piece stream) d ds
     × AreDrawnFor opens (behind_piece (next_piece stream) stream) ds
 
--- what is left of the stream behind them
+-- what is left of the stream after them
 abbrev pub left_behind : List ℕ → List Draw → List ℕ
 left_behind stream [] = stream
 left_behind stream (d ∷ ds) = left_behind (behind_piece (next_piece stream) stream) ds
@@ -74,7 +74,7 @@ IsEndOf end.TooLong stream draws = EndsTooLong stream draws
 IsEndOf end.Count stream draws = length draws ≡ 65536
 IsEndOf _ stream draws = Unit {0}
 
--- what is left to read, of these bytes behind the messages answered
+-- what is left to read, of these bytes after the messages answered
 abbrev pub Leaves : Ended → List ℕ → Option (List ℕ) → Type 0
 Leaves end.Input rest left = left ≡ Some []
 Leaves end.CutOff rest left = left ≡ Some []
@@ -87,7 +87,7 @@ abbrev pub Writes : Ended → Option (List ℕ) → Option (List ℕ) → List �
 Writes end.WriteFault old new bytes = AppendsFront old new bytes
 Writes _ old new bytes = Appends old new bytes
 
--- the source gave these and no more; after want of memory it may have given more
+-- the source gave these and no more; for want of memory it may have given more
 abbrev pub HasDrawn : {S A : Type 0} → (S → A → S → Type 0) → Ended → S → List A → S → Type 0
 HasDrawn {S} gives end.Memory before xs after = (m : S) × InTurn gives before xs m
 HasDrawn gives _ before xs after = InTurn gives before xs after
@@ -99,7 +99,7 @@ pub record IsReceiptOf (run : Run) (d : Draw) (q : Request) (r : Receipt) : Type
   pub now_is : r.entry.now ≡ d.moment
   pub io_is : r.entry.io_failed ≡ d.io
 
--- one for a request that was decided, and none where the machine was full
+-- one for a request that was decided, and none if the machine was full
 abbrev pub IsOwnOf : Bool → Run → Draw → Request → List Receipt → Type 0
 IsOwnOf true run d q own = own ≡ []
 IsOwnOf false run d q own = (r : Receipt) × (own ≡ r ∷ []) × IsReceiptOf run d q r
@@ -116,7 +116,7 @@ AreReceipts limit run (d ∷ ds) receipts =
     (own rest : List Receipt) × (receipts ≡ own ++ rest) × AreOwnOf limit run d d.opens own
     × AreReceipts limit (run_after limit run d d.opens) ds rest
 
--- no receipt more; after want of memory one at the most
+-- no more receipts; for want of memory at most one
 abbrev pub AreMore : Ended → List Receipt → Type 0
 AreMore end.Memory more = length more ≤ 1
 AreMore _ more = more ≡ []
@@ -127,7 +127,7 @@ AddsReceipts e limit run draws old new =
     (added more : List Receipt) × (new ≡ old ++ added ++ more)
     × AreReceipts limit run draws added × AreMore e more
 
--- with these frames, where messages open so, and clock and words give so: the whole
+-- the whole: with these frames, for messages that open so, and such clock and words
 pub record IsServedAlone {C X G : Type 0} (error_frame : Answer → Moment → List ℕ) (private_frame : Seal → Answer → List ℕ → List ℕ) (opens : List ℕ → Opens → Type 0) (moments : C → Moment → C → Type 0) (random : X → ℕ → X → Type 0) (e : Ended) (stream : List ℕ) (start final : StreamState C X Kept G) : Type 0 where
   pub draws : List Draw
   pub drawn_for : AreDrawnFor opens stream draws

@@ -17,14 +17,14 @@ use Rattle.chpw_serve.specs.InTurn.{InTurn}
 abbrev pub message_too_long : Answer
 message_too_long = by_error KRB5_KPASSWD_MALFORMED KRB_ERR_FIELD_TOOLONG (codes "message too long")
 
--- the bytes written, where they are known, the clock, the words, and what is gate and observer
+-- the bytes written, if they are known, the clock, the words, and the gate
 pub record Around (C X G : Type 0) : Type 0 where
   pub out : Option (List ℕ)
   pub clock : C
   pub words : X
   pub gate : G
 
--- those, the bytes left to read, where they are known, and who decides
+-- those, the bytes left to read, if they are known, and the decider
 pub record StreamState (C X D G : Type 0) : Type 0 where
   pub left : Option (List ℕ)
   pub decider : D
@@ -41,7 +41,7 @@ pub record Turn : Type 0 where
   pub opened : Bool
   pub reply : List ℕ
 
--- where memory ran out known bytes lose the length of a message, or a whole piece
+-- if memory ran out, known bytes lose the length of a message, or a whole piece
 abbrev pub TakesAtMostOne : Option (List ℕ) → Option (List ℕ) → Type 0
 TakesAtMostOne old new = TakesLength old new ⊎ ((p : Piece) × TakesPiece p old new)
 
@@ -115,7 +115,7 @@ module _ {C X D G : Type 0} (answers : List ℕ → List ℕ → Moment → D �
       × IsRefused refusal moments random hears peer end.Memory before.around after.around × (after.decider ≡ before.decider)))
   EndsBy end.Count before after = ⊥
 
-  -- the end after so many turns; after the last there is none
+  -- the end after this many turns; after the last there is none
   abbrev pub IsEnd : Ended → ℕ → StreamState C X D G → StreamState C X D G → Type 0
   IsEnd end.Count n before after = (n ≡ 65536) × (after ≡ before)
   IsEnd e n before after = (n < 65536) × EndsBy e before after

@@ -31,12 +31,12 @@ pub record Run : Type 0 where
 abbrev pub verdict_of : Run → Draw → Request → Verdict
 verdict_of run d q = verdict run.state d.moment (judged run.state q) d.io
 
--- a machine that decides so many events at the most
+-- a machine that decides at most this many events
 module _ (limit : ℕ) where
   abbrev pub is_full : Run → Bool
   is_full run = run.events == limit
 
-  -- the machine behind a message that opened so: one event on, where it decided
+  -- the machine after a message that opened so: one event further if it decided
   abbrev pub run_after : Run → Draw → Opens → Run
   run_after run d (refused a) = run
   run_after run d (opened q) =
@@ -61,7 +61,7 @@ module _ (limit : ℕ) where
     written_for ended run d rest = []
     written_for cut_off run d rest = []
 
-    -- the replies to a stream, for whose messages this was drawn
+    -- the replies to a stream, with what was drawn for its messages
     abbrev pub replies : List ℕ → Run → List Draw → List ℕ
     replies stream run [] = []
     replies stream run (d ∷ ds) =

@@ -1,4 +1,4 @@
--- For proofs alone: what came of a request, and of one try.
+-- For proofs alone: the result of a request, and of one try.
 use Rattle.std.specs.Prelude.{◌≡◌, ℕ, ◌-◌, List, length, slice_get, Option, Some, None}
 use Rattle.chpw_table.specs.declared.times.Moment.{Moment}
 use Rattle.chpw_table.specs.declared.request.Opened.{Opened}
@@ -16,7 +16,7 @@ abbrev pub IsDecision : Type 0 → Decision → List ℕ → Opened → Moment �
 IsDecision full (decision.Verdict v) password before now old new = AddsCompleted old new now password before v
 IsDecision full (decision.Full o) password before now old new = (new ≡ old) × full × IsCompletedFrom password before o
 
--- the same of the verdict alone, none where the history is full
+-- the result by the verdict alone, none if the history is full
 abbrev pub IsVerdict : Type 0 → Option Verdict → List ℕ → Opened → Moment → List Receipt → List Receipt → Type 0
 IsVerdict full (Some v) password before now old new = AddsCompleted old new now password before v
 IsVerdict full None password before now old new = (new ≡ old) × full
@@ -26,7 +26,7 @@ IsTry full (try.Verdict v) password before now old new = AddsReceipt old new now
 IsTry full (try.Full o) password before now old new = (new ≡ old) × full × (o ≡ before)
 IsTry full (try.Again o) password before now old new = (new ≡ old) × IsCompletedFrom password before o
 
--- what an observer hears of a verdict: the last receipt; where the history is full, the request
+-- what the gate hears of a verdict: the last receipt; if the history is full, the request
 abbrev pub HearsLast : {G : Type 0} → (G → Heard → G → Type 0) → List ℕ → Moment → (Option ℕ → Type 0) → List Receipt → G → G → Type 0
 HearsLast hears peer now made receipts observer later =
     (r : Receipt) × (kvno : Option ℕ) × (slice_get receipts (length receipts - 1) ≡ Some r) × IsKvnoOf made r.entry.event kvno

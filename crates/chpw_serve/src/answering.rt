@@ -104,7 +104,7 @@ pub fn answer_message<M: Messages, D: Decider, G: Gate + Observer>(
     })
 }
 
-/// What a full history is answered with.
+/// The answer when the history is full.
 pub(crate) fn history_full() -> Refusal
     ensures value { answer_in result ≡ full_answer }
 {

@@ -7,9 +7,8 @@ use chpw_decider::Decider;
 use chpw_table::{Body, Counts, Moment, Opened};
 use std::alloc::{AllocError, Global};
 
-/// The request with the new password's keys as its decision at this moment would want them: none where
-/// it would be refused whatever they are. Of a target that isn't shown as a principal of this realm the
-/// decider isn't asked.
+/// The request with the new password's keys that its decision at this moment would need: none if it would be refused
+/// whatever they are. For a target that isn't shown as a principal of this realm the decider isn't asked.
 #[tactic(auto, using(crate::proofs::CompletingLemmas::completed_none))]
 pub(crate) fn derive_wanted<D: Decider>(
     realm: &[u8],
@@ -30,7 +29,7 @@ pub(crate) fn derive_wanted<D: Decider>(
     Ok(opened)
 }
 
-/// Derives the password's keys under these counts too, where the request has a new password.
+/// Derives the password's keys under these counts too, if the request has a new password.
 pub(crate) fn derive_more(
     opened: &mut Opened,
     password: &[u8],

@@ -1,4 +1,4 @@
-//! The decision of a request, with keys derived as they are wanted.
+//! Deciding a request, with keys derived as they are needed.
 ghost use Rattle.std.specs.Prelude.{◌≡◌, IfOk, OnErr};
 ghost use Rattle.chpw_table.specs.Times.{IsMoment};
 ghost use Rattle.chpw_serve.specs.Trying.{IsTry, IsDecision};
@@ -8,10 +8,10 @@ use chpw_decider::Decider;
 use chpw_table::{DecideFault, Moment, Opened, Refused, Verdict};
 use std::alloc::AllocError;
 
-/// How often a decision is asked for before it is left to the decider to derive the keys.
+/// How often a decision is asked for before the decider derives the keys itself.
 const TRIES: u32 = 3;
 
-/// What came of a request.
+/// The result of a request.
 #[derive(Drop)]
 pub(crate) enum Decision {
     Verdict(Verdict),
@@ -19,7 +19,7 @@ pub(crate) enum Decision {
     Full(Opened),
 }
 
-/// What came of one try.
+/// The result of one try.
 #[derive(Drop)]
 enum Try {
     Verdict(Verdict),
@@ -28,8 +28,8 @@ enum Try {
     Again(Opened),
 }
 
-/// Decides, with further keys derived as they are wanted; after the third time they are left to the
-/// decider. `AllocError` leaves the receipts as they were.
+/// Decides, deriving further keys as they are needed; after the third time the decider derives them. `AllocError`
+/// leaves the receipts unchanged.
 pub(crate) fn decide<D: Decider>(
     decider: &mut D,
     now: Moment,

@@ -1,4 +1,4 @@
-//! A decision, of which the observer hears.
+//! What a gate hears of a decision.
 ghost use Rattle.std.specs.Prelude.{◌≡◌, ◌<◌, IfOk, OnErr};
 ghost use Rattle.chpw_table.specs.Times.{IsMoment};
 ghost use Rattle.chpw_serve.specs.Trying.{IsVerdict, HearsVerdict, HearsLast, EndsWithVerdict};

@@ -1,4 +1,4 @@
-//! Whoever opens and makes messages.
+//! Opening and making messages.
 ghost use Rattle.std.specs.Prelude.{◌≡◌, ◌≤◌, ◌<◌, ℕ, List, length, IfOk};
 ghost use Rattle.chpw_table.specs.declared.times.Moment.{Moment};
 ghost use Rattle.chpw_table.specs.Times.{IsMoment};
@@ -13,15 +13,15 @@ use krb_keys::Key;
 use krb_protocol::Refusal;
 use std::alloc::{AllocError, Global};
 
-/// What the reply to an opened request is made with.
+/// The keys and times that the reply to an opened request is made with.
 #[derive(Drop)]
 pub struct Seal {
     /// The ticket's key, for the AP-REP.
     pub session: Key,
     /// The authenticator's, for the KRB-PRIV.
     pub subkey: Key,
-    /// The authenticator's time, in seconds since 1970-01-01T00:00:00Z, and its microseconds. A reply
-    /// can say a time of the years 0 to 9999, and 0 to 999999 microseconds.
+    /// The authenticator's time, in seconds since 1970-01-01T00:00:00Z, and its microseconds. A reply can carry a time
+    /// of the years 0 to 9999, and 0 to 999999 microseconds.
     pub ctime: i64,
     pub cusec: u32,
 }
@@ -30,7 +30,7 @@ pub struct Seal {
 #[derive(Drop)]
 pub struct Incoming {
     pub opened: Opened,
-    /// The new password; no bytes where none came.
+    /// The new password; no bytes if none came.
     pub password: Items<u8>,
     pub seal: Seal,
 }
@@ -42,7 +42,7 @@ pub enum OpenResult {
     Opened(Incoming),
 }
 
-/// The service's realm and keys, by which messages are opened and made.
+/// The service's realm and keys, with which messages are opened and made.
 pub trait Messages {
     /// A message from this peer opens to this.
     ghost opens: { Self → List ℕ → List ℕ → Opens → Type 0 };

@@ -20,10 +20,10 @@ use krb_protocol::codes::{KRB_ERR_FIELD_TOOLONG, KRB5_KPASSWD_MALFORMED};
 use std::alloc::Global;
 use std::io::{Read, Write};
 
-/// Messages of one stream, at the most.
+/// The most messages of one stream.
 pub const MAX_MESSAGES: u32 = 65_536;
 
-/// Why a stream is served no longer.
+/// Why a stream is no longer served.
 #[derive(Clone, Copy, Drop)]
 pub enum Ended {
     /// The input ended between messages.
@@ -42,9 +42,8 @@ pub enum Ended {
     Memory,
 }
 
-/// Answers the messages of a stream in their order, and writes each reply before the next message
-/// is read. The moment and the nine words of a message are drawn once it was read. `peer` is an
-/// IPv4 address, high byte first.
+/// Answers the messages of a stream in order, and writes each reply before the next message is read. The moment and the
+/// nine words of a message are drawn after it was read. `peer` is an IPv4 address, high byte first.
 #[tactic(auto, using(crate::proofs::ServingLemmas::so_far_start, crate::proofs::ServingLemmas::so_far_counted))]
 pub fn serve_stream<
     R: Read,
@@ -98,7 +97,7 @@ pub fn serve_stream<
     Ended::Count
 }
 
-/// Passes the gate where the message opened.
+/// Passes the gate if the message opened.
 fn pass_answered<G: Gate>(gate: &mut G, opened: bool)
     ensures passed { Passes G.passes opened gate.old gate.new }
 {
@@ -132,7 +131,7 @@ fn refuse<W: Write, M: Messages, O: Observer, C: Clock, X: Words>(
     }
 }
 
-/// What a message that is too long is answered with.
+/// The answer to a message that is too long.
 fn too_long() -> Refusal
     ensures value { answer_in result ≡ message_too_long }
 {
@@ -143,9 +142,9 @@ fn too_long() -> Refusal
     }
 }
 
-/// `serve_stream` over a table that one thread has alone, past no gate. Where the reader tells its bytes, the bytes
-/// written are the replies to them, as the machine gives them from the table's state, with the
-/// moments and words drawn and the appends that failed; after a write fault a front of those.
+/// Serves a stream over a table that one thread owns. If the reader's bytes are known, the bytes written are the
+/// replies to them, as the machine gives them from the table's state, with the moments and words drawn and the appends
+/// that failed; after a write fault a beginning of those.
 pub fn serve_alone<R: Read, W: Write, M: Messages, S: JournalSink, C: Clock, X: Words>(
     alloc: Global,
     service: &M,
@@ -180,7 +179,7 @@ pub fn serve_alone<R: Read, W: Write, M: Messages, S: JournalSink, C: Clock, X: 
         clock,
         words,
     );
-    // What `replies` rests on: the history is legal, and no longer than it may be.
+    // What `replies` rests on: the history is legal, and no longer than allowed.
     let _full = alone.table().is_full();
     ended
 }

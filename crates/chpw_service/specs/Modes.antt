@@ -1,4 +1,4 @@
--- Which files a service takes, and which it tells of.
+-- Which files a service accepts, and which it reports.
 use Rattle.std.specs.Prelude.{ℕ, Bool, true, false, not, ◌==◌, bit_and}
 use Rattle.chpw_service.specs.declared.sheets.Kind.{Kind}
 use Rattle.chpw_service.specs.declared.sheets.Kind.TheVariants as kind

@@ -19,7 +19,7 @@ pub data Noted : Type 0 where
   unopened : Moment → List ℕ → List ℕ → Noted
   journal_failed : Moment → Noted
 
--- what came of a message, with the reply's answer
+-- the result of a message, with the reply's answer
 abbrev pub outcome_with : Option Target → Option Target → Answer → Option ℕ → Outcome
 outcome_with client target a kvno = record {
   client = client;
@@ -34,11 +34,11 @@ abbrev pub decided_line : ℕ → List ℕ → Moment → Opened → Verdict →
 decided_line worker peer now o v kvno =
     line_with now worker peer (outcome_with (Some (client_of o)) (target_asked o) (answer_of v) kvno)
 
--- of a request that was refused undecided
+-- the line of a request that was refused undecided
 abbrev pub refused_line : ℕ → List ℕ → Moment → Opened → Answer → List ℕ
 refused_line worker peer now o a = line_with now worker peer (outcome_with (Some (client_of o)) (target_asked o) a None)
 
--- of a message that didn't open
+-- the line of a message that didn't open
 abbrev pub unopened_line : ℕ → List ℕ → Moment → Answer → List ℕ
 unopened_line worker peer now a = line_with now worker peer (outcome_with None None a None)
 
@@ -46,7 +46,7 @@ abbrev pub failed_under : Moment → Verdict → List Noted
 failed_under now Broken = journal_failed now ∷ []
 failed_under now v = []
 
--- of a decision: its line, and before it that the journal failed, where it did; a raise is no message's
+-- for a decision: its line, and before it that the journal failed, if it did; a raise belongs to no message
 abbrev pub noted_event : ℕ → List ℕ → Moment → Event → Option ℕ → List Noted
 noted_event worker peer now (Ask o v) kvno = failed_under now v ++ opened now (decided_line worker peer now o v kvno) ∷ []
 noted_event worker peer now (Raise count v) kvno = []

@@ -6,7 +6,7 @@ use Rattle.chpw_service.specs.declared.places.Places.{Places}
 use Rattle.chpw_service.specs.declared.places.Clash.{Clash}
 use Rattle.chpw_service.specs.declared.places.Clash.TheVariants.{Log, Journal}
 
--- both are there, or neither is and they have one name
+-- both exist, or neither does and they have one name
 abbrev pub are_one_name : Option (Bor (List ℕ)) → Option (Bor (List ℕ)) → Bool
 are_one_name None None = true
 are_one_name None (Some other) = false

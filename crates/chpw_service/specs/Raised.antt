@@ -13,7 +13,7 @@ use Rattle.chpw_book.specs.declared.raising.RaiseFault.TheVariants as fault
 use Rattle.chpw_service.specs.declared.raising.RaiseTold.{RaiseTold}
 use Rattle.chpw_service.specs.declared.raising.RaiseTold.TheVariants.{Raised, NotHigher, Broken, Full}
 
--- what came of a raise to this count; want of memory ends the service with a fault
+-- the result of a raise to this count; want of memory ends the service with a fault
 abbrev pub told_as : ℕ → Result RaiseVerdict RaiseFault → Option RaiseTold
 told_as count (Ok verdict.Raised) = Some (Raised count)
 told_as count (Ok verdict.NotHigher) = Some NotHigher
@@ -27,7 +27,7 @@ raised_line NotHigher = codes "count not higher"
 raised_line Broken = codes "journal failed"
 raised_line Full = codes "history full"
 
--- a raise to this count was asked of a desk, by a pass and at a moment that the clock gave: this was told of it, and the
+-- a raise to this count was asked of a desk, by a pass and at a moment that the clock gave, with this result, and the
 -- pass has its receipt, or was refused
 pub record IsRaise {C : Type 0} (gives : C → Moment → C → Type 0) (opening : State) (before after : C) (mine more : PassView)
     (count : ℕ) (told : Option RaiseTold) : Type 0 where

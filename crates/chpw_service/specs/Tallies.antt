@@ -16,7 +16,7 @@ use Rattle.chpw_book.specs.Closing.{HasCalls, IsRefusal, is_full}
 use Rattle.chpw_book.specs.declared.closing.CloseFault.{CloseFault}
 use Rattle.chpw_service.specs.declared.closing.Tally.{Tally}
 
--- the line that tells what a history was
+-- the line about a history
 abbrev pub tally_line : Tally → List ℕ
 tally_line t = codes "entries " ++ decimal t.entries ++ codes " changes " ++ decimal t.changes
 

@@ -24,7 +24,7 @@ pub(crate) fn unreloaded(alloc: Global, fault: &ReloadFault) -> Result<Vec<u8>, 
     refused(alloc, str::from_utf8(&words).unwrap_or(""))
 }
 
-/// The answer to whoever had the log opened anew.
+/// The answer when the log was reopened.
 pub(crate) fn reopened(
     alloc: Global,
     opened: Result<(), ServeFault<'_>>,
@@ -35,14 +35,14 @@ pub(crate) fn reopened(
     }
 }
 
-/// The order is carried out.
+/// The answer when an order was carried out.
 pub(crate) fn done(alloc: Global) -> Result<Vec<u8>, AllocError> {
     let mut text = Vec::new(alloc);
     put_ok(&mut text)?;
     Ok(text)
 }
 
-/// A file can't be written.
+/// The answer when a file can't be written.
 pub(crate) fn unwritten(alloc: Global, path: &str) -> Result<Vec<u8>, AllocError> {
     refused(
         alloc,
@@ -58,14 +58,14 @@ pub(crate) fn uncompacted(alloc: Global, fault: &CompactFault<'_>) -> Result<Vec
     }
 }
 
-/// It is refused, for this reason.
+/// The answer when it is refused, for this reason.
 pub(crate) fn refused(alloc: Global, words: &str) -> Result<Vec<u8>, AllocError> {
     let mut text = Vec::new(alloc);
     put_error(&mut text, words)?;
     Ok(text)
 }
 
-/// An answer; one that memory lacks for is cut off, which says nothing.
+/// An answer; if there is no memory for it, it is cut off, which means failure.
 pub(crate) fn told(alloc: Global, answer: Result<Vec<u8>, AllocError>) -> Vec<u8> {
     match answer {
         Ok(text) => text,

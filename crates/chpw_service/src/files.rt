@@ -43,7 +43,7 @@ pub(crate) fn read_file<'a, R: Files + AllocGlobal>(
     }
 }
 
-/// The bytes of a regular file. A pipe would make its reader wait, and is refused before it is opened.
+/// The bytes of a regular file. A pipe would block its reader, and is refused before it is opened.
 pub(crate) fn read_regular<'a, R: Files + AllocGlobal>(
     rt: &R,
     path: &'a str,
@@ -57,7 +57,7 @@ pub(crate) fn read_regular<'a, R: Files + AllocGlobal>(
     }
 }
 
-/// A file that is there, opened to be read. A folder can be opened too, and is refused as one that can't be read.
+/// An existing file, opened for reading. A directory can be opened too, and is refused as unreadable.
 pub(crate) fn open_file<'a, R: Files<File = File>>(
     rt: &R,
     path: &'a str,
@@ -78,8 +78,8 @@ fn is_folder(file: &File) -> bool {
     }
 }
 
-/// Whether others than its owner may read or write the file at a path; a device, as one that gives random bytes, is
-/// everyone's.
+/// Whether others than its owner may read or write the file at a path; a device, such as one of random bytes, is never
+/// reported.
 pub(crate) fn is_shared<R: Files>(rt: &R, path: &str) -> bool {
     match fs::metadata(rt, path) {
         Ok(metadata) => metadata.is_file() && lets_others(metadata.permissions().mode()),

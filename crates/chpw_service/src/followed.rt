@@ -1,4 +1,4 @@
-//! The follower of a service: where it is, and what is told of changes that it hasn't confirmed.
+//! The follower of a service: where it is, and the reports of changes that it hasn't confirmed.
 ghost use Rattle.std.specs.Prelude.{◌≡◌, IfErr};
 ghost use Rattle.chpw_control.specs.Statuses.{IsTold};
 ghost use Rattle.chpw_service.specs.Faults.{IsOfJournal};
@@ -21,14 +21,14 @@ use std::sync::atomic::{AtomicU64, Ordering};
 use std::sync::{Arc, Wait};
 use std::time::Clock;
 
-/// How long the journal is, as far as it is on the disk; no reply waits where there is no follower.
+/// How long the journal is on the disk; without a follower no reply waits.
 #[derive(Drop)]
 pub struct JournalLength {
     end: Arc<AtomicU64>,
     has_follower: bool,
 }
 
-/// The one of the journal at a path, which this sink appends to, for a service that has a follower or hasn't.
+/// The length of the journal at a path, which this sink appends to, for a service with or without a follower.
 pub(crate) fn journal_length<'a>(
     alloc: Global,
     has_follower: bool,
@@ -61,16 +61,16 @@ impl JournalEnd for JournalLength {
 /// Where the follower is, and how long replies wait for it.
 #[derive(Clone, Copy, Drop)]
 pub struct FollowerTerms<'l> {
-    /// Its socket; none where no reply waits.
+    /// Its socket; none if no reply waits.
     pub socket: Option<&'l str>,
     /// In milliseconds.
     pub wait: u32,
 }
 
-/// What the service is told at its control socket, and tells there.
+/// The service's side of its control socket.
 #[derive(Drop)]
 pub(crate) struct ControlTerms {
-    /// The socket, until the reactor has it; none where there is none.
+    /// The socket, until the reactor has it; none without one.
     pub listener: Option<UnixListener>,
     /// When the service started.
     pub since: Time,
@@ -78,15 +78,15 @@ pub(crate) struct ControlTerms {
     ghost told: { IsTold since },
 }
 
-/// The follower at a socket, where one is asked for. What it doesn't confirm is told in the log, each change in a line of
-/// its own, and on standard error once until it confirms one again.
+/// The follower at a socket, if there is one. Each change that it doesn't confirm has a line of its own in the log, and
+/// a notice on standard error once until it confirms one again.
 #[derive(Drop)]
 pub(crate) struct Followed<'l, R, T: Clock> {
     rt: &'l R,
     terms: FollowerTerms<'l>,
     log: &'l Log<'l, R>,
     clock: MachineClock<'l, T>,
-    /// Whether it was told that a change isn't confirmed.
+    /// Whether it was reported that a change isn't confirmed.
     is_told: bool,
     journal: &'l JournalLength,
     /// The control socket, until the reactor has it.
@@ -97,7 +97,7 @@ pub(crate) struct Followed<'l, R, T: Clock> {
 }
 
 impl<'l, R, T: Clock> Followed<'l, R, T> {
-    /// One on these terms.
+    /// A follower on these terms.
     pub fn of(
         rt: &'l R,
         time: &'l T,

@@ -1,5 +1,5 @@
-//! `serve`: the service on a port of this machine, from its files to the close of its desk; and `table`, what
-//! those files hold.
+//! `serve`: the service on a port of this machine, from reading its files to closing its desk; and `table`, which
+//! prints what those files hold.
 #![tactic(auto)]
 
 mod answers;

@@ -1,4 +1,4 @@
-//! What hears what comes of a worker's messages, and puts it into the log.
+//! What a worker passes with its messages, and writes into the log.
 ghost use Rattle.std.specs.Prelude.{◌≡◌, ◌<◌, IfOk, map, vec_len};
 ghost use Rattle.std.specs.List.{range_with_len};
 ghost use Rattle.chpw_table.specs.Times.{IsMoment};
@@ -17,7 +17,7 @@ use std::sync::Wait;
 
 /// Where the lines of a log go.
 pub trait Lines {
-    /// Taking this in the first state, it is in the second.
+    /// Taking this leads from the first state to the second.
     ghost takes: { Self → Noted → Self → Type 0 };
 
     /// The line of a message that opened.
@@ -106,7 +106,7 @@ impl<L: Lines> Observer for Logging<L> {
     }
 }
 
-// Tells where the journal did not take the change that was decided so.
+// Reports it if the journal did not take the change that was decided so.
 fn tell_failed<L: Lines>(lines: &mut L, now: Moment, verdict: Verdict)
     requires moment { IsMoment now }
     requires micros { now.micros < 1000000 }
@@ -117,7 +117,7 @@ fn tell_failed<L: Lines>(lines: &mut L, now: Moment, verdict: Verdict)
     }
 }
 
-// Puts the line of a decision.
+// Writes the line of a decision.
 fn put_decided<L: Lines>(
     lines: &mut L,
     worker: u8,
@@ -143,7 +143,7 @@ fn put_decided<L: Lines>(
     });
 }
 
-// Puts the line of a request that came to a full history.
+// Writes the line of a request that came to a full history.
 fn put_full<L: Lines>(
     lines: &mut L,
     worker: u8,

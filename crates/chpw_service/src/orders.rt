@@ -1,4 +1,4 @@
-//! Orders of those at the control socket.
+//! Orders of callers at the control socket.
 
 use crate::answers::{refused, reopened, told, uncompacted, unrenewed};
 use crate::compacting::{Compaction, begin_compaction};
@@ -21,8 +21,8 @@ use std::str;
 use std::sync::Wait;
 use std::time::Clock;
 
-/// A configuration that was read anew: the table that a start would open with now, the journal's file, which stands behind
-/// what that table has of it, and what the next desk is to serve by.
+/// A reload under way: the table that a start would open with now, the journal's file, read up to what that table has
+/// of it, and what the next desk is to serve by.
 #[derive(Drop)]
 pub(crate) struct Anew {
     pub renewed: Renewed,
@@ -33,13 +33,13 @@ pub(crate) struct Anew {
 /// What is due once a desk is closed.
 #[derive(Drop)]
 pub(crate) enum Due {
-    /// The next desk opens with a configuration that was read anew.
+    /// The next desk opens with the reloaded configuration.
     Reload(Anew),
     /// It goes on with a compact journal.
     Compact(Compaction),
 }
 
-/// Whoever carries out the orders of those at the control socket, while the workers of a desk answer messages.
+/// Carries out the orders of callers at the control socket, while the workers of a desk answer messages.
 #[derive(Drop)]
 pub(crate) struct Orders<'s, 'l, R: Wait + Eprint, T> {
     pub rt: &'s R,
@@ -52,8 +52,8 @@ impl<R: Files<File = File> + Net + Wait + Clock + Eprint + AllocGlobal, T: Clock
     /// What is due once the desk is closed.
     type Done = Option<Due>;
 
-    /// Carries out one order after the other, until the workers are to take no more messages. Where something is due behind
-    /// the desk that is at once; who asked for that is answered by whoever opens the next one.
+    /// Carries out one order after the other, until the workers are to take no more messages. If something is due after
+    /// the desk, that is at once; the thread that opens the next desk then answers the caller.
     fn run(self) -> Option<Due> {
         let engine = &self.hall.engine;
         for _ in self.rt.forever() {
@@ -69,10 +69,10 @@ impl<R: Files<File = File> + Net + Wait + Clock + Eprint + AllocGlobal, T: Clock
     }
 }
 
-// What came of an order.
+// The result of an order.
 #[derive(Drop)]
 enum Carried {
-    // It is carried out, or refused: the answer.
+    // It was carried out, or refused: the answer.
     Answered(Vec<u8>),
     // The rest of it is due once the desk is closed.
     Due(Due),
@@ -106,18 +106,18 @@ impl<R: Files<File = File> + Net + Wait + Clock + Eprint + AllocGlobal, T: Clock
     }
 }
 
-/// Why a configuration can't be read anew.
+/// Why a configuration can't be reloaded.
 #[derive(Drop)]
 pub(crate) enum RenewFault<'a> {
-    /// A file can't be read, or memory lacks.
+    /// A file can't be read, or memory ran out.
     Start(ServeFault<'a>),
     /// The configuration has a fault, in the words of `check`.
     Config(String),
-    /// The journal can't be put back onto it.
+    /// The journal can't be replayed over it.
     Reload(ReloadFault),
 }
 
-// The configuration, read anew, with the journal so far put back.
+// The configuration read again, with the journal so far replayed.
 fn read_anew<'a, R: Files<File = File> + AllocGlobal>(
     rt: &R,
     options: &ServeOptions<'a>,
@@ -155,7 +155,7 @@ fn read_anew<'a, R: Files<File = File> + AllocGlobal>(
     })
 }
 
-// The file at a path, to be read from behind so many bytes.
+// The file at a path, to be read from after this many bytes.
 fn rest_of<R: Files<File = File>>(rt: &R, path: &str, kept: u64) -> io::Result<File> {
     let mut file = File::open(rt, path)?;
     file.seek(SeekFrom::Start(kept))?;

@@ -1,4 +1,4 @@
-//! Where the files of a start are: none that is written may be another one's.
+//! Where the files of a start are: none that is written may be another one.
 ghost use Rattle.std.specs.Prelude.{◌≡◌, IfErr, OnOk, None};
 ghost use Rattle.chpw_service.specs.Faults.{IsOfClash};
 ghost use Rattle.chpw_service.specs.Places.{are_one, are_one_name, clash_of};
@@ -11,14 +11,14 @@ use std::os::unix::fs::MetadataExt;
 /// Where a file is.
 #[derive(Clone, Copy, Drop)]
 pub(crate) struct Place<'a> {
-    /// The device, and the number on it: the file's own, or that of its folder where it is not there yet.
+    /// The device, and the number on it: the file's own, or that of its directory if it doesn't exist yet.
     pub device: u64,
     pub number: u64,
-    /// Its name in its folder, where it is not there yet.
+    /// Its name in its directory, if it doesn't exist yet.
     pub name: Option<&'a str>,
 }
 
-/// Where the files of a start are; none where there is no file, or none that can be found.
+/// Where the files of a start are; none if there is no file, or none that can be found.
 #[derive(Clone, Copy, Drop)]
 pub(crate) struct Places<'a> {
     pub config: Option<Place<'a>>,
@@ -27,7 +27,7 @@ pub(crate) struct Places<'a> {
     pub log: Option<Place<'a>>,
 }
 
-/// A file that would be written to though it is another one of the start.
+/// A file that would be written to although it is another one of the start.
 #[derive(Clone, Copy, Drop)]
 pub(crate) enum Clash {
     /// The log is the configuration, the seed or the journal.
@@ -36,7 +36,7 @@ pub(crate) enum Clash {
     Journal,
 }
 
-/// What is written to is no other file of the start, by whatever names they are asked for.
+/// Refuses files that are to be written if they are other files of the start, by whatever names.
 pub(crate) fn keep_apart<'a, R: Files>(
     rt: &R,
     options: &ServeOptions<'a>,
@@ -98,7 +98,7 @@ fn is_one_name(one: Option<&str>, other: Option<&str>) -> bool
     }
 }
 
-// A clash as the fault that it is.
+// The fault for a clash.
 fn refused<'a>(options: &ServeOptions<'a>, clash: Option<Clash>) -> Result<(), ServeFault<'a>>
     ensures none { OnOk result (clash ≡ None) }
     ensures fault { IfErr result (IsOfClash options.now) }

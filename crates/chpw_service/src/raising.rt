@@ -15,16 +15,16 @@ use std::fmt;
 use std::fs::File;
 use std::sync::Wait;
 
-/// What came of a raise, displayed as the line that the program prints.
+/// The result of a raise, displayed as the line that the program prints.
 #[derive(Clone, Copy, Drop)]
 pub(crate) enum RaiseTold {
     /// New keys are made under this count.
     Raised(u32),
-    /// New keys are made under this count or a higher one already.
+    /// New keys are already made under this count or a higher one.
     NotHigher,
     /// The journal did not take the raise.
     Broken,
-    /// The history has as many entries as it may.
+    /// The history has as many entries as allowed.
     Full,
 }
 
@@ -44,8 +44,8 @@ impl fmt::Display for RaiseTold {
     }
 }
 
-/// Raises the count where one is asked for, and prints what came of it, which is given back. The raise is an event of the first history, by
-/// the first pass.
+/// Raises the count if that is asked for, and prints and returns the result. The raise is an event of the first
+/// history, by the first pass.
 pub(crate) fn raise_where_asked<'a, D: DeskName, R: Wait + Print, C: Clock>(
     rt: &R,
     desk: &Desk<D, FileSink<File>>,
@@ -65,7 +65,7 @@ pub(crate) fn raise_where_asked<'a, D: DeskName, R: Wait + Print, C: Clock>(
     }
 }
 
-// Raises by the first pass, and prints what came of it.
+// Raises by the first pass, and prints the result.
 fn raise_by_first<'a, D: DeskName, R: Wait + Print, C: Clock>(
     rt: &R,
     desk: &Desk<D, FileSink<File>>,
@@ -89,7 +89,7 @@ fn raise_by_first<'a, D: DeskName, R: Wait + Print, C: Clock>(
     Ok(Some(told))
 }
 
-// A raise to this count, at the clock's moment. None where memory was refused, and then nothing was raised.
+// A raise to this count, at the clock's moment. None if memory was refused, and then nothing was raised.
 fn raise<D: DeskName, R: Wait, C: Clock>(
     rt: &R,
     desk: &Desk<D, FileSink<File>>,
@@ -104,7 +104,7 @@ fn raise<D: DeskName, R: Wait, C: Clock>(
     told(count, desk.raise(rt, pass, now, count))
 }
 
-// What is told of this answer; none where memory was refused.
+// The result for this answer; none if memory was refused.
 fn told(count: u32, raised: Result<RaiseVerdict, RaiseFault>) -> Option<RaiseTold>
     ensures value { result ≡ told_as count raised }
 {

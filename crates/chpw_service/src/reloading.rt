@@ -1,4 +1,4 @@
-//! The opening of a desk behind a reload.
+//! Opening a desk after a reload.
 ghost use Rattle.std.specs.Prelude.{◌≡◌, ◌≤◌, ◌<◌, ◌-◌, ◌^◌, IfOk, IfErr, false};
 ghost use Rattle.chpw_book.specs.Starting.{table_of, workers_of};
 ghost use Rattle.chpw_reload.specs.ReloadRuns.{GoesOn};
@@ -24,9 +24,9 @@ use std::fs::File;
 use std::sync::Wait;
 use std::time::Clock;
 
-/// What the next desk opens with, where the configuration was read anew: what the closed table becomes with it and the rest of
-/// the journal, by the new rules; or the closed table, by the present rules, where the reload is refused. Whoever asked for it
-/// is answered.
+/// What the next desk opens with when the configuration was reloaded: what the closed table becomes with it and the
+/// rest of the journal, by the new rules; or the closed table, by the present rules, if the reload is refused. The
+/// caller at the control socket is answered.
 pub(crate) fn reload<'a, 'l, R: Wait + Clock + Eprint + AllocGlobal, T: Clock>(
     rt: &R,
     time: &T,
@@ -66,7 +66,7 @@ pub(crate) fn reload<'a, 'l, R: Wait + Clock + Eprint + AllocGlobal, T: Clock>(
     }
 }
 
-// What a closed table becomes with what was read anew, and the rest of the journal.
+// What a closed table becomes with the reloaded configuration and the rest of the journal.
 fn made_anew(
     alloc: Global,
     renewed: Renewed,
@@ -80,8 +80,8 @@ fn made_anew(
     finish(alloc, renewed.into_renewal(), rest, closed)
 }
 
-// Tells that the configuration was read anew: in the log, to whoever asked for it, and on standard error where the
-// configuration lacks principals.
+// Reports the reload: in the log, to the caller at the control socket, and on standard error if the configuration lacks
+// principals.
 fn tell_reloaded<'l, R: Wait + Eprint + AllocGlobal, T: Clock>(
     rt: &R,
     time: &T,

@@ -1,4 +1,4 @@
-//! A configuration that was read anew, between the thread that reads it and the one that opens the next desk.
+//! A configuration that was read again, between the thread that reads it and the one that opens the next desk.
 ghost use Rattle.std.specs.Prelude.{◌≡◌, List, Option, ℕ};
 ghost use Rattle.chpw_rules.specs.declared.config.Config.{Config as Settings};
 ghost use Rattle.chpw_reload.specs.Reloading.{IsPrepared};
@@ -6,7 +6,7 @@ ghost use Rattle.chpw_reload.specs.Reloading.{IsPrepared};
 use chpw_reload::Renewal;
 use std::marker::Model;
 
-/// The table that a start would open with now. It keeps what it was prepared of: some configuration, and a journal.
+/// The table that a start would open with now. It keeps that it was prepared from some configuration and journal.
 #[derive(Drop)]
 pub(crate) struct Renewed {
     renewal: Renewal,

@@ -1,4 +1,4 @@
-//! The service's threads: the reactor, and whoever serves at the desks.
+//! The service's threads: the reactor, and the one that serves at the desks.
 ghost use Rattle.std.specs.Prelude.{◌≡◌, IfErr, IfSome, None, OnOk, length};
 ghost use Rattle.chpw_service.specs.Faults.{IsLate, told_as};
 
@@ -13,8 +13,8 @@ use std::sync::Wait;
 use std::thread::{self, Threads};
 use std::time::Clock;
 
-/// Serves from the first desk on, until no more messages come. That desk is given up where no thread for the sockets could
-/// be started.
+/// Serves from the first desk on, until no more messages will come. That desk is abandoned if no thread for the sockets
+/// could be started.
 pub(crate) fn serve_from<
     'a,
     'l,
@@ -116,7 +116,7 @@ fn serve_all<
     }
 }
 
-// Serves at one desk after the other. After a fault nobody is there to answer, and all connections end.
+// Serves at one desk after the other. After a fault nobody is left to answer, and all connections end.
 fn serve_or_desert<
     'l,
     D: DeskName + Send + Sync,
@@ -143,7 +143,7 @@ fn serve_or_desert<
     }
 }
 
-// Tells why the pool ended early.
+// The fault with which a pool ended early.
 fn end<'a>(pool: Pool) -> Result<(), ServeFault<'a>>
     ensures whole { OnOk result (pool.fault ≡ None) }
     ensures fault { IfErr result (λ fault.
@@ -156,7 +156,7 @@ fn end<'a>(pool: Pool) -> Result<(), ServeFault<'a>>
     }
 }
 
-/// The fault of a pool that ended early, as it is told.
+/// The fault of a pool that ended early, as a fault of the service.
 pub(crate) fn told<'a>(fault: PoolFault) -> ServeFault<'a>
     ensures value { result ≡ told_as fault }
     ensures late { IsLate result }

@@ -34,14 +34,13 @@ use std::sync::Wait;
 use std::thread::Threads;
 use std::time::Clock;
 
-/// Serves so many connections on 127.0.0.1, the messages of connection i (from 0) by worker i modulo their number,
-/// one after the other. The configuration is read first, then the seed; then the log is opened
-/// where one is asked for, and then the journal is read; then the iteration count of new keys is raised where
-/// that is asked for, and then the port is listened at. A torn tail that was cut off the journal is told in a
-/// line on standard error. Printed are what came of the raise, `listening on 127.0.0.1:N` before a
-/// connection is accepted, and `entries N changes N` for each history: where one is full, its desk is
-/// closed, and the next one opens with the table that was closed, its used ids kept. With a control socket it does what
-/// it is told there, and ends where it is told to.
+/// Serves this many connections on 127.0.0.1, the messages of connection i (from 0) by worker i modulo their number,
+/// one after the other. The configuration is read first, then the seed; then the log is opened if there is one, and the
+/// journal is read; then the iteration count of new keys is raised if that is asked for, and the service listens at the
+/// port. A torn tail that was cut off the journal is reported on standard error. Printed are the result of the raise,
+/// `listening on 127.0.0.1:N` before a connection is accepted, and `entries N changes N` for each history: when one is
+/// full, its desk is closed, and the next one opens with the closed table and its used ids. With a control socket it
+/// carries out the commands that come there, and ends when told to stop.
 pub fn serve<
     'a,
     R: Files<File = File>
@@ -59,7 +58,7 @@ pub fn serve<
     serve_by(rt, rt, options)
 }
 
-/// Serves as `serve` does, by another clock than the machine's.
+/// Serves as `serve` does, with another clock than the machine's.
 pub fn serve_by<
     'a,
     R: Files<File = File>
@@ -120,7 +119,7 @@ pub fn serve_by<
     ended
 }
 
-// Tells which of its files others may read or write.
+// Reports which of its files others may read or write.
 fn tell_shared<R: Files + Wait + Eprint>(rt: &R, log: &Log<'_, R>, options: &ServeOptions<'_>) {
     for file in [options.config, options.seed, options.journal] {
         if is_shared(rt, file) {
@@ -138,7 +137,8 @@ struct Start<'l, R> {
     journal: JournalLength,
 }
 
-// Serves what is opened: at the first desk the count is raised where that is asked for, and then the port is listened at.
+// Serves what is opened: at the first desk the count is raised if that is asked for, and then the service listens at
+// the port.
 fn serve_opened<
     'a,
     'l,
@@ -191,7 +191,7 @@ fn serve_opened<
     }
 }
 
-// The count is raised where that is asked for, and then the port is listened at.
+// Raises the count if that is asked for, and then listens at the port.
 fn prepared<
     'a,
     'l,
@@ -219,7 +219,7 @@ fn prepared<
     listening(rt, start)
 }
 
-// Listens at the port, and tells that.
+// Listens at the port, and prints that.
 fn listening<
     'a,
     'l,
@@ -266,7 +266,7 @@ fn listen<'a, R: Net<Listener = TcpListener, Stream = TcpStream>>(
     }
 }
 
-// The port over UDP, where that is asked for; else nothing listens there.
+// The port over UDP, if that is asked for.
 fn datagrams_of<'a, R: Net>(
     rt: &R,
     options: &ServeOptions<'_>,
@@ -284,7 +284,7 @@ fn datagrams_of<'a, R: Net>(
     }
 }
 
-// What the pool is to do.
+// The terms of the pool.
 fn terms_of(options: &ServeOptions<'_>, seed: [u8; 32]) -> Terms
     ensures value { IsAskedFor options.now seed result }
 {
@@ -297,7 +297,7 @@ fn terms_of(options: &ServeOptions<'_>, seed: [u8; 32]) -> Terms
     }
 }
 
-// What has the connections, with a queue for each worker.
+// The engine, with a queue for each worker.
 fn engine_of<'a, 'l, R: Net + Wait + Eprint>(
     rt: &R,
     alloc: Global,

@@ -18,32 +18,32 @@ const STANDARD_ERROR: &str = "-";
 /// Its descriptor.
 const STANDARD_ERROR_FD: i32 = 2;
 
-/// What stands at a path.
+/// The kind of file at a path.
 #[derive(Clone, Copy, Drop)]
 pub(crate) enum Kind {
-    /// Nothing that can be looked at.
+    /// None, or none that can be examined.
     Missing,
     /// A regular file.
     File,
     /// A character device.
     Device,
-    /// A folder, a pipe, a socket or a disk.
+    /// A directory, a pipe, a socket or a disk.
     Other,
 }
 
-/// Where lines go.
+/// An output for lines.
 #[derive(Drop)]
 pub(crate) enum Output {
     File(File),
     StandardError,
 }
 
-/// An output, and whether the line that it ends with isn't whole.
+/// An output, and whether its last line is incomplete.
 #[derive(Drop)]
 pub(crate) struct Sheet {
     output: Output,
     torn: bool,
-    /// Whether it takes a line at once, where that can be asked.
+    /// Whether it takes a line without blocking, if that can be asked.
     readiness: Option<Readiness>,
 }
 
@@ -53,8 +53,8 @@ pub(crate) fn is_standard_error(path: &str) -> bool {
 }
 
 impl Sheet {
-    /// The file at a path, or standard error for `-`. Where there is no file it is made, readable and writable
-    /// by its owner alone. A pipe would make its openers wait, and is refused before it is opened.
+    /// The file at a path, or standard error for `-`. A missing file is made, readable and writable by its owner alone.
+    /// A pipe would block its openers, and is refused before it is opened.
     pub(crate) fn at<R: Files<File = File> + Net>(
         rt: &R,
         alloc: Global,
@@ -82,8 +82,8 @@ impl Sheet {
         })
     }
 
-    /// Appends a line, behind a newline where the last one isn't whole; whether it stands there whole. Nothing is written
-    /// where the output takes no line within half a second, or took none for the line before.
+    /// Appends a line, after a newline if the last one is incomplete; whether it is written whole. Nothing is written
+    /// if the output takes no line within half a second, or took none for the line before.
     pub(crate) fn append<R: Eprint>(&mut self, rt: &R, line: &[u8]) -> bool
         ensures whole { result ≡ true → self.new.torn ≡ false }
     {
@@ -105,7 +105,7 @@ impl Sheet {
         }
     }
 
-    /// Whether a line on standard error can be written without a wait, as far as the output tells.
+    /// Whether a line on standard error can be written without waiting, as far as the output shows.
     pub(crate) fn can_tell(&self) -> bool
         ensures value { result ≡ is_told_at_once self.now.output self.now.readiness }
     {
@@ -116,7 +116,7 @@ impl Sheet {
     }
 }
 
-/// What stands at a path.
+/// The kind of file at a path.
 pub(crate) fn kind_of<R: Files>(rt: &R, path: &str) -> Kind {
     let Ok(metadata) = fs::metadata(rt, path) else {
         return Kind::Missing;
@@ -141,7 +141,7 @@ fn takes_lines(kind: Kind) -> bool
     }
 }
 
-// Whether the last line of an open file isn't whole. Where its last byte can't be read it may not be.
+// Whether the last line of an open file is incomplete. If its last byte can't be read, it may not be.
 fn is_torn<R: Files<File = File>>(rt: &R, path: &str, file: &File) -> bool {
     let length = match file.metadata() {
         Ok(metadata) => metadata.len(),
@@ -150,7 +150,7 @@ fn is_torn<R: Files<File = File>>(rt: &R, path: &str, file: &File) -> bool {
     begins_torn(length, last_byte(rt, path, length))
 }
 
-// Whether a file of so many bytes, of which this is the last, ends within a line.
+// Whether a file of this many bytes, of which this is the last, ends within a line.
 fn begins_torn(length: u64, last: Option<u8>) -> bool
     ensures value { result ≡ is_begun length last }
 {
@@ -168,7 +168,7 @@ fn last_byte<R: Files<File = File>>(rt: &R, path: &str, length: u64) -> Option<u
     }
 }
 
-// Writes a line, behind a newline where one is wanted; whether it is written whole.
+// Writes a line, after a newline if one is needed; whether it is written whole.
 fn write_line<W: Write>(writer: &mut W, torn: bool, line: &[u8]) -> bool
     ensures whole { result ≡ true
         → Appends (W.contents writer.old) (W.contents writer.new) (ended torn line.now) }
@@ -179,7 +179,7 @@ fn write_line<W: Write>(writer: &mut W, torn: bool, line: &[u8]) -> bool
     writer.write_all(line).is_ok()
 }
 
-// Writes a line on standard error, behind a newline where one is wanted; whether it is written whole.
+// Writes a line on standard error, after a newline if one is needed; whether it is written whole.
 fn print_line<R: Eprint>(rt: &R, torn: bool, line: &[u8]) -> bool {
     if torn && rt.eprint("\n").is_err() {
         return false;

@@ -1,5 +1,5 @@
-//! Tests of the service's libraries, of what no clause says and no script can: each public call once
-//! where there is memory, values from outside, and a journal that fails.
+//! Tests of the service's libraries, for what no clause says and no script can show: each public call once with memory,
+//! values from outside, and a journal that fails.
 #![tactic(auto)]
 
 #[cfg(test)]

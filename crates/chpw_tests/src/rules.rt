@@ -1,4 +1,4 @@
-//! Names, passwords and configurations, value by value: what the line of the check can't show.
+//! Names, passwords and configurations, value by value, which the line of a check can't show.
 use chpw_config::read_config;
 use chpw_rules::{Config, Items, Name, password_facts};
 use std::alloc::Global;

@@ -22,7 +22,7 @@ use Rattle.chpw_versions.specs.declared.view.View.{View}
 use Rattle.chpw_versions.specs.Rows.{rows_after, names_of_rows, names_of, shown_in, IsPositive}
 use Rattle.chpw_versions.specs.Rising.{IsNextVersion, AreNextVersions}
 
--- one operation more
+-- one more operation
 abbrev pub applied : Version → Operation → Version
 applied x o = record x {
   rows = rows_after o.change x.rows;
@@ -42,7 +42,7 @@ abbrev pub HasNumber : State → NumberedChange → Type 0
 HasNumber opening (Key c) = IsNumberOf (names_of opening) (named_key opening c).name c.number
 HasNumber opening (Count n) = Unit {0}
 
--- it can be shown behind this list: it has its number, and may come next
+-- it can be shown after this list: it has its number, and may come next
 abbrev pub CanBeShown : State → List Accepted → NumberedChange → Type 0
 CanBeShown opening list c = HasNumber opening c × IsNextVersion opening list (named opening c)
 
@@ -54,7 +54,7 @@ list_by before last (suc n) = before ++ last ∷ []
 abbrev pub list_shown : List LogEntry → Version → List Accepted
 list_shown root x = list_by (changes_in root x.seen.log) (named (opening_state root) x.last) x.len
 
--- the same of what is kept of the version
+-- the list that is kept of the version, likewise
 abbrev pub list_of : List LogEntry → ListShown → List Accepted
 list_of root s = list_by (changes_in root s.seen.log) (named (opening_state root) s.last) s.len
 
@@ -103,7 +103,7 @@ abbrev pub Looked : View → Version → Version → View → Type 0
 Looked v x y w =
     v.known ≡ true → IsOf (log_of v) v.root w × IsPrefix v.front w.front × ShowsList (log_of v) v.root w.front y
 
--- the writer publishes: the list that it knew has the last change behind it
+-- the writer publishes: the list that it knew is extended by the last change
 abbrev pub Published : View → Version → Version → View → Type 0
 Published v x y w = w ≡ record v { front = v.front ++ named (opening_state v.root) y.last ∷ [] }
 
@@ -111,7 +111,7 @@ Published v x y w = w ≡ record v { front = v.front ++ named (opening_state v.r
 abbrev pub Settled : View → Version → Version → View → Type 0
 Settled v x y w = IsOf y.root.book y.root.log w × (w.front ≡ [])
 
--- the operations that wait: none, or this change, which can be shown behind this list
+-- the operations that wait: none, or this change, which can be shown after this list
 abbrev pub IsWaiting : LogName → List LogEntry → List Accepted → List Operation → Option NumberedChange → Type 0
 IsWaiting log root list ops None = ops ≡ []
 IsWaiting log root list ops (Some c) =
@@ -122,7 +122,7 @@ IsWaiting log root list ops (Some c) =
 abbrev pub IsShelved : LogName → List LogEntry → View → Version → List Accepted → Type 0
 IsShelved log root v x list = IsOf log root v × (v.front ≡ list) × ShowsList log root list x
 
--- what a reader that isn't lent knows
+-- what a reader that isn't lent out knows
 abbrev pub front_by : {R : Type 0} → Option R → (R → View) → List Accepted
 front_by None f = []
 front_by (Some r) f = (f r).front

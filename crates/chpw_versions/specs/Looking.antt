@@ -1,4 +1,4 @@
--- A lookup beside the lock: what it shows, and what its place knows from then on.
+-- A lookup beside the lock: what it shows, and what its place knows afterwards.
 use Rattle.std.specs.Prelude.{◌≡◌, ◌≤◌, List, Option, IfSome, IsSomeAnd, All}
 use mathlib.Core.List.{IsPrefix}
 use Rattle.chpw_rules.specs.declared.name.Name.{Name}
@@ -12,7 +12,7 @@ use Rattle.chpw_versions.specs.Rows.{lookup_after}
 pub record LooksUp (opening : Held) (mine more : Known) (name : Name) (found : Option Lookup) : Type 0 where
   -- the list that it shows begins with the one that the lookup before showed
   pub later : IsPrefix mine.seen more.seen
-  -- and with all that the place was told
+  -- and with all that the place has learnt
   pub after : IsPrefix mine.told more.seen
   -- it shows what the opening and that list show of the name
   pub shown : found ≡ lookup_after opening more.seen name
@@ -22,5 +22,5 @@ pub record LooksUp (opening : Held) (mine more : Known) (name : Name) (found : O
       IfSome (lookup_after opening before name) (λ earlier. IsSomeAnd found (λ now. earlier.kvno ≤ now.kvno))
   -- its iteration counts are at least 1
   pub positive : IfSome found (λ l. (1 ≤ l.policy) × All (λ n. 1 ≤ n) l.held)
-  -- what the place was told stays
+  -- what the place has learnt stays
   pub told : (more.told ≡ mine.told) × (more.own ≡ mine.own)

@@ -30,7 +30,7 @@ names_of opening = map (λ (p : Principal). p.name) opening.principals
 abbrev pub HasPositive : Row → Type 0
 HasPositive r = All (λ n. 1 ≤ n) r.counts
 
--- and so is each of all rows, and that of new keys
+-- each count of all rows, and that of new keys, is at least 1
 abbrev pub IsPositive : Rowed → Type 0
 IsPositive r = (1 ≤ r.policy) × All HasPositive r.rows
 
@@ -44,7 +44,7 @@ changed_at kept c n [] = []
 changed_at kept c zero (r ∷ rs) = changed_row kept c r ∷ rs
 changed_at kept c (suc n) (r ∷ rs) = r ∷ changed_at kept c n rs
 
--- one change more: of a key in its row, or of the count of new keys
+-- one more change: of a key in its row, or of the count of new keys
 abbrev pub rows_after : NumberedChange → Rowed → Rowed
 rows_after (Key c) r = record r { rows = changed_at r.kept c c.number r.rows; seen = (r.seen + 1) % 4294967296 }
 rows_after (Count n) r = record r { policy = n; seen = (r.seen + 1) % 4294967296 }
@@ -67,7 +67,7 @@ pub record ShowsOpening (opening : Held) (r : Rowed) : Type 0 where
   pub shows : (name : Name) → shown_in r.rows name ≡ option_map shown_keys (keys_held opening.state name)
   pub positive : IsPositive r
 
--- a lookup after so many changes
+-- a lookup after this many changes
 abbrev pub lookup_with : ℕ → ℕ → Shown → Lookup
 lookup_with policy seen s = record { kvno = s.kvno; held = s.counts; policy = policy; seen = seen }
 

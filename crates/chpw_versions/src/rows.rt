@@ -21,7 +21,7 @@ pub struct Row {
     pub counts: Counts,
 }
 
-// Rows stand in the order of their names.
+// Rows are ordered by their names.
 impl Keyed<Name> for Row {
     ghost key_of = { λ r. r.name };
 
@@ -60,8 +60,8 @@ impl Model for Rows {
 }
 
 impl Rows {
-    /// These rows, which stand in the order of their names. Of each principal the newest counts are kept,
-    /// 1 to 16 of them; `policy` is the count of new keys, and `seen` how many changes were accepted so far.
+    /// These rows, which are in the order of their names. Of each principal the newest counts are kept, 1 to 16 of
+    /// them; `policy` is the count of new keys, and `seen` how many changes were accepted so far.
     pub fn of(rows: Vec<Row>, kept: u8, policy: u32, seen: u32) -> Rows
         requires order { IsStrictlySortedBy name_cmp (names_of_rows rows.items) }
         requires kept { (1 ≤ kept) × (kept ≤ 16) }
@@ -76,8 +76,8 @@ impl Rows {
         }
     }
 
-    /// Makes a change: of a key in the row with its number, in none where no row has it; or of the count
-    /// of new keys. It takes no memory and doesn't fail.
+    /// Makes a change: of a key in the row with its number, and in none if no row has it; or of the count of new keys.
+    /// It takes no memory and doesn't fail.
     pub(crate) fn change(&mut self, change: NumberedChange)
         ensures value { self.new ≡ rows_after change self.old }
     {
@@ -102,11 +102,11 @@ impl Rows {
         self.seen = self.seen.wrapping_add(1);
     }
 
-    /// The number of a name: its place, from 0.
+    /// The number of a name: its position, from 0.
     pub(crate) fn number_of(&self, name: &Name) -> Option<usize>
         ensures value { result ≡ position (λ r. is_same_name r.name name.now) self.now.rows }
     {
-        // A field is read, so that the type's invariant is known here.
+        // A field is read, so that the type's invariant is known.
         let _ = &self.rows;
         place_of(self.rows.as_slice(), name)
     }

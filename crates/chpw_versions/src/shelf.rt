@@ -1,4 +1,4 @@
-//! What lies under the lock: the writer of the versions, beside the one keeper of the list.
+//! The writer of the versions, under the lock, with the keeper of the list.
 ghost use Rattle.std.specs.Prelude.{◌≡◌, ◌+◌, ◌<◌, ◌^◌, ◌++◌, ◌∷◌, [], length, None, Some, IfOk, IfSome, IfNone, IsTrue, OnOk, OnErr};
 ghost use mathlib.Core.List.{IsPrefix};
 ghost use Rattle.chpw_table.specs.declared.change.Accepted.TheVariants.{Key, Count};
@@ -20,8 +20,8 @@ use std::alloc::{AllocError, Global};
 use std::marker::Model;
 use std::sync::Wait;
 
-/// The writer of the versions. It is ended by `end` and never dropped. Contracts see the list that readers
-/// see, which is all that was accepted, and the change that waits.
+/// The writer of the versions. It is ended by `end` and never dropped. Contracts see the list that readers see, which
+/// is all that was accepted, and the prepared change.
 pub struct Shelf<D: ListName> {
     writer: Option<VersionWriter>,
     keeper: Keeper<D>,
@@ -49,9 +49,9 @@ impl<D: ListName> Model for Shelf<D> {
 }
 
 impl<D: ListName> Shelf<D> {
-    /// A shelf with an empty list and room for so many places, which shows these rows; `again` is a copy
-    /// of them. They show the list's opening: a row for each principal, in its order, with counts of at
-    /// least 1, and the changes that its table had accepted before. It may wait, as a publication does.
+    /// A shelf with an empty list and room for this many places, which shows these rows; `again` is a copy of them.
+    /// They show the list's opening: a row for each principal, in its order, with counts of at least 1, and the changes
+    /// that its table had accepted before. It may wait, as a publication does.
     pub fn start<R: Wait>(
         rt: &R,
         alloc: Global,
@@ -78,7 +78,7 @@ impl<D: ListName> Shelf<D> {
         })
     }
 
-    /// A place, which knows the whole list; `AllocError` where each is in use.
+    /// A new place, which knows the whole list; `AllocError` if each is in use.
     pub fn place(&mut self) -> Result<Place<D>, AllocError>
         ensures same { self.new ≡ self.old }
         ensures known { IfOk result (λ p.
@@ -101,9 +101,9 @@ impl<D: ListName> Shelf<D> {
         }
     }
 
-    /// The last growth before a change of a name's keys is accepted: from here on it waits. `kvno` is one
-    /// more than the version that the list shows of the name, and `count` the iteration count of new keys
-    /// that it shows.
+    /// Prepares a change of a name's keys, with the last memory that it takes; it then waits to be published. `kvno` is
+    /// one more than the version that the list shows of the name, and `count` the iteration count of new keys that it
+    /// shows.
     pub fn prepare(&mut self, name: &Name, kvno: u32, count: u32) -> Result<(), AllocError>
         requires free { self.old.waiting ≡ None }
         requires next { IsNextVersion (opening_state D.root) self.old.list
@@ -122,8 +122,7 @@ impl<D: ListName> Shelf<D> {
         }))
     }
 
-    /// The same of a raise of the iteration count of new keys, to a count above the one that the list
-    /// shows.
+    /// Prepares a raise of the iteration count of new keys, to a count above the one that the list shows.
     pub fn prepare_count(&mut self, count: u32) -> Result<(), AllocError>
         requires free { self.old.waiting ≡ None }
         requires next { IsNextVersion (opening_state D.root) self.old.list (Count count) }
@@ -149,7 +148,7 @@ impl<D: ListName> Shelf<D> {
         number
     }
 
-    // The change waits.
+    // Prepares the change.
     fn wait(&mut self, change: NumberedChange) -> Result<(), AllocError>
         requires free { self.old.waiting ≡ None }
         requires shown { CanBeShown (opening_state D.root) self.old.list change }
@@ -179,9 +178,8 @@ impl<D: ListName> Shelf<D> {
         }
     }
 
-    /// The change that waits is accepted: it joins the list and is published. It takes no memory and
-    /// doesn't fail, but waits for readers that still read the copy that it changes. Where none waits,
-    /// nothing changes.
+    /// Publishes the prepared change: it joins the list. It takes no memory and doesn't fail, but waits for readers of
+    /// the copy that it changes. If none is prepared, nothing changes.
     pub fn publish<R: Wait>(&mut self, rt: &R) -> Front<D>
         requires room { length self.old.list + 1 < 2 ^ 31 }
         ensures list { IfSome self.old.waiting (λ change.

@@ -8,8 +8,8 @@ use chpw_fronts::{Front, ListName, Mark, NumberedChange};
 use left_right::Absorb;
 use std::alloc::AllocError;
 
-/// The rows after a list of changes, whose length and last one stand beside them. `seen` knows the list
-/// without the last, and `root` says whose list it is; neither has bytes.
+/// The rows after a list of changes, with its length and its last change. `seen` knows the list without the last, and
+/// `root` says whose list it is; neither has bytes.
 #[derive(Drop)]
 pub struct Version {
     pub rows: Rows,
@@ -19,7 +19,7 @@ pub struct Version {
     pub root: Mark,
 }
 
-/// Which list a version shows, with no rows: so many changes, the last of them, and what knows the list
+/// Which list a version shows, without its rows: the number of changes, the last of them, and what knows the list
 /// without the last.
 #[derive(Drop)]
 pub struct ListShown {

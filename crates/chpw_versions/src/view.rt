@@ -9,8 +9,8 @@ use left_right::reader::Reader;
 use left_right::writer::Writer;
 use std::collections::LinkedList;
 
-/// What a reader or the writer knows: whose list it is, and a beginning of the published one. No value of
-/// it is made.
+/// What a reader or the writer knows: whose list it is, and a beginning of the published one. It exists in proofs
+/// alone.
 pub struct View {
     pub known: bool,
     pub number: u64,
@@ -62,7 +62,7 @@ impl Outcome<Version, View> for Settles {
     ghost then = { Settled };
 }
 
-// The writer hands its view on.
+// The writer passes its view on.
 pub(crate) struct HandsOn;
 
 impl Split<View> for HandsOn {
@@ -71,7 +71,7 @@ impl Split<View> for HandsOn {
     ghost right = { λ v. v };
 }
 
-// A reader takes it in.
+// A reader takes it over.
 pub(crate) struct Learns;
 
 impl Join<View> for Learns {

@@ -1,4 +1,4 @@
-//! Requests, as a line tells them.
+//! Requests, as a line describes them.
 ghost use Rattle.std.specs.Prelude.{◌≡◌, true, IfOk, IfSome};
 ghost use Rattle.chpw_rules.specs.Names.{is_name};
 
@@ -21,8 +21,8 @@ pub struct Question<'a> {
 }
 
 impl<'a> Question<'a> {
-    /// `NAME: PASSWORD` or `NAME for TARGET: PASSWORD`, perhaps with `, not initial` behind the
-    /// names, and then `, old`, which goes without a target.
+    /// `NAME: PASSWORD` or `NAME for TARGET: PASSWORD`, possibly with `, not initial` after the names, and then `,
+    /// old`, which excludes a target.
     pub fn of(alloc: Global, text: &'a str) -> io::Result<Question<'a>> {
         let Some((who, password)) = text.split_once(": ") else {
             return Err(no_case());
@@ -44,7 +44,7 @@ impl<'a> Question<'a> {
         })
     }
 
-    /// The client's request at a second, with so many microseconds.
+    /// The client's request at a second, with these microseconds.
     pub fn request(
         &self,
         alloc: Global,
@@ -97,7 +97,7 @@ fn target_of(alloc: Global, text: Option<&str>) -> io::Result<Option<Name>>
     }
 }
 
-// The target's name; written out, since so the fact that it fits comes with it.
+// The target's name; written out, since that gives the fact that it fits.
 fn lent(target: &Option<Name>) -> Option<&Name>
     requires fits { IfSome target.now (λ name. is_name name ≡ true) }
     ensures fits { IfSome result (λ name. is_name name.now ≡ true) }

@@ -102,7 +102,7 @@ impl Cases {
         Ok(())
     }
 
-    /// A request, and what the client makes of its reply.
+    /// A request, and what the client prints for its reply.
     fn ask(&mut self, alloc: Global, text: &str) -> io::Result<String> {
         let sent = self.request(alloc, text)?;
         self.sent.push(sent)?;
@@ -163,7 +163,7 @@ impl Cases {
     }
 }
 
-/// What is made of a reply in hexadecimal.
+/// What the client prints for a reply in hexadecimal.
 fn told_of(alloc: Global, sent: &Sent, hex: &str) -> io::Result<String> {
     match decode(alloc, hex) {
         Ok(reply) => told(alloc, sent, &reply),

@@ -1,4 +1,4 @@
-//! A clock that stands still, and words that count.
+//! A clock that stands still, and words that count up.
 ghost use Rattle.std.specs.Prelude.{◌≡◌, ◌<◌, ◌≤ℤ◌, pos};
 ghost use Rattle.chpw_table.specs.Times.{IsMoment};
 ghost use Rattle.chpw_client.specs.Questions.{latest_second};
@@ -7,8 +7,7 @@ use chpw_client::LAST_START;
 use chpw_serve::{Clock, Words};
 use chpw_table::Moment;
 
-/// The moment at this second, with so many microseconds; 0 in the place of either that is too large
-/// for a request.
+/// The moment at this second, with these microseconds; 0 in place of either that is too large for a request.
 pub fn moment_at(second: i64, micros: u32) -> Moment
     ensures start { pos 0 ≤ℤ result.seconds }
     ensures end { result.seconds ≤ℤ pos latest_second }

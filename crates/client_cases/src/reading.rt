@@ -1,4 +1,4 @@
-//! What the client makes of a reply.
+//! What the client prints for a reply.
 
 use chpw_client::{Sent, client_line};
 use std::alloc::{AllocError, Global};

@@ -1,4 +1,4 @@
-//! The service and its table, as a configuration starts them, and the client's configuration.
+//! The service and its table, started from a configuration, and the client's configuration.
 ghost use Rattle.std.specs.Prelude.{◌≡◌, true, IfOk};
 ghost use Rattle.chpw_rules.specs.Fitting.{config_fits};
 
@@ -17,7 +17,7 @@ use test_realm::Tally;
 /// The client's address.
 const PEER: [u8; 4] = [127, 0, 0, 1];
 
-/// A line is no case.
+/// The error for a line that is no case.
 pub fn no_case() -> Error {
     Error::from(ErrorKind::InvalidInput)
 }
@@ -68,7 +68,7 @@ impl World {
         first_reply(alloc, &written)
     }
 
-    /// The newest kvno of a name, 0 where it is none of a principal.
+    /// The newest kvno of a name, 0 if it is no principal's.
     pub fn kvno(&self, alloc: Global, name: &str) -> io::Result<u32> {
         let Some(name) = Name::parse(alloc, name)? else {
             return Err(no_case());
@@ -88,7 +88,7 @@ fn first_reply(alloc: Global, mut replies: &[u8]) -> io::Result<Vec<u8>> {
     }
 }
 
-/// A message behind its length.
+/// A message after its length.
 fn stream_of(alloc: Global, message: &[u8]) -> io::Result<Vec<u8>> {
     let mut stream = Vec::new(alloc);
     if message.len() > LONGEST_MESSAGE || write_tcp(&mut stream, message).is_err() {

@@ -3,8 +3,8 @@ use crate::case::{checked, drilled, edited, explained, line_ending, of_bytes, st
 use std::alloc::Global;
 use std::io::{Result, Write};
 
-/// Runs the cases of a block, and prints its first line and what they give. The answer is the base of
-/// the blocks that follow: this block's text where it is a `base`, and else the one before.
+/// Runs the cases of a block, and prints its first line and their results. Returns the base of the blocks that follow:
+/// this block's text if it is a `base`, and otherwise the one before.
 pub fn print_block<'a, W: Write>(
     alloc: Global,
     out: &mut W,
@@ -42,7 +42,7 @@ fn print_drill<W: Write>(alloc: Global, out: &mut W, script: &str) -> Result<()>
     writeln!(out, "{}", ending.as_str())
 }
 
-// What is said of a configuration.
+// The check of a configuration.
 fn print_check<W: Write>(alloc: Global, out: &mut W, body: &str) -> Result<()> {
     let (line, status) = checked(alloc, body)?;
     writeln!(out, "{}\nstatus {status}", line.as_str())?;
@@ -57,7 +57,7 @@ fn print_words<W: Write>(alloc: Global, out: &mut W, text: &str) -> Result<()> {
     }
 }
 
-// Each line by itself behind the base, and how the script of both ends.
+// Each line by itself after the base, and how the script of both ends.
 fn print_lines<W: Write>(alloc: Global, out: &mut W, base: &str, body: &str) -> Result<()> {
     for line in body.lines() {
         let ending = line_ending(alloc, base, line)?;
@@ -84,7 +84,7 @@ fn print_bytes<W: Write>(alloc: Global, out: &mut W, body: &str) -> Result<()> {
     Ok(())
 }
 
-// The base with each line's edits, and what is found in it.
+// The base with each line's edits, and the check of it.
 fn print_edits<W: Write>(
     alloc: Global,
     out: &mut W,

@@ -19,8 +19,8 @@ fn ending(alloc: Global, ended: std::result::Result<(), DrillFault>) -> Result<S
     }
 }
 
-/// How the script ends of a case of streams, `read WAY`, `write WAY` or `check WAY`: it is read in this way,
-/// or what it prints, or what is said of it as a configuration, is written in this way.
+/// How the script of a case of streams ends, `read WAY`, `write WAY` or `check WAY`: it is read in this way, or what it
+/// prints, or its check as a configuration, is written in this way.
 pub fn streamed(alloc: Global, script: &str, case: &str) -> Result<String> {
     let (what, way) = case.split_once(' ').unwrap_or((case, ""));
     let way = Way::of(way);
@@ -112,7 +112,7 @@ pub fn line_ending(alloc: Global, base: &str, line: &str) -> Result<String> {
     Ok(format!(in alloc; "{} after {count} lines", ending.as_str())?)
 }
 
-/// The base with the edits of a line, `OLD -> NEW | OLD -> NEW`: each OLD is replaced wherever it stands.
+/// The base with the edits of a line, `OLD -> NEW | OLD -> NEW`: each OLD is replaced everywhere.
 pub fn edited(alloc: Global, base: &str, line: &str) -> Result<String> {
     let mut text = String::from_str(alloc, base)?;
     for edit in line.split(" | ") {

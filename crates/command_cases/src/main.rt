@@ -1,5 +1,5 @@
-//! Runs cases of the commands `drill` and `check`, which stand in blocks on standard input, and prints
-//! what each case gives. README.md has the kinds of blocks.
+//! Runs cases of the commands `drill` and `check`, which are blocks on standard input, and prints the results.
+//! README.md lists the kinds of blocks.
 #![tactic(auto)]
 
 mod block;

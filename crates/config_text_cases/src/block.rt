@@ -3,7 +3,7 @@ use crate::case::{line_answer, rewritten};
 use std::alloc::Global;
 use std::io::{Result, Write};
 
-/// Runs the cases of a block, and prints its first line and what they give.
+/// Runs the cases of a block, and prints its first line and their results.
 pub fn print_block<W: Write>(alloc: Global, out: &mut W, block: &str) -> Result<()> {
     let (title, body) = block.split_once('\n').unwrap_or((block, ""));
     writeln!(out, "== {title}")?;
@@ -14,7 +14,7 @@ pub fn print_block<W: Write>(alloc: Global, out: &mut W, block: &str) -> Result<
     }
 }
 
-// What a configuration's file is written as, and whether that is written as itself.
+// The text that a configuration's file is written as, and whether that is written as itself.
 fn print_file<W: Write>(alloc: Global, out: &mut W, body: &str) -> Result<()> {
     let once = rewritten(alloc, body)?;
     let once = once.as_str();
@@ -31,7 +31,7 @@ fn print_file<W: Write>(alloc: Global, out: &mut W, body: &str) -> Result<()> {
     Ok(())
 }
 
-// A made configuration for each line, and what is said of writing it.
+// A made configuration for each line, and the result of writing it.
 fn print_made<W: Write>(alloc: Global, out: &mut W, body: &str) -> Result<()> {
     for line in body.lines() {
         let answer = line_answer(alloc, line)?;

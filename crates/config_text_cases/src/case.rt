@@ -5,7 +5,7 @@ use chpw_config_text::write_config;
 use std::alloc::Global;
 use std::io::Result;
 
-/// What a configuration's file is written as, or why it isn't read or written.
+/// The text that a configuration's file is written as, or why it isn't read or written.
 pub fn rewritten(alloc: Global, text: &str) -> Result<String> {
     let config = match read_config(alloc, text) {
         Ok(config) => config,
@@ -17,8 +17,8 @@ pub fn rewritten(alloc: Global, text: &str) -> Result<String> {
     }
 }
 
-/// Why a made configuration isn't written, or else its rules and principals, as they are written; and
-/// whether that is read and written as itself.
+/// Why a made configuration isn't written, or its rules and principals as they are written; and whether that is read
+/// and written as itself.
 pub fn line_answer(alloc: Global, line: &str) -> Result<String> {
     let mut words = line.split(' ');
     let realm = words.next().unwrap_or("");
@@ -35,7 +35,7 @@ pub fn line_answer(alloc: Global, line: &str) -> Result<String> {
     said(alloc, text.as_str(), same)
 }
 
-// The texts that are written, one behind the other.
+// The texts that are written, one after the other.
 fn said(alloc: Global, text: &str, same: bool) -> Result<String> {
     let mut said = String::new(alloc);
     for line in text.lines() {

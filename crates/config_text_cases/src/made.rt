@@ -1,4 +1,4 @@
-//! Configurations that are made of bytes, as no file can give them.
+//! Configurations made from bytes, some of which no file can give.
 use chpw_rules::{Config, Items, KeyBytes, Name, Policy, PrincipalRow, Rule, Rules, ServiceRow};
 use std::alloc::Global;
 use std::io::{Error, ErrorKind, Result};

@@ -15,8 +15,8 @@ const BOUNDS: Bounds = Bounds {
     linger: 100,
 };
 
-/// What comes of a message that is cut before each of its bytes and at its end. What is behind follows, or the input
-/// ends there.
+/// What comes of a message that is cut before each of its bytes and at its end. The rest follows, or the input ends
+/// there.
 pub fn each(alloc: Global, bytes: &[u8], is_ended: bool) -> io::Result<String> {
     let mut census = Census::new(alloc);
     for place in 0..=bytes.len() {

@@ -5,7 +5,7 @@ use crate::words::{bytes, filled, no_case, number};
 use std::io;
 
 impl Script {
-    /// What comes of an event: where the connection is then.
+    /// What an event does: the stage of the connection afterwards.
     pub fn event(&mut self, kind: &str, slot: usize, rest: &str, now: u64) -> io::Result<String> {
         match kind {
             "bytes" => return self.read_told(slot, &bytes(self.alloc, rest)?, now),
@@ -31,8 +31,8 @@ impl Script {
         self.state(slot)
     }
 
-    /// Reads from a socket that has these bytes, never more than are wanted: how many were read, and the worker
-    /// for whom the message waits now.
+    /// Reads from a socket that has these bytes, never more than are wanted: how many were read, and the worker for
+    /// whom the message waits now.
     pub fn read(&mut self, slot: usize, bytes: &[u8], now: u64) -> (usize, Option<usize>) {
         let mut left = bytes;
         for _ in 0..bytes.len() {
@@ -98,7 +98,7 @@ impl Script {
         Ok(String::from_str(self.alloc, word)?)
     }
 
-    /// So many messages of no bytes, each answered with one byte, which is written; or until none is read.
+    /// `count` empty messages, each answered with one byte, which is written; or until none is read.
     fn rounds(&mut self, slot: usize, count: u32, now: u64) -> io::Result<String> {
         for done in 0..count {
             let (_, Some(worker)) = self.read(slot, &[0; 4], now) else {

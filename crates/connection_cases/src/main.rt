@@ -1,4 +1,4 @@
-//! Cases of chpw_connections, a line each on standard input; what comes of each is printed. README.md has their kinds.
+//! Cases of chpw_connections, a line each on standard input; what each does is printed. README.md lists their kinds.
 #![tactic(auto)]
 
 mod cutting;

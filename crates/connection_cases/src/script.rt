@@ -1,4 +1,4 @@
-//! The machine that a script runs, and the lines of the script.
+//! The state machine that a script runs, and the lines of the script.
 
 use crate::showing::slots_text;
 use crate::words::{no_case, number};
@@ -6,14 +6,14 @@ use chpw_connections::{Bounds, Connections};
 use std::alloc::Global;
 use std::io;
 
-/// The greatest count of connections and of workers here.
+/// The most connections and workers in a script.
 const MOST: usize = 100;
 
 #[derive(Drop)]
 pub struct Script {
     pub alloc: Global,
     pub connections: Connections,
-    /// So many connections may be, and no slot but those below is shown.
+    /// The connections allowed; no slot from this number on is shown.
     pub slots: usize,
     pub workers: usize,
 }
@@ -48,7 +48,7 @@ impl Script {
         })
     }
 
-    /// What comes of a line, and which other connections have ended by it.
+    /// What a line does, and which other connections it ended.
     pub fn answer(&mut self, kind: &str, words: &str, now: u64) -> io::Result<String> {
         let before = self.ended()?;
         let (slot, rest) = words.split_once(' ').unwrap_or((words, ""));
@@ -75,7 +75,7 @@ impl Script {
         self.ended_besides(&[], None)
     }
 
-    /// The same but for these, and for this one.
+    /// The slots whose connections have ended, without these and without this one.
     fn ended_besides(&self, before: &[usize], own: Option<usize>) -> io::Result<Vec<usize>> {
         let mut ended = Vec::new(self.alloc);
         for slot in 0..self.slots {

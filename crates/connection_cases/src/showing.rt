@@ -42,7 +42,7 @@ pub fn peer_text(alloc: Global, peer: [u8; 4]) -> io::Result<String> {
 }
 
 impl Script {
-    /// Where the connection in a slot is.
+    /// The stage of the connection in a slot.
     pub fn state(&self, slot: usize) -> io::Result<String> {
         let alloc = self.alloc;
         let left = self.connections.unwritten(slot);
@@ -76,7 +76,7 @@ impl Script {
         }
     }
 
-    /// Each slot, and then what is told of all together.
+    /// Each slot, and then the totals.
     pub fn shown(&self) -> io::Result<String> {
         let mut text = String::new(self.alloc);
         for slot in 0..self.slots {

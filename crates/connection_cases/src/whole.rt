@@ -1,4 +1,4 @@
-//! What is done to no slot's connection in particular.
+//! Lines that concern no particular slot.
 
 use crate::script::Script;
 use crate::showing::{peer_text, shown, slots_text};
@@ -6,7 +6,7 @@ use crate::words::{address, no_case, number};
 use chpw_connections::{Taken, Todo};
 use std::io;
 
-/// More than any case here gives to look at.
+/// More than any case here notes.
 const LOOKS: usize = 10_000;
 
 impl Script {
@@ -41,7 +41,7 @@ impl Script {
         }
     }
 
-    /// The message that a worker takes, and whose it is.
+    /// The message that a worker takes, with its slot and peer.
     pub fn taken(&mut self, worker: usize, now: u64) -> io::Result<String> {
         let waits = self.connections.has_message(worker);
         match self.connections.take(worker, now) {
@@ -58,7 +58,7 @@ impl Script {
         Ok(format!(in self.alloc; "slot {slot} from {peer}: {message}")?)
     }
 
-    /// Whose reply has waited for its confirmation for so long, and for which.
+    /// The slot whose reply has waited for its confirmation for `wait`, and its mark.
     fn overdue(&mut self, wait: u64, now: u64) -> io::Result<String> {
         match self.connections.overdue(wait, now) {
             None => Ok(String::from_str(self.alloc, "none")?),
@@ -70,7 +70,7 @@ impl Script {
         }
     }
 
-    /// The slots that are to be looked at, each once, where something is to be done that the socket doesn't tell.
+    /// The slots that were noted, each once, if something is to be done that the socket doesn't report.
     fn looked(&mut self) -> io::Result<String> {
         let mut slots = Vec::new(self.alloc);
         for _ in 0..LOOKS {

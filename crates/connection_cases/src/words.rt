@@ -4,7 +4,7 @@ use std::alloc::Global;
 use std::io;
 use std::str::FromStr;
 
-/// What ends the program where a line is no case.
+/// The error that ends the program where a line is no case.
 pub fn no_case() -> io::Error {
     io::Error::from(io::ErrorKind::InvalidInput)
 }
@@ -26,7 +26,7 @@ pub fn bytes(alloc: Global, word: &str) -> io::Result<Vec<u8>> {
     hex::decode(alloc, word).map_err(|_| no_case())
 }
 
-/// So many bytes, 00 01 .. fa 00 ..
+/// This many bytes, 00 01 .. fa 00 ..
 pub fn filled(alloc: Global, count: &str) -> io::Result<Vec<u8>> {
     let mut bytes = Vec::new(alloc);
     let mut next = 0_u8;

@@ -1,11 +1,11 @@
-//! Connections: what is told at each event, with a space between any two.
+//! Connections: what they give at each event, with a space between any two.
 
 use crate::fault::Fault;
 use crate::words::bytes;
 use chpw_control::{Command, ControlFault, Dialog};
 use std::alloc::Global;
 
-/// Bytes, `end` and `late`; of each `-` where nothing is told.
+/// Bytes, `end` and `late`; for each `-` if it gives nothing.
 pub fn heard(alloc: Global, events: &[&str]) -> Result<String, Fault> {
     let mut dialog = Dialog::new(alloc);
     let mut text = String::new(alloc);

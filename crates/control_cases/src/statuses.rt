@@ -25,7 +25,7 @@ struct Words<'a> {
     follower: FollowerState,
 }
 
-/// VERSION SINCE QUIET JOURNAL FOLLOWER PRINCIPALS ..
+/// The answer to VERSION SINCE QUIET JOURNAL FOLLOWER PRINCIPALS ..
 pub fn told(alloc: Global, values: &[&str]) -> Result<String, Fault> {
     let [version, since, quiet, journal, follower, rest @ ..] = values else {
         return Err(Fault::NoSuchCase);

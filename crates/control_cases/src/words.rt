@@ -4,7 +4,7 @@ use crate::fault::Fault;
 use std::alloc::Global;
 use std::str;
 
-/// Bytes in hexadecimal; behind a `*` how many times they stand there.
+/// Bytes in hexadecimal; after a `*` how many times they are repeated.
 pub fn bytes(alloc: Global, word: &str) -> Result<Vec<u8>, Fault> {
     let (digits, times) = word.split_once('*').unwrap_or((word, "1"));
     let once = hex::decode(alloc, digits).map_err(|_| Fault::NoSuchCase)?;

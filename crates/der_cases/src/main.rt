@@ -1,10 +1,10 @@
 //! Cases of krb_der, a line each on standard input, with the answer of each on standard output.
 //!
-//! - `RECORD HEX`, as in `host_address 300da003020102a10604047f000001`: the text of that record. The
-//!   answer is the text that is written of what was read, or the fault and its place.
+//! - `RECORD HEX`, as in `host_address 300da003020102a10604047f000001`: the text of that record. The answer is the text
+//!   that is written of what was read, or the fault and its place.
 //! - `VALUE HEX`, as in `addr_type 300d..`: one value of a record's text, as [`values`] has them.
-//! - `time YYYYMMDDHHMMSSZ` and `seconds N`: the other one of the two, or `none`.
-//! - A line that begins with `#`, or is empty, is passed on.
+//! - `time YYYYMMDDHHMMSSZ` and `seconds N`: each converted to the other, or `none`.
+//! - A line that begins with `#`, or is empty, is copied.
 #![tactic(auto)]
 
 mod records;

@@ -152,7 +152,7 @@ fn written(alloc: Global, record: &str, text: &[u8]) -> Option<Result<String, Un
     }
 }
 
-/// The same, of messages and their sealed parts.
+/// The text of the value that a text spells, for messages and their sealed parts.
 fn message_written(alloc: Global, record: &str, text: &[u8]) -> Option<Result<String, Unwritten>> {
     match record {
         "ticket" => Some(ticket(alloc, text)),

@@ -46,13 +46,13 @@ fn two_at<D: DeskName + Send + Sync, R: Threads + Wait + Abort + Sync>(
     assert!(rt; closed.history.len() == 2 && !closed.table.is_full());
 }
 
-// Whether the one is a change and the other a replay.
+// Whether one is a change and the other a replay.
 fn is_one_change(a: Option<Verdict>, b: Option<Verdict>) -> bool {
     (a == Some(Verdict::Done) && b == Some(Verdict::Replay))
         || (a == Some(Verdict::Replay) && b == Some(Verdict::Done))
 }
 
-// A desk without a worker's pass stays open, and is given back.
+// A desk without a worker's pass stays open, and is returned.
 fn refused<D: DeskName, R: Wait + Abort>(
     rt: &R,
     desk: Desk<D, Tally>,
@@ -115,7 +115,7 @@ fn entry(opened: Opened, worker: u8, number: u32) -> Entry {
     }
 }
 
-// Its receipt, behind so many changes.
+// Its receipt, after this many changes.
 fn receipt(rt: &impl Abort, entry: &Entry, position: u32) -> Receipt {
     Receipt {
         worker: entry.worker,

@@ -1,4 +1,4 @@
-//! Sixteen principals of the realm, what they ask, and what is found at a desk of theirs.
+//! Sixteen principals of the realm, their requests, and helpers for a desk of theirs.
 ghost use Rattle.chpw_book.specs.Starting.{IsNamed};
 
 use chpw_book::{CloseRefused, Closed, Desk, DeskName, Pass, UnnamedDesk};
@@ -50,7 +50,7 @@ pub fn started<D: DeskName, R: Wait + Abort>(
     started.ok().expect(rt, "a desk")
 }
 
-/// The verdict, where there is one.
+/// The verdict, if there is one.
 pub fn verdict(answer: Result<Verdict, Refused>) -> Option<Verdict> {
     answer.ok()
 }
@@ -63,7 +63,7 @@ pub fn is_full(answer: &Result<Verdict, Refused>) -> bool {
     }
 }
 
-/// What a desk leaves that can be closed; one that can't be is given up.
+/// What a desk leaves that can be closed; one that can't be is abandoned.
 pub fn closed<D: DeskName, R: Wait>(
     rt: &R,
     desk: Desk<D, Tally>,

@@ -19,7 +19,7 @@ fn keys_that_are_asked_for(rt: HostRuntime) {
     ask_and_complete::<Brand, _>(&rt, rt.alloc(), UnnamedDesk::of(table, 1), opened);
 }
 
-// The missing keys are named, and with them the same request is decided; the desk is given up.
+// The missing keys are named, and with them the same request is decided; the desk is abandoned.
 fn ask_and_complete<D: DeskName, R: Wait + Abort>(
     rt: &R,
     alloc: Global,
@@ -55,10 +55,10 @@ fn complete(rt: &impl Abort, opened: &mut Opened, counts: &Counts) {
     assert!(rt; done.is_ok());
 }
 
-// The length of a password, whether it is another's, and the first and the last second of the ticket; then
-// whether the request is refused anyway, and under which counts it lacks keys. Tickets whose end is past by the skew and
-// by a second more, and one that begins too late; another's password, for which there is no rule; passwords
-// of the least length, and of one less.
+// The length of a password, whether it is another's, and the first and the last second of the ticket; then whether the
+// request is refused anyway, and under which counts it lacks keys. Tickets that expired by the skew and by a second
+// more, and one that begins too late; another's password, for which there is no rule; passwords of the least length,
+// and of one less.
 const ASKS: [(u32, bool, i64, i64, bool, &[u32]); 5] = [
     (6, false, 0, 700, false, &[4]),
     (6, false, 0, 699, true, &[]),
@@ -73,7 +73,7 @@ fn keys_that_are_looked_for(rt: HostRuntime) {
     look_for_keys::<Brand, _>(&rt, rt.alloc(), UnnamedDesk::of(table, 1));
 }
 
-// What is refused anyway lacks no keys, nor does what comes too early; the desk is given up.
+// What is refused anyway lacks no keys, nor does what comes too early; the desk is abandoned.
 fn look_for_keys<D: DeskName, R: Wait + Abort>(rt: &R, alloc: Global, unnamed: UnnamedDesk)
     requires name { IsNamed unnamed D.name D.parts D.book D.root D.workers }
 {
@@ -128,7 +128,7 @@ fn keys_derived_under_the_lock(rt: HostRuntime) {
     derive_and_fill::<Brand, _>(&rt, rt.alloc(), UnnamedDesk::of(table, 1), first, second);
 }
 
-// Of a history of one entry the second request is refused, which the pass notes; the desk is closed.
+// In a history of one entry the second request is refused, which the pass notes; the desk is closed.
 fn derive_and_fill<D: DeskName, R: Wait + Abort>(
     rt: &R,
     alloc: Global,

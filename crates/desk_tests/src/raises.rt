@@ -43,7 +43,7 @@ fn raised_at<D: DeskName, R: Wait + Abort>(
     is_history(rt, closed.history.as_slice());
 }
 
-// The same count is not higher; a higher one is raised to.
+// A raise to the present count is not higher; one to a higher count is made.
 fn raise<D: DeskName, R: Wait + Abort>(rt: &R, desk: &Desk<D, Tally>, first: &mut Pass<D>) {
     let same = desk.raise(rt, first, NOW, 4);
     assert!(rt; matches!(same, Ok(RaiseVerdict::NotHigher)) && first.front().is_none());

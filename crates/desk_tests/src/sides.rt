@@ -51,7 +51,7 @@ fn are_three_each(rt: &impl Abort, history: &[Entry]) {
     }
 }
 
-// The count behind these entries, each of which was accepted or, as a raise, wasn't higher.
+// The count after these entries, each of which was accepted or is a raise that wasn't higher.
 fn count_behind(rt: &impl Abort, history: &[Entry], opening: u32) -> u32 {
     let mut count = opening;
     for entry in history {

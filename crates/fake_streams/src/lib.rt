@@ -1,4 +1,4 @@
-//! Readers and writers for tests: they give or take bytes as a case says, and fail where it says.
+//! Readers and writers for tests: they give or take bytes, and fail, as a case says.
 #![tactic(auto)]
 
 mod peer;

@@ -1,15 +1,15 @@
-//! Readers and writers that do as a case says:
+//! Readers and writers that behave as a case says:
 //!
 //! - `whole`: a call gives or takes all that there is.
-//! - `by N`: a call gives or takes N bytes at the most.
+//! - `by N`: a call gives or takes at most N bytes.
 //! - `interrupted`: each call is interrupted once before it does its work.
 //! - `never ready`: each call is interrupted.
-//! - `fails after N`: a call fails when N bytes are through.
-//! - `takes nothing after N`: it answers that it took none.
+//! - `fails after N`: a call fails once N bytes went through.
+//! - `takes nothing after N`: a call then answers that it took none.
 
 use std::io::{self, Error, ErrorKind, Read, Write};
 
-/// How a reader or writer does.
+/// How a reader or writer behaves.
 #[derive(Clone, Copy, Drop)]
 pub struct Way {
     most: usize,
@@ -20,7 +20,7 @@ pub struct Way {
 }
 
 impl Way {
-    /// The way that a case tells.
+    /// The way that a case names.
     pub fn of(text: &str) -> Way {
         let mut way = Way {
             most: usize::MAX,
@@ -48,7 +48,7 @@ impl Way {
         }
     }
 
-    /// The same, but that it fails after so many bytes.
+    /// This way, but that it fails after `count` bytes.
     pub fn failing_after(self, count: usize) -> Way {
         Way {
             fails_after: Some(count),
@@ -56,13 +56,13 @@ impl Way {
         }
     }
 
-    /// The same, but that a call gives or takes so many bytes at the most.
+    /// This way, but that a call gives or takes at most `most` bytes.
     pub fn by(self, most: usize) -> Way {
         Way { most, ..self }
     }
 }
 
-/// How far a peer is.
+/// The progress of a reader or writer.
 #[derive(Clone, Copy, Drop)]
 pub struct Course {
     way: Way,
@@ -73,6 +73,7 @@ pub struct Course {
 }
 
 impl Course {
+    /// No call was made and no byte went through.
     pub fn start(way: Way) -> Course {
         Course {
             way,
@@ -82,7 +83,7 @@ impl Course {
         }
     }
 
-    /// How many of so many bytes go through in this call.
+    /// How many of `count` bytes go through in this call.
     fn pass(&mut self, count: usize) -> io::Result<usize> {
         self.calls = self.calls.saturating_add(1);
         self.resumes = !self.resumes;

@@ -5,7 +5,7 @@ use chpw_frame::{ChangeData, ChangeFault, ChangeTarget, read_change_data};
 use std::alloc::Global;
 use std::io;
 
-/// The change that user-data asks for, or why it asks none.
+/// The change that user-data asks for, or why it asks for none.
 pub fn answer(alloc: Global, text: &str) -> io::Result<String> {
     match read_change_data(alloc, &bytes(alloc, text)?) {
         Ok(change) => shown_change(alloc, &change),

@@ -1,4 +1,4 @@
-//! Requests and replies, cut into their parts and joined of them.
+//! Requests and replies, split into their parts and joined from them.
 
 use chpw_frame::{
     FrameFault, Parts, join_old_request, join_reply, join_request, split_reply, split_request,

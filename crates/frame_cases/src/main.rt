@@ -1,17 +1,17 @@
 //! Cases of chpw_frame, a line each on standard input, with the answer of each on standard output.
 //!
 //! - `request HEX` and `reply HEX`: the parts of that message, or its fault and what its reply says.
-//! - `join-request AP TAIL`, `join-old-request AP TAIL` and `join-reply AP TAIL`: the message with these
-//!   parts, `-` for no bytes.
+//! - `join-request AP TAIL`, `join-old-request AP TAIL` and `join-reply AP TAIL`: the message with these parts, `-` for
+//!   no bytes.
 //! - `change HEX`: what that user-data asks for.
 //! - `read HOW: HEX`: what is read of a stream with these bytes, and the bytes that are left of it.
-//! - `reads HOW: HEX`: the same, and in how many reads.
+//! - `reads HOW: HEX`: likewise, and in how many reads.
 //! - `write HOW: HEX`: what of that message is written.
-//! - `writes HOW: HEX`: the same, and in how many writes.
-//! - `fail HOW: HEX`: that message is written with a fault behind each byte in turn.
-//! - A line that begins with `#`, or is empty, is passed on.
+//! - `writes HOW: HEX`: likewise, and in how many writes.
+//! - `fail HOW: HEX`: that message is written with a fault after each byte in turn.
+//! - A line that begins with `#`, or is empty, is copied.
 //!
-//! HOW is how the reader or writer does, with commas between: see fake_streams.
+//! HOW is how the reader or writer behaves, with commas between: see fake_streams.
 #![tactic(auto)]
 
 mod change;

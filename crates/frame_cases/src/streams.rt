@@ -27,7 +27,7 @@ pub fn answer(alloc: Global, kind: &str, text: &str) -> io::Result<String> {
     }
 }
 
-/// The bytes of a text in hexadecimal, or of one with so many zeros behind it, as in `00 * 4`.
+/// The bytes of a text in hexadecimal, or of one with this many zeros after it, as in `00 * 4`.
 fn stretched(alloc: Global, text: &str) -> io::Result<Vec<u8>> {
     let (front, count) = text.split_once(" zeros ").unwrap_or((text, "0"));
     let mut bytes = bytes(alloc, front)?;
@@ -65,7 +65,7 @@ fn shown_piece(alloc: Global, received: &Received) -> io::Result<String> {
     Ok(String::from_str(alloc, text)?)
 }
 
-/// Bytes in hexadecimal, or how many, where they are many.
+/// Bytes in hexadecimal, or their number if there are many.
 fn shown_short(alloc: Global, bytes: &[u8]) -> io::Result<String> {
     if bytes.len() > 100 {
         return Ok(format!(in alloc; "of {} bytes", bytes.len())?);
@@ -73,7 +73,7 @@ fn shown_short(alloc: Global, bytes: &[u8]) -> io::Result<String> {
     shown(alloc, bytes)
 }
 
-/// Writes a message: whether that is done, and the writer that took it.
+/// Writes a message: whether that succeeded, and the writer that took it.
 fn write(alloc: Global, way: Way, message: &[u8]) -> (bool, Taker) {
     let mut writer = Taker {
         taken: Vec::new(alloc),
@@ -94,8 +94,7 @@ fn written(alloc: Global, way: Way, message: &[u8]) -> io::Result<(String, u32)>
     Ok((format!(in alloc; "{word} {taken}")?, course.calls))
 }
 
-/// Writes a message with a fault behind each byte in turn; how often just the bytes before the fault
-/// were taken.
+/// Writes a message with a fault after each byte in turn; how often exactly the bytes before the fault were taken.
 fn failing(alloc: Global, way: Way, message: &[u8]) -> io::Result<String> {
     let whole = write(alloc, way, message).1.taken;
     let mut fronts = 0u32;

@@ -1,4 +1,4 @@
-//! What is brought in of keytabs, whole and cut short.
+//! What is imported from keytabs, whole and cut short.
 ghost use Rattle.std.specs.Prelude.{◌≤◌};
 
 use crate::words::{behind, bytes, count, joined, said};
@@ -11,7 +11,7 @@ use std::io::{self, Error, ErrorKind};
 /// The file's name in the faults.
 const FILE: &str = "keytab";
 
-// What is asked of it.
+// The options of the command.
 fn options(realm: &str, iterations: u32) -> io::Result<ImportOptions<'_>>
     requires least { 1 ≤ iterations }
 {
@@ -25,7 +25,7 @@ fn options(realm: &str, iterations: u32) -> io::Result<ImportOptions<'_>>
     })
 }
 
-// What is written of these bytes, and the lines on what is left out of them; or their fault.
+// What is written for these bytes, and the lines about what is skipped; or their fault.
 fn brought(alloc: Global, options: ImportOptions<'_>, keytab: &[u8]) -> io::Result<String> {
     let (mut written, mut left) = (Vec::new(alloc), Vec::new(alloc));
     match write_keytab(alloc, options, keytab, &mut written, &mut left) {
@@ -34,7 +34,7 @@ fn brought(alloc: Global, options: ImportOptions<'_>, keytab: &[u8]) -> io::Resu
     }
 }
 
-/// What comes of a keytab.
+/// The result of a keytab.
 pub fn whole(alloc: Global, rest: &str) -> io::Result<String> {
     let mut words = rest.split(' ');
     let realm = words.next().unwrap_or("");
@@ -43,7 +43,7 @@ pub fn whole(alloc: Global, rest: &str) -> io::Result<String> {
     brought(alloc, options(realm, iterations)?, &keytab)
 }
 
-/// What comes of each proper prefix of a keytab.
+/// The result of each proper prefix of a keytab.
 pub fn cut(alloc: Global, rest: &str) -> io::Result<String> {
     let (realm, word) = rest.split_once(' ').unwrap_or((rest, ""));
     let file = bytes(alloc, word)?;
@@ -56,7 +56,7 @@ pub fn cut(alloc: Global, rest: &str) -> io::Result<String> {
     Ok(census.shown(alloc)?)
 }
 
-/// Of a keytab of so many principals: how many have a stanza, and who is left out.
+/// For a keytab of this many principals: how many have a stanza, and which are skipped.
 pub fn many(alloc: Global, rest: &str) -> io::Result<String> {
     let (realm, word) = rest.split_once(' ').unwrap_or((rest, ""));
     let options = options(realm, USUAL_COUNT)?;
@@ -70,7 +70,7 @@ pub fn many(alloc: Global, rest: &str) -> io::Result<String> {
     Ok(behind(format!(in alloc; "principals {principals}")?, &left)?)
 }
 
-// A keytab of so many principals, with a key of each encryption type.
+// A keytab of this many principals, with a key of each encryption type.
 fn keytab_of(alloc: Global, realm: &str, count: u32) -> Result<Vec<u8>, AllocError> {
     let mut keytab = Vec::from_slice(alloc, b"\x05\x02")?;
     for number in 0..count {
@@ -103,7 +103,7 @@ fn record_of(
     Ok(record)
 }
 
-// Bytes behind their count in 16 bits.
+// Bytes after their count in 16 bits.
 fn put_counted(fields: &mut Vec<u8>, octets: &[u8]) -> Result<(), AllocError> {
     let count = u16::try_from(octets.len()).unwrap_or(u16::MAX);
     fields.extend_from_slice(&count.to_be_bytes())?;

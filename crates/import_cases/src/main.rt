@@ -1,16 +1,14 @@
-//! Cases of chpw_import, a line each on standard input, with the answer of each on standard
-//! output.
+//! Cases of chpw_keys and chpw_import, a line each on standard input, with the answer of each on standard output.
 //!
-//! - `keytab REALM ITERATIONS HEX`: what is written of the keytab with these bytes, its lines joined, and a
-//!   line for each entry that is left out; or its fault.
-//! - `cut REALM HEX`: what comes of each of its proper prefixes, behind the count of those prefixes and their
-//!   lengths.
-//! - `many REALM COUNT`: of a keytab of so many principals how many have a stanza, and a line for each entry that
-//!   is left out.
-//! - `password REALM NAME ITERATIONS KVNO HEX`: what is written of the password in a file with these bytes,
-//!   or that there is none.
+//! - `keytab REALM ITERATIONS HEX`: what is written for the keytab with these bytes, its lines joined, and a line for
+//!   each entry that is skipped; or its fault.
+//! - `cut REALM HEX`: the results of its proper prefixes, each after the count of those prefixes and their lengths.
+//! - `many REALM COUNT`: for a keytab of COUNT principals, how many have a stanza, and a line for each entry that is
+//!   skipped.
+//! - `password REALM NAME ITERATIONS KVNO HEX`: what is written for the password in a file with these bytes, or that
+//!   there is none.
 //! - `-` is for no bytes.
-//! - A line that begins with `#`, or is empty, is passed on.
+//! - A line that begins with `#`, or is empty, is copied.
 #![tactic(auto)]
 
 mod keytabs;

@@ -1,4 +1,4 @@
-//! What is written of passwords.
+//! What is written for passwords.
 ghost use Rattle.std.specs.Prelude.{◌≤◌};
 
 use crate::words::{behind, bytes, count, joined, said};
@@ -8,7 +8,7 @@ use chpw_rules::Name;
 use std::alloc::Global;
 use std::io::{self, Error, ErrorKind};
 
-// What is asked of a password.
+// The options of the command.
 fn options<'a>(
     realm: &'a str,
     name: &'a str,
@@ -29,7 +29,7 @@ fn options<'a>(
     })
 }
 
-/// What comes of the password in a file.
+/// The result of the password in a file.
 pub fn written(alloc: Global, rest: &str) -> io::Result<String> {
     let mut words = rest.split(' ');
     let realm = words.next().unwrap_or("");

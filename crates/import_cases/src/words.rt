@@ -1,4 +1,4 @@
-//! The words of a case, and what is shown of a text.
+//! The words of a case, and how texts are shown.
 ghost use Rattle.std.specs.Prelude.{◌≤◌, IfOk};
 
 use chpw_import::KeysFault;
@@ -22,7 +22,7 @@ pub fn count(word: &str) -> io::Result<u32>
     }
 }
 
-/// What a fault says. Want of memory ends the program.
+/// The words of a fault. Want of memory ends the program.
 pub fn said(alloc: Global, fault: KeysFault<'_>) -> io::Result<String> {
     match fault {
         KeysFault::Memory => Err(Error::from(ErrorKind::OutOfMemory)),
@@ -30,7 +30,7 @@ pub fn said(alloc: Global, fault: KeysFault<'_>) -> io::Result<String> {
     }
 }
 
-/// The lines of a text with a space between them; `nothing` where there is none.
+/// The lines of a text with a space between them; `nothing` if there is none.
 pub fn joined(alloc: Global, text: &[u8]) -> Result<String, AllocError> {
     let text = str::from_utf8(text).unwrap_or("no UTF-8");
     let mut all = String::new(alloc);
@@ -49,7 +49,7 @@ pub fn joined(alloc: Global, text: &[u8]) -> Result<String, AllocError> {
     Ok(all)
 }
 
-/// A text with each of these lines behind it.
+/// A text followed by each of these lines.
 pub fn behind(text: String, lines: &[u8]) -> Result<String, AllocError> {
     let mut text = text;
     for line in str::from_utf8(lines).unwrap_or("no UTF-8").lines() {

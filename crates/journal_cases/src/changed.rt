@@ -9,8 +9,8 @@ use chpw_table::{KeyRow, Table};
 use std::alloc::{AllocError, Global};
 use test_realm::name;
 
-/// Adds what restoring a journal gives with this change at each of its places, and what of alice's keys is
-/// not as it was written then. Her four newest keys are kept.
+/// Adds what restoring a journal gives with this change at each of its places, and what of alice's keys differs from
+/// what was written. Her four newest keys are kept.
 pub fn show_changed(
     alloc: Global,
     text: &mut String,
@@ -72,7 +72,7 @@ fn show_place(
     }
 }
 
-/// Adds what restoring this journal gives, and what of alice's keys is not as in that table.
+/// Adds what restoring this journal gives, and what of alice's keys differs from that table.
 fn show_compared(
     alloc: Global,
     text: &mut String,
@@ -99,7 +99,7 @@ fn show_both(
     show_difference(alloc, text, written, &restored.table)
 }
 
-/// Adds the first of alice's keys that two tables hold with one kvno and in another form.
+/// Adds the first of alice's keys that two tables hold with one kvno and different contents.
 fn show_difference(
     alloc: Global,
     text: &mut String,
@@ -122,7 +122,7 @@ fn show_other_key(text: &mut String, ones: &[KeyRow], others: &[KeyRow]) -> Resu
     Ok(())
 }
 
-/// What isn't the same in two keys of one kvno.
+/// What differs between two keys of one kvno.
 fn other_part(one: &KeyRow, other: &KeyRow) -> Option<&'static str> {
     if one.kvno != other.kvno {
         None

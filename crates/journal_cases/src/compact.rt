@@ -6,7 +6,7 @@ use crate::restoring::show_bytes;
 use chpw_journal::{Restored, compact_journal, restore};
 use std::alloc::Global;
 
-/// Adds the bytes of the compact journal that leads to what these pieces lead to, and what restoring it gives.
+/// Adds the bytes of the compact journal for the table that these pieces lead to, and what restoring it gives.
 pub fn show_compact(alloc: Global, text: &mut String, pieces: &str) -> Result<(), Refusal> {
     let journal = journal_of(alloc, pieces)?;
     let mut reader = journal.as_slice();

@@ -1,4 +1,4 @@
-//! A journal's sink over a file, whose disk may take nothing.
+//! A journal's sink over a file, whose disk may fail.
 use crate::refusal::Refusal;
 use chpw_journal::FileSink;
 use chpw_table::JournalSink;
@@ -10,8 +10,8 @@ use std::io::{self, Error, ErrorKind, Write};
 /// The length of a record.
 const RECORD: usize = 66;
 
-/// Adds what comes of a record that is appended to a file which takes bytes in this way, where they are put
-/// on the disk (`synced`), or can't be (`not synced`).
+/// Adds the result of appending a record to a file that takes bytes in this way, and is then synced (`synced`) or can't
+/// be (`not synced`).
 pub fn show_appended(
     alloc: Global,
     text: &mut String,
@@ -42,7 +42,7 @@ fn told(sink: &mut FileSink<Disk>) -> &'static str {
     }
 }
 
-/// A file, and whether what it takes is put on the disk.
+/// A file, and whether what it takes can be synced.
 #[derive(Drop)]
 struct Disk {
     taker: Taker,

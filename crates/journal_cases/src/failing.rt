@@ -14,8 +14,8 @@ use test_realm::{NOW, name};
 /// The length of a record of alice.
 const RECORD: usize = 66;
 
-/// Adds what is answered to the changes of a case, `NAME PASSWORD, ..`, where `raise COUNT` may stand too,
-/// and restored after them.
+/// Adds the answers to the changes of a case, `NAME PASSWORD, ..`, among which `raise COUNT` may stand, and what is
+/// restored after them.
 pub fn show_decided(
     alloc: Global,
     text: &mut String,
@@ -73,7 +73,7 @@ fn show_answers(
     Ok(())
 }
 
-/// Adds the same of changes of alice, where an append fails before each byte of their journal in turn.
+/// Adds the answers to changes of alice, where an append fails before each byte of their journal in turn.
 pub fn show_each_failed(alloc: Global, text: &mut String, changes: &str) -> Result<(), Refusal> {
     let mut census = Census::new(alloc);
     match add_each_failed(alloc, &mut census, changes) {
@@ -92,8 +92,8 @@ fn add_each_failed(alloc: Global, census: &mut Census, changes: &str) -> Result<
     Ok(())
 }
 
-/// Adds what comes of a journal with room for so many bytes, whose append fails that would write the byte at
-/// this place.
+/// Adds the result for a journal with room for this many bytes, whose append fails that would write the byte at this
+/// place.
 fn show_failed(
     alloc: Global,
     text: &mut String,
@@ -111,7 +111,7 @@ fn show_failed(
     shown
 }
 
-/// `of N bytes`, and `, append N fails and keeps N` behind it where one does.
+/// `of N bytes`, and then `, append N fails and keeps N` if one does.
 fn sink_of(alloc: Global, words: &str) -> Result<MemorySink, Refusal> {
     let Some((size, choice)) = words.split_once(" bytes") else {
         return Err(Refusal::NoSuchCase);
@@ -144,8 +144,8 @@ fn choice_of(words: &str) -> Result<Option<(u32, usize)>, Refusal> {
     }
 }
 
-/// The request of a principal for a password of its own: the password of this number has keys of as
-/// many such bytes, and 161 is that of the keys held at the start.
+/// A principal's request for a password of its own: the password of this number has keys of that byte throughout, and
+/// 161 is that of the keys held at the start.
 fn request(alloc: Global, change: &str, cusec: u32) -> Result<Opened, Refusal> {
     let Some((client, password)) = change.split_once(' ') else {
         return Err(Refusal::NoSuchCase);

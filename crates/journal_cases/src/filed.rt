@@ -9,11 +9,11 @@ use std::alloc::{AllocError, Global};
 use std::fs::{self, File, Files};
 use std::os::unix::fs::PermissionsExt;
 
-/// Where the journal stands.
+/// The journal's file.
 const SCRATCH: &str = "scratch-journal";
 
-/// Adds what comes of a journal with these pieces as a file, of which there is none with `no file`: `open`,
-/// `twice`, `unsynced`, or `append PIECES`.
+/// Adds the result for a journal with these pieces as a file, of which there is none with `no file`: `open`, `twice`,
+/// `unsynced`, or `append PIECES`.
 pub fn show_filed<R: Files<File = File>>(
     rt: &R,
     alloc: Global,
@@ -93,7 +93,7 @@ fn show_fault(text: &mut String, fault: OpenFault) -> Result<(), AllocError> {
     }
 }
 
-/// Adds the same where the file's folder can't be put on the disk.
+/// Adds what opening gives if the file's directory can't be synced.
 fn show_unsynced<R: Files<File = File>>(
     rt: &R,
     alloc: Global,
@@ -106,8 +106,7 @@ fn show_unsynced<R: Files<File = File>>(
     show_opened(&unsynced, alloc, text)
 }
 
-/// Adds whether the file was there, the mode of one that wasn't, the versions in the table, and where a torn
-/// tail was cut off.
+/// Adds whether the file existed, the mode of a new one, the versions in the table, and where a torn tail was cut off.
 fn show_journal<R: Files<File = File>>(
     rt: &R,
     alloc: Global,
@@ -153,8 +152,8 @@ fn append<R: Files<File = File>>(rt: &R, alloc: Global, more: &[u8]) -> Result<(
     }
 }
 
-/// Adds whether the file was there when it was locked, and what opening it gives beside the locked file,
-/// beside the journal restored from it, and after both.
+/// Adds whether the file existed when it was locked, and what opening it gives beside the locked file, beside the
+/// journal restored from it, and after both.
 fn show_twice<R: Files<File = File>>(
     rt: &R,
     alloc: Global,
@@ -167,7 +166,7 @@ fn show_twice<R: Files<File = File>>(
     show_next(rt, alloc, text)
 }
 
-/// Adds whether the file was there when it was locked, and what opening it gives beside it.
+/// Adds whether the file existed when it was locked, and what opening it gives beside it.
 fn shown_locked<R: Files<File = File>>(
     rt: &R,
     alloc: Global,

@@ -20,9 +20,9 @@ fn add_pieces(alloc: Global, journal: &mut Vec<u8>, pieces: &str) -> Result<(), 
     Ok(())
 }
 
-/// Adds a piece: `nothing`; `NAME KVNO`, the record of a change, or `raise COUNT`, that of a raise, with
-/// ` kind K` or ` length L` behind it where that is another; `NAME KVNO to KVNO`, a record for each
-/// version; `first N of` before a record, of which only so many bytes are there; `bytes DIGITS`, these bytes.
+/// Adds a piece: `nothing`; `NAME KVNO`, the record of a change, or `raise COUNT`, that of a raise, followed by ` kind
+/// K` or ` length L` if that is another; `NAME KVNO to KVNO`, a record for each version; `first N of` before a record,
+/// of which only N bytes are there; `bytes DIGITS`, these bytes.
 fn add_piece(alloc: Global, journal: &mut Vec<u8>, piece: &str) -> Result<(), Refusal> {
     if let Some((first, last)) = piece.split_once(" to ") {
         return add_records(alloc, journal, first, last);
@@ -44,7 +44,7 @@ fn add_bytes(alloc: Global, journal: &mut Vec<u8>, digits: &str) -> Result<(), R
     }
 }
 
-/// Adds the front of a record, `N of` and the record.
+/// Adds the beginning of a record, `N of` and the record.
 fn add_front(alloc: Global, journal: &mut Vec<u8>, words: &str) -> Result<(), Refusal> {
     let Some((count, record)) = words.split_once(" of ") else {
         return Err(Refusal::NoSuchCase);
@@ -74,7 +74,7 @@ fn add_records(
     Ok(())
 }
 
-/// Adds a record of `raise` or of a name, and of the words behind it.
+/// Adds a record of `raise` or of a name, and of the words after it.
 fn add_record(alloc: Global, journal: &mut Vec<u8>, what: &str, rest: &str) -> Result<(), Refusal> {
     let (figure, change) = rest.split_once(' ').unwrap_or((rest, ""));
     let figure = number(figure)?;

@@ -1,10 +1,9 @@
-//! Cases of chpw_journal, a line each on standard input, with what comes of each on standard output.
+//! Cases of chpw_journal, a line each on standard input, with the result of each on standard output.
 //!
-//! A line is a journal, its pieces with commas between: it is restored onto a table of alice and
-//! bob/admin, who have a key of kvno 1 each. Before the pieces, and `: `, may stand what is done with
-//! them; a line that begins with `sink` has changes and raises, decided over a journal in memory, and one
-//! that begins with `disk` a file that takes bytes so. README.md has the forms. A line that begins with
-//! `#`, or is empty, is passed on.
+//! A line is a journal, its pieces with commas between: it is restored onto a table of alice and bob/admin, who have a
+//! key of kvno 1 each. Before the pieces, and `: `, may stand what is done with them; a line that begins with `sink`
+//! has changes and raises, decided over a journal in memory, and one that begins with `disk` a file that takes bytes in
+//! this way. README.md lists the forms. A line that begins with `#`, or is empty, is copied.
 #![tactic(auto)]
 
 mod changed;

@@ -8,8 +8,8 @@ use test_realm::name;
 /// The iteration count of the configuration.
 const ITERATIONS: u32 = 4096;
 
-/// Adds both principals and the newest versions of their keys in a table, and its iteration count where that
-/// is not the configuration's.
+/// Adds both principals and the newest versions of their keys in a table, and its iteration count if it is not the
+/// configuration's.
 pub fn show_versions(alloc: Global, text: &mut String, table: &Table) -> Result<(), Refusal> {
     let alice = kvno(alloc, table, "alice")?;
     let bob = kvno(alloc, table, "bob/admin")?;
@@ -28,12 +28,12 @@ fn kvno(alloc: Global, table: &Table, text: &str) -> Result<u32, Refusal> {
     }
 }
 
-/// A table of it, before any change.
+/// A table of the realm, before any change.
 pub fn table(alloc: Global) -> Result<Table, Refusal> {
     test_realm::table(alloc, principals(alloc)?, ITERATIONS, 100).map_err(Refusal::from)
 }
 
-/// The same, with a policy by which the four newest keys of a name are kept.
+/// That table, with a policy by which the four newest keys of a name are kept.
 pub fn deep_table(alloc: Global) -> Result<Table, Refusal> {
     let mut config = test_realm::config(alloc, principals(alloc)?, ITERATIONS, 100)?;
     config.policy.depth = 4;

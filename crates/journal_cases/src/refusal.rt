@@ -6,7 +6,7 @@ use std::io;
 /// Why a case has no answer.
 #[derive(Clone, Copy, Drop)]
 pub enum Refusal {
-    /// It names a piece that there isn't.
+    /// It names a piece that doesn't exist.
     NoSuchCase,
     /// The scratch file can't be written, read or opened.
     File,
@@ -15,7 +15,7 @@ pub enum Refusal {
 }
 
 impl Refusal {
-    /// The same in words.
+    /// The reason in words.
     pub fn text(self) -> &'static str {
         match self {
             Refusal::NoSuchCase => "there is no such case",

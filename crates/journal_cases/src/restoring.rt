@@ -19,7 +19,7 @@ pub fn show_bytes(alloc: Global, text: &mut String, mut journal: &[u8]) -> Resul
     show_reader(alloc, text, &mut journal)
 }
 
-/// Adds what restoring it gives where it is read in this way, and through a buffer as a file is.
+/// Adds what restoring it gives if it is read in this way, through a buffer as a file is.
 pub fn show_read(alloc: Global, text: &mut String, way: &str, pieces: &str) -> Result<(), Refusal> {
     let journal = journal_of(alloc, pieces)?;
     show_buffered(alloc, text, Way::of(way), &journal)
@@ -50,7 +50,7 @@ fn show_reader<R: Read>(alloc: Global, text: &mut String, reader: &mut R) -> Res
     }
 }
 
-/// Adds what restoring it gives where a read fails before each of its bytes in turn, and at its end.
+/// Adds what restoring it gives if a read fails before each of its bytes in turn, and at its end.
 pub fn show_failing(
     alloc: Global,
     text: &mut String,

@@ -1,13 +1,13 @@
-//! A file system whose folders can't be put on the disk.
+//! A file system whose directories can't be synced.
 use std::alloc::Allocator;
 use std::fs::{File, Files, Metadata, OpenOptions};
 use std::io::{self, Error, ErrorKind};
 
-/// What stands for a folder: it can be opened, and not synced.
+/// Stands for a directory: it can be opened, and not synced.
 const UNSYNCED: &str = "/dev/null";
 
-/// The file system of `inner`, but that what is opened at `folder` can't be synced. It is for calls that open
-/// and look at files alone.
+/// The file system of `inner`, except that what is opened at `folder` can't be synced. It is for calls that only open
+/// and examine files.
 #[derive(Drop)]
 pub struct Unsynced<'a, R: Files> {
     pub inner: &'a R,

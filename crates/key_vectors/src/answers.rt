@@ -1,4 +1,4 @@
-//! The answers, a function a case. Byte strings are written in hexadecimal.
+//! The answers, a function for each kind of case. Byte strings are written in hexadecimal.
 
 ghost use Rattle.std.specs.Prelude.{◌≤◌, ◌↔◌, IsTrue, IfOk};
 

@@ -1,8 +1,8 @@
 //! Answers cases of the ciphers, hashes and keys of `krb_aes` and `krb_keys`.
 //!
-//! A case is a line of words on standard input (see README); its answer is the line of the same
-//! number on standard output. An empty line and one that begins with `#` are printed as they are. A
-//! case that can't be answered prints `refused: ` and why, and the next line is read.
+//! A case is a line of words on standard input, listed in README.md; its answer is the line of the same number on
+//! standard output. An empty line and one that begins with `#` are copied. A case that can't be answered prints
+//! `refused: ` and the reason, and the next line is read.
 #![tactic(auto)]
 
 mod answers;

@@ -1,9 +1,8 @@
 //! Cases of krb_keytab, a line each on standard input, with the answer of each on standard output.
 //!
 //! - `read HEX`: the entries of the keytab with these bytes, or its fault.
-//! - `cut HEX`: what is read of each of its proper prefixes, behind the count of those prefixes and their
-//!   lengths.
-//! - A line that begins with `#`, or is empty, is passed on.
+//! - `cut HEX`: what is read of each of its proper prefixes, after the count of those prefixes and their lengths.
+//! - A line that begins with `#`, or is empty, is copied.
 #![tactic(auto)]
 
 mod reading;

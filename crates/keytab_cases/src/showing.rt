@@ -14,7 +14,7 @@ pub fn fault_text(alloc: Global, fault: KeytabFault) -> Result<String, AllocErro
     }
 }
 
-/// The entries, each behind its record's place.
+/// The entries, each after its record's place.
 pub fn entries_text(alloc: Global, entries: &[KeytabEntry]) -> Result<String, AllocError> {
     if entries.is_empty() {
         return String::from_str(alloc, "no entries");

@@ -84,9 +84,9 @@ pub fn write_ap_rep(alloc: Global, value: &ApRep) -> Result<Vec<u8>, AllocError>
 /// The sealed part of an AP-REP (RFC 4120 section 5.5.2).
 #[derive(Drop)]
 pub struct EncApRepPart {
-    /// That of the authenticator.
+    /// The authenticator's.
     pub ctime: KerberosTime,
-    /// That of the authenticator.
+    /// The authenticator's.
     pub cusec: Microseconds,
     pub subkey: Option<EncryptionKey>,
     pub seq_number: Option<SeqNumber>,

@@ -20,12 +20,12 @@ const FIRST_FURTHER: u8 = 0xa3;
 
 const LAST_FURTHER: u8 = 0xbe;
 
-/// The new password, and whose it is (RFC 3244 section 2).
-/// Further fields, which later versions may add, are let pass and not kept.
+/// The new password, and whose it is (RFC 3244 section 2). Further fields, which later versions may add, are skipped
+/// and not kept.
 #[derive(Drop)]
 pub struct ChangePasswdData {
     pub newpasswd: OctetString,
-    /// Absent: the client.
+    /// If absent, the client.
     pub targname: Option<PrincipalName>,
     pub targrealm: Option<GeneralString>,
 }

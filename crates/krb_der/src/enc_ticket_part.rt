@@ -86,7 +86,7 @@ pub struct EncTicketPart {
     pub cname: PrincipalName,
     pub transited: TransitedEncoding,
     pub authtime: KerberosTime,
-    /// Where absent, `authtime`.
+    /// If absent, `authtime`.
     pub starttime: Option<KerberosTime>,
     pub endtime: KerberosTime,
     pub renew_till: Option<KerberosTime>,

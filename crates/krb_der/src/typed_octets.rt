@@ -1,4 +1,4 @@
-//! What five records have in common: bytes, and the number of their type.
+//! What five records share: bytes, and the number of their type.
 
 use krb_elements::{OctetString, Required, Sequence};
 

@@ -1,11 +1,11 @@
 //! The fields of a record: a list of fields is a type, by which they are read and put alike.
 //!
-//! A field's number is a parameter of its type. A parameter can't be required to be small, so the
-//! number is taken modulo 32, in reading, in putting and in their clauses alike. A tag of one byte
-//! has the numbers 0 to 30 (X.690 section 8.1.2.2).
+//! A field's number is a parameter of its type. A parameter can't be required to be small, so the number is taken
+//! modulo 32, in reading, in putting and in their clauses alike. A tag of one byte has the numbers 0 to 30 (X.690
+//! section 8.1.2.2).
 //!
-//! Lists of up to four fields, or of up to four lists, are written here, as tuples; a longer list
-//! is one of lists, whose grouping says nothing about the record.
+//! Lists of up to four fields, or of up to four lists, are tuples; a longer list is one of lists, whose grouping has no
+//! influence on the record.
 
 ghost use Rattle.std.specs.Prelude.{◌≡◌, ◌+◌, ◌%◌, option_map};
 ghost use Rattle.krb_elements.specs.Shapes.{Shape, Value, required, optional, tagged};
@@ -21,7 +21,7 @@ use crate::tag::CONTEXT;
 use crate::writing::{Write, put_value};
 use std::alloc::{AllocError, Global};
 
-/// Fields that stand one after the other, in front of what follows them.
+/// Fields that follow one another, before what comes after them.
 pub trait Fields<'a> {
     ghost use Rattle.krb_elements.specs.Shapes.{Shape, Value};
 
@@ -31,7 +31,7 @@ pub trait Fields<'a> {
     /// References to the values of the fields.
     type Borrowed: Drop;
 
-    /// Which elements spell the fields and what follows.
+    /// Which elements spell the fields and what follows them.
     ghost before: { Shape → Shape };
 
     /// The value of the fields and of what follows.
@@ -174,7 +174,7 @@ impl<'a, A: Fields<'a>, B: Fields<'a>, C: Fields<'a>, D: Fields<'a>> Fields<'a> 
     }
 }
 
-/// The element in the element of a context tag.
+/// The element inside the element of a context tag.
 #[tactic(auto, unfolding(crate::specs::Reading::reads))]
 fn read_tagged<T: Read>(alloc: Global, region: &mut Region<'_>, tag: u8) -> Result<T, ReadError>
     ensures { Gives (λ x. (T.value x, region.new)) result (reads (tagged tag T.shape) region.old) }
@@ -185,7 +185,7 @@ fn read_tagged<T: Read>(alloc: Global, region: &mut Region<'_>, tag: u8) -> Resu
     Ok(value)
 }
 
-/// An element that is there if its context tag is next.
+/// The element inside that of a context tag, if that tag is next.
 fn read_optional<T: Read>(
     alloc: Global,
     region: &mut Region<'_>,

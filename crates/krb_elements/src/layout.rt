@@ -1,4 +1,4 @@
-//! The element that a record's fields stand in: a SEQUENCE, or one under an application tag.
+//! The element that holds a record's fields: a SEQUENCE, or one under an application tag.
 
 ghost use Rattle.std.specs.Prelude.{◌≡◌, ◌%◌};
 ghost use Rattle.krb_elements.specs.Shapes.{Shape, Value, nothing, further, sequence, extensible_sequence, application};
@@ -45,8 +45,8 @@ pub trait Layout<'a> {
 /// A SEQUENCE of fields.
 pub struct Sequence<F>(F);
 
-/// A SEQUENCE of fields and of further elements, whose tags are from `LOW` to `HIGH` and whose
-/// contents may be anything. They are read over, and none is written.
+/// A SEQUENCE of fields and of further elements, whose tags are from `LOW` to `HIGH` and whose contents may be
+/// anything. They are skipped in reading, and none is written.
 pub struct ExtensibleSequence<const LOW: u8, const HIGH: u8, F>(F);
 
 /// A SEQUENCE of fields under the application tag of its number, which is taken modulo 32.

@@ -1,9 +1,8 @@
-//! Elements of DER (X.690) as messages of Kerberos take them (RFC 4120 sections 5.2 and 5.2.8): how
-//! numbers, strings, flags, times, lists and the fields of a record are read, written and measured,
-//! and which bytes spell which value.
+//! Elements of DER (X.690) in Kerberos messages (RFC 4120 sections 5.2 and 5.2.8): how numbers, strings, flags, times,
+//! lists and the fields of a record are read, written and measured, and which bytes spell which value.
 //!
-//! A record of the crates above is a list of fields (`Application<14, (Required<0, i32>, ..)>`), from
-//! which it is read, written and measured alike.
+//! A record of the crates above is a list of fields (`Application<14, (Required<0, i32>, ..)>`), by which it is read,
+//! written and measured alike.
 #![tactic(auto)]
 
 mod bits;

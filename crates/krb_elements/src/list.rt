@@ -31,18 +31,21 @@ impl<T> Model for SequenceOf<T> {
 }
 
 impl<T> SequenceOf<T> {
+    /// The elements of this vector, which is kept.
     pub fn of(items: Vec<T>) -> SequenceOf<T>
         ensures value { result ≡ items.items }
     {
         SequenceOf { items }
     }
 
+    /// The elements in order.
     pub fn as_slice(&self) -> &[T]
         ensures value { result.now ≡ self.now }
     {
         &self.items
     }
 
+    /// The vector of the elements.
     pub fn into_vec(self) -> Vec<T>
         ensures value { result.items ≡ self }
     {

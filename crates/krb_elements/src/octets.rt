@@ -38,18 +38,21 @@ pub type OctetString = Bytes<OCTET_STRING>;
 pub type GeneralString = Bytes<GENERAL_STRING>;
 
 impl<const TAG: u8> Bytes<TAG> {
+    /// The bytes of this vector, which is kept.
     pub fn of(bytes: Vec<u8>) -> Bytes<TAG>
         ensures value { result ≡ bytes.items }
     {
         Bytes { bytes }
     }
 
+    /// The bytes in order.
     pub fn as_slice(&self) -> &[u8]
         ensures value { result.now ≡ self.now }
     {
         &self.bytes
     }
 
+    /// The vector of the bytes.
     pub fn into_vec(self) -> Vec<u8>
         ensures value { result.items ≡ self.entry }
     {

@@ -25,7 +25,7 @@ pub fn read_value<T: Read>(alloc: Global, region: &mut Region<'_>) -> Result<T, 
     T::read(alloc, region)
 }
 
-/// The same, by the one clause that says all.
+/// `read_all`, by one clause that implies its three.
 #[tactic(auto, unfolding(crate::specs::Reading::reads_all))]
 fn whole<T: Read>(alloc: Global, text: &[u8]) -> Result<T, ReadError>
     ensures { Gives T.value result (reads_all T.shape text.now) }
@@ -40,9 +40,9 @@ fn whole<T: Read>(alloc: Global, text: &[u8]) -> Result<T, ReadError>
 ///
 /// `Memory` where a growth is refused.
 pub fn read_all<T: Read>(alloc: Global, text: &[u8]) -> Result<T, ReadError>
-    // What is read is spelled so.
+    // What is read is spelled by the text.
     ensures value { IfOk result (λ x. Spells T.shape text.now (T.value x)) }
-    // What is spelled so is read, unless memory runs out.
+    // What the text spells is read, unless memory runs out.
     ensures found { (v : Value T.shape) → Spells T.shape text.now v → Gives T.value result (Ok v) }
     // Which fault it is.
     ensures first { Gives T.value result (reads_all T.shape text.now) }

@@ -38,7 +38,7 @@ pub fn put_each<T: Write, S: Sink>(sink: &mut S, items: &[T]) -> Result<(), Allo
     Ok(())
 }
 
-/// The one text of a value that fits. An error where a growth is refused.
+/// The one text of a value that fits (see [`fits`]). An error where a growth is refused.
 pub fn write_all<T: Write>(alloc: Global, value: &T) -> Result<Vec<u8>, AllocError>
     ensures { IfOk result (λ v. v.items ≡ text T.shape (T.value value.now)) }
 {

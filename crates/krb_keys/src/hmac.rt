@@ -37,7 +37,7 @@ fn key_block(key: &[u8]) -> [u8; HASH_BLOCK_LEN]
     }
 }
 
-// The hash that has taken in `block`, each byte xored with `pad`.
+// The hash state after `block`, each byte XORed with `pad`.
 fn padded(block: &[u8; HASH_BLOCK_LEN], pad: u8) -> Sha1
     ensures { Holds result (map (λ b. bit_xor b pad) block.now) }
 {
@@ -95,7 +95,7 @@ impl KeyedHmac {
         self.outer_hash(first)
     }
 
-    // The outer hash of what `inner` holds.
+    // The outer hash over the digest of `inner`.
     fn outer_hash(&self, inner: Sha1) -> [u8; HMAC_LEN]
         ensures { (key text : List ℕ) → IsKeyed self.now key
             → Holds inner (padded_key 0x36 key ++ text) → result ≡ hmac key text }

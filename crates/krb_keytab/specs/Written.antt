@@ -5,7 +5,7 @@ use Rattle.std.specs.Int.{cast_unsigned, to_be_bytes, w8, w16, w32}
 use Rattle.std.specs.Int.RustNames.{FitsSigned}
 use Rattle.krb_keytab.specs.Entries.{Entry, number_at, kvno_of}
 
--- bytes behind their count
+-- bytes after their count
 abbrev pub counted : List ℕ → List ℕ
 counted bytes = to_be_bytes w16 (length bytes) ++ bytes
 
@@ -53,7 +53,7 @@ entries_of (a_hole bytes ∷ rs) = entries_of rs
 abbrev pub IsShort : List ℕ → Type 0
 IsShort bytes = length bytes < 2 ^ 16
 
--- what has such fields: the kvno is the one that stands there
+-- what can be written so: the kvno is the one that these fields give
 pub record Fits (e : Entry) (short : ℕ) (behind_key : List ℕ) : Type 0 where
   pub realm : IsShort e.realm
   pub count : length e.components < 2 ^ 16
@@ -66,7 +66,7 @@ pub record Fits (e : Entry) (short : ℕ) (behind_key : List ℕ) : Type 0 where
   pub kvno : kvno_of short (number_at w32 behind_key) ≡ e.kvno
   pub size : length (fields e short behind_key) < 2 ^ 31
 
--- a record that stands at this place
+-- a record that begins at this place
 abbrev pub StandsAt : ℕ → Record → Type 0
 StandsAt place (an_entry e short behind_key) = (e.place ≡ place) × Fits e short behind_key
 StandsAt place (a_hole bytes) = (0 < length bytes) × (length bytes < 2 ^ 31)

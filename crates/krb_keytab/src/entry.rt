@@ -17,7 +17,7 @@ pub struct KeytabEntry {
     /// The principal's components, without the realm.
     pub components: Vec<Vec<u8>>,
     pub name_type: u32,
-    /// When the key was put there, in seconds since 1970-01-01T00:00:00Z.
+    /// When the key was added, in seconds since 1970-01-01T00:00:00Z.
     pub timestamp: u32,
     pub kvno: u32,
     /// The encryption type, a signed number: private ones are below 0 (RFC 3961 section 8).
@@ -25,7 +25,7 @@ pub struct KeytabEntry {
     pub key: Vec<u8>,
 }
 
-/// The entry of a record with these bytes behind its length, at this place of the file.
+/// The entry of a record with these bytes after its length, at this place of the file.
 #[tactic(auto, unfolding(crate::specs::Entries::entry_at))]
 pub(crate) fn read_entry(
     alloc: Global,
@@ -54,7 +54,7 @@ pub(crate) fn read_entry(
     })
 }
 
-/// The kvno in 32 bits behind the key, where it is there and not zero; else the one in 8 bits.
+/// The kvno in 32 bits after the key, if it is present and not zero; otherwise the one in 8 bits.
 #[tactic(auto, unfolding(crate::specs::Entries::number_at))]
 fn full_kvno(short_kvno: u8, behind_key: &[u8]) -> u32
     ensures value { result ≡ kvno_of short_kvno (number_at w32 behind_key.now) }

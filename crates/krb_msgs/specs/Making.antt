@@ -1,5 +1,5 @@
--- The messages that are made (RFC 4120 sections 5.3, 5.5, 5.7, 5.9), and their parts. A text that is
--- sealed is that of its record.
+-- The messages that are made (RFC 4120 sections 5.3, 5.5, 5.7, 5.9), and their parts. The text that is sealed is that
+-- of the part's record.
 use Rattle.std.specs.Prelude.{ℕ, ℤ, List, [], ◌∷◌, Some, None}
 use Rattle.std.specs.List.{flat_map}
 use Rattle.std.specs.Int.{to_le_bytes, w32}
@@ -75,7 +75,7 @@ ap_rep_of part session confounder = record {
       (text enc_ap_rep_part (enc_ap_rep_part_value part));
 }
 
--- the address of both ends (section 7.5.3): the service listens on loopback alone
+-- the address of both ends (section 7.5.3): the service listens on loopback only
 abbrev pub loopback : HostAddress
 loopback = record { addr_type = protocol.addr_type_ipv4; address = 127 ∷ 0 ∷ 0 ∷ 1 ∷ [] }
 

@@ -1,4 +1,4 @@
--- A message opens to one answer: what a relation says of an answer leaves no other.
+-- A message opens to one answer: a relation allows one answer only.
 use Rattle.std.specs.Prelude.{◌≡◌, ℕ, List, Option}
 use Rattle.std.specs.List.{AllByRecursion}
 use Rattle.krb_keys.specs.Keys.{IsProtocolKey}

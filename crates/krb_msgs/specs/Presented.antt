@@ -1,5 +1,4 @@
--- What an AP-REQ shows in the clear (RFC 4120 section 3.2.3): the request, and the service key of
--- its ticket.
+-- The part of an AP-REQ that is in the clear (RFC 4120 section 3.2.3): the request, and the service key of its ticket.
 use Rattle.std.specs.Prelude.{◌≡◌, ◌⊎◌, true, ℕ, ℤ, pos, List, [], ◌∷◌, codes, Some, Result}
 use Rattle.krb_keys.specs.declared.key.Key.{Key}
 use Rattle.krb_protocol.specs.Numbers as protocol

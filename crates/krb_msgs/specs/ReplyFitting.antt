@@ -1,4 +1,4 @@
--- What a service's reply is made of fits: what a caller needs of the makers' conditions.
+-- The parts of a service's reply fit, which meets the conditions of the makers.
 use Rattle.std.specs.Prelude.{◌≡◌, ◌≤◌, ◌<◌, ◌^◌, ℕ, ◌+◌, ℤ, pos, true, List, length}
 use Rattle.krb_elements.specs.Shapes.{Shape, Value, int32, kerberos_time, microseconds}
 use Rattle.krb_elements.specs.Texts.{fits, is_in_range, text}

@@ -22,7 +22,7 @@ pub struct ApOpened {
     pub cname: PrincipalName,
     /// The ticket's flags.
     pub flags: KerberosFlags,
-    /// When the ticket becomes valid: its starttime, or its authtime where that is absent.
+    /// When the ticket becomes valid: its starttime, or if that is absent its authtime.
     pub starts: KerberosTime,
     /// When the ticket expires.
     pub ends: KerberosTime,
@@ -40,8 +40,7 @@ pub struct ApOpened {
 
 /// Opens an AP-REQ for kadmin/changepw (RFC 4120 section 3.2.3).
 ///
-/// `peer` is an IPv4 address, high byte first. Of several faults the first in the order of
-/// [`ApFault`] is given.
+/// `peer` is an IPv4 address, high byte first. Of several faults the first in the order of [`ApFault`] is returned.
 pub fn open_ap(
     alloc: Global,
     realm: &[u8],

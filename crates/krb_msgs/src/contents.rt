@@ -1,4 +1,4 @@
-//! What messages are made of.
+//! The contents of messages.
 
 ghost use Rattle.std.specs.Prelude.{◌≡◌, IfOk};
 ghost use Rattle.krb_msgs.specs.Making.{loopback, priv_part_of, service_name, word_bytes};

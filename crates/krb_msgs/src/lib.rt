@@ -1,5 +1,5 @@
-//! The AP exchange, KRB-PRIV and KRB-ERROR (RFC 4120 sections 3.2, 3.5 and 5.9): requests and
-//! replies are opened, and messages made.
+//! The AP exchange, KRB-PRIV and KRB-ERROR (RFC 4120 sections 3.2, 3.5 and 5.9): opens requests and replies, and makes
+//! messages.
 #![tactic(auto)]
 
 mod accepting;

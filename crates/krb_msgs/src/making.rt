@@ -1,5 +1,5 @@
-//! Messages, made of their parts (RFC 4120 sections 3.2, 3.5, 5.3 and 5.9). A message is for
-//! Kerberos 5, of the message type that is its application number.
+//! Messages made from their parts (RFC 4120 sections 3.2, 3.5, 5.3 and 5.9). A message has pvno 5, and its application
+//! number as message type.
 
 ghost use Rattle.std.specs.Prelude.{◌≡◌, true, IfOk};
 ghost use Rattle.krb_elements.specs.Texts.{fits, text};
@@ -49,8 +49,8 @@ pub fn make_ticket(
     write_ticket(alloc, &ticket)
 }
 
-/// An AP-REQ of a ticket's text and this authenticator, sealed under the session key (RFC 4120
-/// section 5.5.1). `options` are all 32 bits, the first the highest.
+/// An AP-REQ with a ticket's text and this authenticator, sealed under the session key (RFC 4120 section 5.5.1).
+/// `options` are all 32 bits, the first the highest.
 pub fn make_ap_req(
     alloc: Global,
     ticket: &[u8],

@@ -20,13 +20,13 @@ use std::alloc::Global;
 pub struct Reply {
     /// The result code.
     pub code: u16,
-    /// The text behind it.
+    /// The text after it.
     pub text: OctetString,
     /// The error code of a KRB-ERROR.
     pub error: Option<i32>,
 }
 
-// The result code in the first two bytes, and the text behind it.
+// The result code in the first two bytes, and the text after it.
 fn said(alloc: Global, bytes: &[u8], error: Option<i32>) -> Result<Reply, OpenError<ReplyFault>>
     ensures { Answers (SaysCode bytes.now error) result }
 {
@@ -126,14 +126,13 @@ fn open_error(alloc: Global, bytes: &[u8]) -> Result<Reply, OpenError<ReplyFault
     }
 }
 
-/// Reads the reply to a request (RFC 3244 section 2): of the session key, the subkey, and the time
-/// and microseconds of its authenticator.
+/// Reads the reply to a request (RFC 3244 section 2), for its session key, subkey, and the time and microseconds of its
+/// authenticator.
 ///
-/// `ap_rep` is the AP-REP, and `tail` the KRB-PRIV behind it. Where `ap_rep` is empty, `tail` is a
-/// KRB-ERROR. Each message is checked in the order [`ReplyFault::Malformed`],
-/// [`ReplyFault::Mismatch`], [`ReplyFault::NotSealed`], then its sealed part
-/// [`ReplyFault::Malformed`], [`ReplyFault::Mismatch`], [`ReplyFault::NoCode`]. Sequence numbers
-/// aren't compared.
+/// `ap_rep` is the AP-REP, and `tail` the KRB-PRIV after it. If `ap_rep` is empty, `tail` is a KRB-ERROR. Each message
+/// is checked in the order [`ReplyFault::Malformed`], [`ReplyFault::Mismatch`], [`ReplyFault::NotSealed`], then its
+/// sealed part [`ReplyFault::Malformed`], [`ReplyFault::Mismatch`], [`ReplyFault::NoCode`]. Sequence numbers aren't
+/// compared.
 pub fn read_reply(
     alloc: Global,
     session: &Key,

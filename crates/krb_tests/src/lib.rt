@@ -1,5 +1,5 @@
-//! Tests of the Kerberos crates: what no clause says and what isn't text. Cases that are text lie in
-//! the programs of cases, as `der_cases`.
+//! Tests of the Kerberos crates: what no clause says and what isn't text. Cases that are text stand in the programs of
+//! cases, such as `der_cases`.
 #![tactic(auto)]
 
 #[cfg(test)]

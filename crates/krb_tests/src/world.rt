@@ -113,7 +113,7 @@ pub fn ticket_part(alloc: Global) -> Result<EncTicketPart, AllocError> {
     })
 }
 
-/// The same with all its fields.
+/// A ticket's sealed part with all its fields; `initial` is bit 9.
 pub fn whole_ticket_part(alloc: Global) -> Result<EncTicketPart, AllocError> {
     let mut addresses = Vec::new(alloc);
     addresses.push(local_host(alloc)?)?;

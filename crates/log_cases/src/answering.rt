@@ -12,7 +12,7 @@ use chpw_table::{LAST_SECOND, Moment};
 use krb_protocol::Refusal;
 use std::alloc::Global;
 
-/// What comes before what is told: when, at which worker, from whom.
+/// What comes before the result in a line: when, at which worker, from whom.
 #[derive(Clone, Copy, Drop)]
 struct Place {
     moment: Moment,
@@ -118,8 +118,8 @@ fn held(alloc: Global, words: &[&str]) -> Result<String, Fault> {
     line_of(alloc, write_held(alloc, moment, &held)?.as_slice())
 }
 
-// TIME@PEER ..: of each `+` where it has its line and else `-`, behind what is told before it; at last what is
-// left to tell.
+// TIME@PEER ..: for each `+` if it has its line and otherwise `-`, after the summary before it; finally the last
+// summary.
 fn limited(alloc: Global, words: &[&str]) -> Result<String, Fault> {
     let mut limit = Limit::new();
     let mut text = String::new(alloc);

@@ -1,5 +1,5 @@
-//! Cases of chpw_log, a line each on standard input; the line of the log that each makes is printed.
-//! README.md has their kinds.
+//! Cases of chpw_log, a line each on standard input; the line of the log that each makes is printed. README.md lists
+//! their kinds.
 #![tactic(auto)]
 
 mod answering;

@@ -23,7 +23,7 @@ pub fn opened(alloc: Global, client: &str, target: &str) -> Result<Opened, Fault
     })
 }
 
-// A principal, or `own` for none, or what a bad KRB-PRIV is.
+// A principal, or `own` for none, or the kind of a bad KRB-PRIV.
 fn body(alloc: Global, target: &str) -> Result<Body, Fault> {
     let target = match target {
         "bad-private" => return Ok(Body::BadPrivate),

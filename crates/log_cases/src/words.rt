@@ -43,7 +43,7 @@ pub fn octets(alloc: Global, word: &str) -> Result<[u8; 4], Fault> {
     Ok([*a, *b, *c, *d])
 }
 
-/// The texts that a refusal may have here.
+/// The texts that a refusal may have in these cases.
 pub fn text_of(word: &str) -> Result<&'static str, Fault> {
     match word {
         "malformed" => Ok("malformed"),

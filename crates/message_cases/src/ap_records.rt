@@ -9,10 +9,9 @@ use krb_keys::Key;
 use krb_msgs::ServiceKey;
 use std::alloc::{AllocError, Global};
 
-/// What an AP-REQ is made of, and the service keys that are held.
+/// What an AP-REQ is made from, and the service's keys.
 ///
-/// It is let go by `drop`, as a message is, which takes the prover one step in the place of one for each of
-/// its parts.
+/// It is freed by `drop`, as a message is, which takes the prover one step in place of one for each of its parts.
 #[derive(Drop)]
 pub struct Case {
     pub part: EncTicketPart,
@@ -130,7 +129,7 @@ fn subkey(alloc: Global, keytype: i32, value: &[u8]) -> Result<EncryptionKey, Al
     })
 }
 
-/// The service key that the ticket is sealed under, and those that are held.
+/// The service key that the ticket is sealed under, and the service's keys.
 fn change_service(case: &mut Case, how: &str) -> Result<(), Refusal> {
     match how {
         "seals under bytes 5b" => case.service = service_key(3, 0x5b),

@@ -129,7 +129,7 @@ fn shown_key(key: &Key) -> u8 {
     }
 }
 
-/// What an AP-REQ opens to.
+/// What an AP-REQ opens to, as text.
 fn told(alloc: Global, opened: Result<ApOpened, OpenError<ApFault>>) -> Result<String, Refusal> {
     match opened {
         Ok(opened) => Ok(shown(alloc, &opened)?),

@@ -1,8 +1,8 @@
 //! Cases of krb_msgs, a line each on standard input, with the answer of each on standard output.
 //!
-//! A line names a message of a small world, a colon, and what is changed in it, with commas
-//! between, as in `ap-req: message pvno 4, message use-session-key`. The message is made by the
-//! makers, changed and opened again. A line that begins with `#`, or is empty, is passed on.
+//! A line names a message of a small world, a colon, and what is changed in it, with commas between, as in `ap-req:
+//! message pvno 4, message use-session-key`. The message is made by the makers, changed and opened again. A line that
+//! begins with `#`, or is empty, is copied.
 #![tactic(auto)]
 
 mod ap_records;

@@ -1,4 +1,4 @@
-//! Sealed parts that the makers don't make.
+//! Sealed parts that the makers don't produce.
 
 use crate::refusal::Refusal;
 use crate::world::CONFOUNDER;
@@ -42,7 +42,7 @@ pub fn change_first(text: &mut [u8], byte: u8) {
     }
 }
 
-/// The same part with its cipher's first byte changed.
+/// The part with its cipher's first byte changed.
 pub fn forged(alloc: Global, part: &EncryptedData) -> Result<EncryptedData, AllocError> {
     let mut cipher = Vec::from_slice(alloc, part.cipher.as_slice())?;
     if let Some(first) = cipher.first_mut() {

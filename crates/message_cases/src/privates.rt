@@ -143,7 +143,7 @@ fn sealed_part(alloc: Global, part: &EncKrbPrivPart, how: &str) -> Result<Encryp
     }
 }
 
-/// What a KRB-PRIV opens to.
+/// What a KRB-PRIV opens to, as text.
 fn told(alloc: Global, opened: Result<Private, OpenError<PrivFault>>) -> Result<String, Refusal> {
     match opened {
         Ok(private) => Ok(shown(alloc, &private)?),

@@ -7,10 +7,10 @@ use thiserror::Error;
 /// Why a case has no answer.
 #[derive(Debug, Drop, Error)]
 pub enum Refusal {
-    /// It names a message or a change that there isn't.
+    /// It names a message or a change that doesn't exist.
     #[error("there is no such case")]
     NoSuchCase,
-    /// A record or a message is too long to be written, or isn't one that is read again.
+    /// A record or a message is too long to be written, or isn't read back.
     #[error("not a message")]
     NoMessage,
     /// Memory ran out.

@@ -22,9 +22,8 @@ struct Case<'a> {
     said: &'a [u8],
 }
 
-/// The answer to a reply with these changes: what is changed in the AP-REP begins with `ap-rep`, in
-/// what the client knows with `client`, in the result's bytes with `result`; the rest are those of
-/// a KRB-PRIV.
+/// The answer to a reply with these changes: changes in the AP-REP begin with `ap-rep`, in what the client knows with
+/// `client`, in the result's bytes with `result`; the others are in the KRB-PRIV.
 pub fn answer(alloc: Global, changes: &str) -> Result<String, Refusal> {
     let case = changed_case(changes);
     let head = made_ap_rep(alloc, changes)?;
@@ -177,7 +176,7 @@ fn written_error(alloc: Global, message: &KrbError) -> Result<Vec<u8>, Refusal> 
     Ok(write_krb_error(alloc, message)?)
 }
 
-/// What a reply says.
+/// What a reply says, as text.
 fn told(alloc: Global, reply: Result<Reply, OpenError<ReplyFault>>) -> Result<String, Refusal> {
     match reply {
         Ok(reply) => Ok(shown(alloc, &reply)?),

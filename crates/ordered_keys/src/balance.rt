@@ -1,11 +1,11 @@
-//! The sides of a node made even.
+//! Restoring the balance of a node.
 ghost use Rattle.std.specs.Prelude.{◌≡◌, ◌<◌, ◌≤◌, ◌+◌, ◌*◌, ◌^◌, ◌∷◌, ◌++◌, length};
 ghost use Rattle.ordered_keys.specs.Trees.{fork_keys, WereEven};
 
 use crate::tree::{Fork, KeyTree};
 use std::mem;
 
-// Evens the sides out after a change of one key in one of them. The count need not be right yet.
+// Restores the balance after a change of one key in one of the sides. The count need not be right yet.
 pub(crate) fn rebalanced<K: Drop>(fork: Box<Fork<K>>) -> KeyTree<K>
     requires few { length fork.value.left + length fork.value.right + 1 < 2 ^ 32 }
     requires were { WereEven (length fork.value.left) (length fork.value.right) }
@@ -21,9 +21,9 @@ pub(crate) fn rebalanced<K: Drop>(fork: Box<Fork<K>>) -> KeyTree<K>
     }
 }
 
-// The left side is heavier, by what one key makes: its root comes to the top, or, where its inner side
-// would be too heavy there, the root of that side does. What is taken leaves an empty side behind, and a
-// swap moves the inner keys into it, so that each node keeps its box.
+// The left side is heavier, by what one key makes: its root comes to the top, or, if its inner side would be too heavy
+// there, the root of that side does. What is taken out leaves an empty side, and a swap moves the inner keys into it,
+// so that each node keeps its box.
 fn lean_left<K: Drop>(mut fork: Box<Fork<K>>) -> KeyTree<K>
     requires few { length fork.value.left + length fork.value.right + 1 < 2 ^ 32 }
     requires heavier { 3 * length fork.value.right + 3 ≤ length fork.value.left }

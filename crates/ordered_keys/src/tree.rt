@@ -11,7 +11,7 @@ use std::alloc::{AllocError, Global};
 use std::cmp::Ordering;
 use std::marker::Model;
 
-/// Stands for a key that it needn't own, in a search.
+/// Stands for a key in a search, without owning one.
 pub trait Probe<K: Ord> {
     /// The key that it stands for.
     ghost key: { Self → K };
@@ -25,9 +25,9 @@ pub trait Probe<K: Ord> {
 ///
 /// A key takes one box, and an empty tree none.
 ///
-/// Contracts see the keys, from the left to the right. Neither side of a node, counted with one more,
-/// has more than three times the other's keys, so counted: a step down leaves three quarters at most,
-/// and a key is found in logarithmic time.
+/// Contracts see the keys, from left to right. The tree is weight-balanced: neither side of a node, counted with one
+/// more, has more than three times the other's keys, counted likewise; a step down leaves three quarters at most, and a
+/// key is found in logarithmic time.
 #[cycle(tree)]
 #[derive(Drop)]
 pub struct KeyTree<K> {
@@ -39,7 +39,7 @@ pub struct KeyTree<K> {
 pub(crate) struct Fork<K> {
     pub(crate) left: KeyTree<K>,
     key: K,
-    // How many keys there are, on both sides and here.
+    // How many keys there are, on both sides and in the node.
     count: usize,
     pub(crate) right: KeyTree<K>,
 }
@@ -104,7 +104,7 @@ impl<K: Drop> KeyTree<K> {
         self.root.take()
     }
 
-    // The tree of a node whose sides are even. The count need not be right yet.
+    // The tree of a node whose sides are balanced. The count need not be right yet.
     pub(crate) fn close(mut fork: Box<Fork<K>>) -> KeyTree<K>
         requires few { length fork.value.left + length fork.value.right + 1 < 2 ^ 32 }
         requires even { AreEven (length fork.value.left) (length fork.value.right) }
@@ -114,8 +114,8 @@ impl<K: Drop> KeyTree<K> {
         KeyTree { root: Some(fork) }
     }
 
-    /// How many keys stand on the longest way down, which a search compares at most: no more than the
-    /// logarithm of their number and one to the base 4/3.
+    /// How many keys are on the longest way down, which a search compares at most: no more than the logarithm of their
+    /// number plus one to the base 4/3.
     pub fn depth(&self) -> usize
         requires few { length self.now < 2 ^ 32 }
         ensures deep { 4 ^ result ≤ 3 ^ result * (length self.now + 1) }
@@ -167,7 +167,7 @@ impl<K: Drop> KeyTree<K> {
 }
 
 impl<K: Ord + Drop> KeyTree<K> {
-    /// Whether there is the key that this stands for.
+    /// Whether the tree has the key that the probe stands for.
     pub fn has<P: Probe<K>>(&self, probe: &P) -> bool
         requires sorted { IsStrictlySortedBy K.cmp self.now }
         ensures value { result ≡ list_any (eq_by_cmp K.cmp (P.key probe.now)) self.now }
@@ -182,8 +182,7 @@ impl<K: Ord + Drop> KeyTree<K> {
         }
     }
 
-    /// Puts the key of another tree, which has one at most, into its place, unless it is there. It
-    /// takes no memory.
+    /// Inserts the key of another tree, which has at most one, unless it is present. It takes no memory.
     pub fn put(&mut self, other: KeyTree<K>)
         requires sorted { IsStrictlySortedBy K.cmp self.old }
         requires one { length other ≤ 1 }
@@ -193,7 +192,7 @@ impl<K: Ord + Drop> KeyTree<K> {
         let Some(single) = &other.root else {
             return;
         };
-        // The other tree's box comes to stand where the empty tree stood.
+        // The other tree's box takes the place of the empty tree.
         let Some(mut fork) = self.take() else {
             *self = other;
             return;

@@ -77,7 +77,7 @@ pub fn started<D: DeskName, R: Wait + Abort>(
         .expect(rt, "a desk")
 }
 
-/// The same, where the journal fails at an append behind so many of its bytes.
+/// A desk whose journal fails at an append after this many of its bytes.
 pub fn started_failing<D: DeskName, R: Wait + Abort>(
     rt: &R,
     alloc: Global,
@@ -121,7 +121,7 @@ pub fn closed<D: DeskName, R: Wait>(
     }
 }
 
-/// The desk can be closed, with so many entries in its history and bytes in its journal.
+/// The desk can be closed, with this many entries in its history and bytes in its journal.
 pub fn expect_closed<D: DeskName, R: Wait + Abort>(
     rt: &R,
     desk: Desk<D, MemorySink>,
@@ -166,7 +166,7 @@ fn two_at<D: DeskName + Send + Sync, R: Threads + Wait + Abort + Sync>(
     expect_closed(rt, desk, passes, 2, 66);
 }
 
-// Both are held until both have opened it: one changes the password, and the other tells a replay.
+// Both are held until both have opened it: one changes the password, and the other answers a replay.
 fn ask_both<D: DeskName + Send + Sync, R: Threads + Wait + Abort + Sync>(
     rt: &R,
     alloc: Global,
@@ -184,7 +184,7 @@ fn ask_both<D: DeskName + Send + Sync, R: Threads + Wait + Abort + Sync>(
     show_change(rt, alloc, desk, first, second, a.as_slice());
 }
 
-// What both are told.
+// What both clients print.
 fn both_answers<D: DeskName + Send + Sync, R: Threads + Wait + Abort + Sync>(
     rt: &R,
     alloc: Global,
@@ -210,12 +210,12 @@ fn both_answers<D: DeskName + Send + Sync, R: Threads + Wait + Abort + Sync>(
 
 pub const REPLAYED: &[u8] = b"code 3 error 34 request replayed";
 
-// One is told of a change, and the other of a replay.
+// One answer is a change, and the other a replay.
 fn expect_one_change<R: Abort>(rt: &R, a: &[u8], b: &[u8]) {
     assert!(rt; (a == CHANGED && b == REPLAYED) || (a == REPLAYED && b == CHANGED));
 }
 
-// The first worker was told this, and the other one the contrary.
+// The first worker answered this, and the other one the opposite.
 fn show_change<D: DeskName, R: Abort>(
     rt: &R,
     alloc: Global,
@@ -306,7 +306,7 @@ fn expect_broken<D: DeskName, R: Wait + Abort>(
     expect_shown(rt, alloc, desk, pass);
 }
 
-/// A worker's answer to a client's request says so.
+/// A worker's answer to a client's request is this.
 pub fn expect_answer<D: DeskName, R: Wait + Abort>(
     rt: &R,
     alloc: Global,
@@ -350,7 +350,7 @@ fn fill<D: DeskName, R: Wait + Abort>(
     expect_closed(rt, desk, passes, 1, 66);
 }
 
-// The second request is told that the history is full.
+// The answer to the second request is that the history is full.
 fn expect_full<D: DeskName, R: Wait + Abort>(
     rt: &R,
     alloc: Global,

@@ -4,7 +4,7 @@ use chpw_table::{Moment, Opened, Receipt};
 use krb_protocol::Refusal;
 use std::sync::{Barrier, Wait};
 
-/// Holds each worker before its decision until all of the barrier's are there.
+/// Holds each worker before its decision until all workers of the barrier have arrived.
 #[derive(Drop)]
 pub struct Together<'a, R: Wait> {
     pub rt: &'a R,

@@ -1,4 +1,4 @@
-//! A worker whose decisions another one's raises come before.
+//! A worker whose decisions another worker's raises precede.
 ghost use Rattle.std.specs.Prelude.{◌≡◌, ◌≤◌, All, IfSome, true};
 ghost use Rattle.chpw_rules.specs.Limits.{is_in, iteration_counts};
 ghost use Rattle.chpw_table.specs.Times.{IsMoment};
@@ -51,7 +51,7 @@ fn count_raised_to(decision: u32) -> u32
     }
 }
 
-/// What is kept is the place's.
+/// It keeps what its place keeps.
 impl<D: DeskName, R: Wait + Abort> Decider for Overtaken<'_, D, R> {
     ghost use Rattle.std.specs.Prelude.{◌≡◌, refl, true};
     ghost use Rattle.std.proofs.Common.{◌∙◌};

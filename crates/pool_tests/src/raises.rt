@@ -108,7 +108,7 @@ fn change_raised<D: DeskName, R: Wait + Abort>(
     assert!(rt; said.as_slice() == CHANGED);
 }
 
-// Alice's password was changed under this count, and the lookup saw so many events.
+// Alice's password was changed under this count, and the lookup saw this many events.
 fn expect_changed<D: DeskName, R: Abort>(
     rt: &R,
     alloc: Global,
@@ -129,7 +129,7 @@ fn is_changed(shown: &Lookup, count: u32, seen: u32) -> bool {
         && shown.held.as_slice() == [count, 4].as_slice()
 }
 
-// All is as it was at the start.
+// All is as at the start.
 fn expect_unchanged<R: Abort>(rt: &R, shown: &Lookup) {
     assert!(rt; shown.policy == 4 && shown.kvno == 1 && shown.seen == 0);
 }
@@ -170,7 +170,7 @@ fn restored<R: Abort>(rt: &R, alloc: Global, mut journal: &[u8]) -> Restored {
         .expect(rt, "a table")
 }
 
-// So many records and bytes were kept, and there may be a torn one behind them.
+// This many records and bytes were kept, and there may be a torn one after them.
 fn expect_restored<R: Abort>(rt: &R, restored: &Restored, records: u64, kept: u64, torn: bool) {
     assert!(rt; restored.records == records && restored.kept == kept && restored.torn == torn);
 }
@@ -187,9 +187,9 @@ fn shown_of_alice<D: DeskName, R: Abort>(
     found.expect(rt, "a principal")
 }
 
-// What comes of a change where the count is raised so often between a derivation and the decision: how often
-// the decision is tried, whether the keys are derived under the lock at last, the count of the new keys, and
-// the entries and bytes that are kept.
+// The result of a change when the count is raised this often between a derivation and the decision: how often the
+// decision is tried, whether the keys are finally derived under the lock, the count of the new keys, and the entries
+// and bytes that are kept.
 #[derive(Clone, Copy, Drop)]
 struct Tried {
     raises: u32,
@@ -315,7 +315,7 @@ fn a_raise_that_the_journal_does_not_take(rt: HostRuntime) {
     }
 }
 
-// The journal takes so many bytes of the raise, and restores the count of before.
+// The journal takes this many bytes of the raise, and restores the former count.
 fn broken_at<D: DeskName, R: Wait + Abort>(
     rt: &R,
     alloc: Global,
@@ -332,7 +332,7 @@ fn broken_at<D: DeskName, R: Wait + Abort>(
     expect_torn(rt, alloc, &history, &journal, taken);
 }
 
-// Lookups show the count of before, and nothing is accepted any more.
+// Lookups show the former count, and nothing is accepted any more.
 fn raise_in_vain<D: DeskName, R: Wait + Abort>(
     rt: &R,
     alloc: Global,

@@ -1,4 +1,4 @@
-//! The realm of alice and bob: the service, its clients' requests, and what they print of the replies.
+//! The realm of alice and bob: the service, its clients' requests, and what they print for the replies.
 ghost use Rattle.std.specs.Prelude.{◌≡◌, ◌≤◌, true};
 ghost use Rattle.chpw_rules.specs.Fitting.{config_fits};
 ghost use Rattle.chpw_rules.specs.Names.{is_name};
@@ -14,7 +14,7 @@ use test_realm::{config, name};
 
 pub const CHANGED: &[u8] = b"code 0 password changed";
 
-/// The service, and the table that it opens with, with this many entries at the most.
+/// The service, and the table that it opens with, with at most this many entries.
 pub fn opening<R: Abort>(rt: &R, alloc: Global, max_entries: u32) -> (Service, Table) {
     let config = config_of(rt, alloc, max_entries);
     let service = Service::of(alloc, &config).ok().expect(rt, "a service");
@@ -68,7 +68,7 @@ fn made<R: Abort>(
     sent.ok().expect(rt, "a request")
 }
 
-/// What the client prints of the reply to its request.
+/// What the client prints for the reply to its request.
 pub fn told<R: Abort>(rt: &R, alloc: Global, sent: &Sent, reply: &[u8]) -> Vec<u8> {
     let line = client_line(alloc, sent, reply).ok().expect(rt, "memory");
     let (line, _) = line.expect(rt, "a reply to the request");

@@ -24,7 +24,7 @@ fn one_message_of_sixteen_workers(rt: HostRuntime) {
     all_at::<Brand, _>(&rt, rt.alloc(), UnnamedDesk::of(table, 16), &service, &sent)
 }
 
-// One changes the password, and the others tell a replay.
+// One changes the password, and the others answer a replay.
 fn all_at<D: DeskName + Send + Sync, R: Threads + Wait + Abort + Sync>(
     rt: &R,
     alloc: Global,
@@ -65,7 +65,7 @@ fn ask_all<D: DeskName + Send + Sync, R: Threads + Wait + Abort + Sync>(
     );
 }
 
-// How many workers told a change, and how many a replay.
+// How many workers answered a change, and how many a replay.
 #[derive(Drop)]
 struct Told {
     changed: AtomicU32,

@@ -54,7 +54,7 @@ const JOURNAL_FILE: &str = "client-tests.journal";
 
 const LOG_FILE: &str = "client-tests.log";
 
-/// What the log has of each connection's message, behind its time and worker.
+/// What the log has of each connection's message, after its time and worker.
 const LOGGED: [&str; 8] = [
     "127.0.0.1 client alice@EXAMPLE.COM target alice@EXAMPLE.COM code 0 error - kvno 2 text password changed",
     "127.0.0.1 client alice@EXAMPLE.COM target alice@EXAMPLE.COM code 4 error - kvno - text password too short",
@@ -155,7 +155,7 @@ fn options(port: u16, wish: Wish) -> ClientOptions<'static> {
     options_with(port, wish, password)
 }
 
-// The same request with a password of another source.
+// The request with a password from another source.
 fn options_with<'a>(port: u16, wish: Wish, password: PasswordSource<'a>) -> ClientOptions<'a> {
     ClientOptions {
         config: CONFIG_FILE,
@@ -213,7 +213,7 @@ fn send_malformed<R: Net<Stream = TcpStream> + Abort>(rt: &R, port: u16) {
     assert!(rt; matches!((&mut &stream).read(&mut first), Ok(1)));
 }
 
-// A service with a log, for so many connections.
+// A service with a log, for this many connections.
 fn serving<'a>(port: u16, connections: u32, log: &'a str) -> ServeOptions<'a> {
     ServeOptions {
         config: CONFIG_FILE,
@@ -300,7 +300,7 @@ fn client_asks_a_service(rt: HostRuntime) {
     assert!(rt; matches!(ask(&rt, options(port, unnamed)), Ending::BadArgument));
 }
 
-// No line can be written to /dev/full, and a folder is no log.
+// No line can be written to /dev/full, and a directory can't be a log.
 #[test]
 fn log_that_cannot_be_written(rt: HostRuntime) {
     let port = prepare(&rt);
@@ -327,7 +327,7 @@ where
     ask_soon(rt, options_with(port, own(""), password))
 }
 
-// The end of the line is no part of the password: it would be of one class more than the service wants.
+// The line ending is no part of the password: it would be of one class more than the service requires.
 #[test]
 fn passwords_of_files(rt: HostRuntime) {
     let port = prepare(&rt);

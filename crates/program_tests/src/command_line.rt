@@ -1,4 +1,4 @@
-//! The command lines and what is asked by them, and words that are no UTF-8.
+//! The command lines and what they ask for, and words that are no UTF-8.
 use chpw_invocation::{Invocation, PasswordSource, command_of};
 use chpw_program::{Ending, misused, words as words_of};
 use std::alloc::{AllocError, Global};
@@ -123,7 +123,7 @@ const LINES: [(&str, &str); 63] = [
     ("control status", "--socket"),
     ("control --socket s start", "reopen-log"),
     ("control --socket s start f", "reopen-log"),
-    ("control --socket s compact", "wants"),
+    ("control --socket s compact", "requires"),
     ("control --socket s stop now", "'compact'"),
     ("control --socket s compact a b", "unexpected"),
     // a request
@@ -228,7 +228,7 @@ pub fn words(rt: &impl Abort, alloc: Global, line: &str) -> Vec<String> {
     words
 }
 
-// What a command line asks for, in words; else what stands on standard error.
+// What a command line asks for, in words; otherwise what is on standard error.
 fn asked(rt: &impl Abort, alloc: Global, line: &str) -> String {
     let line = format!(in alloc; "chpw_server {line}").ok();
     let words = words(rt, alloc, line.expect(rt, "memory").trim_end());

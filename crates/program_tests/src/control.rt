@@ -1,4 +1,4 @@
-//! The command `control`: what a service is told, and how its answers end.
+//! The command `control`: what it sends to a service, and how the answers end.
 use crate::endings::Closed;
 use chpw_commands::DrillFault;
 use chpw_invocation::{ControlCommand, ControlOptions};

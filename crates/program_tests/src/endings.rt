@@ -1,4 +1,4 @@
-//! What stands on standard error, by the ending.
+//! The lines on standard error for each ending.
 use chpw_commands::DrillFault;
 use chpw_program::{Ending, tell};
 use std::io::{self, ErrorKind, Write};

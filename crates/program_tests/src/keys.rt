@@ -1,17 +1,17 @@
-//! Why no keys are brought in.
+//! Why no keys are imported.
 use crate::command_line::words;
 use chpw_import::{KeysFault, tell_keytab, tell_password};
 use chpw_invocation::{Invocation, command_of};
 use std::alloc::Global;
 use std::fs;
 
-/// Command lines without their realm, and why they bring no keys in.
+/// Command lines without their realm, and why they import no keys.
 const UNBROUGHT: [(&str, &str); 7] = [
     ("import --keytab missing", "cannot read missing"),
     ("import --keytab .", "cannot read ."),
     (
         "import --keytab no.keytab",
-        "no.keytab: no keytab of format 0x0502",
+        "no.keytab: not a keytab of format 0x0502",
     ),
     (
         "key --name alice --password-file missing",
@@ -25,7 +25,7 @@ const UNBROUGHT: [(&str, &str); 7] = [
     ("key --name a//b --password-file missing", "bad argument"),
 ];
 
-// Whether keys are not brought in for this reason.
+// Whether no keys are imported, for this reason.
 fn is_fault(alloc: Global, ended: Result<(), KeysFault<'_>>, wanted: &str) -> bool {
     match ended {
         Ok(()) => false,

@@ -1,4 +1,4 @@
-//! The table that is held, told in each form, and why none is told.
+//! The table that is held, printed in each form, and why none is printed.
 use crate::endings::Closed;
 use chpw_invocation::{TableForm, TableOptions};
 use chpw_service::{ServeFault, write_table};
@@ -113,14 +113,14 @@ const FORMS: [(TableForm, &str); 3] = [
     (TableForm::Configuration, TABLE_CONFIGURATION),
 ];
 
-/// Zoe's change to version 2, of whom the configuration knows nothing.
+/// A change to version 2 of zoe, who is not in the configuration.
 const OTHER_JOURNAL: [&[u8]; 3] = [
     b"\x00\x3e\x01\x00\x00\x00\x02\x00\x00\x00\x05",
     &[0xa8; 48],
     b"\x01\x03zoe",
 ];
 
-/// A configuration's file, a journal's, and why no table is told of them.
+/// A configuration's file, a journal's, and why no table is printed for them.
 const UNTOLD: [(&str, &str, &str); 7] = [
     ("good.toml", "missing", "cannot read missing"),
     ("good.toml", ".", "cannot read ."),
@@ -140,7 +140,7 @@ fn write_parts<R: Files + AllocGlobal + Abort>(rt: &R, file: &str, parts: &[&[u8
     assert!(rt; fs::write(rt, file, bytes.as_slice()).is_ok());
 }
 
-// Whether this is told of the table in these files, and behind how many bytes a torn record stands.
+// Whether this is printed for the table in these files, and after how many bytes a torn record stands.
 fn is_told<R: Files<File = File> + AllocGlobal>(
     rt: &R,
     options: TableOptions<'_>,
@@ -152,7 +152,7 @@ fn is_told<R: Files<File = File> + AllocGlobal>(
     torn == Some(behind) && text.as_slice() == wanted.as_bytes()
 }
 
-// Whether none is told of them, for this reason.
+// Whether none is printed for them, for this reason.
 fn is_untold<R: Files<File = File> + AllocGlobal>(
     rt: &R,
     options: TableOptions<'_>,

@@ -14,8 +14,7 @@ pub enum Filled {
     Fault(usize),
 }
 
-/// Fills the buffer, in no more than so many reads, which it counts down. An interrupted read is tried
-/// again.
+/// Fills the buffer, in at most `reads` reads, which it counts down. An interrupted read is tried again, and counted.
 pub fn fill<R: Read>(reader: &mut R, buffer: &mut [u8], reads: &mut u64) -> Filled
     ensures bytes { IsFill result buffer.new (R.remaining reader.old) (R.remaining reader.new) }
     ensures count { FillCounts result (length buffer.old) reads.old reads.new }
@@ -35,7 +34,7 @@ pub fn fill<R: Read>(reader: &mut R, buffer: &mut [u8], reads: &mut u64) -> Fill
     Filled::Whole
 }
 
-/// The same with the bytes of a `Vec`.
+/// Fills the bytes of a `Vec` as [`fill`] does a buffer.
 pub fn fill_vec<R: Read>(reader: &mut R, buffer: &mut Vec<u8>, reads: &mut u64) -> Filled
     ensures bytes { IsFill result buffer.new.items (R.remaining reader.old) (R.remaining reader.new) }
     ensures length { length buffer.new.items ≡ length buffer.old.items }
@@ -44,10 +43,10 @@ pub fn fill_vec<R: Read>(reader: &mut R, buffer: &mut Vec<u8>, reads: &mut u64) 
     fill(reader, buffer.as_mut_slice(), reads)
 }
 
-/// What one read gave.
+/// The result of one read.
 #[derive(Clone, Copy, Drop)]
 enum Step {
-    /// So many bytes; none, where it was interrupted.
+    /// This many bytes; none if it was interrupted.
     Read(usize),
     Ended,
     Fault,

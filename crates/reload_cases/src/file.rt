@@ -8,8 +8,8 @@ use chpw_rules::{Config, Items, KeyBytes, Name, Policy, PrincipalRow, Rules};
 use std::alloc::{AllocError, Global};
 
 /// The configuration with these words, with `; ` between: `NAME KVNO KVNO ..`, a principal with these keys, newest
-/// first, whose bytes are of that number, or, with `!` behind it, of another; `depth N`, else 2; `count N`, else
-/// 4096; `realm R`, else EXAMPLE.COM; `entries N`, else 100.
+/// first, whose bytes are of that number, or, with `!` after it, of another; `depth N`, default 2; `count N`, default
+/// 4096; `realm R`, default EXAMPLE.COM; `entries N`, default 100.
 pub fn config_of(alloc: Global, words: &str) -> Result<Config, Refusal>
     ensures fits { IfOk result (λ config. config_fits config ≡ true) }
 {

@@ -69,7 +69,7 @@ fn key(kvno: u32) -> KeyRow {
     }
 }
 
-/// The number that a word is.
+/// The number that a word spells.
 pub fn number(word: &str) -> Result<u32, Refusal> {
     match word.parse::<u32>() {
         Ok(number) => Ok(number),

@@ -1,8 +1,8 @@
-//! Cases of chpw_reload, a line each on standard input, with what comes of each on standard output.
+//! Cases of chpw_reload, a line each on standard input, with the result of each on standard output.
 //!
-//! A line is a configuration, a new one, and a journal, with ` | ` between, and behind ` at ` how many of the
-//! journal's bytes are there while the old desk still serves. README.md has the forms. A line that begins with `#`,
-//! or is empty, is passed on.
+//! A line is a configuration, a new one, and a journal, with ` | ` between, and after ` at ` how many of the journal's
+//! bytes are present while the old desk still serves. README.md lists the forms. A line that begins with `#`, or is
+//! empty, is copied.
 #![tactic(auto)]
 
 mod file;

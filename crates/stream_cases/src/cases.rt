@@ -46,7 +46,7 @@ impl Cases {
         }
     }
 
-    /// A line more of the configuration.
+    /// Another line of the configuration.
     fn add_line(&mut self, text: &str) -> Result<(), AllocError> {
         self.base.push_str(text)?;
         Ok(self.base.push_str("\n")?)
@@ -111,7 +111,7 @@ impl Cases {
     }
 }
 
-/// A text with another in the place of a part; of no part, the same text.
+/// A text with a part replaced by another; unchanged if the part is not in it.
 fn replaced(alloc: Global, text: &str, old: &str, new: &str) -> Result<String, AllocError> {
     if old.is_empty() {
         return String::from_str(alloc, text);
@@ -119,7 +119,7 @@ fn replaced(alloc: Global, text: &str, old: &str, new: &str) -> Result<String, A
     text.replace(alloc, old, new)
 }
 
-/// The answer to a case of messages whose reader and writer do as it says.
+/// The answer to a case of messages whose reader and writer behave as it says.
 fn of_peers(
     alloc: Global,
     setting: &Setting,

@@ -1,4 +1,4 @@
-//! A clock that stands still, and words that count.
+//! A clock that stands still, and words that count up.
 ghost use Rattle.std.specs.Prelude.{◌<◌};
 ghost use Rattle.chpw_table.specs.Times.{IsMoment};
 
@@ -48,7 +48,7 @@ impl Counting {
         Counting { last: 0 }
     }
 
-    /// Those of one message.
+    /// The words of one message.
     pub fn nine(&mut self) -> [u32; 9] {
         let mut words = [0; 9];
         for word in &mut words {

@@ -15,7 +15,7 @@ use chpw_table::{Counts, DecideFault, Moment, Opened, Refused, Verdict};
 use std::alloc::{AllocError, Global};
 use std::io;
 
-/// The moment of each decision here.
+/// The moment of each decision in these cases.
 fn now() -> Moment
     ensures range { IsMoment result × (result.micros < 1000000) }
 {
@@ -126,8 +126,8 @@ fn show_counts(text: &mut String, counts: &Counts) -> Result<(), AllocError> {
     Ok(())
 }
 
-/// A message's request decided with no keys derived, then with its password, and in a fresh world
-/// with the keys that were asked for.
+/// A message's request decided with no keys derived, then with its password, and in a fresh world with the keys that
+/// were asked for.
 pub fn alone(alloc: Global, setting: &Setting, messages: &[&Message]) -> io::Result<String> {
     let [message, ..] = messages else {
         return Err(no_case());
@@ -138,8 +138,7 @@ pub fn alone(alloc: Global, setting: &Setting, messages: &[&Message]) -> io::Res
     Ok(text)
 }
 
-/// Adds the counts that a decision of a message's request asks for, and what comes of it with its
-/// password.
+/// Adds the counts that a decision of a message's request asks for, and the result with its password.
 fn without_keys(
     alloc: Global,
     text: &mut String,
@@ -178,7 +177,7 @@ fn counts_and_verdict(
     Ok((counts, verdict_text(decided)))
 }
 
-/// Adds what comes of a message's request with the keys under these counts.
+/// Adds the result of a message's request with the keys under these counts.
 fn with_keys(
     alloc: Global,
     text: &mut String,
@@ -205,7 +204,7 @@ fn show_with_keys(
     show_verdict(alloc, text, verdict, &world.alone)
 }
 
-/// Adds a verdict, and what the table holds then.
+/// Adds a verdict, and what the table then holds.
 fn show_verdict(
     alloc: Global,
     text: &mut String,
@@ -224,7 +223,7 @@ fn opened(alloc: Global, service: &Service, message: &Message) -> io::Result<(Op
     }
 }
 
-/// The same with the password's keys under these counts.
+/// A message's request with the password's keys under these counts, and its password.
 fn completed(
     alloc: Global,
     service: &Service,
@@ -245,7 +244,7 @@ fn complete(opened: &mut Opened, password: &[u8], counts: &Counts) -> io::Result
     Ok(opened.complete(password, &salt, counts)?)
 }
 
-/// What keys a decision needs.
+/// The keys that a decision asks for.
 fn needed(decided: Result<Verdict, Refused>) -> io::Result<(Opened, Counts)> {
     match decided {
         Ok(_) => Err(no_case()),

@@ -1,4 +1,4 @@
-//! Streams served past a gate that notes what comes by.
+//! Streams served past a gate that notes each pass.
 
 use crate::messages::Message;
 use crate::serving::{How, ended_text, serve_by, stream_of};
@@ -10,7 +10,7 @@ use krb_protocol::Refusal;
 use std::alloc::Global;
 use std::io;
 
-/// The places that were passed and what was heard there, each with what divides it from the next.
+/// The places that were passed and what was heard there, each with a separator.
 #[derive(Drop)]
 struct Noting {
     passed: String,
@@ -70,7 +70,7 @@ pub fn gated(
     Ok(gate.passed)
 }
 
-/// Serves a stream past this gate, its writer as `how` says of the reader; how the stream ended.
+/// Serves a stream past this gate, with a writer that behaves as `how` says; how the stream ended.
 fn serve_past(
     alloc: Global,
     gate: &mut Noting,

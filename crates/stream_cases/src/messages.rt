@@ -22,12 +22,12 @@ pub struct Message {
     pub bytes: Vec<u8>,
 }
 
-/// A line is no case.
+/// The error for a line that is no case.
 pub fn no_case() -> Error {
     Error::from(ErrorKind::InvalidInput)
 }
 
-/// The bytes of a text in hexadecimal, `-` for none, and so many zeros behind them as in `00 zeros 4`.
+/// The bytes of a text in hexadecimal, `-` for none, followed by this many zeros as in `00 zeros 4`.
 pub fn bytes_of(alloc: Global, text: &str) -> io::Result<Vec<u8>> {
     let (text, zeros) = text.split_once(" zeros ").unwrap_or((text, "0"));
     let text = if text == "-" { "" } else { text };
@@ -59,7 +59,7 @@ pub fn read_message(alloc: Global, text: &str) -> io::Result<Message> {
     })
 }
 
-/// Adds what a reply to a message says, and what divides it from the next.
+/// Adds what a reply to a message says, and a separator.
 pub fn show_reply(
     alloc: Global,
     text: &mut String,

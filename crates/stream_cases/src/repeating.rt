@@ -7,7 +7,7 @@ use hex::encode;
 use std::alloc::Global;
 use std::io;
 
-/// What comes of these bytes, so many times as `how` says before it says how they are served.
+/// The result of these bytes, repeated as often as `how` says at its beginning, before it says how they are served.
 pub fn repeated(alloc: Global, setting: &Setting, how: &str, text: &str) -> io::Result<String> {
     let Some((times, how)) = how.split_once(' ') else {
         return Err(no_case());
@@ -26,7 +26,7 @@ fn shown(alloc: Global, outcome: &Outcome, holding: Holding) -> io::Result<Strin
     Ok(format!(in alloc; "[{reply}] {times} times; {ended}, {unread} bytes unread, {holding}")?)
 }
 
-/// The bytes of a text in hexadecimal, so many times.
+/// The bytes of a text in hexadecimal, this many times.
 fn copies(alloc: Global, text: &str, times: u32) -> io::Result<Vec<u8>> {
     let bytes = bytes_of(alloc, text)?;
     let mut copies = Vec::new(alloc);
@@ -36,8 +36,7 @@ fn copies(alloc: Global, text: &str, times: u32) -> io::Result<Vec<u8>> {
     Ok(copies)
 }
 
-/// The first reply with its length before it, and how often it was written; `None` where anything
-/// else was.
+/// The first reply with its length before it, and how often it was written; `None` if anything else was.
 fn only_reply(written: &[u8]) -> Option<(&[u8], usize)> {
     let header = written.first_chunk()?;
     let size = (u32::from_be_bytes(*header) as usize).checked_add(4)?;

@@ -1,4 +1,4 @@
-//! Streams, served.
+//! Serving streams.
 
 use crate::clock::{Counting, Standing};
 use crate::messages::{Message, no_case, show_reply};
@@ -14,7 +14,7 @@ use std::io;
 /// The client's address.
 pub const PEER: [u8; 4] = [127, 0, 0, 1];
 
-/// How a stream is served: at which second, and how reader and writer do.
+/// How a stream is served: at which second, and how reader and writer behave.
 #[derive(Clone, Copy, Drop)]
 pub struct How {
     pub clock: Standing,
@@ -23,7 +23,7 @@ pub struct How {
 }
 
 impl How {
-    /// `at N`, and how the reader does.
+    /// `at N`, and how the reader behaves.
     pub fn of(text: &str) -> How {
         let mut second = 0;
         for word in text.split(',') {
@@ -39,7 +39,7 @@ impl How {
     }
 }
 
-/// What came of a stream.
+/// The result of a stream.
 #[derive(Drop)]
 pub struct Outcome {
     pub written: Vec<u8>,
@@ -64,7 +64,7 @@ fn writer_of(alloc: Global, how: How) -> Taker {
     }
 }
 
-/// Serves a stream by a table that one thread has alone.
+/// Serves a stream by a table that one thread owns.
 fn serve(alloc: Global, world: &mut World, how: How, stream: &[u8]) -> Outcome {
     let mut reader = reader_of(how, stream);
     let mut writer = writer_of(alloc, how);
@@ -151,7 +151,7 @@ fn send(stream: &mut Taker, message: &[u8]) -> io::Result<()> {
     }
 }
 
-/// Serves a stream in a world of its own: what came of it, and what its table holds then.
+/// Serves a stream in a world of its own: the result, and what its table then holds.
 pub fn serve_anew(
     alloc: Global,
     setting: &Setting,
@@ -165,7 +165,7 @@ pub fn serve_anew(
     served
 }
 
-/// What came of a stream, with what a table holds.
+/// The result of a stream, with what a table holds.
 pub fn with_holding(
     alloc: Global,
     outcome: Outcome,
@@ -175,7 +175,7 @@ pub fn with_holding(
     Ok((outcome, holding))
 }
 
-/// Each reply, how the stream ended, and what the table holds then.
+/// Each reply, how the stream ended, and what the table then holds.
 pub fn served(
     alloc: Global,
     setting: &Setting,
@@ -185,7 +185,7 @@ pub fn served(
     served_as(alloc, setting, how, messages, &stream_of(alloc, messages)?)
 }
 
-/// The same where these bytes are the stream.
+/// Likewise, with these bytes as the stream.
 pub fn served_as(
     alloc: Global,
     setting: &Setting,
@@ -199,7 +199,7 @@ pub fn served_as(
     Ok(shown)
 }
 
-/// The replies in their order, each to its message, with what divides them behind each.
+/// The replies in their order, each to its message, each followed by a separator.
 pub fn shown_replies(alloc: Global, messages: &[&Message], written: &[u8]) -> io::Result<String> {
     let mut left = written;
     let mut shown = String::new(alloc);

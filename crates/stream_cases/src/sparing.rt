@@ -1,4 +1,4 @@
-//! Whoever opens messages, and has no memory for the replies to those that opened.
+//! A maker of messages that has no memory for replies to requests that opened.
 ghost use Rattle.std.specs.Prelude.{◌≡◌};
 
 use chpw_serve::{Messages, OpenResult, Seal};
@@ -6,7 +6,7 @@ use chpw_table::Moment;
 use krb_protocol::Refusal;
 use std::alloc::{AllocError, Global};
 
-/// The same messages, but that no reply to an opened request is made.
+/// The messages of `inner`, except that no reply to an opened request is made.
 #[derive(Clone, Copy, Drop)]
 pub struct Sparing<'a, M: Messages> {
     pub messages: &'a M,

@@ -1,5 +1,5 @@
-//! Messages changed at each place, streams that break off at each byte, and writers that take so many
-//! bytes at a call, each served in a world of its own.
+//! Messages changed at each place, streams that break off at each byte, and writers that take a limited number of bytes
+//! at a call, each served in a world of its own.
 
 use crate::messages::{Message, no_case};
 use crate::serving::{How, serve_anew, served_as, stream_of, stream_of_one};
@@ -9,7 +9,7 @@ use std::alloc::Global;
 use std::io;
 use std::ops::Range;
 
-/// What comes of a message with this change at each of its places.
+/// The results of a message with this change at each of its places.
 pub fn varied(
     alloc: Global,
     setting: &Setting,
@@ -28,7 +28,7 @@ pub fn varied(
     Ok(census.shown(alloc)?)
 }
 
-/// What comes of a message with this change at a place.
+/// The result of a message with this change at a place.
 fn changed(
     alloc: Global,
     setting: &Setting,
@@ -43,7 +43,7 @@ fn changed(
     }
 }
 
-/// What comes of these bytes in the place of a message.
+/// The result of these bytes in place of a message.
 fn sent(
     alloc: Global,
     setting: &Setting,
@@ -62,7 +62,7 @@ pub enum Variation {
     Ending,
     /// Before which of its bytes a read fails.
     Failing,
-    /// How many bytes a write takes at the most, from 1 to as many as the replies have.
+    /// The most bytes that a write takes, from 1 to as many as the replies have.
     Taking,
 }
 
@@ -100,7 +100,7 @@ impl Variation {
     }
 }
 
-/// What comes of these messages at each place where their stream varies.
+/// The results of these messages at each place where their stream varies.
 pub fn varied_stream(
     alloc: Global,
     setting: &Setting,

@@ -9,8 +9,8 @@ use chpw_serve::NoGate;
 use std::alloc::Global;
 use std::io;
 
-/// The replies to these messages, how the stream ended, and what was left unread, where there is no
-/// memory `to decide`, or `to reply` to what opened.
+/// The replies to these messages, how the stream ended, and what was left unread, with no memory `to decide`, or `to
+/// reply` to what opened.
 pub fn wanting(
     alloc: Global,
     setting: &Setting,

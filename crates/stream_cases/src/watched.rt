@@ -1,4 +1,4 @@
-//! A decider that watches what a table is asked, and may refuse.
+//! A decider that records what a table is asked, and may refuse.
 ghost use Rattle.std.specs.Prelude.{◌≡◌, ◌≤◌, All};
 
 use chpw_decider::{Alone, Decider};
@@ -13,9 +13,9 @@ use std::alloc::Global;
 pub enum Mood {
     /// What the table does.
     Plain,
-    /// It asks for keys under this count, so often.
+    /// It asks for keys under this count, this many times.
     Needs(u32),
-    /// It says that it is full.
+    /// It answers that it is full.
     Full,
     /// It has no memory.
     NoMemory,
@@ -31,7 +31,7 @@ pub struct Watched<S: JournalSink> {
     pub derivings: u32,
     /// The counts of the digest of the last `decide`.
     pub counts: Counts,
-    /// The names looked up, each behind a space.
+    /// The names looked up, each after a space.
     pub names: Vec<u8>,
 }
 

@@ -1,4 +1,4 @@
-//! The service and its table, as a configuration starts them.
+//! The service and its table, started from a configuration.
 ghost use Rattle.std.specs.Prelude.{◌≡◌, true};
 ghost use Rattle.chpw_rules.specs.Fitting.{config_fits};
 
@@ -12,13 +12,12 @@ use std::alloc::{AllocError, Global};
 use std::fmt;
 use std::io::{self, Error, ErrorKind};
 
-/// Bytes of a journal here.
+/// The bytes of a journal in these cases.
 const JOURNAL: usize = 100_000;
 
-/// What is served with.
+/// The service and its table.
 ///
-/// Whoever starts a world lets it go by `drop`, which takes the prover one step in the place of one for each
-/// part of a table.
+/// A world is freed by `drop`, which takes the prover one step in place of one for each part of a table.
 #[derive(Drop)]
 pub struct World {
     pub service: Service,
@@ -82,7 +81,7 @@ impl fmt::Display for Holding {
     }
 }
 
-/// The newest kvno of a name, 0 where it is none of a principal.
+/// The newest kvno of a name, 0 if it is no principal's.
 fn kvno(alloc: Global, alone: &Alone<MemorySink>, name: &str) -> Result<u32, AllocError> {
     let Some(name) = Name::parse(alloc, name)? else {
         return Ok(0);

@@ -7,12 +7,12 @@ use hex::encode;
 use std::alloc::Global;
 use std::io;
 
-/// What is written where these bytes are read, how the stream ends, and what the table is then.
+/// What is written when these bytes are read, how the stream ends, and what the table then holds.
 pub fn written(alloc: Global, setting: &Setting, how: How, text: &str) -> io::Result<String> {
     shown(alloc, setting, how, &bytes_of(alloc, text)?)
 }
 
-/// The same of the stream of these messages.
+/// Likewise, for the stream of these messages.
 pub fn replied(
     alloc: Global,
     setting: &Setting,
@@ -29,8 +29,8 @@ fn shown(alloc: Global, setting: &Setting, how: How, stream: &[u8]) -> io::Resul
     Ok(format!(in alloc; "[{written}] {ended}, {holding}")?)
 }
 
-/// Serves these messages with a write that fails behind each byte of the replies in turn: how
-/// often just the bytes before the fault were written, and the stream ended for it.
+/// Serves these messages with a write that fails after each byte of the replies in turn: how often exactly the bytes
+/// before the fault were written, and the stream ended for it.
 pub fn broken(
     alloc: Global,
     setting: &Setting,
@@ -44,7 +44,7 @@ pub fn broken(
     Ok(format!(in alloc; "{fronts} faults behind each byte of {count}")?)
 }
 
-/// Behind how many of these bytes a write that fails leaves those before it written.
+/// After how many of these bytes a failing write leaves those before it written.
 fn fronts(
     alloc: Global,
     setting: &Setting,
@@ -61,7 +61,7 @@ fn fronts(
     Ok(fronts)
 }
 
-/// Whether a write that fails behind these bytes leaves them written, and ends the stream.
+/// Whether a write that fails after these bytes leaves them written, and ends the stream.
 fn breaks(
     alloc: Global,
     setting: &Setting,

@@ -4,8 +4,8 @@ use crate::telling::print_case;
 use std::alloc::Global;
 use std::io::{Result, Write};
 
-/// Runs the cases of a block, and prints its first line and what they give. Its configuration stands before
-/// a line `--`, and its cases behind it.
+/// Runs the cases of a block, and prints its first line and their results. Its configuration stands before a line `--`,
+/// and its cases after it.
 pub fn print_block<W: Write>(alloc: Global, out: &mut W, block: &str) -> Result<()> {
     let (title, body) = block.split_once('\n').unwrap_or((block, ""));
     writeln!(out, "== {title}")?;
@@ -19,7 +19,7 @@ pub fn print_block<W: Write>(alloc: Global, out: &mut W, block: &str) -> Result<
     }
 }
 
-// A line that is empty or begins with `#` is printed as it is.
+// A line that is empty or begins with `#` is copied.
 fn print_cases<W: Write>(alloc: Global, out: &mut W, config: &str, cases: &str) -> Result<()> {
     for line in cases.lines() {
         if line.is_empty() || line.starts_with('#') {

@@ -33,7 +33,7 @@ fn found_with(alloc: Global, config: Config, journal: &[u8]) -> Result<Found>
     }
 }
 
-/// What is told of it in this form, with this count of changes.
+/// The report of it in this form, with this count of changes.
 pub fn report(
     alloc: Global,
     form: Form,

@@ -2,7 +2,7 @@
 use std::alloc::Global;
 use std::io::{Error, ErrorKind, Result};
 
-/// The bytes of a journal that stands in words of hexadecimal digits, a word for each record; `-` for none.
+/// The bytes of a journal in words of hexadecimal digits, a word for each record; `-` for none.
 pub fn journal_of(alloc: Global, words: &str) -> Result<Vec<u8>> {
     let mut journal = Vec::new(alloc);
     match words {

@@ -30,9 +30,9 @@ aes128 = '11111111111111111111111111111111'
 aes256 = '2222222222222222222222222222222222222222222222222222222222222222'
 ";
 
-/// Prints of a line `PRINCIPALS CHANGES`, a configuration of so many principals and a journal of so many
-/// changes of each, the last line of the lines, how many bytes each form has, and whether the configuration
-/// that is held is read alike. A principal's name is `client` and five digits; they stand in falling order.
+/// Prints, for a line `PRINCIPALS CHANGES`, a configuration with that many principals and a journal with that many
+/// changes of each, the last line of the lines, how many bytes each form has, and whether the configuration that is
+/// held is read alike. A principal's name is `client` and five digits; they are in falling order.
 pub fn print_made<W: Write>(alloc: Global, out: &mut W, line: &str) -> Result<()> {
     let (principals, changes) = line.split_once(' ').unwrap_or((line, ""));
     let principals = principals.parse::<u32>().unwrap_or(0);
@@ -107,7 +107,7 @@ fn journal_of(alloc: Global, principals: u32, changes: u32) -> Result<Vec<u8>> {
     Ok(journal)
 }
 
-// Adds a record of a change of a principal, docs/PROTOCOL.md's.
+// Adds a record of a change of a principal (docs/PROTOCOL.md).
 fn add_record(journal: &mut Vec<u8>, kvno: u32, number: u32) -> Result<()> {
     journal.extend_from_slice(b"\x00\x46\x01")?;
     journal.extend_from_slice(&kvno.to_be_bytes())?;

@@ -1,5 +1,5 @@
-//! Runs cases of what `table` tells, which stand in blocks on standard input, and prints what each case
-//! gives. README.md has the kinds of blocks and cases.
+//! Runs cases of what `table` prints, which are blocks on standard input, and prints the results. README.md lists the
+//! kinds of blocks and cases.
 #![tactic(auto)]
 
 mod block;

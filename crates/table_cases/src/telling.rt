@@ -7,8 +7,8 @@ use chpw_report::{Form, HeldTable};
 use std::alloc::Global;
 use std::io::{Error, ErrorKind, Result, Write};
 
-/// Prints what a case gives with this configuration: what is told of the table with the journal's changes,
-/// behind a line with the form.
+/// Prints the result of a case with this configuration: the report of the table with the journal's changes, after a
+/// line with the form.
 pub fn print_case<W: Write>(alloc: Global, out: &mut W, config: &str, case: &str) -> Result<()> {
     let (kind, words) = case.split_once(' ').unwrap_or((case, "-"));
     let journal = journal_of(alloc, words)?;
@@ -50,15 +50,15 @@ fn print_form<W: Write>(
     out.write_all(&text)
 }
 
-// What `table` tells on standard error.
+// What `table` prints on standard error.
 fn print_torn<W: Write>(out: &mut W, held: &HeldTable) -> Result<()> {
     match held.torn_behind {
-        Some(behind) => writeln!(out, "a torn record stands behind {behind} bytes"),
+        Some(behind) => writeln!(out, "a torn record begins after {behind} bytes"),
         None => Ok(()),
     }
 }
 
-// The configuration that is held, and whether the table that it is read as is told alike.
+// The configuration that is held, and whether the table that it is read as has the same report.
 fn print_configuration<W: Write>(
     alloc: Global,
     out: &mut W,
@@ -87,7 +87,7 @@ fn print_made<W: Write>(
     print_likeness(alloc, out, &text, realm, held)
 }
 
-/// The file of the configuration that is held, the other settings as in this one.
+/// The file of the configuration that is held, with the other settings of this one.
 pub fn made_configuration(alloc: Global, config: &str, held: &HeldTable) -> Result<Vec<u8>> {
     match read_config(alloc, config) {
         Ok(config) => configuration(alloc, config, held),
@@ -154,8 +154,8 @@ fn is_alike(
     Ok(text.as_slice() == again.as_slice())
 }
 
-// What the lines are of each proper prefix of the journal, `;` standing for a newline, behind the count of
-// those prefixes and their lengths.
+// The lines for each proper prefix of the journal, `;` standing for a newline, after the count of those prefixes and
+// their lengths.
 fn print_prefixes<W: Write>(
     alloc: Global,
     out: &mut W,

@@ -1,4 +1,4 @@
-//! A realm, what its principals ask, and a journal, for tests and measurements.
+//! A realm, its principals' requests, and a journal, for tests and measurements.
 #![tactic(auto)]
 
 mod realm;

@@ -9,9 +9,9 @@ use krb_keys::AES256_CTS_HMAC_SHA1_96;
 use std::alloc::{AllocError, Global};
 use std::io::{self, Error, ErrorKind};
 
-/// The realm's configuration, with these principals and this many entries at the most: the service's
-/// key is 32 bytes 5a with kvno 3, and each principal has a key, kvno 1 under so many iterations, which
-/// new keys have too. A configuration that doesn't fit is refused.
+/// The realm's configuration, with these principals and at most this many entries: the service's key is 32 bytes 5a
+/// with kvno 3, and each principal has a key of kvno 1 under `iterations`, which new keys have too. A configuration
+/// that doesn't fit is refused.
 pub fn config(
     alloc: Global,
     principals: Vec<Name>,

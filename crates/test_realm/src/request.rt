@@ -1,4 +1,4 @@
-//! What a principal asks.
+//! A principal's request.
 use crate::realm::bytes;
 use chpw_rules::Name;
 use chpw_table::{Body, Digest, Moment, Opened};
@@ -10,6 +10,7 @@ pub const NOW: Moment = Moment {
     micros: 0,
 };
 
+/// The new password that it asks for.
 pub const PASSWORD: &[u8] = b"New-pass2";
 
 /// A client asks at `NOW`, with these microseconds, for a new password of its own.

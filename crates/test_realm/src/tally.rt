@@ -3,7 +3,7 @@ ghost use Rattle.std.specs.Prelude.{◌≡◌, None};
 
 use chpw_table::{JournalSink, SinkFault};
 
-/// Counts its appends and their bytes, tells nothing, and fails at one append, counted from 1.
+/// Counts its appends and their bytes, keeps none of them, and fails at one append, counted from 1.
 #[derive(Clone, Copy, Drop)]
 pub struct Tally {
     fails_at: u32,
@@ -20,7 +20,7 @@ impl Tally {
         Tally::failing_at(0)
     }
 
-    /// No append yet; the append of this number fails, and none where it is 0.
+    /// No append yet; the append of this number fails, and none if it is 0.
     pub fn failing_at(fails_at: u32) -> Tally
         ensures whole { result.failed ≡ 0 }
     {

@@ -9,11 +9,11 @@ use std::time::{Clock, Duration};
 /// How often an append sleeps, at the most.
 const SLEEPS: u32 = 10_000;
 
-/// How often it is looked whether an append has begun, a millisecond apart.
+/// How often it is checked whether an append has begun, a millisecond apart.
 const WAITS: u32 = 10_000;
 
-/// What an append and one who looks up beside it tell each other: whether the append goes on, and
-/// whether the lookups are over.
+/// What an append and the lookups beside it tell each other: whether the append goes on, and whether the lookups are
+/// over.
 #[derive(Drop)]
 pub struct Hold {
     held: AtomicBool,
@@ -21,6 +21,7 @@ pub struct Hold {
 }
 
 impl Hold {
+    /// No append has begun, and the lookups are not over.
     pub fn new() -> Hold {
         Hold {
             held: AtomicBool::new(false),
@@ -28,7 +29,7 @@ impl Hold {
         }
     }
 
-    /// Waits for an append to begin; false where none has in ten seconds.
+    /// Waits for an append to begin; false if none has in ten seconds.
     pub fn has_begun<R: Clock>(&self, rt: &R) -> bool {
         for _ in 0..WAITS {
             if self.held.load(Ordering::SeqCst) {
@@ -47,8 +48,8 @@ impl Hold {
     }
 }
 
-/// A journal that takes all and tells nothing. An append sleeps, so long at a time, until the lookups
-/// are over, and the desk's lock is held meanwhile.
+/// A journal that takes everything and has no known bytes. An append sleeps, a while at a time, until the lookups are
+/// over, and the desk's lock is held meanwhile.
 #[derive(Drop)]
 pub struct SlowSink<'a, R: Clock> {
     pub rt: &'a R,

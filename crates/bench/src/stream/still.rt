@@ -1,4 +1,4 @@
-//! A clock that stands still, and words that count.
+//! A clock that stands still, and words that count up.
 
 use chpw_serve::Clock;
 use chpw_table::Moment;
@@ -25,6 +25,7 @@ pub struct Words {
 }
 
 impl Words {
+    /// The words from 1 on.
     pub fn new() -> Words {
         Words { last: 0 }
     }

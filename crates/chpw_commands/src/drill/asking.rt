@@ -200,7 +200,7 @@ pub fn asked_from(alloc: Global, realm: &[u8], words: &[&str]) -> Result<Option<
     Ok(Some(Asked { now, opened }))
 }
 
-// The request of these parts; there is no timestamp in the KRB-PRIV.
+// The request with these parts; there is no timestamp in the KRB-PRIV.
 fn opened_from(client: Target, times: Times, flags: Flags, body: Body) -> Opened
     ensures value { result ≡ opened_of client times flags body }
 {

@@ -120,7 +120,7 @@ fn with_principal(config: Config, row: PrincipalRow) -> Result<Config, AllocErro
     })
 }
 
-// Whether there is room for this principal, and none of its name.
+// Whether there is room for this principal, and none of its name yet.
 fn takes_principal(config: &Config, row: &PrincipalRow) -> bool
     ensures value { result ≡ takes_principal config.now row.now }
 {

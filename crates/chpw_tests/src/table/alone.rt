@@ -10,7 +10,7 @@ const NOW: Moment = Moment {
     micros: 0,
 };
 
-// The request of a decision that keys are wanting for.
+// The request of a decision that asks for keys.
 fn wanting(rt: &impl Abort, alone: &mut Alone<Tally>, opened: Opened) -> Opened {
     let answer = alone.decide(NOW, opened);
     let refused = answer.err().expect(rt, "keys are wanting");

@@ -26,7 +26,7 @@ fn refusal(rt: &impl Abort, table: &mut Table, sink: &mut Tally, opened: Opened)
     answer.err().expect(rt, "a refusal")
 }
 
-// Alice asks, with the key that is wanted.
+// Alice's request, with the key that it needs.
 fn whole(rt: &impl Abort, alloc: Global, cusec: u32) -> Opened {
     let keys = vec![in alloc; (4, Key::Aes128([0xb1; 16]), Key::Aes256([0xb1; 32]))];
     change(rt, alloc, cusec, keys.ok().expect(rt, "memory"))

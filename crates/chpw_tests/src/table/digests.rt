@@ -44,7 +44,7 @@ fn published_keys(rt: HostRuntime) {
     let digest = Digest::derive(rt.alloc(), PASSWORD, SALT, &counted(1));
     let mut digest = digest.ok().expect(&rt, "memory");
     assert!(rt; digest.add(PASSWORD, SALT, &counted(1200)).is_ok());
-    // Those that are there are not derived again.
+    // Keys that are present are not derived again.
     assert!(rt; digest.add(PASSWORD, SALT, &counted(1)).is_ok());
     assert!(rt; digest.length == 8 && digest.classes == 1);
     assert!(rt; are_published(digest.derived.as_slice()));

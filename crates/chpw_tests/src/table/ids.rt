@@ -32,8 +32,8 @@ fn verdict(rt: &impl Abort, table: &mut Table, seconds: i64, opened: Opened) -> 
     outcome.verdict
 }
 
-// The clock, the ctime, what comes of it, and how many ids are held then: those of which the ctime
-// isn't more than 300 seconds before the clock, which never goes back.
+// The clock, the ctime, the verdict, and how many ids are then held: those whose ctime isn't more than 300 seconds
+// before the clock, which never goes back.
 const ASKS: [(i64, i64, Verdict, u32); 12] = [
     (1000, 700, Verdict::BadBody, 1),
     (1001, 700, Verdict::Skew, 0),
@@ -49,7 +49,8 @@ const ASKS: [(i64, i64, Verdict, u32); 12] = [
     (1602, 1301, Verdict::Skew, 0),
 ];
 
-// The same of one request that comes again at the edges of its time, and of another that does.
+// The clock, the ctime, the verdict and the ids held, for one request that comes again at the edges of its time, and
+// for another that does.
 const AGAIN: [(i64, i64, Verdict, u32); 6] = [
     (1000, 700, Verdict::BadBody, 1),
     (1001, 700, Verdict::Skew, 0),
@@ -59,7 +60,7 @@ const AGAIN: [(i64, i64, Verdict, u32); 6] = [
     (1601, 1300, Verdict::Skew, 0),
 ];
 
-// Each of these requests, one after the other, has its verdict and leaves so many ids held.
+// Each of these requests, one after the other, has its verdict and leaves this many ids held.
 fn each_holds(rt: &impl Abort, alloc: Global, asks: &[(i64, i64, Verdict, u32)]) {
     let mut table = table(rt, alloc, 20);
     assert!(rt; table.ids_held() == 0);
@@ -85,7 +86,7 @@ const IDS: [(&str, &str, i64, u32); 5] = [
     ("EXAMPLE.COM", "alice", 1000, 8),
 ];
 
-// Each is its own, once.
+// Each is distinct, and new once.
 #[test]
 fn told_apart_by_each_part(rt: HostRuntime) {
     let mut table = table(&rt, rt.alloc(), 20);
@@ -103,8 +104,8 @@ fn each_answers(rt: &impl Abort, alloc: Global, table: &mut Table, expected: Ver
     }
 }
 
-// 70,000 requests, one in each second of the clock, with times up to 301 seconds behind and before it: as
-// many ids are held after each as a list keeps.
+// 70,000 requests, one in each second of the clock, with times up to 301 seconds before and after it: as many ids are
+// held after each as a list keeps.
 #[test]
 fn as_many_as_a_list_keeps(rt: HostRuntime) {
     let mut table = table(&rt, rt.alloc(), 70_000);

@@ -1,4 +1,4 @@
-//! The realm of alice, and what she asks.
+//! The realm of alice, and her requests.
 use chpw_rules::Name;
 use chpw_table::{Digest, Opened, Table};
 use krb_keys::Key;
@@ -18,7 +18,7 @@ pub fn table(rt: &impl Abort, alloc: Global, max_entries: u32) -> Table {
     table.ok().expect(rt, "a table")
 }
 
-/// Alice asks at 1000 for a new password of 9 bytes and 3 classes of her own, whose keys these are.
+/// Alice asks at 1000 for a new password of her own with 9 bytes and 3 classes, whose keys these are.
 pub fn change(rt: &impl Abort, alloc: Global, cusec: u32, derived: Vec<(u32, Key, Key)>) -> Opened {
     let digest = Digest::of(9, 3, derived).expect(rt, "keys of a password");
     let alice = named(rt, alloc, "alice");
