@@ -349,5 +349,8 @@ def cases():
 
 
 if __name__ == "__main__":
+    from command import Parser
+
+    Parser(__doc__, None, "it can't be done").parse_args()
     for what, when, message in cases():
         print("message", what, when, message.hex())

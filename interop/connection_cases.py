@@ -1,12 +1,12 @@
 #!/usr/bin/env python3
-"""What `connection_cases` must print, worked out with nothing of ours:
+"""What `connection_cases` must print, worked out with nothing of ours: of the cases on standard input the answers.
 
     python3 interop/connection_cases.py < crates/connection_cases/stdin > crates/connection_cases/stdout
 
 A naive model of the machine of connections, by crates/chpw_connections/README.md and its specs: a list of connections,
 each a small object, and a plain list for each worker's queue. crates/connection_cases/README.md has the cases.
 """
-import sys
+from command import answer_lines
 
 LONGEST = 65535
 REPLIES = 65536
@@ -439,6 +439,4 @@ class Cases:
         return f"{text}; ended {slots_text(others)}" if others else text
 
 
-cases = Cases()
-for line in sys.stdin.read().split("\n")[:-1]:
-    print(line if line == "" or line.startswith("#") else cases.answer(line))
+answer_lines(__doc__, Cases().answer)

@@ -1,12 +1,13 @@
 #!/usr/bin/env python3
-"""What `control_cases` must print, worked out with nothing of ours:
+"""What `control_cases` must print, worked out with nothing of ours: of the cases on standard input the answers.
 
     python3 interop/control_cases.py < crates/control_cases/stdin > crates/control_cases/stdout
 
 The commands, faults and lines are docs/PROTOCOL.md's and docs/ADMIN.md's, the times datetime's.
 """
 import datetime
-import sys
+
+from command import answer_lines
 
 COMMANDS = {b"status": "Status", b"reload": "Reload", b"reopen-log": "ReopenLog", b"stop": "Stop"}
 
@@ -98,5 +99,4 @@ def answer(case):
     return " ".join(["at"] + [str(n) for n in range(len(text) + 1) if is_done(text[:n])])
 
 
-for row in sys.stdin.read().split("\n")[:-1]:
-    print(row if row == "" or row.startswith("#") else answer(row))
+answer_lines(__doc__, answer)

@@ -1,13 +1,9 @@
 #!/usr/bin/env python3
 """How each command of the program ends: what it prints, its lines on standard error, its status.
 
-    endings.py [--server PROGRAM]
-
-prints a line for each case, `ok: ..` or `FAILED: ..`, and ends with status 1 where any failed. It
-needs no packages. What `serve` says of its files is in faults.py.
+It needs no packages. What `serve` says of its files is in faults.py.
 """
 
-import argparse
 import os
 import pathlib
 import socket
@@ -17,11 +13,12 @@ import tempfile
 import threading
 import time
 
+from command import Parser
 from journal import Record, plain_record, raise_record, read_journal
 from kill import ITERATIONS, keys_of
 from report import Report
 from sample_realm import write_configuration
-from server import PROGRAM, Server, private
+from server import Server, private
 
 SCRIPT = "realm EXAMPLE.COM\npolicy 0 0 2 4096 no\nprincipal alice 1 4096:a1\nopen 10 -1\n"
 LONGEST_PASSWORD = 60_000
@@ -508,8 +505,8 @@ CASES = [
 
 
 def main():
-    parser = argparse.ArgumentParser()
-    parser.add_argument("--server", default=PROGRAM)
+    parser = Parser(__doc__)
+    parser.add_program()
     arguments = parser.parse_args()
     report = Report()
     for cases in CASES:

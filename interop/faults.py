@@ -1,13 +1,9 @@
 #!/usr/bin/env python3
 """What `serve` says where something is wrong, and what it does where its journal can't be written.
 
-    faults.py [--server PROGRAM]
-
-prints a line for each case, `ok: ..` or `FAILED: ..`, and ends with status 1 where any failed. It
-needs no packages: the service's own client makes the changes.
+It needs no packages: the service's own client makes the changes.
 """
 
-import argparse
 import pathlib
 import resource
 import socket
@@ -15,10 +11,11 @@ import subprocess
 import sys
 import tempfile
 
+from command import Parser
 from journal import Raise, plain_record, raise_record, read_journal
 from report import Report
 from sample_realm import write_configuration
-from server import PROGRAM, Server, private
+from server import Server, private
 
 NAME = "user0"
 # of a change of user0
@@ -114,8 +111,8 @@ def raising(report, server):
 
 
 def main():
-    parser = argparse.ArgumentParser()
-    parser.add_argument("--server", default=PROGRAM)
+    parser = Parser(__doc__)
+    parser.add_program()
     arguments = parser.parse_args()
     report = Report()
     for cases in (full_disk, at_start, raising):

@@ -1,17 +1,18 @@
 #!/usr/bin/env python3
-"""What `import_cases` must print, worked out with nothing of ours but AES (changepw_client.py):
+"""What `import_cases` must print, worked out with nothing of ours but AES (changepw_client.py): of the cases on standard input
+the answers.
 
     python3 interop/import_cases.py < crates/import_cases/stdin > crates/import_cases/stdout
 
-The layout is that of MIT's keytabs, format 0x0502; which keys a configuration can have, and in which order
-they stand, says docs/PROTOCOL.md.
+The layout is that of MIT's keytabs, format 0x0502; which keys a configuration can have, and in which order they stand, says
+docs/PROTOCOL.md.
 """
 import collections
 import struct
-import sys
 
 from changed_bytes import census
 from changepw_client import string_to_key
+from command import answer_lines
 
 SERVICE = (b"kadmin", b"changepw")
 LENGTHS = {18: 32, 17: 16}
@@ -245,5 +246,4 @@ def answer(case):
     return password(words[0], words[1], int(words[2]), int(words[3]), octets)
 
 
-for line in sys.stdin.read().split("\n")[:-1]:
-    print(line if line == "" or line.startswith("#") else answer(line))
+answer_lines(__doc__, answer)

@@ -1,5 +1,5 @@
 #!/usr/bin/env python3
-"""What `log_cases` must print, worked out with nothing of ours:
+"""What `log_cases` must print, worked out with nothing of ours: of the cases on standard input the answers.
 
     python3 interop/log_cases.py < crates/log_cases/stdin > crates/log_cases/stdout
 
@@ -8,7 +8,8 @@ The codes, errors and texts are docs/PROTOCOL.md's, the times datetime's, the ad
 import datetime
 import ipaddress
 import string
-import sys
+
+from command import answer_lines
 
 # the rows of the decision (docs/PROTOCOL.md): code, error, text
 ROWS = {
@@ -139,5 +140,4 @@ def answer(case):
             f"code {code} error {error} kvno {kvno} text {text}")
 
 
-for line in sys.stdin.read().split("\n")[:-1]:
-    print(line if line == "" or line.startswith("#") else answer(line))
+answer_lines(__doc__, answer)

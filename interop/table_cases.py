@@ -1,5 +1,5 @@
-"""What `table` tells of a configuration and a journal: worked out from docs/PROTOCOL.md and
-docs/ADMIN.md, with Python's own library alone. It reads the cases of crates/table_cases, and prints their answers.
+"""What `table` prints of a configuration and a journal: worked out from docs/PROTOCOL.md and docs/ADMIN.md, with Python's own
+library alone. Of the cases of `table_cases` on standard input it prints the answers.
 
     python3 interop/table_cases.py < crates/table_cases/stdin > crates/table_cases/stdout
 """
@@ -9,6 +9,7 @@ import sys
 import tomllib
 
 from changed_bytes import census
+from command import Parser
 from journal import RAISE
 
 COUNTS = range(1, 16_777_217)
@@ -308,6 +309,7 @@ def made_answer(case):
 
 
 def main():
+    Parser(__doc__, None, "a case can't be read").parse_args()
     comment, *blocks = sys.stdin.read().split("\n== ")
     print(comment)
     for block in blocks:
