@@ -6,7 +6,7 @@ use mathlib.Core.List.{IsPrefix}
 use lib.ListN.{get_elem?}
 use Rattle.crossbeam_utils.specs.Register.{Admits, TurnsAt, Forks, Merges}
 use Rattle.atomic_table.proofs.Lists.{at_set, at_snoc}
-use Rattle.logbook.specs.Pages.{Book as LogName}
+use Rattle.logbook.specs.Pages.{Book as LogbookName}
 use Rattle.chpw_rules.specs.declared.name.Name.{Name}
 use Rattle.chpw_rules.specs.Names.{is_same_name}
 use Rattle.chpw_table.specs.declared.change.KeyChange.{KeyChange}
@@ -52,7 +52,7 @@ admits x views (list, is, each) = (list, is, snoc x list views unknown each (unk
 pub opens : (x : Version) (list : List Accepted) → ShowsList x.root.book x.root.log list x → IsRuled x (unknown ∷ [])
 opens x list is = (list, is, snoc x list [] unknown (λ j u at. absurd (cc)) (unknown_tied x list))
 
-pub renamed : (b b' : LogName) (r r' : List LogEntry) (list : List Accepted) (x : Version) → b ≡ b' → r ≡ r' → ShowsList b r list x → ShowsList b' r' list x
+pub renamed : (b b' : LogbookName) (r r' : List LogEntry) (list : List Accepted) (x : Version) → b ≡ b' → r ≡ r' → ShowsList b r list x → ShowsList b' r' list x
 renamed b b' r r' list x e f is = subst (λ c. ShowsList c r' list x) e (subst (λ l. ShowsList b l list x) f is)
 
 pub looks : (seat : ℕ) (v : View) (x : Version) → TurnsAt IsRuled seat v x x Looked
@@ -103,7 +103,7 @@ positive_after opening list (Count n) r policy next is =
     (count, is.1)
 
 -- the version with one operation more shows the list with one change more
-pub goes_on : (b : LogName) (r : List LogEntry) (list : List Accepted) (x : Version) (o : Operation) → ShowsList b r list x → o.seen.book ≡ b → changes_in r o.seen.log ≡ list → CanBeShown (opening_state r) list o.change
+pub goes_on : (b : LogbookName) (r : List LogEntry) (list : List Accepted) (x : Version) (o : Operation) → ShowsList b r list x → o.seen.book ≡ b → changes_in r o.seen.log ≡ list → CanBeShown (opening_state r) list o.change
     → length list + 1 < 2147483648 → ShowsList b r (list ++ named (opening_state r) o.change ∷ []) (applied x o)
 goes_on b r list x o is ob ol can room =
     let c : Accepted = named (opening_state r) o.change in
@@ -129,7 +129,7 @@ goes_on b r list x o is ob ol can room =
     }
 
 -- the writer, which knows the whole list, makes the change of one operation
-pub published_at : (seat : ℕ) (b : LogName) (r : List LogEntry) (v : View) (x : Version) (list : List Accepted) (o : Operation) → IsShelved b r v x list → o.seen.book ≡ b → changes_in r o.seen.log ≡ list
+pub published_at : (seat : ℕ) (b : LogbookName) (r : List LogEntry) (v : View) (x : Version) (list : List Accepted) (o : Operation) → IsShelved b r v x list → o.seen.book ≡ b → changes_in r o.seen.log ≡ list
     → CanBeShown (opening_state r) list o.change → length list + 1 < 2147483648 → TurnsAt IsRuled seat v x (applied x o) Published
 published_at seat b r v x list o sh ob ol can room views (all, is, each) at =
     let mine = each seat v at sh.0.0 in
@@ -145,7 +145,7 @@ published_at seat b r v x list o sh ob ol can room views (all, is, each) at =
     let before : AllTied x list views = subst (λ (l : List Accepted). AllTied x l views) (sym whole) each in
     (w, (list ++ c ∷ [], next, same y (list ++ c ∷ []) views seat w (λ j u t. moved x y list (c ∷ []) u refl (before j u t)) (λ k. (mine.0, mine.1, own))), refl)
 
-pub shelved_after : (b : LogName) (r : List LogEntry) (v w : View) (x y : Version) (list : List Accepted) (o : Operation) → IsShelved b r v x list → o.seen.book ≡ b → changes_in r o.seen.log ≡ list
+pub shelved_after : (b : LogbookName) (r : List LogEntry) (v w : View) (x y : Version) (list : List Accepted) (o : Operation) → IsShelved b r v x list → o.seen.book ≡ b → changes_in r o.seen.log ≡ list
     → CanBeShown (opening_state r) list o.change → length list + 1 < 2147483648 → y ≡ applied x o → Published v x y w → IsShelved b r w y (list ++ named (opening_state r) o.change ∷ [])
 shelved_after b r v w x y list o sh ob ol can room is told =
     let c : Accepted = named (opening_state r) o.change in (
@@ -187,7 +187,7 @@ opening_version r rows x n same log seen shows =
       last = λ h. absurd (omega arith);
     }
 
-pub shelved_first : (b : LogName) (r : List LogEntry) (v w : View) (x y : Version) → y ≡ x → x.root.book ≡ b → x.root.log ≡ r → ShowsList x.root.book x.root.log [] x → Settled v x y w → IsShelved b r w y []
+pub shelved_first : (b : LogbookName) (r : List LogEntry) (v w : View) (x y : Version) → y ≡ x → x.root.book ≡ b → x.root.log ≡ r → ShowsList x.root.book x.root.log [] x → Settled v x y w → IsShelved b r w y []
 shelved_first b r v w x y e eb er is told = (
   (told.0.0, told.0.1 ∙ (ap (λ (z : Version). z.root.book) e ∙ eb), told.0.2 ∙ (ap (λ (z : Version). z.root.log) e ∙ er)),
   told.1,
@@ -215,12 +215,12 @@ ok_case (Ok a) P Q ok m = (a, m)
 ok_case (Err e) P Q ok m = absurd (cc)
 
 -- the list that a version shows is the one that its mark and last change make
-pub shown_list : (b : LogName) (r : List LogEntry) (list : List Accepted) (x : Version) → ShowsList b r list x → list ≡ list_shown r x
+pub shown_list : (b : LogbookName) (r : List LogEntry) (list : List Accepted) (x : Version) → ShowsList b r list x → list ≡ list_shown r x
 shown_list b r [] x is = sym (ap (λ n. list_by (changes_in r x.seen.log) (named (opening_state r) x.last) n) is.len_is)
 shown_list b r (c ∷ cs) x is = is.last (omega arith) ∙ sym (ap (λ n. list_by (changes_in r x.seen.log) (named (opening_state r) x.last) n) is.len_is)
 
 -- what its rows show is what that list shows
-pub shown_by : (b : LogName) (r : List LogEntry) (list : List Accepted) (x : Version) (name : Name) → ShowsList b r list x
+pub shown_by : (b : LogbookName) (r : List LogEntry) (list : List Accepted) (x : Version) (name : Name) → ShowsList b r list x
     → option_map (lookup_with x.rows.policy x.rows.seen) (shown_in x.rows.rows name) ≡ lookup_after (opening_table r) (list_shown r x) name
 shown_by b r list x name is =
     let e = shown_list b r list x is in
@@ -230,7 +230,7 @@ shown_by b r list x name is =
     ∙ ap (λ l. lookup_after (opening_table r) l name) e))
 
 -- what is told begins it, where `Front::begins` says so
-pub begins_shown : (b : LogName) (r : List LogEntry) (list told : List Accepted) (x : Version) → ShowsList b r list x
+pub begins_shown : (b : LogbookName) (r : List LogEntry) (list told : List Accepted) (x : Version) → ShowsList b r list x
     → (x.len ≡ length (changes_in r x.seen.log ++ named (opening_state r) x.last ∷ []) → IsPrefix told (changes_in r x.seen.log ++ named (opening_state r) x.last ∷ []))
     → (x.len ≡ 0 → told ≡ []) → IsPrefix told (list_shown r x)
 begins_shown b r [] told x is tells empty = subst (λ (l : List Accepted). IsPrefix l (list_shown r x)) (sym (empty is.len_is)) (list_shown r x, refl)

@@ -4,7 +4,7 @@ use Rattle.std.specs.Prelude.{◌≡◌, ℕ, ◌+◌, ◌<◌, ◌%◌, zero, s
 use mathlib.Core.Option.{some}
 use mathlib.Core.List.{IsPrefix}
 use lib.ListN.{get_elem?}
-use Rattle.logbook.specs.Pages.{Book as LogName}
+use Rattle.logbook.specs.Pages.{Book as LogbookName}
 use Rattle.chpw_rules.specs.declared.name.Name.{Name}
 use Rattle.chpw_rules.specs.Names.{is_same_name}
 use Rattle.chpw_table.specs.State.{State, kept_count}
@@ -59,12 +59,12 @@ abbrev pub list_of : List LogEntry → ListShown → List Accepted
 list_of root s = list_by (changes_in root s.seen.log) (named (opening_state root) s.last) s.len
 
 -- what is kept is of this log, and counts the list's changes
-abbrev pub IsKnown : LogName → List LogEntry → ListShown → Type 0
+abbrev pub IsKnown : LogbookName → List LogEntry → ListShown → Type 0
 IsKnown log root s = (s.seen.book ≡ log) × (s.len ≡ length (list_of root s))
 
 -- The version is of the list named by this log and root, and shows these changes of it, along which
 -- versions rise. Its rows count them, and those that the table had accepted before.
-pub record ShowsList (log : LogName) (root : List LogEntry) (list : List Accepted) (x : Version) : Type 0 where
+pub record ShowsList (log : LogbookName) (root : List LogEntry) (list : List Accepted) (x : Version) : Type 0 where
   pub root_book : x.root.book ≡ log
   pub root_log : x.root.log ≡ root
   pub seen_book : x.seen.book ≡ log
@@ -83,11 +83,11 @@ pub record ShowsList (log : LogName) (root : List LogEntry) (list : List Accepte
 abbrev pub unknown : View
 unknown = record { known = false; number = 0; log_name = 0; cells_name = 0; root = []; front = [] }
 
-abbrev pub log_of : View → LogName
+abbrev pub log_of : View → LogbookName
 log_of v = record { number = v.number; log_name = v.log_name; cells_name = v.cells_name }
 
 -- the view knows whose list it is
-abbrev pub IsOf : LogName → List LogEntry → View → Type 0
+abbrev pub IsOf : LogbookName → List LogEntry → View → Type 0
 IsOf log root v = (v.known ≡ true) × (log_of v ≡ log) × (v.root ≡ root)
 
 abbrev pub IsTied : Version → List Accepted → View → Type 0
@@ -112,14 +112,14 @@ abbrev pub Settled : View → Version → Version → View → Type 0
 Settled v x y w = IsOf y.root.book y.root.log w × (w.front ≡ [])
 
 -- the operations that wait: none, or this change, which can be shown after this list
-abbrev pub IsWaiting : LogName → List LogEntry → List Accepted → List Operation → Option NumberedChange → Type 0
+abbrev pub IsWaiting : LogbookName → List LogEntry → List Accepted → List Operation → Option NumberedChange → Type 0
 IsWaiting log root list ops None = ops ≡ []
 IsWaiting log root list ops (Some c) =
     (o : Operation) × (ops ≡ o ∷ []) × (o.change ≡ c) × (o.seen.book ≡ log) × (changes_in root o.seen.log ≡ list)
     × CanBeShown (opening_state root) list o.change
 
 -- what the writer holds shows this list, and it knows that
-abbrev pub IsShelved : LogName → List LogEntry → View → Version → List Accepted → Type 0
+abbrev pub IsShelved : LogbookName → List LogEntry → View → Version → List Accepted → Type 0
 IsShelved log root v x list = IsOf log root v × (v.front ≡ list) × ShowsList log root list x
 
 -- what a reader that isn't lent out knows
