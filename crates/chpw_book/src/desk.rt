@@ -112,7 +112,7 @@ impl<D: DeskName, S: JournalSink> Desk<D, S> {
         let mut book = self.book.lock(rt);
         let decided = book.decide(rt, pass, now, opened);
         MutexGuard::unlock(book);
-        noted(pass, decided)
+        note_full(pass, decided)
     }
 
     /// The same, with the digest completed for this password under the lock, as far as keys are
@@ -143,7 +143,7 @@ impl<D: DeskName, S: JournalSink> Desk<D, S> {
         let mut book = self.book.lock(rt);
         let decided = book.decide_deriving(rt, pass, now, opened, password, salt.as_slice());
         MutexGuard::unlock(book);
-        noted(pass, decided)
+        note_full(pass, decided)
     }
 
     /// Raises the iteration count of new keys to this one, 1 to 16,777,216, under the lock; the receipt joins the pass.
@@ -194,7 +194,7 @@ impl<D: DeskName, S: JournalSink> Desk<D, S> {
 }
 
 // The pass notes that the history was full.
-fn noted<D: DeskName>(
+fn note_full<D: DeskName>(
     pass: &mut Pass<D>,
     decided: Result<Verdict, Refused>,
 ) -> Result<Verdict, Refused>

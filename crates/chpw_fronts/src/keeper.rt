@@ -17,7 +17,7 @@ use std::mem;
 
 /// The only one that extends the list of accepted changes. Contracts see it as that list.
 #[derive(Drop)]
-pub struct Keeper<D: ListName> {
+pub struct ChangeLog<D: ListName> {
     head: Head,
     pen: Pen,
     seen: Mark,
@@ -26,7 +26,7 @@ pub struct Keeper<D: ListName> {
     of: PhantomData<D>,
 }
 
-impl<D: ListName> Model for Keeper<D> {
+impl<D: ListName> Model for ChangeLog<D> {
     ghost use Rattle.std.specs.Prelude.{◌≡◌, List, length};
     ghost use Rattle.logbook.specs.Pages.{may_write};
     ghost use Rattle.chpw_table.specs.declared.change.Accepted.{Accepted};
@@ -44,9 +44,9 @@ impl<D: ListName> Model for Keeper<D> {
         × EndsWith (opening_state D.root) (changes_in D.root k.seen.log) k.last };
 }
 
-impl<D: ListName> Keeper<D> {
+impl<D: ListName> ChangeLog<D> {
     // The keeper of a list that was started at this moment.
-    pub(crate) fn of(head: Head, pen: Pen, root: Mark) -> Keeper<D>
+    pub(crate) fn of(head: Head, pen: Pen, root: Mark) -> ChangeLog<D>
         requires name { (root.book ≡ D.book) × (root.log ≡ D.root) }
         requires head { head ≡ head_of root.book }
         requires pen { (pen.book ≡ root.book) × (pen.nib.right ≡ may_write)
@@ -55,7 +55,7 @@ impl<D: ListName> Keeper<D> {
         requires ready { pen_after (first_pen root.log) root.log ≡ first_pen root.log }
         ensures value { result ≡ [] }
     {
-        Keeper {
+        ChangeLog {
             head,
             pen,
             seen: root,

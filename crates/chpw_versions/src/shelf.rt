@@ -13,7 +13,7 @@ use crate::place::Place;
 use crate::rows::Rows;
 use crate::version::{Operation, Version};
 use crate::view::{HandsOn, Learns, Publishes, Settles, VersionWriter};
-use chpw_fronts::{Front, Keeper, ListName, Mark, NumberedChange, NumberedKey};
+use chpw_fronts::{Front, ChangeLog, ListName, Mark, NumberedChange, NumberedKey};
 use chpw_rules::Name;
 use left_right::writer::Writer;
 use std::alloc::{AllocError, Global};
@@ -24,7 +24,7 @@ use std::sync::Wait;
 /// is all that was accepted, and the prepared change.
 pub struct Shelf<D: ListName> {
     writer: Option<VersionWriter>,
-    keeper: Keeper<D>,
+    keeper: ChangeLog<D>,
     waiting: Option<NumberedChange>,
 }
 
@@ -55,7 +55,7 @@ impl<D: ListName> Shelf<D> {
     pub fn start<R: Wait>(
         rt: &R,
         alloc: Global,
-        keeper: Keeper<D>,
+        keeper: ChangeLog<D>,
         root: &Mark,
         rows: Rows,
         again: Rows,
