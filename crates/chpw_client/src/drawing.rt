@@ -64,13 +64,13 @@ fn next_eight<X: Words>(words: &mut X) -> [u32; 8]
 pub(crate) fn key_bytes(words: [u32; 8]) -> [u8; 32]
     ensures value { result ≡ word_bytes words }
 {
-    joined(
+    join_halves(
         word_bytes([words[0], words[1], words[2], words[3]]),
         word_bytes([words[4], words[5], words[6], words[7]]),
     )
 }
 
-fn joined(first: [u8; 16], second: [u8; 16]) -> [u8; 32]
+fn join_halves(first: [u8; 16], second: [u8; 16]) -> [u8; 32]
     ensures value { result ≡ first ++ second }
 {
     let mut bytes = [0; 32];
