@@ -29,7 +29,7 @@ pub fn run_check<W: Write>(alloc: Global, text: &[u8], writer: &mut W) -> Result
     ensures faults { IfErr result IsCheckFault }
     ensures unchanged { result ≡ Err Memory → writer.new ≡ writer.old }
 {
-    let Ok((line, status)) = found(alloc, text) else {
+    let Ok((line, status)) = check_line(alloc, text) else {
         return Err(DrillFault::Memory);
     };
     match writer.write_all(line.as_bytes()) {
@@ -61,7 +61,7 @@ fn in_words(alloc: Global, text: &[u8], fault: ConfigFault) -> Result<String, Al
 }
 
 // The line about the text, and the status.
-fn found(alloc: Global, text: &[u8]) -> Result<(String, u8), AllocError>
+fn check_line(alloc: Global, text: &[u8]) -> Result<(String, u8), AllocError>
     ensures line { IfOk result (λ r. string_bytes r.0 ≡ line_of_check (checked text.now)) }
     ensures status { IfOk result (λ r. r.1 ≡ status_of (checked text.now)) }
 {
