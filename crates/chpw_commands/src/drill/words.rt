@@ -112,7 +112,7 @@ pub fn counted_keys(alloc: Global, words: &[&str]) -> Result<Option<Vec<CountedK
 }
 
 /// NAME, or NAME@REALM, where the realm follows the last `@`.
-pub fn named(alloc: Global, realm: &[u8], word: &str) -> Result<Option<Target>, AllocError>
+pub fn parse_target(alloc: Global, realm: &[u8], word: &str) -> Result<Option<Target>, AllocError>
     ensures value { IfOk result (λ found. found ≡ named_in realm.now word.now) }
 {
     let (text, realm) = match split_last(word, '@') {
