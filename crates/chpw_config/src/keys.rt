@@ -31,7 +31,7 @@ fn get<'a>(table: &'a Table, key: &str) -> Option<&'a Value>
 
 impl Location {
     // The value of a required key.
-    fn present<'a>(self, table: &'a Table, key: &str) -> Result<&'a Value, ConfigFault>
+    fn required_value<'a>(self, table: &'a Table, key: &str) -> Result<&'a Value, ConfigFault>
         ensures value { MatchResult result
             (λ value. present self key.now (table_view table.now) ≡ Ok (view value.now))
             (λ fault. present self key.now (table_view table.now) ≡ Err fault) }
@@ -48,7 +48,7 @@ impl Location {
             (λ text. required self key.now any_text (table_view table.now) ≡ Ok text.now)
             (λ fault. required self key.now any_text (table_view table.now) ≡ Err fault) }
     {
-        let value = self.present(table, key)?;
+        let value = self.required_value(table, key)?;
         value.as_str().ok_or(self.fault(ConfigFaultKind::WrongKind))
     }
 
@@ -57,7 +57,7 @@ impl Location {
         ensures value { result ≡ required self key.now (a_number limits) (table_view table.now) }
         ensures high { IfOk result (λ number. number ≤ limits.high) }
     {
-        let value = self.present(table, key)?;
+        let value = self.required_value(table, key)?;
         a_number(value, limits).map_err(|kind| self.fault(kind))
     }
 
@@ -65,7 +65,7 @@ impl Location {
     pub fn flag(self, table: &Table, key: &str) -> Result<bool, ConfigFault>
         ensures value { result ≡ required self key.now a_flag (table_view table.now) }
     {
-        let value = self.present(table, key)?;
+        let value = self.required_value(table, key)?;
         a_flag(value).map_err(|kind| self.fault(kind))
     }
 
@@ -76,7 +76,7 @@ impl Location {
             ≡ Ok (table_view inner.now))
             (λ fault. required self key.now a_table (table_view table.now) ≡ Err fault) }
     {
-        let value = self.present(table, key)?;
+        let value = self.required_value(table, key)?;
         a_table(value).map_err(|kind| self.fault(kind))
     }
 
@@ -129,7 +129,7 @@ impl Location {
             (λ text. required self key.now (a_text lengths) (table_view table.now) ≡ Ok text.now)
             (λ fault. required self key.now (a_text lengths) (table_view table.now) ≡ Err fault) }
     {
-        let value = self.present(table, key)?;
+        let value = self.required_value(table, key)?;
         a_text(value, lengths).map_err(|kind| self.fault(kind))
     }
 
@@ -166,7 +166,7 @@ impl Location {
             ≡ Ok (items_view list.now))
             (λ fault. required self key.now (a_list counts) (table_view table.now) ≡ Err fault) }
     {
-        let value = self.present(table, key)?;
+        let value = self.required_value(table, key)?;
         a_list(value, counts).map_err(|kind| self.fault(kind))
     }
 
