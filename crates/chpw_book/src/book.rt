@@ -90,7 +90,7 @@ impl<D: DeskName, S: JournalSink> Book<D, S> {
         let rows = rows_of(alloc, &table)?;
         let again = rows_of(alloc, &table)?;
         let root = list.root();
-        let keeper = list.named::<D>();
+        let keeper = list.with_name::<D>();
         let places = usize::from(workers);
         let mut shelf = Shelf::start(rt, alloc, keeper, &root, rows, again, places)?;
         let (totals, all): (_, Share<D>) = blank.open::<D>();
