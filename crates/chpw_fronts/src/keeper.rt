@@ -10,7 +10,7 @@ use crate::change::NumberedChange;
 use crate::entry::Mark;
 use crate::front::Front;
 use crate::list_name::ListName;
-use crate::steps::{Head, checked, made, spent};
+use crate::steps::{Head, checked, make_pen, spent};
 use logbook::Pen;
 use std::marker::{Model, PhantomData};
 use std::mem;
@@ -77,7 +77,7 @@ impl<D: ListName> ChangeLog<D> {
         requires room { length self.old + 1 < 2 ^ 32 }
         ensures value { self.new ≡ self.old ++ named (opening_state D.root) change ∷ [] }
     {
-        let fresh = made(&self.head, &self.seen);
+        let fresh = make_pen(&self.head, &self.seen);
         let pen = mem::replace(&mut self.pen, fresh);
         spent::<D>(&self.head, &mut self.seen, pen, &self.pen, change);
         self.len += 1;
