@@ -10,7 +10,7 @@ use crate::change::NumberedChange;
 use crate::entry::Mark;
 use crate::front::Front;
 use crate::list_name::ListName;
-use crate::steps::{Head, checked, make_pen, spent};
+use crate::steps::{Head, check_pen, make_pen, spent};
 use logbook::Pen;
 use std::marker::{Model, PhantomData};
 use std::mem;
@@ -99,6 +99,6 @@ impl<D: ListName> ChangeLog<D> {
         let mut both = self.seen.again();
         let theirs = front.mark();
         both.learn(&theirs);
-        checked(&self.head, &mut both, &mut self.pen);
+        check_pen(&self.head, &mut both, &mut self.pen);
     }
 }
