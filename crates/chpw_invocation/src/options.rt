@@ -38,7 +38,7 @@ pub(crate) struct OptionLine {
 }
 
 /// A required option with a value.
-pub(crate) fn required(name: &'static str, value: &'static str, help: &'static str) -> OptionLine
+pub(crate) fn required_option(name: &'static str, value: &'static str, help: &'static str) -> OptionLine
     ensures rule { specs_of.rule_for result ≡ specs_of.required name.entry.now }
 {
     let kind = OptionKind::Required;
@@ -167,7 +167,7 @@ fn unnamed<'a>(alloc: Global, line: &OptionLine, is_required: bool) -> Arg<'a>
     ensures local { result.global ≡ false }
 {
     Arg::new(alloc, line.name)
-        .required(is_required)
+        .required_option(is_required)
         .action(ArgAction::Set)
         .value_name(line.value)
         .help(line.help)
@@ -180,7 +180,7 @@ fn valued<'a>(alloc: Global, line: &OptionLine, is_required: bool) -> Arg<'a>
 {
     Arg::new(alloc, line.name)
         .long(line.name)
-        .required(is_required)
+        .required_option(is_required)
         .action(ArgAction::Set)
         .value_name(line.value)
         .help(line.help)

@@ -10,7 +10,7 @@ use crate::invocation::{
     LONGEST_IDLE, MOST_BUFFERS, MOST_CLIENTS, MOST_WORKERS,
 };
 use crate::options::{
-    OptionLine, argument_of, flag, number, optional, optional_number, optional_word, required, word,
+    OptionLine, argument_of, flag, number, optional, optional_number, optional_word, required_option, word,
 };
 use clap::Command;
 use std::alloc::{AllocError, Global};
@@ -242,7 +242,7 @@ fn check<'a>(alloc: Global) -> Result<Command<'a>, AllocError>
     ensures shape { IfOk result (λ c. app_of c ≡ specs_of.alone specs_of.check) }
     ensures local { IfOk result specs_of.IsLocal }
 {
-    let options = [required("config", "FILE", CONFIG_HELP)];
+    let options = [required_option("config", "FILE", CONFIG_HELP)];
     described(alloc, "check", CHECK, CHECK_MORE, &options)
 }
 
@@ -251,8 +251,8 @@ fn table<'a>(alloc: Global) -> Result<Command<'a>, AllocError>
     ensures local { IfOk result specs_of.IsLocal }
 {
     let options = [
-        required("config", "FILE", CONFIG_HELP),
-        required("journal", "FILE", OLD_JOURNAL_HELP),
+        required_option("config", "FILE", CONFIG_HELP),
+        required_option("journal", "FILE", OLD_JOURNAL_HELP),
         optional("as", "FORM", AS_HELP),
     ];
     described(alloc, "table", TABLE, TABLE_MORE, &options)
@@ -263,8 +263,8 @@ fn import_keytab<'a>(alloc: Global) -> Result<Command<'a>, AllocError>
     ensures local { IfOk result specs_of.IsLocal }
 {
     let options = [
-        required("keytab", "FILE", KEYTAB_HELP),
-        required("realm", "REALM", REALM_HELP),
+        required_option("keytab", "FILE", KEYTAB_HELP),
+        required_option("realm", "REALM", REALM_HELP),
         optional_number("iterations", "COUNT", GREATEST_COUNT, KEY_COUNT_HELP),
     ];
     described(alloc, "import", IMPORT, IMPORT_MORE, &options)
@@ -275,9 +275,9 @@ fn key<'a>(alloc: Global) -> Result<Command<'a>, AllocError>
     ensures local { IfOk result specs_of.IsLocal }
 {
     let options = [
-        required("realm", "REALM", REALM_HELP),
-        required("name", "NAME", NAME_HELP),
-        required("password-file", "FILE", PASSWORD_FILE_HELP),
+        required_option("realm", "REALM", REALM_HELP),
+        required_option("name", "NAME", NAME_HELP),
+        required_option("password-file", "FILE", PASSWORD_FILE_HELP),
         optional_number("iterations", "COUNT", GREATEST_COUNT, KEY_COUNT_HELP),
         optional_number("kvno", "N", GREATEST_KVNO, KVNO_HELP),
     ];
@@ -289,9 +289,9 @@ fn serve<'a>(alloc: Global) -> Result<Command<'a>, AllocError>
     ensures local { IfOk result specs_of.IsLocal }
 {
     let options = [
-        required("config", "FILE", CONFIG_HELP),
-        required("journal", "FILE", JOURNAL_HELP),
-        required("seed", "FILE", SEED_HELP),
+        required_option("config", "FILE", CONFIG_HELP),
+        required_option("journal", "FILE", JOURNAL_HELP),
+        required_option("seed", "FILE", SEED_HELP),
         number("port", "N", GREATEST_PORT as u32, PORT_HELP),
         number("workers", "N", MOST_WORKERS as u32, WORKERS_HELP),
         number("connections", "N", GREATEST_CONNECTIONS, CONNECTIONS_HELP),
@@ -318,7 +318,7 @@ fn control<'a>(alloc: Global) -> Result<Command<'a>, AllocError>
     ensures local { IfOk result specs_of.IsLocal }
 {
     let options = [
-        required("socket", "SOCKET", SOCKET_HELP),
+        required_option("socket", "SOCKET", SOCKET_HELP),
         word("command", "COMMAND", COMMAND_HELP),
         optional_word("file", "FILE", COMMAND_FILE_HELP),
     ];
@@ -330,10 +330,10 @@ fn client<'a>(alloc: Global) -> Result<Command<'a>, AllocError>
     ensures local { IfOk result specs_of.IsLocal }
 {
     let options = [
-        required("config", "FILE", CONFIG_HELP),
-        required("seed", "FILE", SEED_HELP),
+        required_option("config", "FILE", CONFIG_HELP),
+        required_option("seed", "FILE", SEED_HELP),
         number("port", "N", GREATEST_PORT as u32, PORT_HELP),
-        required("client", "NAME", CLIENT_HELP),
+        required_option("client", "NAME", CLIENT_HELP),
         optional("password", "TEXT", PASSWORD_HELP),
         optional("password-file", "FILE", NEW_PASSWORD_FILE_HELP),
         optional("target", "NAME", TARGET_HELP),
