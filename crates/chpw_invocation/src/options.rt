@@ -156,13 +156,13 @@ pub(crate) fn argument_of<'a>(alloc: Global, line: &OptionLine) -> Arg<'a>
             .long(line.name)
             .action(ArgAction::SetTrue)
             .help(line.help),
-        OptionKind::Word => unnamed(alloc, line, true),
-        OptionKind::OptionalWord => unnamed(alloc, line, false),
+        OptionKind::Word => positional_arg(alloc, line, true),
+        OptionKind::OptionalWord => positional_arg(alloc, line, false),
     }
 }
 
 // The positional word, required or optional.
-fn unnamed<'a>(alloc: Global, line: &OptionLine, is_required: bool) -> Arg<'a>
+fn positional_arg<'a>(alloc: Global, line: &OptionLine, is_required: bool) -> Arg<'a>
     ensures rule { rule_of result ≡ record (specs_of.optional_word line.now.name.now) { required = is_required } }
     ensures local { result.global ≡ false }
 {
