@@ -148,10 +148,10 @@ pub(crate) fn argument_of<'a>(alloc: Global, line: &OptionLine) -> Arg<'a>
     ensures local { result.global ≡ false }
 {
     match line.kind {
-        OptionKind::Required => valued(alloc, line, true),
-        OptionKind::Optional => valued(alloc, line, false),
-        OptionKind::Number(limit) => valued(alloc, line, true).value_parser(up_to(limit)),
-        OptionKind::OptionalNumber(limit) => valued(alloc, line, false).value_parser(up_to(limit)),
+        OptionKind::Required => option_arg(alloc, line, true),
+        OptionKind::Optional => option_arg(alloc, line, false),
+        OptionKind::Number(limit) => option_arg(alloc, line, true).value_parser(up_to(limit)),
+        OptionKind::OptionalNumber(limit) => option_arg(alloc, line, false).value_parser(up_to(limit)),
         OptionKind::Flag => Arg::new(alloc, line.name)
             .long(line.name)
             .action(ArgAction::SetTrue)
@@ -174,7 +174,7 @@ fn positional_arg<'a>(alloc: Global, line: &OptionLine, is_required: bool) -> Ar
 }
 
 // The option with a value, required or optional.
-fn valued<'a>(alloc: Global, line: &OptionLine, is_required: bool) -> Arg<'a>
+fn option_arg<'a>(alloc: Global, line: &OptionLine, is_required: bool) -> Arg<'a>
     ensures rule { rule_of result ≡ record (specs_of.optional line.now.name.now) { required = is_required } }
     ensures local { result.global ≡ false }
 {
