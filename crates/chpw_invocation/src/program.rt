@@ -213,7 +213,7 @@ const OLD_HELP: &str =
     "Ask in the earlier protocol, version 0x0001, for the client's own password: without --target";
 
 // A command with this name, these texts (one in the list, one below the options), and these options.
-fn described<'a>(
+fn command_with<'a>(
     alloc: Global,
     name: &'a str,
     about: &'a str,
@@ -235,7 +235,7 @@ fn drill<'a>(alloc: Global) -> Result<Command<'a>, AllocError>
     ensures shape { IfOk result (λ c. app_of c ≡ specs_of.alone specs_of.drill) }
     ensures local { IfOk result specs_of.IsLocal }
 {
-    described(alloc, "drill", DRILL, DRILL_MORE, &[])
+    command_with(alloc, "drill", DRILL, DRILL_MORE, &[])
 }
 
 fn check<'a>(alloc: Global) -> Result<Command<'a>, AllocError>
@@ -243,7 +243,7 @@ fn check<'a>(alloc: Global) -> Result<Command<'a>, AllocError>
     ensures local { IfOk result specs_of.IsLocal }
 {
     let options = [required_option("config", "FILE", CONFIG_HELP)];
-    described(alloc, "check", CHECK, CHECK_MORE, &options)
+    command_with(alloc, "check", CHECK, CHECK_MORE, &options)
 }
 
 fn table<'a>(alloc: Global) -> Result<Command<'a>, AllocError>
@@ -255,7 +255,7 @@ fn table<'a>(alloc: Global) -> Result<Command<'a>, AllocError>
         required_option("journal", "FILE", OLD_JOURNAL_HELP),
         optional("as", "FORM", AS_HELP),
     ];
-    described(alloc, "table", TABLE, TABLE_MORE, &options)
+    command_with(alloc, "table", TABLE, TABLE_MORE, &options)
 }
 
 fn import_keytab<'a>(alloc: Global) -> Result<Command<'a>, AllocError>
@@ -267,7 +267,7 @@ fn import_keytab<'a>(alloc: Global) -> Result<Command<'a>, AllocError>
         required_option("realm", "REALM", REALM_HELP),
         optional_number("iterations", "COUNT", GREATEST_COUNT, KEY_COUNT_HELP),
     ];
-    described(alloc, "import", IMPORT, IMPORT_MORE, &options)
+    command_with(alloc, "import", IMPORT, IMPORT_MORE, &options)
 }
 
 fn key<'a>(alloc: Global) -> Result<Command<'a>, AllocError>
@@ -281,7 +281,7 @@ fn key<'a>(alloc: Global) -> Result<Command<'a>, AllocError>
         optional_number("iterations", "COUNT", GREATEST_COUNT, KEY_COUNT_HELP),
         optional_number("kvno", "N", GREATEST_KVNO, KVNO_HELP),
     ];
-    described(alloc, "key", KEY, KEY_MORE, &options)
+    command_with(alloc, "key", KEY, KEY_MORE, &options)
 }
 
 fn serve<'a>(alloc: Global) -> Result<Command<'a>, AllocError>
@@ -310,7 +310,7 @@ fn serve<'a>(alloc: Global) -> Result<Command<'a>, AllocError>
         optional("control", "SOCKET", CONTROL_HELP),
         flag("udp", UDP_HELP),
     ];
-    described(alloc, "serve", SERVE, SERVE_MORE, &options)
+    command_with(alloc, "serve", SERVE, SERVE_MORE, &options)
 }
 
 fn control<'a>(alloc: Global) -> Result<Command<'a>, AllocError>
@@ -322,7 +322,7 @@ fn control<'a>(alloc: Global) -> Result<Command<'a>, AllocError>
         word("command", "COMMAND", COMMAND_HELP),
         optional_word("file", "FILE", COMMAND_FILE_HELP),
     ];
-    described(alloc, "control", CONTROL, CONTROL_MORE, &options)
+    command_with(alloc, "control", CONTROL, CONTROL_MORE, &options)
 }
 
 fn client<'a>(alloc: Global) -> Result<Command<'a>, AllocError>
@@ -340,7 +340,7 @@ fn client<'a>(alloc: Global) -> Result<Command<'a>, AllocError>
         flag("no-initial", NO_INITIAL_HELP),
         flag("old", OLD_HELP),
     ];
-    described(alloc, "client", CLIENT, CLIENT_MORE, &options)
+    command_with(alloc, "client", CLIENT, CLIENT_MORE, &options)
 }
 
 // The program with one more subcommand, unless memory has run out for either.
