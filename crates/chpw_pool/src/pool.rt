@@ -142,13 +142,13 @@ pub fn run_pool_by<
         room: None,
     };
     match no_gates(alloc, passes.len()) {
-        Err(_) => unserved(PoolFault::Memory, terms.connections),
+        Err(_) => failed_pool(PoolFault::Memory, terms.connections),
         Ok(gates) => run_gated(rt, &shared, listener, passes, terms, gates),
     }
 }
 
 // No connection was accepted.
-fn unserved(fault: PoolFault, connections: u32) -> Pool
+fn failed_pool(fault: PoolFault, connections: u32) -> Pool
     ensures ends { Ends connections result }
 {
     match fault {
@@ -191,7 +191,7 @@ fn run_gated<
 {
     let connections = terms.connections;
     match Engine::of(rt, shared.alloc, terms.seed, terms.bounds(), gates, None) {
-        Err(fault) => unserved(fault, connections),
+        Err(fault) => failed_pool(fault, connections),
         Ok(engine) => {
             let reacting = Reacting {
                 rt,
@@ -200,7 +200,7 @@ fn run_gated<
                 connections,
             };
             match run_workers(rt, shared, &engine, passes, reacting) {
-                Err(NotStarted) => unserved(PoolFault::Start, connections),
+                Err(NotStarted) => failed_pool(PoolFault::Start, connections),
                 Ok(()) => engine.outcome(rt, connections),
             }
         }
