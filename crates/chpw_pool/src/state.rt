@@ -149,7 +149,7 @@ impl State {
         ensures asking { self.new.asking ≡ asking_behind (awaited self.old.asking change) reply self.old.asking }
         ensures bounds { bounds_of self.new.connections ≡ bounds_of self.old.connections }
     {
-        match (reply, self.awaited(change)) {
+        match (reply, self.length_awaited(change)) {
             (None, _) => self.connections.leave_unanswered(slot, now),
             (Some(Reply { bytes, is_last }), None) => {
                 self.connections.answer(slot, bytes, is_last, now);
@@ -162,7 +162,7 @@ impl State {
     }
 
     // How much of the journal the follower has to confirm before the reply to a change is written.
-    fn awaited(&self, change: Option<u64>) -> Option<u64>
+    fn length_awaited(&self, change: Option<u64>) -> Option<u64>
         ensures value { result ≡ awaited self.now.asking change }
     {
         match change {
