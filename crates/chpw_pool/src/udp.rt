@@ -63,7 +63,7 @@ impl Datagrams {
         let Ok(answered) = Answered::new(alloc) else {
             return Err(PoolFault::Memory);
         };
-        match watched(socket, registry) {
+        match watch(socket, registry) {
             Err(_) => Err(PoolFault::Accept),
             Ok((socket, port)) => Ok(Datagrams {
                 alloc,
@@ -142,7 +142,7 @@ impl Datagrams {
 }
 
 // The socket, watched, and its port.
-fn watched(socket: net::UdpSocket, registry: &Registry) -> io::Result<(UdpSocket, u16)> {
+fn watch(socket: net::UdpSocket, registry: &Registry) -> io::Result<(UdpSocket, u16)> {
     socket.set_nonblocking(true)?;
     let port = socket.local_addr()?.port();
     let mut socket = UdpSocket::from_std(socket);
