@@ -90,7 +90,7 @@ where
         now,
         client,
         password,
-        lent(target),
+        borrow_target(target),
         !options.no_initial,
         options.old,
         &mut words,
@@ -147,7 +147,7 @@ fn target_of<'a>(alloc: Global, text: Option<&str>) -> Result<Option<Name>, Endi
 }
 
 // The target's name; written out, since that gives the fact that it fits.
-fn lent(target: &Option<Name>) -> Option<&Name>
+fn borrow_target(target: &Option<Name>) -> Option<&Name>
     requires fits { IfSome target.now (λ name. is_name name ≡ true) }
     ensures fits { IfSome result (λ name. is_name name.now ≡ true) }
     ensures value { option_map (λ name. name.now) result ≡ target.now }
