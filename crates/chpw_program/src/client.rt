@@ -36,7 +36,7 @@ where
         Err(ending) => ending,
         Ok(sent) => match exchange(rt, options.port, sent.message.as_slice()) {
             Err(ending) => ending,
-            Ok(reply) => told(rt, &sent, reply.as_slice()),
+            Ok(reply) => print_reply(rt, &sent, reply.as_slice()),
         },
     }
 }
@@ -192,7 +192,7 @@ where
 }
 
 // Prints what a reply says.
-fn told<'a>(rt: &(impl Print + AllocGlobal), sent: &Sent, reply: &[u8]) -> Ending<'a>
+fn print_reply<'a>(rt: &(impl Print + AllocGlobal), sent: &Sent, reply: &[u8]) -> Ending<'a>
     ensures tells { Tells sent.now reply.now result }
 {
     match client_line(rt.alloc(), sent, reply) {
