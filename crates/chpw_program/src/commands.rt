@@ -36,7 +36,7 @@ where
         + Sync,
 {
     match command_of(rt.alloc(), words) {
-        Err(error) => misused(errors, error),
+        Err(error) => explain_misuse(errors, error),
         Ok(Invocation::Drill) => drill(rt),
         Ok(Invocation::Check { config }) => check(rt, config),
         Ok(Invocation::Table(options)) => served(tell_table(rt, options)),
@@ -49,7 +49,7 @@ where
 }
 
 /// The command line asks for no command: clap's text says why, on standard error.
-pub fn misused<'a, W: Write>(errors: &mut W, error: Error) -> Ending<'a>
+pub fn explain_misuse<'a, W: Write>(errors: &mut W, error: Error) -> Ending<'a>
     ensures memory { kind_of error ≡ ErrorKind.OutOfMemory → result ≡ Ending.Early DrillFault.Memory }
     ensures text { kind_of error ≢ ErrorKind.OutOfMemory → result ≡ Ending.Misused }
 {

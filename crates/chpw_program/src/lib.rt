@@ -14,7 +14,7 @@ mod running;
 
 pub use client::ask;
 pub use command_line::words;
-pub use commands::misused;
+pub use commands::explain_misuse;
 pub use control::{send_command, tell_service};
 pub use ending::{Ending, tell};
 pub use reasons::Reason;

@@ -1,6 +1,6 @@
 //! The command lines and what they ask for, and words that are no UTF-8.
 use chpw_invocation::{Invocation, PasswordSource, command_of};
-use chpw_program::{Ending, misused, words as words_of};
+use chpw_program::{Ending, explain_misuse, words as words_of};
 use std::alloc::{AllocError, Global};
 use std::env::FillError;
 use std::process::Abort;
@@ -237,7 +237,7 @@ fn asked(rt: &impl Abort, alloc: Global, line: &str) -> String {
         Ok(invocation) => assert!(rt; show(&mut text, invocation).is_ok()),
         Err(error) => {
             let mut errors = Vec::new(alloc);
-            assert!(rt; matches!(misused(&mut errors, error), Ending::Misused));
+            assert!(rt; matches!(explain_misuse(&mut errors, error), Ending::Misused));
             assert!(rt; text.push_str(str::from_utf8(&errors).unwrap_or("")).is_ok());
         }
     }
