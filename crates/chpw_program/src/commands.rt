@@ -39,10 +39,10 @@ where
         Err(error) => explain_misuse(errors, error),
         Ok(Invocation::Drill) => drill(rt),
         Ok(Invocation::Check { config }) => check(rt, config),
-        Ok(Invocation::Table(options)) => served(tell_table(rt, options)),
+        Ok(Invocation::Table(options)) => ending_of_service(tell_table(rt, options)),
         Ok(Invocation::Import(options)) => brought(tell_keytab(rt, options)),
         Ok(Invocation::Key(options)) => brought(tell_password(rt, options)),
-        Ok(Invocation::Serve(options)) => served(serve(rt, options)),
+        Ok(Invocation::Serve(options)) => ending_of_service(serve(rt, options)),
         Ok(Invocation::Control(options)) => send_command(rt, options),
         Ok(Invocation::Client(options)) => ask(rt, options),
     }
@@ -61,7 +61,7 @@ pub fn explain_misuse<'a, W: Write>(errors: &mut W, error: Error) -> Ending<'a>
 }
 
 // The ending of the service, or of the table.
-fn served(ended: Result<(), ServeFault<'_>>) -> Ending<'_>
+fn ending_of_service(ended: Result<(), ServeFault<'_>>) -> Ending<'_>
     ensures value { result ≡ ending_served ended.entry }
 {
     match ended {
