@@ -40,8 +40,8 @@ where
         Ok(Invocation::Drill) => drill(rt),
         Ok(Invocation::Check { config }) => check(rt, config),
         Ok(Invocation::Table(options)) => ending_of_service(tell_table(rt, options)),
-        Ok(Invocation::Import(options)) => brought(tell_keytab(rt, options)),
-        Ok(Invocation::Key(options)) => brought(tell_password(rt, options)),
+        Ok(Invocation::Import(options)) => ending_of_keys(tell_keytab(rt, options)),
+        Ok(Invocation::Key(options)) => ending_of_keys(tell_password(rt, options)),
         Ok(Invocation::Serve(options)) => ending_of_service(serve(rt, options)),
         Ok(Invocation::Control(options)) => send_command(rt, options),
         Ok(Invocation::Client(options)) => ask(rt, options),
@@ -71,7 +71,7 @@ fn ending_of_service(ended: Result<(), ServeFault<'_>>) -> Ending<'_>
 }
 
 // The ending of a keytab's or a password's keys.
-fn brought(told: Result<(), KeysFault<'_>>) -> Ending<'_>
+fn ending_of_keys(told: Result<(), KeysFault<'_>>) -> Ending<'_>
     ensures value { result ≡ ending_brought told.entry }
 {
     match told {
