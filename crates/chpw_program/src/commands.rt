@@ -83,10 +83,10 @@ fn ending_of_keys(told: Result<(), KeysFault<'_>>) -> Ending<'_>
 
 // The script on standard input.
 fn drill<'a>(rt: &(impl Input + Print + AllocGlobal)) -> Ending<'a> {
-    drilled(run_drill(rt.alloc(), &mut rt.reader(), &mut io::writer(rt)))
+    ending_of_drill(run_drill(rt.alloc(), &mut rt.reader(), &mut io::writer(rt)))
 }
 
-fn drilled<'a>(ended: Result<(), DrillFault>) -> Ending<'a>
+fn ending_of_drill<'a>(ended: Result<(), DrillFault>) -> Ending<'a>
     ensures value { result ≡ ending_drilled ended }
 {
     match ended {
