@@ -98,14 +98,14 @@ fn ending_of_drill<'a>(ended: Result<(), DrillFault>) -> Ending<'a>
 // The configuration in a file.
 fn check<'a>(rt: &(impl Files + Print + AllocGlobal), file: &'a str) -> Ending<'a> {
     let read = match fs::read(rt, file) {
-        Ok(text) => checked(rt, file, text.as_slice()),
+        Ok(text) => print_check(rt, file, text.as_slice()),
         Err(error) if error.kind() == io::ErrorKind::OutOfMemory => Err(AllocError),
         Err(_) => Ok(Ending::Unread(file)),
     };
     read.unwrap_or(Ending::Early(DrillFault::Memory))
 }
 
-fn checked<'a>(
+fn print_check<'a>(
     rt: &(impl Print + AllocGlobal),
     file: &'a str,
     text: &[u8],
