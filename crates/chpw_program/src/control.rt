@@ -66,7 +66,7 @@ pub fn tell_service<'a, S: Write, A: Read, W: Write>(
     }
     let mut answer = Vec::new(alloc);
     match answers.read_to_end(&mut answer) {
-        Ok(_) => ended(answer.as_slice(), out),
+        Ok(_) => print_answer(answer.as_slice(), out),
         Err(error) => broken_off(answer.as_slice(), &error, out),
     }
 }
@@ -81,7 +81,7 @@ fn command_line(alloc: Global, command: &ControlCommand<'_>) -> Result<String, A
 }
 
 // Prints a whole answer, and ends accordingly.
-fn ended<'a, W: Write>(answer: &[u8], out: &mut W) -> Ending<'a>
+fn print_answer<'a, W: Write>(answer: &[u8], out: &mut W) -> Ending<'a>
     ensures ends { IsAnswered result → result ≡ ending_by answer.now }
     ensures printed { IsAnswered result → Appends (W.contents out.old) (W.contents out.new) answer.now }
 {
