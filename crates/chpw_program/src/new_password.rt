@@ -26,7 +26,7 @@ pub(crate) fn password_of<'a, R: Files + Input + AllocGlobal>(
         PasswordSource::Text(text) => copy_of(rt.alloc(), text.as_bytes()),
         PasswordSource::File(file) => match fs::read(rt, file) {
             Ok(bytes) => only_line(rt.alloc(), file, bytes.as_slice()),
-            Err(error) => Err(unread(file, &error)),
+            Err(error) => Err(unread_ending(file, &error)),
         },
         PasswordSource::StandardInput => line_from(rt.alloc(), &mut rt.reader()),
     }
@@ -41,11 +41,11 @@ fn line_from<'a, A: Read>(alloc: Global, reader: &mut A) -> Result<Vec<u8>, Endi
     let mut bytes = Vec::new(alloc);
     match reader.read_to_end(&mut bytes) {
         Ok(_) => only_line(alloc, STANDARD_INPUT, bytes.as_slice()),
-        Err(error) => Err(unread(STANDARD_INPUT, &error)),
+        Err(error) => Err(unread_ending(STANDARD_INPUT, &error)),
     }
 }
 
-fn unread<'a>(name: &'a str, error: &io::Error) -> Ending<'a>
+fn unread_ending<'a>(name: &'a str, error: &io::Error) -> Ending<'a>
     ensures early { IsUnasked result }
 {
     if error.kind() == ErrorKind::OutOfMemory {
