@@ -2,7 +2,7 @@
 ghost use Rattle.std.specs.Prelude.{◌≡◌, IfOk, true};
 ghost use Rattle.chpw_reload.specs.Compacting.{GoesWith};
 
-use crate::lacking::lacked;
+use crate::lacking::missing_names;
 use chpw_table::Table;
 use std::alloc::{AllocError, Global};
 
@@ -18,5 +18,5 @@ pub fn goes_with(alloc: Global, base: &Table, held: &Table) -> Result<bool, Allo
     {
         return Ok(false);
     }
-    Ok(lacked(alloc, base, held)?.is_empty())
+    Ok(missing_names(alloc, base, held)?.is_empty())
 }

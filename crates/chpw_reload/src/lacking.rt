@@ -7,7 +7,7 @@ use chpw_table::Table;
 use std::alloc::{AllocError, Global};
 
 /// The names of the closed table that the renewed one lacks, in their order.
-pub(crate) fn lacked(
+pub(crate) fn missing_names(
     alloc: Global,
     closed: &Table,
     renewed: &Table,

@@ -11,7 +11,7 @@ ghost use Rattle.chpw_reload.specs.Starting.{IsRefusedOver, IsStarted, IsStarted
 use crate::comparing::first_apart;
 use crate::fault::ReloadFault;
 use crate::fitting::fitting;
-use crate::lacking::lacked;
+use crate::lacking::missing_names;
 use crate::next::next_config;
 use crate::renewal::{Renewal, read_on};
 use chpw_journal::RestoreFault;
@@ -151,7 +151,7 @@ fn start_next(
     ensures refused { IfErr result
         (IsRefusedOver settings closed.now.state renewed.now.state) }
 {
-    let lacked = lacked(alloc, closed, renewed)?;
+    let lacked = missing_names(alloc, closed, renewed)?;
     let config = next_config(alloc, settings, closed, renewed, lacked.as_slice())?;
     let Some(config) = fitting(config) else {
         return Err(ReloadFault::Limits);
