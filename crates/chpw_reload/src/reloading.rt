@@ -51,7 +51,7 @@ pub fn finish<F: Read + Drop>(
         IsRefused renewal (F.remaining rest) closed refused.fault) }
     ensures unchanged { IfErr result (λ refused. refused.closed ≡ closed) }
 {
-    match started(alloc, renewal, rest, &closed) {
+    match start_table(alloc, renewal, rest, &closed) {
         Ok(started) => Ok(Reloaded {
             table: started.table.going_on_from(closed),
             lacked: started.lacked,
@@ -61,7 +61,7 @@ pub fn finish<F: Read + Drop>(
 }
 
 // The next configuration's table, before it takes over what the closed one used.
-fn started<F: Read + Drop>(
+fn start_table<F: Read + Drop>(
     alloc: Global,
     renewal: Renewal,
     rest: F,
