@@ -9,7 +9,7 @@ use std::alloc::{AllocError, Global};
 use std::str;
 
 /// The answer to a reload that was refused before the desk was closed.
-pub(crate) fn unrenewed(alloc: Global, fault: &RenewFault<'_>) -> Result<Vec<u8>, AllocError> {
+pub(crate) fn prepare_refusal(alloc: Global, fault: &RenewFault<'_>) -> Result<Vec<u8>, AllocError> {
     match fault {
         RenewFault::Start(fault) => refused(alloc, fault.to_string(alloc)?.as_str()),
         RenewFault::Config(words) => refused(alloc, words.as_str()),

@@ -1,6 +1,6 @@
 //! Orders of callers at the control socket.
 
-use crate::answers::{refused, reopened, told, uncompacted, unrenewed};
+use crate::answers::{refused, reopened, told, uncompacted, prepare_refusal};
 use crate::compacting::{Compaction, begin_compaction};
 use crate::fault::ServeFault;
 use crate::files::{open_file, read_regular, settings};
@@ -90,7 +90,7 @@ impl<R: Files<File = File> + Net + Wait + Clock + Eprint + AllocGlobal, T: Clock
         let answer = match command {
             Command::Reload => match read_anew(self.rt, options) {
                 Ok(anew) => return Carried::Due(Due::Reload(anew)),
-                Err(fault) => unrenewed(alloc, &fault),
+                Err(fault) => prepare_refusal(alloc, &fault),
             },
             Command::ReopenLog => {
                 let now = MachineClock::new(self.time).now();
