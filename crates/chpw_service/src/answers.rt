@@ -13,12 +13,12 @@ pub(crate) fn prepare_refusal(alloc: Global, fault: &RenewFault<'_>) -> Result<V
     match fault {
         RenewFault::Start(fault) => refused(alloc, fault.to_string(alloc)?.as_str()),
         RenewFault::Config(words) => refused(alloc, words.as_str()),
-        RenewFault::Reload(fault) => unreloaded(alloc, fault),
+        RenewFault::Reload(fault) => reload_refusal(alloc, fault),
     }
 }
 
 /// The answer to a reload that was refused.
-pub(crate) fn unreloaded(alloc: Global, fault: &ReloadFault) -> Result<Vec<u8>, AllocError> {
+pub(crate) fn reload_refusal(alloc: Global, fault: &ReloadFault) -> Result<Vec<u8>, AllocError> {
     let mut words = Vec::new(alloc);
     put_fault(&mut words, fault)?;
     refused(alloc, str::from_utf8(&words).unwrap_or(""))

@@ -4,7 +4,7 @@ ghost use Rattle.chpw_book.specs.Starting.{table_of, workers_of};
 ghost use Rattle.chpw_reload.specs.ReloadRuns.{GoesOn};
 ghost use Rattle.chpw_service.specs.declared.fault.ServeFault.TheVariants.{Memory};
 
-use crate::answers::{told, unreloaded};
+use crate::answers::{told, reload_refusal};
 use crate::fault::ServeFault;
 use crate::histories::{Hall, Opening, Rules, next_opening};
 use crate::notices::Notice;
@@ -59,7 +59,7 @@ pub(crate) fn reload<'a, 'l, R: Wait + Clock + Eprint + AllocGlobal, T: Clock>(
         Err(Refused { fault, closed }) => {
             hall.log
                 .tell_rollover(MachineClock::new(time).now(), &closed);
-            let answer = unreloaded(rt.alloc(), &fault);
+            let answer = reload_refusal(rt.alloc(), &fault);
             hall.engine.answer_order(rt, told(rt.alloc(), answer));
             next_opening(closed, sink, hall.workers)
         }
