@@ -51,7 +51,7 @@ pub(crate) fn unwritten(alloc: Global, path: &str) -> Result<Vec<u8>, AllocError
 }
 
 /// The answer to a compact journal that was refused before the desk was closed.
-pub(crate) fn uncompacted(alloc: Global, fault: &CompactFault<'_>) -> Result<Vec<u8>, AllocError> {
+pub(crate) fn compact_refusal(alloc: Global, fault: &CompactFault<'_>) -> Result<Vec<u8>, AllocError> {
     match fault {
         CompactFault::Unread(fault) => refused(alloc, fault.to_string(alloc)?.as_str()),
         CompactFault::NoCopy(copy) => unwritten(alloc, copy.as_str()),

@@ -1,6 +1,6 @@
 //! Orders of callers at the control socket.
 
-use crate::answers::{refused, reopened, told, uncompacted, prepare_refusal};
+use crate::answers::{refused, reopened, told, compact_refusal, prepare_refusal};
 use crate::compacting::{Compaction, begin_compaction};
 use crate::fault::ServeFault;
 use crate::files::{open_file, read_regular, settings};
@@ -98,7 +98,7 @@ impl<R: Files<File = File> + Net + Wait + Clock + Eprint + AllocGlobal, T: Clock
             }
             Command::Compact(copy) => match begin_compaction(self.rt, options, copy) {
                 Ok(compaction) => return Carried::Due(Due::Compact(compaction)),
-                Err(fault) => uncompacted(alloc, &fault),
+                Err(fault) => compact_refusal(alloc, &fault),
             },
             Command::Status | Command::Stop => refused(alloc, "not an order"),
         };
