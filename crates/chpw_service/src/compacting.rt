@@ -157,7 +157,7 @@ fn replace<'l, R: Files<File = File> + Wait + Clock + Eprint + AllocGlobal>(
     if hall.log.has_failed() {
         return Err(NotReplaced::Failed);
     }
-    let text = match compacted(rt.alloc(), base, held) {
+    let text = match compact_text(rt.alloc(), base, held) {
         Ok(Some(text)) => text,
         Ok(None) => return Err(NotReplaced::Changed),
         Err(_) => return Err(NotReplaced::Memory),
@@ -179,7 +179,7 @@ fn replace<'l, R: Files<File = File> + Wait + Clock + Eprint + AllocGlobal>(
 }
 
 // The text of a compact journal for the held table, if the base goes with it.
-fn compacted(alloc: Global, base: &Table, held: &Table) -> Result<Option<Vec<u8>>, AllocError>
+fn compact_text(alloc: Global, base: &Table, held: &Table) -> Result<Option<Vec<u8>>, AllocError>
     ensures text { IfOk result (λ found. IfSome found (λ text. GoesWith base.now.state held.now.state
         × (text.items ≡ records_text (compacted base.now.state held.now.state)))) }
     ensures whole { IfOk result (λ found. IfSome found (λ _. AreWholeRecords (compacted base.now.state held.now.state))) }
