@@ -39,7 +39,7 @@ pub(crate) fn read_file<'a, R: Files + AllocGlobal>(
 {
     match fs::read(rt, path) {
         Ok(bytes) => Ok(bytes),
-        Err(error) => Err(unread(path, error)),
+        Err(error) => Err(unread_fault(path, error)),
     }
 }
 
@@ -67,7 +67,7 @@ pub(crate) fn open_file<'a, R: Files<File = File>>(
     match File::open(rt, path) {
         Ok(file) if is_folder(&file) => Err(ServeFault::CannotRead(path)),
         Ok(file) => Ok(file),
-        Err(error) => Err(unread(path, error)),
+        Err(error) => Err(unread_fault(path, error)),
     }
 }
 
@@ -120,7 +120,7 @@ pub fn read_seed<'a, R: Files>(rt: &R, path: &'a str) -> Result<[u8; 32], ServeF
     };
     match read {
         Ok(seed) => Ok(seed),
-        Err(error) => Err(unread(path, error)),
+        Err(error) => Err(unread_fault(path, error)),
     }
 }
 
@@ -134,7 +134,7 @@ fn first_32<R: Read>(reader: &mut R) -> io::Result<[u8; 32]>
 }
 
 /// The fault of a file that can't be read.
-pub(crate) fn unread(path: &str, error: io::Error) -> ServeFault<'_>
+pub(crate) fn unread_fault(path: &str, error: io::Error) -> ServeFault<'_>
     ensures fault { IsUnread path.now result }
 {
     if error.kind() == ErrorKind::OutOfMemory {
