@@ -98,12 +98,12 @@ fn book_at<'l, 'a: 'l, R: Files<File = File> + Net>(
                     losses: Losses::default(),
                 }),
             })),
-            Err(error) => Err(unlogged(path, error)),
+            Err(error) => Err(unlogged_fault(path, error)),
         },
     }
 }
 
-fn unlogged(path: &str, error: io::Error) -> ServeFault<'_>
+fn unlogged_fault(path: &str, error: io::Error) -> ServeFault<'_>
     ensures fault { IsUnlogged path.now result }
 {
     if error.kind() == ErrorKind::OutOfMemory {
@@ -343,7 +343,7 @@ impl<R: Files<File = File> + Net + Wait + Eprint> Log<'_, R> {
         keep_apart(self.rt, options)?;
         match Sheet::at(self.rt, self.alloc, path) {
             Ok(sheet) => book.end.lock(self.rt).sheet = sheet,
-            Err(error) => return Err(unlogged(path, error)),
+            Err(error) => return Err(unlogged_fault(path, error)),
         }
         self.put_event(now, &ServiceEvent::LogReopened);
         Ok(())
