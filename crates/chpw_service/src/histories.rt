@@ -14,7 +14,7 @@ use crate::compacting::compact;
 use crate::fault::ServeFault;
 use crate::followed::{FollowerTerms, JournalLength};
 use crate::logging::{Log, LogLines};
-use crate::notices::{Notice, is_first, unreported};
+use crate::notices::{Notice, is_first, take_unreported};
 use crate::observers::Logging;
 use crate::orders::{Due, Orders};
 use crate::reloading::reload;
@@ -295,7 +295,7 @@ pub(crate) fn start_desk<D: DeskName, R: Wait + AllocGlobal>(
 
 // Reports how many more messages had waited too long for their worker.
 fn report_expired<R: Wait + Eprint>(log: &Log<'_, R>, expired: u32, reported: &mut u32) {
-    let more = unreported(expired, reported);
+    let more = take_unreported(expired, reported);
     if more > 0 {
         log.tell(Notice::Expired(more));
     }

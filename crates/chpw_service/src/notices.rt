@@ -101,7 +101,7 @@ pub(crate) fn is_first(told: &mut bool) -> bool
 }
 
 /// How many more there are than were reported; all of them count as reported then.
-pub(crate) fn unreported(count: u32, reported: &mut u32) -> u32
+pub(crate) fn take_unreported(count: u32, reported: &mut u32) -> u32
     ensures more { result ≡ count - reported.old }
     ensures reported { reported.new ≡ max reported.old count }
 {
