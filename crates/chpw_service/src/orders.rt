@@ -128,7 +128,7 @@ fn read_anew<'a, R: Files<File = File> + AllocGlobal>(
     };
     let config = match settings(rt.alloc(), &text) {
         Ok(config) => config,
-        Err(fault) => return Err(unset(rt.alloc(), &text, fault)),
+        Err(fault) => return Err(unset_fault(rt.alloc(), &text, fault)),
     };
     let Ok(service) = Service::of(rt.alloc(), &config) else {
         return Err(RenewFault::Start(ServeFault::Memory));
@@ -163,7 +163,7 @@ fn rest_of<R: Files<File = File>>(rt: &R, path: &str, kept: u64) -> io::Result<F
 }
 
 // A fault of the configuration with this text.
-fn unset<'a>(alloc: Global, text: &[u8], fault: ServeFault<'a>) -> RenewFault<'a> {
+fn unset_fault<'a>(alloc: Global, text: &[u8], fault: ServeFault<'a>) -> RenewFault<'a> {
     match (fault, str::from_utf8(text)) {
         (ServeFault::Config(fault), Ok(text)) => match explain(alloc, text, fault) {
             Ok(words) => RenewFault::Config(words),
