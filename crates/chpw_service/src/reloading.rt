@@ -94,12 +94,12 @@ fn tell_reloaded<'l, R: Wait + Eprint + AllocGlobal, T: Clock>(
     if !lacked.is_empty() {
         hall.log.tell(Notice::Lacked(lacked.len() as u64));
     }
-    let answer = reloaded(rt.alloc(), lacked);
+    let answer = reload_answer(rt.alloc(), lacked);
     hall.engine.answer_order(rt, told(rt.alloc(), answer));
 }
 
 // The answer: a line for each principal that the configuration lacks.
-fn reloaded(alloc: Global, lacked: &[Name]) -> Result<Vec<u8>, AllocError> {
+fn reload_answer(alloc: Global, lacked: &[Name]) -> Result<Vec<u8>, AllocError> {
     let mut text = Vec::new(alloc);
     for name in lacked {
         text.extend_from_slice(b"lacked ")?;
