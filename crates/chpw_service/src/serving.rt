@@ -170,7 +170,7 @@ fn serve_opened<
         return Err(ServeFault::Memory);
     };
     let connections = start.terms.connections;
-    match prepared(rt, time, start, &desk, &mut passes, clock) {
+    match raise_and_listen(rt, time, start, &desk, &mut passes, clock) {
         Ok((listener, hall)) => {
             let first = Opened { desk, passes };
             serve_from(
@@ -192,7 +192,7 @@ fn serve_opened<
 }
 
 // Raises the count if that is asked for, and then listens at the port.
-fn prepared<
+fn raise_and_listen<
     'a,
     'l,
     D: DeskName,
