@@ -17,7 +17,7 @@ const INNER_PAD: u8 = 0x36;
 const OUTER_PAD: u8 = 0x5c;
 
 // `bytes`, with zeros after them.
-fn filled(bytes: &[u8]) -> [u8; HASH_BLOCK_LEN]
+fn zero_padded(bytes: &[u8]) -> [u8; HASH_BLOCK_LEN]
     requires { length bytes.now ≤ 64 }
     ensures { result ≡ bytes.now ++ replicate (64 - length bytes.now) 0 }
 {
@@ -31,9 +31,9 @@ fn key_block(key: &[u8]) -> [u8; HASH_BLOCK_LEN]
     ensures { result ≡ key_block key.now }
 {
     if key.len() > HASH_BLOCK_LEN {
-        filled(&Sha1::digest(key))
+        zero_padded(&Sha1::digest(key))
     } else {
-        filled(key)
+        zero_padded(key)
     }
 }
 
