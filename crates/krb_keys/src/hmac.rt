@@ -38,7 +38,7 @@ fn key_block(key: &[u8]) -> [u8; HASH_BLOCK_LEN]
 }
 
 // The hash state after `block`, each byte XORed with `pad`.
-fn padded(block: &[u8; HASH_BLOCK_LEN], pad: u8) -> Sha1
+fn hash_of_pad(block: &[u8; HASH_BLOCK_LEN], pad: u8) -> Sha1
     ensures { Holds result (map (λ b. bit_xor b pad) block.now) }
 {
     let mut bytes = *block;
@@ -71,8 +71,8 @@ impl KeyedHmac {
     {
         let block = key_block(key);
         KeyedHmac {
-            inner: padded(&block, INNER_PAD),
-            outer: padded(&block, OUTER_PAD),
+            inner: hash_of_pad(&block, INNER_PAD),
+            outer: hash_of_pad(&block, OUTER_PAD),
         }
     }
 
