@@ -5,7 +5,7 @@ ghost use Rattle.krb_keytab.specs.Entries.{number_at, kvno_of, entry_at};
 ghost use Rattle.krb_keytab.specs.Answers.{FieldGives, view};
 
 use crate::fault::FieldError;
-use crate::fields::{components, counted, u8_at, u16_at, u32_at};
+use crate::fields::{components, read_counted, u8_at, u16_at, u32_at};
 use std::alloc::Global;
 
 /// A key of a principal (MIT Kerberos, keytab file format 0x0502).
@@ -35,13 +35,13 @@ pub(crate) fn read_entry(
     ensures value { FieldGives view result (entry_at place bytes.now) }
 {
     let (count, rest) = u16_at(bytes)?;
-    let (realm, rest) = counted(alloc, rest)?;
+    let (realm, rest) = read_counted(alloc, rest)?;
     let (components, rest) = components(alloc, count, rest)?;
     let (name_type, rest) = u32_at(rest)?;
     let (timestamp, rest) = u32_at(rest)?;
     let (short_kvno, rest) = u8_at(rest)?;
     let (etype, rest) = u16_at(rest)?;
-    let (key, rest) = counted(alloc, rest)?;
+    let (key, rest) = read_counted(alloc, rest)?;
     Ok(KeytabEntry {
         place,
         realm,

@@ -45,7 +45,7 @@ pub(crate) fn u32_at(bytes: &[u8]) -> Result<(u32, &[u8]), FieldError>
 
 /// Bytes after their count, which takes two bytes.
 #[tactic(auto, unfolding(crate::specs::Entries::counted_at))]
-pub(crate) fn counted(alloc: Global, bytes: &[u8]) -> Result<(Vec<u8>, &[u8]), FieldError>
+pub(crate) fn read_counted(alloc: Global, bytes: &[u8]) -> Result<(Vec<u8>, &[u8]), FieldError>
     ensures value { FieldGives (λ x. (x.0.items, x.1.now)) result (counted_at bytes.now) }
 {
     let (count, rest) = u16_at(bytes)?;
@@ -69,7 +69,7 @@ pub(crate) fn components(
     let mut components = Vec::new(alloc);
     let mut rest = bytes;
     for _ in 0..count {
-        let (component, after) = counted(alloc, rest)?;
+        let (component, after) = read_counted(alloc, rest)?;
         components.push(component)?;
         rest = after;
     }
