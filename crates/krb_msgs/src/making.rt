@@ -9,7 +9,7 @@ ghost use Rattle.krb_der.specs.Values.{ap_rep_value, ap_req_value, authenticator
 ghost use Rattle.krb_der.specs.declared.ticket.Ticket.{Ticket};
 ghost use Rattle.krb_msgs.specs.Making.{SpellsTicket, ap_rep_of, ap_req_of, priv_of, ticket_of};
 
-use crate::contents::{copied, service_name};
+use crate::contents::{copy_bytes, service_name};
 use crate::sealed_part::seal_part;
 use crate::service_keys::ServiceKey;
 use krb_der::{
@@ -42,7 +42,7 @@ pub fn make_ticket(
     let kvno = Some(service.kvno);
     let ticket = Ticket {
         tkt_vno: PVNO,
-        realm: copied(alloc, realm)?,
+        realm: copy_bytes(alloc, realm)?,
         sname: service_name(alloc)?,
         enc_part: seal_part(alloc, &service.key, USAGE_TICKET, kvno, confounder, part)?,
     };

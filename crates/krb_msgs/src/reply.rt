@@ -4,7 +4,7 @@ ghost use Rattle.std.specs.Prelude.{◌≡◌, ◌↔◌, IsTrue, Some};
 ghost use Rattle.krb_msgs.specs.Answers.{Answers};
 ghost use Rattle.krb_msgs.specs.Replies.{IsApRep, IsKrbError, MatchesTime, OpensApRep, OpensError, OpensReply, OpensResult, SaysCode};
 
-use crate::contents::copied;
+use crate::contents::copy_bytes;
 use crate::fault::{OpenError, ReplyFault};
 use crate::opening::{open_part, read_record};
 use crate::private_message::is_private;
@@ -33,7 +33,7 @@ fn said(alloc: Global, bytes: &[u8], error: Option<i32>) -> Result<Reply, OpenEr
     match bytes {
         [high, low, text @ ..] => Ok(Reply {
             code: u16::from_be_bytes([*high, *low]),
-            text: copied(alloc, text)?,
+            text: copy_bytes(alloc, text)?,
             error,
         }),
         _ => Err(OpenError::Fault(ReplyFault::NoCode)),
