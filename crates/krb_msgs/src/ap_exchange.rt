@@ -6,7 +6,7 @@ ghost use Rattle.krb_msgs.specs.ApExchange.{OpensAp};
 use crate::accepting::accepted;
 use crate::authenticators::open_authenticator;
 use crate::fault::{ApFault, OpenError};
-use crate::presenting::presented;
+use crate::presenting::read_request;
 use crate::service_keys::ServiceKey;
 use crate::tickets::open_ticket;
 use krb_der::{GeneralString, KerberosFlags, KerberosTime, Microseconds, PrincipalName, SeqNumber};
@@ -50,7 +50,7 @@ pub fn open_ap(
 ) -> Result<ApOpened, OpenError<ApFault>>
     ensures opens { Answers (OpensAp realm.now keys.now ap_req.now peer) result }
 {
-    let (request, key) = presented(alloc, realm, keys, ap_req)?;
+    let (request, key) = read_request(alloc, realm, keys, ap_req)?;
     let (part, session) = open_ticket(alloc, &key, request.ticket)?;
     let authenticator = open_authenticator(alloc, &session, request.authenticator)?;
     accepted(peer, part, session, authenticator)

@@ -51,7 +51,7 @@ fn key_for(keys: &[ServiceKey], part: &EncryptedData) -> Option<Key>
 
 /// The request, and the service key of its ticket; refused as `Malformed`, `Version`, `MessageType`, `UserToUser`,
 /// `NotForUs`, `TicketEtype`, `NoServiceKey`, in this order.
-pub fn presented(
+pub fn read_request(
     alloc: Global,
     realm: &[u8],
     keys: &[ServiceKey],
