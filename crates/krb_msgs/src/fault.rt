@@ -73,23 +73,23 @@ impl ApFault {
                 error: KRB_ERR_GENERIC,
                 text: "malformed",
             },
-            ApFault::Version => unauthenticated(KRB_AP_ERR_BADVERSION),
-            ApFault::MessageType => unauthenticated(KRB_AP_ERR_MSG_TYPE),
-            ApFault::UserToUser => unauthenticated(KRB_AP_ERR_NOKEY),
-            ApFault::NotForUs => unauthenticated(KRB_AP_ERR_NOT_US),
-            ApFault::NoServiceKey => unauthenticated(KRB_AP_ERR_BADKEYVER),
-            ApFault::BadTicket => unauthenticated(KRB_AP_ERR_BAD_INTEGRITY),
-            ApFault::BadAuthenticator => unauthenticated(KRB_AP_ERR_BAD_INTEGRITY),
-            ApFault::ClientMismatch => unauthenticated(KRB_AP_ERR_BADMATCH),
-            ApFault::WrongAddress => unauthenticated(KRB_AP_ERR_BADADDR),
-            ApFault::TicketEtype => unauthenticated(KDC_ERR_ETYPE_NOSUPP),
-            ApFault::BadSessionKey => unauthenticated(KDC_ERR_ETYPE_NOSUPP),
-            ApFault::NoSubkey => unauthenticated(KDC_ERR_ETYPE_NOSUPP),
+            ApFault::Version => authentication_failed(KRB_AP_ERR_BADVERSION),
+            ApFault::MessageType => authentication_failed(KRB_AP_ERR_MSG_TYPE),
+            ApFault::UserToUser => authentication_failed(KRB_AP_ERR_NOKEY),
+            ApFault::NotForUs => authentication_failed(KRB_AP_ERR_NOT_US),
+            ApFault::NoServiceKey => authentication_failed(KRB_AP_ERR_BADKEYVER),
+            ApFault::BadTicket => authentication_failed(KRB_AP_ERR_BAD_INTEGRITY),
+            ApFault::BadAuthenticator => authentication_failed(KRB_AP_ERR_BAD_INTEGRITY),
+            ApFault::ClientMismatch => authentication_failed(KRB_AP_ERR_BADMATCH),
+            ApFault::WrongAddress => authentication_failed(KRB_AP_ERR_BADADDR),
+            ApFault::TicketEtype => authentication_failed(KDC_ERR_ETYPE_NOSUPP),
+            ApFault::BadSessionKey => authentication_failed(KDC_ERR_ETYPE_NOSUPP),
+            ApFault::NoSubkey => authentication_failed(KDC_ERR_ETYPE_NOSUPP),
         }
     }
 }
 
-fn unauthenticated(error: i32) -> Refusal
+fn authentication_failed(error: i32) -> Refusal
     ensures value { said result ≡ unauthenticated error }
 {
     Refusal {
