@@ -27,7 +27,7 @@ pub struct Reply {
 }
 
 // The result code in the first two bytes, and the text after it.
-fn said(alloc: Global, bytes: &[u8], error: Option<i32>) -> Result<Reply, OpenError<ReplyFault>>
+fn reply_of(alloc: Global, bytes: &[u8], error: Option<i32>) -> Result<Reply, OpenError<ReplyFault>>
     ensures { Answers (SaysCode bytes.now error) result }
 {
     match bytes {
@@ -96,7 +96,7 @@ fn open_result(alloc: Global, subkey: &Key, bytes: &[u8]) -> Result<Reply, OpenE
         ReplyFault::NotSealed,
         ReplyFault::Malformed,
     )?;
-    said(alloc, part.user_data.as_slice(), None)
+    reply_of(alloc, part.user_data.as_slice(), None)
 }
 
 fn is_krb_error(message: &KrbError) -> bool
@@ -121,7 +121,7 @@ fn open_error(alloc: Global, bytes: &[u8]) -> Result<Reply, OpenError<ReplyFault
         return Err(OpenError::Fault(ReplyFault::Mismatch));
     }
     match &message.e_data {
-        Some(bytes) => said(alloc, bytes.as_slice(), error_code_in(&message)),
+        Some(bytes) => reply_of(alloc, bytes.as_slice(), error_code_in(&message)),
         None => Err(OpenError::Fault(ReplyFault::NoCode)),
     }
 }
