@@ -6,7 +6,7 @@ use crate::tree::{Fork, KeyTree};
 use std::mem;
 
 // Restores the balance after a change of one key in one of the sides. The count need not be right yet.
-pub(crate) fn rebalanced<K: Drop>(fork: Box<Fork<K>>) -> KeyTree<K>
+pub(crate) fn rebalance<K: Drop>(fork: Box<Fork<K>>) -> KeyTree<K>
     requires few { length fork.value.left + length fork.value.right + 1 < 2 ^ 32 }
     requires were { WereEven (length fork.value.left) (length fork.value.right) }
     ensures keys { result ≡ fork_keys fork.value }

@@ -6,7 +6,7 @@ ghost use Rattle.std.specs.Ordering.{eq_by_cmp};
 ghost use Rattle.std.specs.Option.{option_to_list};
 ghost use Rattle.ordered_keys.specs.Trees.{keys, fork_keys, IsEven, AreEven, with_first};
 
-use crate::balance::rebalanced;
+use crate::balance::rebalance;
 use std::alloc::{AllocError, Global};
 use std::cmp::Ordering;
 use std::marker::Model;
@@ -159,7 +159,7 @@ impl<K: Drop> KeyTree<K> {
                 Some(key)
             }
             found => {
-                *self = rebalanced(fork);
+                *self = rebalance(fork);
                 found
             }
         }
@@ -202,6 +202,6 @@ impl<K: Ord + Drop> KeyTree<K> {
             Ordering::Equal => {}
             Ordering::Greater => fork.right.put(other),
         }
-        *self = rebalanced(fork);
+        *self = rebalance(fork);
     }
 }
