@@ -2,7 +2,7 @@
 use Rattle.std.proofs.Common.{◌≡◌, ℕ, List, take, refl, ◌∙◌, arith, Option, Some, None}
 use Rattle.std.proofs.lemmas.List.{take_all, length-take}
 use Rattle.slab.specs.Slab.{Slab, get}
-use Rattle.chpw_connections.specs.Messages.{wanted_behind}
+use Rattle.chpw_connections.specs.Messages.{wanted_after}
 use Rattle.chpw_connections.specs.Stages.{Stage, reading, queued, answering, confirming, writing, lingering, abandoned, ended, Event, came, after, count_after, since_after, stage, wanted_by, IsRoomFor, IsRoomBehind, Goes}
 use Rattle.chpw_connections.specs.Sets.{Comes, wanted_of}
 use Rattle.chpw_connections.specs.Room.{HappensWithRoom}
@@ -56,12 +56,12 @@ take_again n l = take_all n (take n l) (grind (arith, length-take))
 
 wanted_same : (now count since : ℕ) (s : Stage) (more : List ℕ) → Same now count since s (came (take (wanted_by s) more)) (came more)
 wanted_same now count since (reading b) more =
-    let e = take_again (wanted_behind b) more in
+    let e = take_again (wanted_after b) more in
     record {
       stage_too = rw e refl;
       count_too = refl;
       since_too = rw e refl;
-      room_too = room_same now (take (wanted_behind b) more) more;
+      room_too = room_same now (take (wanted_after b) more) more;
     }
 wanted_same now count since (queued m) more = record { stage_too = refl; count_too = refl; since_too = refl; room_too = room_same now (take 0 more) more }
 wanted_same now count since answering more = record { stage_too = refl; count_too = refl; since_too = refl; room_too = room_same now (take 0 more) more }

@@ -4,7 +4,7 @@ use Rattle.slab.specs.Slab.{Slab}
 use Rattle.chpw_connections.specs.declared.connection.Phase.{Phase}
 use Rattle.chpw_connections.specs.declared.connection.Phase.TheVariants as phase
 use Rattle.chpw_connections.specs.declared.connection.Connection.{Connection}
-use Rattle.chpw_connections.specs.Messages.{whole_behind}
+use Rattle.chpw_connections.specs.Messages.{whole_after}
 
 -- of a message that it reads, the bytes that there is room for; those of its waiting message, or of its whole reply,
 -- which is dropped once all of it is out
@@ -28,7 +28,7 @@ held_in slots = sum_by held_at slots.slots
 
 -- how many bytes its message has, as far as its length has come, or its reply
 abbrev pub size_by : Phase → ℕ
-size_by (phase.Reading incoming) = whole_behind incoming.received.items
+size_by (phase.Reading incoming) = whole_after incoming.received.items
 size_by (phase.Queued message) = length message.items
 size_by phase.Answering = 0
 size_by (phase.Confirming waiting) = length waiting.reply.items

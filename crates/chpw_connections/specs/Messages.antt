@@ -4,15 +4,15 @@ use Rattle.chpw_frame.specs.Stream.{message, too_long, next_piece, stated_length
 
 -- how many bytes are still to come after these, as far as is known: until the length is complete those of the length,
 -- and none of a message that is too long
-abbrev pub wanted_behind : List ℕ → ℕ
-wanted_behind bytes =
+abbrev pub wanted_after : List ℕ → ℕ
+wanted_after bytes =
     if nat_lt (length bytes) 4 then 4 - length bytes
     else if nat_lt longest (stated_length bytes) then 0
     else 4 + stated_length bytes - length bytes
 
 -- how many bytes the message has with its length, as far as is known; one that is too long has only its length
-abbrev pub whole_behind : List ℕ → ℕ
-whole_behind bytes =
+abbrev pub whole_after : List ℕ → ℕ
+whole_after bytes =
     if nat_lt (length bytes) 4 then 4
     else if nat_lt longest (stated_length bytes) then 4
     else 4 + stated_length bytes

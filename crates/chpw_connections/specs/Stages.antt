@@ -1,6 +1,6 @@
 -- The stage of a connection, and what happens to it. Moments are milliseconds.
 use Rattle.std.specs.Prelude.{◌≡◌, ℕ, ◌+◌, ◌==◌, List, [], ◌++◌, length, take, drop, Bool, nat_le, ◌||◌, if◌then◌else◌}
-use Rattle.chpw_connections.specs.Messages.{wanted_behind, whole_behind}
+use Rattle.chpw_connections.specs.Messages.{wanted_after, whole_after}
 use Rattle.chpw_connections.specs.declared.connection.Incoming.{Incoming}
 use Rattle.chpw_connections.specs.declared.connection.Phase.{Phase}
 use Rattle.chpw_connections.specs.declared.connection.Phase.TheVariants as phase
@@ -36,11 +36,11 @@ pub data Event : Type 0 where
 
 -- of the bytes that come, no more are read than are wanted
 abbrev pub received : List ℕ → List ℕ → List ℕ
-received bytes more = take (wanted_behind bytes) more
+received bytes more = take (wanted_after bytes) more
 
 -- a complete message waits for a worker
 abbrev pub read_to : List ℕ → Stage
-read_to bytes = if wanted_behind bytes == 0 then queued bytes else reading bytes
+read_to bytes = if wanted_after bytes == 0 then queued bytes else reading bytes
 
 abbrev pub is_over : List ℕ → Bool
 is_over bytes = length bytes == 0
@@ -78,7 +78,7 @@ after count stage event = stage
 
 -- how many bytes may be read
 abbrev pub wanted_by : Stage → ℕ
-wanted_by (reading bytes) = wanted_behind bytes
+wanted_by (reading bytes) = wanted_after bytes
 wanted_by stage = 0
 
 -- what is left to write
@@ -96,7 +96,7 @@ count_after count stage event = count
 -- made, and for its client from its first byte on, the next message from the reply's last byte on
 abbrev pub since_after : ℕ → ℕ → Stage → Event → ℕ
 since_after now since (reading bytes) (came more) =
-    if wanted_behind (bytes ++ received bytes more) == 0 then now else since
+    if wanted_after (bytes ++ received bytes more) == 0 then now else since
 since_after now since answering (replied reply last) = now
 since_after now since answering (deferred reply last mark) = now
 since_after now since answering unanswered = now
@@ -120,7 +120,7 @@ stage c = stage_of c.phase
 -- How much room there is for a message that is read, and since when: none before something has come; then for all that
 -- its length says, as far as that had come before. If that is more than before, it counts from now on.
 abbrev pub IsRoomFor : ℕ → Event → Phase → Incoming → Type 0
-IsRoomFor now (came more) (phase.Reading i) j = (j.room ≡ whole_behind i.received.items) × (j.begun ≡ (if j.room == i.room then i.begun else now))
+IsRoomFor now (came more) (phase.Reading i) j = (j.room ≡ whole_after i.received.items) × (j.begun ≡ (if j.room == i.room then i.begun else now))
 IsRoomFor now event (phase.Reading i) j = j ≡ i
 IsRoomFor now event old j = j.room ≡ 0
 

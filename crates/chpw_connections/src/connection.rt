@@ -1,6 +1,6 @@
 //! What happens to one connection, from its accept to its end.
 ghost use Rattle.std.specs.Prelude.{◌≡◌, ◌==◌, if◌then◌else◌, ◌+◌, ◌≤◌, [], length, IfSome, IfNone, Some, None, IfOk, OnOk, OnErr, take, true, nat_lt};
-ghost use Rattle.chpw_connections.specs.Messages.{wanted_behind as wanted_of, whole_behind as whole_of};
+ghost use Rattle.chpw_connections.specs.Messages.{wanted_after as wanted_of, whole_after as whole_of};
 ghost use Rattle.chpw_connections.specs.Reading.{is_unfinished, is_covered};
 
 use crate::bounds::Bounds;
@@ -126,7 +126,7 @@ impl Connection {
         ensures value { result ≡ wanted_by (stage self.now) }
     {
         match &self.phase {
-            Phase::Reading(incoming) => wanted_behind(&incoming.received),
+            Phase::Reading(incoming) => wanted_after(&incoming.received),
             _ => 0,
         }
     }
@@ -149,7 +149,7 @@ impl Connection {
         ensures value { result ≡ size_by self.now.phase }
     {
         match &self.phase {
-            Phase::Reading(incoming) => whole_behind(&incoming.received),
+            Phase::Reading(incoming) => whole_after(&incoming.received),
             Phase::Queued(message) => message.len(),
             Phase::Confirming(deferred) => deferred.reply.len(),
             Phase::Writing(outgoing) => outgoing.reply.len(),
@@ -182,11 +182,11 @@ impl Connection {
                     begun,
                 },
             ) => {
-                let room = whole_behind(&received);
+                let room = whole_after(&received);
                 let begun = begun_with(room, before, begun, now);
-                let fitting = at_most(bytes, wanted_behind(&received));
+                let fitting = at_most(bytes, wanted_after(&received));
                 received.extend_from_slice(fitting)?;
-                if wanted_behind(&received) == 0 {
+                if wanted_after(&received) == 0 {
                     self.since = now;
                     self.phase = Phase::Queued(received);
                     return Ok(true);
@@ -459,7 +459,7 @@ fn begun_with(room: usize, before: usize, begun: u64, now: u64) -> u64
 
 // How many bytes are wanted after these of a message: the rest of its length, or of the message. A message that is too
 // long has only its length.
-fn wanted_behind(received: &[u8]) -> usize
+fn wanted_after(received: &[u8]) -> usize
     ensures value { result ≡ wanted_of received.now }
 {
     match received.split_first_chunk::<HEADER>() {
@@ -476,7 +476,7 @@ fn wanted_behind(received: &[u8]) -> usize
 }
 
 // How many bytes a message has with its length, as far as that is known.
-fn whole_behind(received: &[u8]) -> usize
+fn whole_after(received: &[u8]) -> usize
     ensures value { result ≡ whole_of received.now }
     ensures few { result ≤ 65539 }
 {

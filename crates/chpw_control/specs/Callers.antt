@@ -3,7 +3,7 @@ use Rattle.std.specs.Prelude.{◌≡◌, ◌⊎◌, ℕ, ◌==◌, Bool, true, f
 use Rattle.chpw_control.specs.declared.command.Command.{Command}
 use Rattle.chpw_control.specs.declared.fault.ControlFault.{ControlFault}
 use Rattle.chpw_control.specs.declared.fault.ControlFault.TheVariants.{NoWholeLine, Late, Memory}
-use Rattle.chpw_control.specs.Dialogs.{State, at_start, behind_bytes, told_by, told_at_end}
+use Rattle.chpw_control.specs.Dialogs.{State, at_start, after_bytes, told_by, told_at_end}
 use Rattle.chpw_control.specs.Faults.{fault_text}
 use Rattle.chpw_control.specs.declared.caller.Phase.{Phase}
 use Rattle.chpw_control.specs.declared.caller.Phase.TheVariants as phase
@@ -53,7 +53,7 @@ abbrev pub written_to : List ℕ → Stage
 written_to left = if is_out left then over else answered left
 
 abbrev pub after : Stage → Event → Stage
-after (asking s) (came bytes) = told_to (behind_bytes s bytes) (told_by s bytes)
+after (asking s) (came bytes) = told_to (after_bytes s bytes) (told_by s bytes)
 after (asking s) lacked = answered (error_line Memory)
 after (asking s) closed = ended_to s (told_at_end s NoWholeLine)
 after (asking s) expired = ended_to s (told_at_end s Late)

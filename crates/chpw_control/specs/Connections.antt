@@ -5,7 +5,7 @@ use Rattle.chpw_control.specs.declared.command.Command.{Command}
 use Rattle.chpw_control.specs.declared.fault.ControlFault.{ControlFault}
 use Rattle.chpw_control.specs.declared.fault.ControlFault.TheVariants.{NoWholeLine, Late}
 use Rattle.chpw_control.specs.Commands.{command_of}
-use Rattle.chpw_control.specs.Dialogs.{State, at_start, behind_bytes, told_by, told_at_end, told_of, is_whole}
+use Rattle.chpw_control.specs.Dialogs.{State, at_start, after_bytes, told_by, told_at_end, told_of, is_whole}
 
 -- the other side sends bytes, it ends, its time is up
 pub data Event : Type 0 where
@@ -14,7 +14,7 @@ pub data Event : Type 0 where
   expires : Event
 
 abbrev pub behind : State → Event → State
-behind s (says bytes) = behind_bytes s bytes
+behind s (says bytes) = after_bytes s bytes
 behind s ends = None
 behind s expires = None
 

@@ -37,9 +37,9 @@ at_start = Some []
 abbrev pub goes_on : List ℕ → Bool
 goes_on bytes = is_short bytes && not (is_whole bytes)
 
-abbrev pub behind_bytes : State → List ℕ → State
-behind_bytes None bytes = None
-behind_bytes (Some heard) bytes = if goes_on (heard ++ bytes) then Some (heard ++ bytes) else None
+abbrev pub after_bytes : State → List ℕ → State
+after_bytes None bytes = None
+after_bytes (Some heard) bytes = if goes_on (heard ++ bytes) then Some (heard ++ bytes) else None
 
 abbrev pub told_by : State → List ℕ → Option (Result Command ControlFault)
 told_by None bytes = None

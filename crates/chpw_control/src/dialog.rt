@@ -2,7 +2,7 @@
 ghost use Rattle.std.specs.Prelude.{◌≡◌, ◌++◌, true, Some, None, OnSome, IfNone};
 ghost use Rattle.std.specs.Option.{option_map};
 ghost use Rattle.chpw_control.specs.declared.fault.ControlFault.TheVariants.{NoWholeLine, Late};
-ghost use Rattle.chpw_control.specs.Dialogs.{State, at_start, behind_bytes, told_by, told_at_end, goes_on, is_held};
+ghost use Rattle.chpw_control.specs.Dialogs.{State, at_start, after_bytes, told_by, told_at_end, goes_on, is_held};
 ghost use Rattle.chpw_control.specs.Commands.{command_of};
 ghost use Rattle.chpw_control.specs.Faults.{ToldUnlessMemory, UnlessMemory};
 
@@ -44,7 +44,7 @@ impl Dialog {
     /// once. Nothing while the line goes on, and nothing afterwards: no more is heard then.
     pub fn hear(&mut self, alloc: Global, bytes: &[u8]) -> Option<Result<Command, ControlFault>>
         ensures value { ToldUnlessMemory result (told_by self.old bytes.now) }
-        ensures behind { IfNone result (self.new ≡ behind_bytes self.old bytes.now) }
+        ensures behind { IfNone result (self.new ≡ after_bytes self.old bytes.now) }
         ensures over { OnSome result (self.new ≡ None) }
     {
         let heard = self.heard.take()?;

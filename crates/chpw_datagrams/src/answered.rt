@@ -1,7 +1,7 @@
 //! What has been answered, and gets the same reply again.
 ghost use Rattle.std.specs.Prelude.{◌≡◌, ◌≤◌, ◌-◌, ◌^◌, [], length, min, nat_lt, IfOk, IfSome, IfNone, Some, None};
 ghost use Rattle.std.specs.VecDeque.{deque_capacity};
-ghost use Rattle.chpw_datagrams.specs.Answers.{behind_keep, bytes_of, reply_for, within};
+ghost use Rattle.chpw_datagrams.specs.Answers.{after_keep, bytes_of, reply_for, within};
 ghost use Rattle.chpw_datagrams.specs.Fields.{answers_of};
 
 use crate::kept::Kept;
@@ -60,7 +60,7 @@ impl Answered {
     /// A message was answered with this reply. Answers of five seconds ago and older are dropped, and then the oldest
     /// ones, while there are too many or they hold too many bytes. If this one holds too many by itself, none is kept.
     pub fn keep(&mut self, sender: Sender, message: Vec<u8>, reply: Vec<u8>, now: u64)
-        ensures value { self.new ≡ behind_keep self.old (record { sender = sender; message = message.items; reply = reply.items; moment = now }) }
+        ensures value { self.new ≡ after_keep self.old (record { sender = sender; message = message.items; reply = reply.items; moment = now }) }
         ensures few { length self.new ≤ 1024 }
         ensures bytes { bytes_of self.new ≤ 4194304 }
     {

@@ -1,6 +1,6 @@
 -- What holds of all that can happen between the service and its follower, in any order.
 use Rattle.std.specs.Prelude.{◌≡◌, ℕ, ◌<◌, ◌≤◌, List, [], ◌∷◌, ◌++◌, ◌⊎◌, Some, option_and_then, unwrap_or, IfSome}
-use Rattle.chpw_follower.specs.Asks.{State, at_start, behind_want, asked_by, behind_ask, behind_bytes, behind_loss, line_of}
+use Rattle.chpw_follower.specs.Asks.{State, at_start, after_want, asked_by, after_ask, after_bytes, after_loss, line_of}
 
 -- a change waits for a mark, the service asks, the follower says bytes, the connection ends
 pub data Event : Type 0 where
@@ -11,10 +11,10 @@ pub data Event : Type 0 where
 
 -- if the follower has misspoken, the connection ends
 abbrev pub behind : State → Event → State
-behind s (wants mark) = behind_want s mark
-behind s asks = behind_ask s
-behind s (says bytes) = unwrap_or (behind_bytes s bytes) (behind_loss s)
-behind s loses = behind_loss s
+behind s (wants mark) = after_want s mark
+behind s asks = after_ask s
+behind s (says bytes) = unwrap_or (after_bytes s bytes) (after_loss s)
+behind s loses = after_loss s
 
 abbrev pub run : State → List Event → State
 run s [] = s
@@ -60,7 +60,7 @@ NeverFalls = (events more : List Event) → (state_after events).confirmed ≤ (
 abbrev pub Piecewise : Type 0
 Piecewise =
     (s : State) (bytes more : List ℕ)
-    → behind_bytes s (bytes ++ more) ≡ option_and_then (λ (t : State). behind_bytes t more) (behind_bytes s bytes)
+    → after_bytes s (bytes ++ more) ≡ option_and_then (λ (t : State). after_bytes t more) (after_bytes s bytes)
 
 -- a change came to wait for the mark, and no connection ended since
 pub record IsWaitedFor (events : List Event) (mark : ℕ) : Type 0 where

@@ -1,6 +1,6 @@
 //! What a follower is asked, and what it has answered.
 ghost use Rattle.std.specs.Prelude.{◌≡◌, ◌≤◌, length, take, Some, None, is_some, IfOk, OnOk, OnErr, true};
-ghost use Rattle.chpw_follower.specs.Asks.{State, at_start, has_mark, behind_want, asks_now, asked_by, behind_ask, behind_bytes, confirmed_by, behind_loss};
+ghost use Rattle.chpw_follower.specs.Asks.{State, at_start, has_mark, after_want, asks_now, asked_by, after_ask, after_bytes, confirmed_by, after_loss};
 ghost use Rattle.chpw_follower.specs.Fields.{asked_of, is_within};
 
 use crate::line::{Answer, answer_of};
@@ -44,7 +44,7 @@ impl Asking {
 
     /// A change waits until the KDC has `mark` bytes of the journal.
     pub fn want(&mut self, mark: u64)
-        ensures value { self.new ≡ behind_want self.old mark }
+        ensures value { self.new ≡ after_want self.old mark }
     {
         self.wanted = self.wanted.max(mark);
     }
@@ -74,7 +74,7 @@ impl Asking {
     /// other ask is under way.
     pub fn ask(&mut self) -> Option<u64>
         ensures mark { result ≡ asked_by self.old }
-        ensures value { self.new ≡ behind_ask self.old }
+        ensures value { self.new ≡ after_ask self.old }
     {
         if !self.is_to_ask() {
             return None;
@@ -88,10 +88,10 @@ impl Asking {
     /// anything but the very line that it was asked, or anything unasked: the caller then closes the connection, and
     /// the state is that after `lose`.
     pub fn hear(&mut self, bytes: &[u8]) -> Result<Option<u64>, Misspoken>
-        ensures value { OnOk result (behind_bytes self.old bytes.now ≡ Some self.new) }
+        ensures value { OnOk result (after_bytes self.old bytes.now ≡ Some self.new) }
         ensures confirmed { IfOk result (λ mark. mark ≡ confirmed_by self.old.asked bytes.now) }
-        ensures misspoken { OnErr result (behind_bytes self.old bytes.now ≡ None) }
-        ensures lost { OnErr result (self.new ≡ behind_loss self.old) }
+        ensures misspoken { OnErr result (after_bytes self.old bytes.now ≡ None) }
+        ensures lost { OnErr result (self.new ≡ after_loss self.old) }
     {
         let Some(mark) = self.asked else {
             if bytes.is_empty() {
@@ -122,7 +122,7 @@ impl Asking {
     /// is forgotten. What was confirmed stays confirmed. Nothing is wanted any more: the caller releases the replies
     /// that wait.
     pub fn lose(&mut self)
-        ensures value { self.new ≡ behind_loss self.old }
+        ensures value { self.new ≡ after_loss self.old }
     {
         self.wanted = 0;
         self.asked = None;

@@ -2,7 +2,7 @@
 use Rattle.std.specs.Prelude.{◌≡◌, ℕ, ◌+◌, ◌==◌, ◌<◌, ◌≤◌, ◌^◌, List, [], ◌∷◌, ◌++◌, Bool, true, false, length, None, Some, All}
 use Rattle.std.specs.List.{list_any}
 use Rattle.chpw_frame.specs.declared.fault.FrameFault.TheVariants.{BadLength, BadVersion, BadParts}
-use Rattle.chpw_frame.specs.Stream.{message, ended, cut_off, too_long, longest, next_piece, behind_piece, sent}
+use Rattle.chpw_frame.specs.Stream.{message, ended, cut_off, too_long, longest, next_piece, after_piece, sent}
 use Rattle.chpw_frame.specs.Framing.{header_length, request_versions, reply_versions, version_of, ap_of, tail_of, first_fault, framed}
 use Rattle.chpw_frame.specs.Cuts.{End, Cuts}
 
@@ -25,7 +25,7 @@ WholeIsFramed = (versions : List ℕ) (may_be_empty : Bool) (bytes : List ℕ) �
 -- what was sent is the next piece, and the rest follows it
 abbrev pub SentIsNext : Type 0
 SentIsNext = (bytes left : List ℕ) → length bytes ≤ longest
-    → (next_piece (sent bytes ++ left) ≡ message bytes) × (behind_piece (message bytes) (sent bytes ++ left) ≡ left)
+    → (next_piece (sent bytes ++ left) ≡ message bytes) × (after_piece (message bytes) (sent bytes ++ left) ≡ left)
 
 -- each stream is cut in one way
 abbrev pub CutOnce : Type 0

@@ -9,7 +9,7 @@ use Rattle.chpw_frame.specs.Stream.{sent, longest, stated_length}
 use Rattle.chpw_connections.proofs.PieceLemmas.{wanted_long, wanted_whole}
 use Rattle.chpw_connections.proofs.RoomLemmas.{and_left, ends_waiting}
 use Rattle.chpw_connections.specs.Holding.{held_by}
-use Rattle.chpw_connections.specs.Messages.{wanted_behind}
+use Rattle.chpw_connections.specs.Messages.{wanted_after}
 use Rattle.chpw_connections.specs.Room.{PutsOut, HappensWithRoom, for_message, gives_way_at, is_held_back, is_among}
 use Rattle.chpw_connections.specs.Sets.{Comes, Happens, IsNew, wanted_at, is_ended, is_ended_in, queued_at, queued_by, stage_at, waits}
 use Rattle.chpw_connections.specs.Stages.{Stage, reading, queued, answering, confirming, writing, lingering, abandoned, ended, came, failed, after, stage, read_to, received, wanted_by}
@@ -43,21 +43,21 @@ read_ends : (count : ℕ) (bytes : List ℕ) (t : Bool) → after count (cond t 
 read_ends count bytes true = refl
 read_ends count bytes false = refl
 
-ends_behind_came : (k l : ℕ) (s : Stage) (bytes : List ℕ) → after k s failed ≡ ended → after l (after k s (came bytes)) failed ≡ ended
-ends_behind_came k l (reading had) bytes is = read_ends l (had ++ received had bytes) (wanted_behind (had ++ received had bytes) == 0)
-ends_behind_came k l (queued message) bytes is = refl
-ends_behind_came k l answering bytes is = absurd cc
-ends_behind_came k l (confirming reply last mark) bytes is = refl
-ends_behind_came k l (writing left last) bytes is = refl
-ends_behind_came k l lingering bytes is = refl
-ends_behind_came k l abandoned bytes is = absurd cc
-ends_behind_came k l ended bytes is = refl
+ends_after_came : (k l : ℕ) (s : Stage) (bytes : List ℕ) → after k s failed ≡ ended → after l (after k s (came bytes)) failed ≡ ended
+ends_after_came k l (reading had) bytes is = read_ends l (had ++ received had bytes) (wanted_after (had ++ received had bytes) == 0)
+ends_after_came k l (queued message) bytes is = refl
+ends_after_came k l answering bytes is = absurd cc
+ends_after_came k l (confirming reply last mark) bytes is = refl
+ends_after_came k l (writing left last) bytes is = refl
+ends_after_came k l lingering bytes is = refl
+ends_after_came k l abandoned bytes is = absurd cc
+ends_after_came k l ended bytes is = refl
 
 came_ends : (now : ℕ) (bytes : List ℕ) (old new : Option Connection) → EndsAtOnce old → Comes now (came bytes) old new → EndsAtOnce new
 came_ends now bytes None new is comes = absurd is
 came_ends now bytes (Some c) None is comes = absurd comes
 came_ends now bytes (Some c) (Some d) is comes =
-    subst (λ (s : Stage). after d.answered s failed ≡ ended) (sym comes.stage_is) (ends_behind_came c.answered d.answered (stage c) bytes is)
+    subst (λ (s : Stage). after d.answered s failed ≡ ended) (sym comes.stage_is) (ends_after_came c.answered d.answered (stage c) bytes is)
 
 failed_ends : (now : ℕ) (old new : Option Connection) → EndsAtOnce old → Comes now failed old new → EndsAtOnce new
 failed_ends now None new is comes = absurd is
@@ -131,8 +131,8 @@ queued_of bytes whole true same is = ap Some (sym same)
 queued_of bytes whole false same is = absurd cc
 
 -- of one that waits with its message for as many bytes as that has
-module _ (message : List ℕ) (fits : length message < 2 ^ 32) (some : wanted_behind (length_before message) ≢ 0) where
-  wants : wanted_behind (length_before message) ≡ length message
+module _ (message : List ℕ) (fits : length message < 2 ^ 32) (some : wanted_after (length_before message) ≢ 0) where
+  wants : wanted_after (length_before message) ≡ length message
   wants = ⊎_elim
       (λ (long : longest < stated_length (length_before message)). absurd (some (wanted_long (length_before message) (omega arith) long)))
       (λ (short : stated_length (length_before message) ≤ longest).
@@ -144,7 +144,7 @@ module _ (message : List ℕ) (fits : length message < 2 ^ 32) (some : wanted_be
 
 -- behind its length, it reads on or waits
 read_on : (message : List ℕ) (t : Bool) → wanted_by (cond t (queued (length_before message)) (reading (length_before message))) ≢ 0
-    → (cond t (queued (length_before message)) (reading (length_before message)) ≡ reading (length_before message)) × (wanted_behind (length_before message) ≢ 0)
+    → (cond t (queued (length_before message)) (reading (length_before message)) ≡ reading (length_before message)) × (wanted_after (length_before message) ≢ 0)
 read_on message true some = absurd (some refl)
 read_on message false some = (refl, some)
 
@@ -152,12 +152,12 @@ pub waits_whole : (message : List ℕ) (k l : ℕ) (s t : Stage) → length mess
     → s ≡ after k (reading []) (came (length_before message)) → wanted_by s ≢ 0
     → t ≡ after l s (came message) → is_some (queued_by t) ≡ true → queued_by t ≡ Some (sent message)
 waits_whole message k l s t fits s_is some t_is waits =
-    let on = read_on message (wanted_behind (length_before message) == 0) (subst (λ (x : Stage). wanted_by x ≢ 0) s_is some) in
+    let on = read_on message (wanted_after (length_before message) == 0) (subst (λ (x : Stage). wanted_by x ≢ 0) s_is some) in
     let s_reads : s ≡ reading (length_before message) = s_is ∙ on.0 in
     let t_of : t ≡ read_to (length_before message ++ received (length_before message) message) = t_is ∙ ap (λ (x : Stage). after l x (came message)) s_reads in
     let same : sent message ≡ length_before message ++ received (length_before message) message = ap (λ (x : List ℕ). length_before message ++ x) (sym (comes_whole message fits on.1)) in
     ap queued_by t_of ∙ queued_of (length_before message ++ received (length_before message) message) (sent message)
-    (wanted_behind (length_before message ++ received (length_before message) message) == 0) same (ap is_some (sym (ap queued_by t_of)) ∙ waits)
+    (wanted_after (length_before message ++ received (length_before message) message) == 0) same (ap is_some (sym (ap queued_by t_of)) ∙ waits)
 
 mapped : (o : Option (List ℕ)) (n w : ℕ) → option_map (λ (m : List ℕ). n) o ≡ Some w → is_some o ≡ true
 mapped None n w is = absurd cc

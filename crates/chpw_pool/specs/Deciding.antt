@@ -5,7 +5,7 @@ use Rattle.std.specs.Str.{bytes_eq}
 use Rattle.slab.specs.Slab.{Slab}
 use Rattle.chpw_connections.specs.declared.bounds.Bounds.{Bounds}
 use Rattle.chpw_connections.specs.declared.connection.Connection.{Connection}
-use Rattle.chpw_datagrams.specs.Answers.{Answer, reply_for, behind_keep}
+use Rattle.chpw_datagrams.specs.Answers.{Answer, reply_for, after_keep}
 use Rattle.chpw_datagrams.specs.Senders.{is_answered, is_same_sender}
 use Rattle.chpw_datagrams.specs.declared.sender.Sender.{Sender}
 use Rattle.chpw_pool.specs.Datagrams.{TakesDatagram}
@@ -58,4 +58,4 @@ pub record Queues (d : Datagrams) (before after : List (Option Place)) (b : Boun
 -- this reply is kept for the case that the same datagram comes again, or nothing is, without memory for it
 abbrev pub KeepsReply : List Answer → List Answer → Sender → List ℕ → List ℕ → ℕ → Type 0
 KeepsReply old new sender message reply now =
-    (new ≡ behind_keep old (record { sender = sender; message = message; reply = reply; moment = now })) ⊎ (new ≡ old)
+    (new ≡ after_keep old (record { sender = sender; message = message; reply = reply; moment = now })) ⊎ (new ≡ old)

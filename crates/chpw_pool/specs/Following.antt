@@ -4,7 +4,7 @@ use Rattle.slab.specs.Slab.{Slab, get}
 use Rattle.chpw_connections.specs.Confirming.{Confirms, ReleasesOverdue, NoneIsOverdue}
 use Rattle.chpw_connections.specs.declared.confirming.Unconfirmed.{Unconfirmed}
 use Rattle.chpw_connections.specs.declared.connection.Connection.{Connection}
-use Rattle.chpw_follower.specs.Asks.{State, has_mark, behind_want, asks_now}
+use Rattle.chpw_follower.specs.Asks.{State, has_mark, after_want, asks_now}
 use Rattle.chpw_pool.specs.declared.worker.Reply.{Reply}
 
 -- how much of the journal the KDC has to have before the reply to a change is written: none, if there is no change, or
@@ -14,10 +14,10 @@ awaited s None = None
 awaited s (Some mark) = if has_mark s mark then None else Some mark
 
 -- what is asked after a reply that waits for this
-abbrev pub asking_behind : Option ℕ → Option Reply → State → State
-asking_behind None reply s = s
-asking_behind (Some mark) None s = s
-asking_behind (Some mark) (Some r) s = behind_want s mark
+abbrev pub asking_after : Option ℕ → Option Reply → State → State
+asking_after None reply s = s
+asking_after (Some mark) None s = s
+asking_after (Some mark) (Some r) s = after_want s mark
 
 -- the replies that need no more than was confirmed are to be written; if nothing was, nothing changes
 abbrev pub Releases : Option ℕ → ℕ → Slab Connection → Slab Connection → Type 0

@@ -31,5 +31,5 @@ is_of_change None = false
 is_of_change (Some r) = is_accepted r.entry.event
 
 -- there is one more than before, and the newest is of a change
-abbrev pub has_changed_behind : ℕ → List Receipt → Bool
-has_changed_behind before receipts = nat_lt before (length receipts) && is_of_change (slice_get receipts (length receipts - 1))
+abbrev pub has_changed_after : ℕ → List Receipt → Bool
+has_changed_after before receipts = nat_lt before (length receipts) && is_of_change (slice_get receipts (length receipts - 1))

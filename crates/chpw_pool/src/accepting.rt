@@ -22,7 +22,7 @@ pub(crate) enum Accepting {
 }
 
 impl Accepting {
-    ghost use Rattle.chpw_pool.specs.Accepting.{reported, resumed, behind_fault, is_waiting, has_failed};
+    ghost use Rattle.chpw_pool.specs.Accepting.{reported, resumed, after_fault, is_waiting, has_failed};
 
     /// After the listener was reported.
     pub fn reported(self) -> Accepting
@@ -45,8 +45,8 @@ impl Accepting {
     }
 
     /// After a fault of an accept, at this moment: one that would have blocked, one that may pass, or another one.
-    pub fn behind_fault(would_wait: bool, may_pass: bool, now: u64) -> Accepting
-        ensures value { result ≡ behind_fault would_wait may_pass now }
+    pub fn after_fault(would_wait: bool, may_pass: bool, now: u64) -> Accepting
+        ensures value { result ≡ after_fault would_wait may_pass now }
     {
         if would_wait {
             Accepting::Waiting

@@ -7,7 +7,7 @@ ghost use Rattle.chpw_control.specs.declared.callers.Seat.{Seat};
 ghost use Rattle.chpw_control.specs.Seats.{Happens, IsNew, seats_of, ordering_of, accepted_of, is_over_at, left_at};
 ghost use Rattle.chpw_pool.specs.Controlling.{Admits, HasNoOrder, HasOrder, IsDue, IsHeard, IsIdle, IsOpen, IsTold, ServesAt, TellsDone, TellsLast};
 
-use crate::tokens::token_behind;
+use crate::tokens::token_after;
 use chpw_control::{Callers, put_ok};
 use mio::net::UnixStream;
 use mio::{Interest, Registry};
@@ -68,7 +68,7 @@ impl Control {
             return;
         };
         let both = Interest::READABLE | Interest::WRITABLE;
-        let token = token_behind(connections, slot);
+        let token = token_after(connections, slot);
         let is_watched = registry.register(&mut stream, token, both).is_ok();
         if is_watched && slot < self.streams.len() {
             self.streams[slot] = Some(stream);

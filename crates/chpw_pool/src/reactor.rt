@@ -294,7 +294,7 @@ impl<
             Err(error) => {
                 let now = milliseconds(self.rt);
                 let would_wait = error.kind() == ErrorKind::WouldBlock;
-                self.accepting = Accepting::behind_fault(would_wait, is_passing(&error), now);
+                self.accepting = Accepting::after_fault(would_wait, is_passing(&error), now);
                 None
             }
         }

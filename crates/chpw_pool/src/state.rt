@@ -9,8 +9,8 @@ ghost use Rattle.chpw_connections.specs.Stages.{came, taken, failed};
 ghost use Rattle.chpw_connections.specs.Room.{HappensWithRoom, for_message, is_large_in, has_room_to_read};
 ghost use Rattle.chpw_connections.specs.Counting.{count_in};
 ghost use Rattle.chpw_connections.specs.declared.counting.Counted.TheVariants as counted;
-ghost use Rattle.chpw_follower.specs.Asks.{asked_by, at_start, behind_ask, behind_bytes, behind_loss, confirmed_by};
-ghost use Rattle.chpw_pool.specs.Following.{awaited, asking_behind, Releases, ReleasesOne, is_waited_for as is_waited};
+ghost use Rattle.chpw_follower.specs.Asks.{asked_by, at_start, after_ask, after_bytes, after_loss, confirmed_by};
+ghost use Rattle.chpw_pool.specs.Following.{awaited, asking_after, Releases, ReleasesOne, is_waited_for as is_waited};
 ghost use Rattle.chpw_pool.specs.Steps.{IsAnswered, Takes, TakesNone, LetsGo, Gives, GivesNone, is_short_for, short_of};
 ghost use Rattle.chpw_pool.specs.Controlling.{IsCounted, sum_of};
 ghost use Rattle.chpw_pool.specs.Rounds.{is_done, is_finished, is_looked_at, is_reading, milliseconds_to_wait, wants_reactor};
@@ -146,7 +146,7 @@ impl State {
     /// that the KDC has as many, unless it has already.
     pub fn answer(&mut self, slot: usize, reply: Option<Reply>, change: Option<u64>, now: u64)
         ensures answered { IsAnswered (bounds_of self.old.connections) now (awaited self.old.asking change) reply (slots_of self.old.connections) (slots_of self.new.connections) slot }
-        ensures asking { self.new.asking ≡ asking_behind (awaited self.old.asking change) reply self.old.asking }
+        ensures asking { self.new.asking ≡ asking_after (awaited self.old.asking change) reply self.old.asking }
         ensures bounds { bounds_of self.new.connections ≡ bounds_of self.old.connections }
     {
         match (reply, self.length_awaited(change)) {
@@ -174,11 +174,11 @@ impl State {
     // The follower sent these bytes. If they confirm a mark of the journal, the replies that need no more are to be
     // written.
     fn hear(&mut self, bytes: &[u8], now: u64) -> Result<Option<u64>, Misspoken>
-        ensures asking { OnOk result (behind_bytes self.old.asking bytes.now ≡ Some self.new.asking) }
+        ensures asking { OnOk result (after_bytes self.old.asking bytes.now ≡ Some self.new.asking) }
         ensures confirmed { IfOk result (λ mark. mark ≡ confirmed_by self.old.asking.asked bytes.now) }
         ensures released { IfOk result (λ mark. Releases mark now (slots_of self.old.connections) (slots_of self.new.connections)) }
-        ensures misspoken { OnErr result (behind_bytes self.old.asking bytes.now ≡ None) }
-        ensures lost { OnErr result (self.new.asking ≡ behind_loss self.old.asking) }
+        ensures misspoken { OnErr result (after_bytes self.old.asking bytes.now ≡ None) }
+        ensures lost { OnErr result (self.new.asking ≡ after_loss self.old.asking) }
         ensures same { OnErr result (self.new.connections ≡ self.old.connections) }
         ensures bounds { bounds_of self.new.connections ≡ bounds_of self.old.connections }
     {
@@ -192,11 +192,11 @@ impl State {
     /// As `hear`, unless the connection concerns a former journal: that is ignored.
     pub fn heard(&mut self, bytes: &[u8], now: u64) -> Result<Option<u64>, Misspoken>
         ensures former { self.old.is_of_former ≡ true → (result ≡ Ok None) × (self.new ≡ self.old) }
-        ensures asking { self.old.is_of_former ≡ false → OnOk result (behind_bytes self.old.asking bytes.now ≡ Some self.new.asking) }
+        ensures asking { self.old.is_of_former ≡ false → OnOk result (after_bytes self.old.asking bytes.now ≡ Some self.new.asking) }
         ensures confirmed { self.old.is_of_former ≡ false → IfOk result (λ mark. mark ≡ confirmed_by self.old.asking.asked bytes.now) }
         ensures released { self.old.is_of_former ≡ false → IfOk result (λ mark. Releases mark now (slots_of self.old.connections) (slots_of self.new.connections)) }
-        ensures misspoken { OnErr result (behind_bytes self.old.asking bytes.now ≡ None) }
-        ensures lost { OnErr result (self.new.asking ≡ behind_loss self.old.asking) }
+        ensures misspoken { OnErr result (after_bytes self.old.asking bytes.now ≡ None) }
+        ensures lost { OnErr result (self.new.asking ≡ after_loss self.old.asking) }
         ensures same { OnErr result (self.new.connections ≡ self.old.connections) }
     {
         if self.is_of_former {
@@ -225,7 +225,7 @@ impl State {
     /// nothing is asked until another change is made.
     pub fn hang_up(&mut self) -> bool
         ensures due { result ≡ is_some self.old.asking.asked }
-        ensures asking { self.new.asking ≡ (if result then behind_loss self.old.asking else self.old.asking) }
+        ensures asking { self.new.asking ≡ (if result then after_loss self.old.asking else self.old.asking) }
         ensures same { self.new.connections ≡ self.old.connections }
     {
         let is_due = self.asking.is_asked();
@@ -258,7 +258,7 @@ impl State {
     pub fn ask(&mut self) -> (bool, Option<u64>)
         ensures of_former { result.0 ≡ self.old.is_of_former }
         ensures mark { result.1 ≡ asked_by self.old.asking }
-        ensures asking { self.new.asking ≡ behind_ask self.old.asking }
+        ensures asking { self.new.asking ≡ after_ask self.old.asking }
         ensures of_present { self.new.is_of_former ≡ false }
         ensures same { self.new.connections ≡ self.old.connections }
     {

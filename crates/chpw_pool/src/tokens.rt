@@ -55,7 +55,7 @@ impl Reported {
 }
 
 /// The token of the caller in this slot, after those of this many connections.
-pub(crate) fn token_behind(connections: usize, slot: usize) -> Token
+pub(crate) fn token_after(connections: usize, slot: usize) -> Token
     ensures reported { connections + slot + 4 < 2 ^ 64 → reported_by result.0 connections ≡ reported.Control }
 {
     Token(connections.saturating_add(slot))

@@ -4,7 +4,7 @@ ghost use Rattle.chpw_serve.specs.Answering.{Answering, Unanswered};
 ghost use Rattle.chpw_serve.specs.Serving.{stream_state, message_too_long, IsServed};
 ghost use Rattle.chpw_serve.specs.declared.serving.Ended.{Ended};
 ghost use Rattle.chpw_pool.specs.Pools.{peer_in};
-ghost use Rattle.chpw_pool.specs.Turns.{IsReplyBehind, fills_at, has_changed_behind};
+ghost use Rattle.chpw_pool.specs.Turns.{IsReplyBehind, fills_at, has_changed_after};
 
 use crate::engine::Engine;
 use crate::follower::JournalEnd;
@@ -83,7 +83,7 @@ pub(crate) fn work<
 
 // Whether there is one more receipt than `before`, and the newest is of a change.
 fn has_changed(receipts: &[Receipt], before: usize) -> bool
-    ensures value { result ≡ has_changed_behind before receipts.now }
+    ensures value { result ≡ has_changed_after before receipts.now }
 {
     match receipts.last() {
         Some(receipt) => receipts.len() > before && receipt.entry.event.is_accepted(),

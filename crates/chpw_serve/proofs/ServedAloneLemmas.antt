@@ -3,9 +3,9 @@ use Rattle.std.proofs.Common.{◌≡◌, ℕ, ◌+◌, ◌≤◌, ◌<◌, List,
 use Rattle.std.specs.Prelude.{IfSome, MatchBool}
 use Rattle.std.proofs.lemmas.List.{append-nil}
 use Rattle.std.specs.Io.KnownBytes.{Appends}
-use Rattle.chpw_frame.specs.Stream.{Piece, message, ended, cut_off, too_long, next_piece, behind_piece, sent}
+use Rattle.chpw_frame.specs.Stream.{Piece, message, ended, cut_off, too_long, next_piece, after_piece, sent}
 use Rattle.chpw_frame.specs.Receiving.{ConsumesSome, AppendsFront, TakesPiece, TakesLength}
-use Rattle.chpw_frame.proofs.StreamLemmas.{appends_more, put_behind}
+use Rattle.chpw_frame.proofs.StreamLemmas.{appends_more, put_after}
 use Rattle.chpw_table.specs.declared.times.Moment.{Moment}
 use Rattle.chpw_table.specs.declared.history.Receipt.{Receipt}
 use Rattle.chpw_table.specs.Agreement.{Held}
@@ -23,7 +23,7 @@ use Rattle.chpw_serve.specs.declared.serving.Ended.TheVariants as end
 use Rattle.chpw_serve.specs.InTurn.{InTurn}
 use Rattle.chpw_serve.specs.Serving.{StreamState, stream_state, Around, Turn, Refuses, IsEnd, IsServed, TakesAtMostOne, message_too_long}
 use Rattle.chpw_serve.specs.StreamReplies.{Draw, Run, written_for, replies}
-use Rattle.chpw_serve.specs.ServedAlone.{AnsweringAlone, AddsOneAlone, run_of, IsDrawnFor, AreDrawnFor, left_behind, IsEndOf, Leaves, Writes, HasDrawn, AreReceipts, AreMore, IsServedAlone}
+use Rattle.chpw_serve.specs.ServedAlone.{AnsweringAlone, AddsOneAlone, run_of, IsDrawnFor, AreDrawnFor, left_after, IsEndOf, Leaves, Writes, HasDrawn, AreReceipts, AreMore, IsServedAlone}
 use Rattle.chpw_serve.proofs.ChainLemmas.{took, moments_of, words_of, opening_stays, Chain, turn_of, first, drawn_first, chain}
 
 pub at_most : (b : Bool) (m n : ℕ) → MatchBool b (m ≡ n) (m < n) → m ≤ n
@@ -86,7 +86,7 @@ module _ {C X G : Type 0} (error_frame : Answer → Moment → List ℕ) (privat
     -- with nothing more, or one draw more
     close : (e : Ended) (ds : List Draw) (own more : List Receipt) → length turns + length ds ≤ 65536 → AreDrawnFor opens w.rest ds
         → AreReceipts limit run_at_last ds own → final.decider.receipts ≡ last.decider.receipts ++ own ++ more → AreMore e more
-        → IsEndOf e stream (w.draws ++ ds) → Leaves e (left_behind w.rest ds) final.left
+        → IsEndOf e stream (w.draws ++ ds) → Leaves e (left_after w.rest ds) final.left
         → HasDrawn moments e start.around.clock (moments_of (w.draws ++ ds)) final.around.clock
         → HasDrawn random e start.around.words (words_of (w.draws ++ ds)) final.around.words
         → Writes e start.around.out final.around.out (w.bytes ++ replies limit error_frame private_frame w.rest run_at_last ds)
@@ -146,16 +146,16 @@ module _ {C X G : Type 0} (error_frame : Answer → Moment → List ℕ) (privat
 
     front_then : (d : Draw) (bytes : List ℕ) → replies limit error_frame private_frame w.rest run_at_last (d ∷ []) ≡ bytes → AppendsFront last.around.out final.around.out bytes
         → AppendsFront start.around.out final.around.out (w.bytes ++ replies limit error_frame private_frame w.rest run_at_last (d ∷ []))
-    front_then d bytes e h = subst (λ (bs : List ℕ). AppendsFront start.around.out final.around.out (w.bytes ++ bs)) (sym e) (h.0, put_behind start.around.out last.around.out final.around.out w.bytes bytes h.0 w.written h.1, h.2)
+    front_then d bytes e h = subst (λ (bs : List ℕ). AppendsFront start.around.out final.around.out (w.bytes ++ bs)) (sym e) (h.0, put_after start.around.out last.around.out final.around.out w.bytes bytes h.0 w.written h.1, h.2)
 
-    left_now : (p : Piece) → next_piece w.rest ≡ p → final.left ≡ Some (behind_piece p w.rest) → final.left ≡ Some (behind_piece (next_piece w.rest) w.rest)
-    left_now p e h = h ∙ ap (λ (q : Piece). Some (behind_piece q w.rest)) (sym e)
+    left_now : (p : Piece) → next_piece w.rest ≡ p → final.left ≡ Some (after_piece p w.rest) → final.left ≡ Some (after_piece (next_piece w.rest) w.rest)
+    left_now p e h = h ∙ ap (λ (q : Piece). Some (after_piece q w.rest)) (sym e)
 
     none_but : (own : List Receipt) → final.decider.receipts ≡ last.decider.receipts ++ own → final.decider.receipts ≡ last.decider.receipts ++ own ++ []
     none_but own h = h ∙ sym (append-nil (last.decider.receipts ++ own))
 
-    so_far : left_behind stream w.draws ≡ w.rest
-    so_far = ap (left_behind stream) (sym (append-nil w.draws)) ∙ w.behind []
+    so_far : left_after stream w.draws ≡ w.rest
+    so_far = ap (left_after stream) (sym (append-nil w.draws)) ∙ w.behind []
 
     -- memory ran out, with a receipt more at the most
     memory_ends : length turns < 65536 → (more : List Receipt) → final.decider.receipts ≡ last.decider.receipts ++ [] ++ more → length more ≤ 1 → TakesAtMostOne (Some w.rest) final.left → final.around.out ≡ last.around.out

@@ -3,7 +3,7 @@
 use Rattle.std.specs.Prelude.{◌≡◌, ℕ, ◌+◌, ◌≤◌, List, [], ◌∷◌, ◌++◌, Bool, true, false, length, map, Option, Some}
 use Rattle.std.specs.List.{flat_map}
 use Rattle.std.specs.Io.KnownBytes.{Appends}
-use Rattle.chpw_frame.specs.Stream.{Piece, message, ended, cut_off, too_long, next_piece, behind_piece}
+use Rattle.chpw_frame.specs.Stream.{Piece, message, ended, cut_off, too_long, next_piece, after_piece}
 use Rattle.chpw_frame.specs.Receiving.{ConsumesSome, AppendsFront}
 use Rattle.chpw_table.specs.declared.times.Moment.{Moment}
 use Rattle.chpw_table.specs.declared.history.Event.TheVariants.{Ask}
@@ -53,23 +53,23 @@ abbrev pub AreDrawnFor : (List ℕ → Opens → Type 0) → List ℕ → List D
 AreDrawnFor opens stream [] = Unit {0}
 AreDrawnFor opens stream (d ∷ ds) =
     IsDrawnFor opens (next_piece stream) d ds
-    × AreDrawnFor opens (behind_piece (next_piece stream) stream) ds
+    × AreDrawnFor opens (after_piece (next_piece stream) stream) ds
 
 -- what is left of the stream after them
-abbrev pub left_behind : List ℕ → List Draw → List ℕ
-left_behind stream [] = stream
-left_behind stream (d ∷ ds) = left_behind (behind_piece (next_piece stream) stream) ds
+abbrev pub left_after : List ℕ → List Draw → List ℕ
+left_after stream [] = stream
+left_after stream (d ∷ ds) = left_after (after_piece (next_piece stream) stream) ds
 
 -- the last was drawn for a message that is too long
 abbrev pub EndsTooLong : List ℕ → List Draw → Type 0
 EndsTooLong stream draws =
     (before : List Draw) × (last : Draw) × (draws ≡ before ++ last ∷ [])
-    × (next_piece (left_behind stream before) ≡ too_long)
+    × (next_piece (left_after stream before) ≡ too_long)
 
 -- how the stream ended: what comes next in it, or how many messages were answered
 abbrev pub IsEndOf : Ended → List ℕ → List Draw → Type 0
-IsEndOf end.Input stream draws = next_piece (left_behind stream draws) ≡ ended
-IsEndOf end.CutOff stream draws = next_piece (left_behind stream draws) ≡ cut_off
+IsEndOf end.Input stream draws = next_piece (left_after stream draws) ≡ ended
+IsEndOf end.CutOff stream draws = next_piece (left_after stream draws) ≡ cut_off
 IsEndOf end.TooLong stream draws = EndsTooLong stream draws
 IsEndOf end.Count stream draws = length draws ≡ 65536
 IsEndOf _ stream draws = Unit {0}
@@ -133,7 +133,7 @@ pub record IsServedAlone {C X G : Type 0} (error_frame : Answer → Moment → L
   pub drawn_for : AreDrawnFor opens stream draws
   pub few : length draws ≤ 65536
   pub end_is : IsEndOf e stream draws
-  pub left : Leaves e (left_behind stream draws) final.left
+  pub left : Leaves e (left_after stream draws) final.left
   pub moments_are : HasDrawn moments e start.around.clock (map (λ (d : Draw). d.moment) draws) final.around.clock
   pub words_are : HasDrawn random e start.around.words (flat_map (λ (d : Draw). d.words) draws) final.around.words
   pub written : Writes e start.around.out final.around.out

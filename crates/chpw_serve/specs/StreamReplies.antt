@@ -1,7 +1,7 @@
 -- The replies to a stream as the machine of one thread gives them. It knows no receipts: it goes from
 -- state to state, message after message, with what was drawn for each.
 use Rattle.std.specs.Prelude.{ℕ, ◌+◌, List, [], ◌∷◌, ◌++◌, Bool, ◌==◌, if◌then◌else◌}
-use Rattle.chpw_frame.specs.Stream.{Piece, message, ended, cut_off, too_long, next_piece, behind_piece, sent}
+use Rattle.chpw_frame.specs.Stream.{Piece, message, ended, cut_off, too_long, next_piece, after_piece, sent}
 use Rattle.chpw_table.specs.declared.times.Moment.{Moment}
 use Rattle.chpw_table.specs.declared.verdict.Verdict.{Verdict}
 use Rattle.chpw_table.specs.State.{State}
@@ -66,4 +66,4 @@ module _ (limit : ℕ) where
     replies stream run [] = []
     replies stream run (d ∷ ds) =
         written_for (next_piece stream) run d
-        (replies (behind_piece (next_piece stream) stream) (run_after run d d.opens) ds)
+        (replies (after_piece (next_piece stream) stream) (run_after run d d.opens) ds)

@@ -12,8 +12,8 @@ abbrev pub plus : ℕ → ℕ → ℕ
 plus n more = min (n + more) 18446744073709551615
 
 -- a history opens with this table
-abbrev pub behind_opening : Facts → Held → Facts
-behind_opening f t = record f {
+abbrev pub after_opening : Facts → Held → Facts
+after_opening f t = record f {
   principals = length t.state.principals;
   iterations = new_count t.state;
   quiet_until = t.state.fixed.quiet_until;
@@ -41,8 +41,8 @@ behind_raise f iterations = record f {
   all_entries = plus f.all_entries 1;
 }
 
-abbrev pub behind_loss : Facts → Facts
-behind_loss f = record f { lost = plus f.lost 1 }
+abbrev pub after_loss : Facts → Facts
+after_loss f = record f { lost = plus f.lost 1 }
 
 -- no moment if no time is quiet; the end of the year 9999 for a later one
 abbrev pub quiet_time : ℤ → ℤ → Option Time

@@ -3,7 +3,7 @@ ghost use Rattle.std.specs.Prelude.{◌≡◌, ◌<◌};
 ghost use Rattle.std.specs.Option.{ForSome};
 ghost use Rattle.chpw_table.specs.Times.{IsMoment};
 ghost use Rattle.chpw_control.specs.Statuses.{IsTold};
-ghost use Rattle.chpw_service.specs.Facts.{behind_decision, behind_loss, behind_opening, behind_raise, quiet_time};
+ghost use Rattle.chpw_service.specs.Facts.{behind_decision, after_loss, after_opening, behind_raise, quiet_time};
 
 use chpw_control::Time;
 use chpw_table::{LAST_SECOND, Moment, Table, Verdict};
@@ -29,7 +29,7 @@ pub(crate) struct Facts {
 impl Facts {
     /// A history opens with this table.
     pub fn open(&mut self, table: &Table)
-        ensures value { self.new ≡ behind_opening self.old table.now }
+        ensures value { self.new ≡ after_opening self.old table.now }
     {
         self.principals = table.principals() as u64;
         self.iterations = u64::from(table.count());
@@ -60,7 +60,7 @@ impl Facts {
 
     /// A line of the log is lost.
     pub fn lose(&mut self)
-        ensures value { self.new ≡ behind_loss self.old }
+        ensures value { self.new ≡ after_loss self.old }
     {
         self.lost = self.lost.saturating_add(1);
     }

@@ -11,7 +11,7 @@ use std::sync::Wait;
 use test_realm::{NOW, PASSWORD, Tally};
 
 #[test]
-fn a_change_behind_a_raise(rt: HostRuntime) {
+fn a_change_after_a_raise(rt: HostRuntime) {
     let table = table(&rt, rt.alloc(), 3);
     let opened = change(&rt, rt.alloc(), 0, 1);
     raised_at::<Brand, _>(&rt, rt.alloc(), UnnamedDesk::of(table, 2), opened);
@@ -32,7 +32,7 @@ fn raised_at<D: DeskName, R: Wait + Abort>(
     let mut first = passes.pop().expect(rt, "a pass");
     raise(rt, &desk, &mut first);
     learn(rt, alloc, &desk, &first, &mut second);
-    change_behind(rt, &desk, &mut second, opened);
+    change_after(rt, &desk, &mut second, opened);
     is_full(rt, &desk, &mut first);
     let keys = alice(rt, alloc, &desk, &mut second);
     assert!(rt; keys.policy == 8 && keys.held.as_slice() == [8, 4].as_slice());
@@ -65,7 +65,7 @@ fn learn<D: DeskName, R: Abort>(
     assert!(rt; before.policy == 8 && before.seen == 1 && before.kvno == 1);
 }
 
-fn change_behind<D: DeskName, R: Wait + Abort>(
+fn change_after<D: DeskName, R: Wait + Abort>(
     rt: &R,
     desk: &Desk<D, Tally>,
     second: &mut Pass<D>,

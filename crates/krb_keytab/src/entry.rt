@@ -56,10 +56,10 @@ pub(crate) fn read_entry(
 
 /// The kvno in 32 bits after the key, if it is present and not zero; otherwise the one in 8 bits.
 #[tactic(auto, unfolding(crate::specs::Entries::number_at))]
-fn full_kvno(short_kvno: u8, behind_key: &[u8]) -> u32
-    ensures value { result ≡ kvno_of short_kvno (number_at w32 behind_key.now) }
+fn full_kvno(short_kvno: u8, after_key: &[u8]) -> u32
+    ensures value { result ≡ kvno_of short_kvno (number_at w32 after_key.now) }
 {
-    let [a, b, c, d, ..] = behind_key else {
+    let [a, b, c, d, ..] = after_key else {
         return u32::from(short_kvno);
     };
     let kvno = u32::from_be_bytes([*a, *b, *c, *d]);

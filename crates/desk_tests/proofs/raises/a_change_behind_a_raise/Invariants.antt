@@ -1,5 +1,5 @@
 use Rattle.chpw_book.specs.Starting.{ledger_name, ledger_parts, list_book, list_root, workers_of}
-use Rattle.desk_tests.proofs.raises.a_change_behind_a_raise.Given as goal
+use Rattle.desk_tests.proofs.raises.a_change_after_a_raise.Given as goal
 
 abbrev pub ghosts-raised_at-D-DeskName : goal.ghosts-raised_at-D-DeskName
 ghosts-raised_at-D-DeskName g a = record { workers = workers_of a.unnamed }
