@@ -6,7 +6,7 @@ use std::alloc::Global;
 use std::process::Abort;
 use std::test::Fail;
 
-/// The length is that of the text which another encoder writes (`der_cases` has the texts).
+/// The length is that of the text which another encoder writes (`cases_der` has the texts).
 fn goes_both_ways<T: Read + Write>(
     rt: &impl Abort,
     alloc: Global,
