@@ -1,10 +1,10 @@
 #!/usr/bin/env python3
-"""What `connection_cases` must print, worked out with nothing of ours: of the cases on standard input the answers.
+"""What `cases_connections` must print, worked out with nothing of ours: of the cases on standard input the answers.
 
-    python3 interop/connection_cases.py < crates/connection_cases/stdin > crates/connection_cases/stdout
+    python3 interop/cases_connections.py < crates/cases_connections/stdin > crates/cases_connections/stdout
 
 A naive model of the machine of connections, by crates/chpw_connections/README.md and its specs: a list of connections,
-each a small object, and a plain list for each worker's queue. crates/connection_cases/README.md has the cases.
+each a small object, and a plain list for each worker's queue. crates/cases_connections/README.md has the cases.
 """
 from command import answer_lines
 
