@@ -1,7 +1,7 @@
 #!/usr/bin/env python3
-"""What `control_cases` must print, worked out with nothing of ours: of the cases on standard input the answers.
+"""What `cases_control` must print, worked out with nothing of ours: of the cases on standard input the answers.
 
-    python3 interop/control_cases.py < crates/control_cases/stdin > crates/control_cases/stdout
+    python3 interop/cases_control.py < crates/cases_control/stdin > crates/cases_control/stdout
 
 The commands, faults and lines are docs/PROTOCOL.md's and docs/ADMIN.md's, the times datetime's.
 """
