@@ -3,7 +3,7 @@ the rules of DER (X.690), with Python's own library alone. Nothing is deciphered
 the client made, and no other does.
 
     python3 interop/changed_bytes.py stream      # answers of crates/stream_cases, by the line
-    python3 interop/changed_bytes.py journal     # answers of crates/journal_cases
+    python3 interop/changed_bytes.py journal     # answers of crates/cases_journal
 """
 
 import changepw_client as client
@@ -230,7 +230,7 @@ def stream_answers():
             yield census("left out" if m is None else answer(m, sealed) for m in others)
 
 
-# The journal of crates/journal_cases: three changes of alice, to kvno 2, 3 and 4; bob/admin has kvno 1
+# The journal of crates/cases_journal: three changes of alice, to kvno 2, 3 and 4; bob/admin has kvno 1
 
 
 def record(kvno):
