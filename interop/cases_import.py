@@ -1,8 +1,8 @@
 #!/usr/bin/env python3
-"""What `import_cases` must print, worked out with nothing of ours but AES (changepw_client.py): of the cases on standard input
+"""What `cases_import` must print, worked out with nothing of ours but AES (changepw_client.py): of the cases on standard input
 the answers.
 
-    python3 interop/import_cases.py < crates/import_cases/stdin > crates/import_cases/stdout
+    python3 interop/cases_import.py < crates/cases_import/stdin > crates/cases_import/stdout
 
 The layout is that of MIT's keytabs, format 0x0502; which keys a configuration can have, and in which order they stand, says
 docs/PROTOCOL.md.
