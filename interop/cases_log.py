@@ -1,7 +1,7 @@
 #!/usr/bin/env python3
-"""What `log_cases` must print, worked out with nothing of ours: of the cases on standard input the answers.
+"""What `cases_log` must print, worked out with nothing of ours: of the cases on standard input the answers.
 
-    python3 interop/log_cases.py < crates/log_cases/stdin > crates/log_cases/stdout
+    python3 interop/cases_log.py < crates/cases_log/stdin > crates/cases_log/stdout
 
 The codes, errors and texts are docs/PROTOCOL.md's, the times datetime's, the addresses ipaddress's.
 """
