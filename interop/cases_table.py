@@ -1,7 +1,7 @@
 """What `table` prints of a configuration and a journal: worked out from docs/PROTOCOL.md and docs/ADMIN.md, with Python's own
-library alone. Of the cases of `table_cases` on standard input it prints the answers.
+library alone. Of the cases of `cases_table` on standard input it prints the answers.
 
-    python3 interop/table_cases.py < crates/table_cases/stdin > crates/table_cases/stdout
+    python3 interop/cases_table.py < crates/cases_table/stdin > crates/cases_table/stdout
 """
 
 import dataclasses
