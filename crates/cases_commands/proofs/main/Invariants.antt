@@ -1,7 +1,7 @@
 -- The base is text.
 use denote.Text.{Utf8}
 use denote.Shadow.{shadow}
-use Rattle.command_cases.proofs.main.Given as goal
+use Rattle.cases_commands.proofs.main.Given as goal
 
 abbrev pub invariant-loop-block : goal.invariant-loop-block
 invariant-loop-block l =
