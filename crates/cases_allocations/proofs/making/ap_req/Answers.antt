@@ -5,9 +5,9 @@ use Rattle.krb_der.specs.Types as types
 use Rattle.krb_der.specs.Values.{authenticator_value, enc_ticket_part_value, ticket_value}
 use Rattle.krb_der.specs.declared.ticket.Ticket.{Ticket}
 use Rattle.krb_msgs.specs.Making.{SpellsTicket, ticket_of}
-use Rattle.allocation_cases.specs.declared.making.TheConstants.{REALM}
-use Rattle.allocation_cases.specs.declared.world.TheConstants.{CONFOUNDER}
-use Rattle.allocation_cases.proofs.making.ap_req.Goals as goal
+use Rattle.cases_allocations.specs.declared.making.TheConstants.{REALM}
+use Rattle.cases_allocations.specs.declared.world.TheConstants.{CONFOUNDER}
+use Rattle.cases_allocations.proofs.making.ap_req.Goals as goal
 
 -- the text of a ticket that fits spells it
 ticket_taken : (made : Ticket) (bytes : List ℕ) → fits types.ticket (ticket_value made) ≡ true

@@ -17,8 +17,8 @@ use Rattle.chpw_journal.specs.contracts.memory_sink.MemorySinkJournalSink.TheImp
 use Rattle.chpw_journal.proofs.memory_sink.MemorySink.TheSendSync as memory
 use Rattle.chpw_messages.specs.contracts.service.Service as Service
 use Rattle.chpw_messages.proofs.service.Service.TheSendSync as service
-use Rattle.allocation_cases.proofs.SendLemmas.{six_send}
-use Rattle.allocation_cases.proofs.pools.at_once.Goals as goal
+use Rattle.cases_allocations.proofs.SendLemmas.{six_send}
+use Rattle.cases_allocations.proofs.pools.at_once.Goals as goal
 
 pub join-fell-requires-send-F : goal.join-fell-requires-send-F
 join-fell-requires-send-F g c κs within =
