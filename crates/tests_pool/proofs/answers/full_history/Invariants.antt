@@ -1,5 +1,5 @@
 use Rattle.chpw_book.specs.Starting.{ledger_name, ledger_parts, list_book, list_root, workers_of}
-use Rattle.pool_tests.proofs.answers.full_history.Given as goal
+use Rattle.tests_pool.proofs.answers.full_history.Given as goal
 
 abbrev pub ghosts-fill-D-DeskName : goal.ghosts-fill-D-DeskName
 ghosts-fill-D-DeskName g a = record { workers = workers_of a.unnamed }

@@ -1,5 +1,5 @@
 use Rattle.chpw_book.specs.Starting.{ledger_name, ledger_parts, list_book, list_root, workers_of}
-use Rattle.pool_tests.proofs.sixteen.one_message_of_sixteen_workers.Given as goal
+use Rattle.tests_pool.proofs.sixteen.one_message_of_sixteen_workers.Given as goal
 
 abbrev pub ghosts-all_at-D-DeskName : goal.ghosts-all_at-D-DeskName
 ghosts-all_at-D-DeskName g a = record { workers = workers_of a.unnamed }

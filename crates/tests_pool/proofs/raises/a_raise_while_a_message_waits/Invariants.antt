@@ -1,5 +1,5 @@
 use Rattle.chpw_book.specs.Starting.{ledger_name, ledger_parts, list_book, list_root, workers_of}
-use Rattle.pool_tests.proofs.raises.a_raise_while_a_message_waits.Given as goal
+use Rattle.tests_pool.proofs.raises.a_raise_while_a_message_waits.Given as goal
 
 abbrev pub ghosts-raised_at-D-DeskName : goal.ghosts-raised_at-D-DeskName
 ghosts-raised_at-D-DeskName g a = record { workers = workers_of a.unnamed }

@@ -15,8 +15,8 @@ use Rattle.chpw_messages.specs.contracts.service.Service as Service
 use Rattle.chpw_messages.proofs.service.Service.TheSendSync as service
 use Rattle.chpw_client.specs.contracts.request.Sent as Sent
 use Rattle.chpw_client.proofs.request.Sent.TheSendSync as sent
-use Rattle.pool_tests.proofs.SendLemmas.{seven_send}
-use Rattle.pool_tests.proofs.answers.both_answers.Goals as goal
+use Rattle.tests_pool.proofs.SendLemmas.{seven_send}
+use Rattle.tests_pool.proofs.answers.both_answers.Goals as goal
 
 pub join-requires-send-F : goal.join-requires-send-F
 join-requires-send-F g c κs within =

@@ -1,5 +1,5 @@
 use Rattle.chpw_book.specs.Starting.{ledger_name, ledger_parts, list_book, list_root, workers_of}
-use Rattle.pool_tests.proofs.answers.failed_append.Given as goal
+use Rattle.tests_pool.proofs.answers.failed_append.Given as goal
 
 abbrev pub ghosts-break_second-D-DeskName : goal.ghosts-break_second-D-DeskName
 ghosts-break_second-D-DeskName g a = record { workers = workers_of a.unnamed }

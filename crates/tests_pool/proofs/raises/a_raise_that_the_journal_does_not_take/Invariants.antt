@@ -1,5 +1,5 @@
 use Rattle.chpw_book.specs.Starting.{ledger_name, ledger_parts, list_book, list_root, workers_of}
-use Rattle.pool_tests.proofs.raises.a_raise_that_the_journal_does_not_take.Given as goal
+use Rattle.tests_pool.proofs.raises.a_raise_that_the_journal_does_not_take.Given as goal
 
 abbrev pub ghosts-broken_at-D-DeskName : goal.ghosts-broken_at-D-DeskName
 ghosts-broken_at-D-DeskName g a = record { workers = workers_of a.unnamed }

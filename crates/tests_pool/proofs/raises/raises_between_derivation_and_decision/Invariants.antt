@@ -1,5 +1,5 @@
 use Rattle.chpw_book.specs.Starting.{ledger_name, ledger_parts, list_book, list_root, workers_of}
-use Rattle.pool_tests.proofs.raises.raises_between_derivation_and_decision.Given as goal
+use Rattle.tests_pool.proofs.raises.raises_between_derivation_and_decision.Given as goal
 
 abbrev pub ghosts-overtaken_at-D-DeskName : goal.ghosts-overtaken_at-D-DeskName
 ghosts-overtaken_at-D-DeskName g a = record { workers = workers_of a.unnamed }

@@ -13,10 +13,10 @@ use Rattle.chpw_messages.specs.contracts.service.Service as Service
 use Rattle.chpw_messages.proofs.service.Service.TheSendSync as service
 use Rattle.chpw_client.specs.contracts.request.Sent as Sent
 use Rattle.chpw_client.proofs.request.Sent.TheSendSync as sent
-use Rattle.pool_tests.specs.contracts.sixteen.Told as Told
-use Rattle.pool_tests.proofs.sixteen.Told.TheSendSync as told
-use Rattle.pool_tests.proofs.SendLemmas.{seven_sync}
-use Rattle.pool_tests.proofs.sixteen.ask_all.Goals as goal
+use Rattle.tests_pool.specs.contracts.sixteen.Told as Told
+use Rattle.tests_pool.proofs.sixteen.Told.TheSendSync as told
+use Rattle.tests_pool.proofs.SendLemmas.{seven_sync}
+use Rattle.tests_pool.proofs.sixteen.ask_all.Goals as goal
 
 pub for_each_mut-requires-sync-F : goal.for_each_mut-requires-sync-F
 for_each_mut-requires-sync-F g c κs within =
