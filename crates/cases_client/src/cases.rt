@@ -4,7 +4,7 @@ use crate::asking::Question;
 use crate::clock::Counting;
 use crate::reading::{changed, cut, told};
 use crate::world::{World, configured, no_case};
-use case_lines::Answers;
+use support_cases::Answers;
 use chpw_client::Sent;
 use hex::{decode, encode};
 use std::alloc::{AllocError, Global};

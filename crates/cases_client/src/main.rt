@@ -27,7 +27,7 @@ mod clock;
 mod reading;
 mod world;
 
-use case_lines::print_answers;
+use support_cases::print_answers;
 use cases::Cases;
 use std::io;
 

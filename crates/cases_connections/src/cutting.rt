@@ -1,7 +1,7 @@
 //! A message that comes in two pieces, or isn't whole.
 
 use crate::script::Script;
-use case_lines::Census;
+use support_cases::Census;
 use chpw_connections::Bounds;
 use std::alloc::Global;
 use std::io;

@@ -10,7 +10,7 @@ mod words;
 
 use crate::script::Script;
 use crate::words::{bytes, no_case, number};
-use case_lines::{Answers, print_answers};
+use support_cases::{Answers, print_answers};
 use std::alloc::Global;
 use std::io;
 

@@ -8,7 +8,7 @@ mod statuses;
 mod words;
 
 use crate::fault::Fault;
-use case_lines::{Answers, print_answers};
+use support_cases::{Answers, print_answers};
 use std::alloc::Global;
 use std::io;
 

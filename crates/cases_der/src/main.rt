@@ -11,7 +11,7 @@ mod records;
 mod times;
 mod values;
 
-use case_lines::{Answers, print_answers};
+use support_cases::{Answers, print_answers};
 use hex::{FromHexError, decode};
 use krb_der::ReadError;
 use std::alloc::{AllocError, Global};

@@ -18,7 +18,7 @@ mod change;
 mod framing;
 mod streams;
 
-use case_lines::{Answers, print_answers};
+use support_cases::{Answers, print_answers};
 use std::alloc::Global;
 use std::io;
 

@@ -2,7 +2,7 @@
 ghost use Rattle.std.specs.Prelude.{◌≤◌};
 
 use crate::words::{behind, bytes, count, joined, said};
-use case_lines::Census;
+use support_cases::Census;
 use chpw_import::write_keytab;
 use chpw_invocation::{ImportOptions, LONGEST_REALM, USUAL_COUNT};
 use std::alloc::{AllocError, Global};

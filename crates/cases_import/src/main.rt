@@ -15,7 +15,7 @@ mod keytabs;
 mod passwords;
 mod words;
 
-use case_lines::{Answers, print_answers};
+use support_cases::{Answers, print_answers};
 use std::alloc::Global;
 use std::io;
 

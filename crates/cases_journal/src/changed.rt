@@ -3,7 +3,7 @@ use crate::journal::journal_of;
 use crate::realm::deep_table;
 use crate::refusal::Refusal;
 use crate::restoring::{show_census, show_told};
-use case_lines::{Census, Change};
+use support_cases::{Census, Change};
 use chpw_journal::{Restored, restore};
 use chpw_table::{KeyRow, Table};
 use std::alloc::{AllocError, Global};

@@ -3,7 +3,7 @@ use crate::journal::number;
 use crate::realm::{show_versions, table};
 use crate::refusal::Refusal;
 use crate::restoring::{show_bytes, show_census};
-use case_lines::Census;
+use support_cases::Census;
 use chpw_journal::MemorySink;
 use chpw_rules::ITERATION_COUNTS;
 use chpw_table::{Digest, JournalSink, Opened, Table};

@@ -17,7 +17,7 @@ mod refusal;
 mod restoring;
 mod unsynced;
 
-use case_lines::{Answers, Change, print_answers};
+use support_cases::{Answers, Change, print_answers};
 use changed::show_changed;
 use compact::show_compact;
 use disk::show_appended;

@@ -2,7 +2,7 @@
 use crate::journal::journal_of;
 use crate::realm::{show_versions, table};
 use crate::refusal::Refusal;
-use case_lines::Census;
+use support_cases::Census;
 use chpw_journal::{Restored, restore};
 use fake_streams::{Course, Giver, Way};
 use std::alloc::Global;

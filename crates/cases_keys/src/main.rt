@@ -10,7 +10,7 @@ mod refusal;
 mod words;
 
 use answers::answer;
-use case_lines::{Answers, print_answers};
+use support_cases::{Answers, print_answers};
 use refusal::Refusal;
 use std::alloc::Global;
 use std::io::{self, Error, ErrorKind};

@@ -1,7 +1,7 @@
 //! Keytabs, whole and cut short.
 
 use crate::showing::{entries_text, fault_text};
-use case_lines::Census;
+use support_cases::Census;
 use hex::decode;
 use krb_keytab::{KeytabEntry, KeytabError, KeytabFault, read_keytab};
 use std::alloc::Global;

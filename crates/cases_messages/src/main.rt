@@ -14,7 +14,7 @@ mod refusal;
 mod replies;
 mod world;
 
-use case_lines::{Answers, print_answers};
+use support_cases::{Answers, print_answers};
 use refusal::Refusal;
 use std::alloc::Global;
 use std::io::{self, Error, ErrorKind};

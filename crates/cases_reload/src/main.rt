@@ -10,7 +10,7 @@ mod journal;
 mod refusal;
 mod reloading;
 
-use case_lines::{Answers, print_answers};
+use support_cases::{Answers, print_answers};
 use refusal::Refusal;
 use reloading::show_reload;
 use std::alloc::Global;

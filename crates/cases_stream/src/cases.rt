@@ -9,7 +9,7 @@ use crate::wanting::wanting;
 use crate::world::Setting;
 use crate::writing::{broken, replied, written};
 use crate::{deciding, words};
-use case_lines::{Answers, Change};
+use support_cases::{Answers, Change};
 use std::alloc::{AllocError, Global};
 use std::io;
 

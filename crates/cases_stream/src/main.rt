@@ -48,7 +48,7 @@ mod words;
 mod world;
 mod writing;
 
-use case_lines::print_answers;
+use support_cases::print_answers;
 use cases::Cases;
 use std::io;
 

@@ -1,7 +1,7 @@
 //! One case.
 use crate::holding::{Found, configuration, found_in, report};
 use crate::journal::journal_of;
-use case_lines::Census;
+use support_cases::Census;
 use chpw_config::read_config;
 use chpw_report::{Form, HeldTable};
 use std::alloc::Global;
