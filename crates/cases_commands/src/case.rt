@@ -1,6 +1,6 @@
 //! One case of the drill or of the check.
 use chpw_commands::{DrillFault, explain_check, run_check, run_drill};
-use fake_streams::{Course, Giver, Taker, Way};
+use support_streams::{Course, Giver, Taker, Way};
 use hex::decode;
 use std::alloc::Global;
 use std::io::{Error, ErrorKind, Result};

@@ -11,7 +11,7 @@
 //! - `fail HOW: HEX`: that message is written with a fault after each byte in turn.
 //! - A line that begins with `#`, or is empty, is copied.
 //!
-//! HOW is how the reader or writer behaves, with commas between: see fake_streams.
+//! HOW is how the reader or writer behaves, with commas between: see support_streams.
 #![tactic(auto)]
 
 mod change;

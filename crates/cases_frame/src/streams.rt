@@ -2,7 +2,7 @@
 
 use crate::framing::{bytes, shown};
 use chpw_frame::{LONGEST_MESSAGE, Received, read_tcp, write_tcp};
-use fake_streams::{Course, Giver, Taker, Way};
+use support_streams::{Course, Giver, Taker, Way};
 use std::alloc::Global;
 use std::io;
 

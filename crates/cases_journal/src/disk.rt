@@ -2,7 +2,7 @@
 use crate::refusal::Refusal;
 use chpw_journal::FileSink;
 use chpw_table::JournalSink;
-use fake_streams::{Course, Taker, Way};
+use support_streams::{Course, Taker, Way};
 use std::alloc::Global;
 use std::fs::{Metadata, OpenFile};
 use std::io::{self, Error, ErrorKind, Write};

@@ -4,7 +4,7 @@ use crate::realm::{show_versions, table};
 use crate::refusal::Refusal;
 use support_cases::Census;
 use chpw_journal::{Restored, restore};
-use fake_streams::{Course, Giver, Way};
+use support_streams::{Course, Giver, Way};
 use std::alloc::Global;
 use std::io::{BufReader, Read};
 

@@ -5,7 +5,7 @@ use crate::serving::{How, ended_text, serve_by, stream_of};
 use crate::world::{Setting, World};
 use chpw_serve::{Ended, Gate, Observer, Spot};
 use chpw_table::{Event, Moment, Opened, Receipt};
-use fake_streams::Way;
+use support_streams::Way;
 use krb_protocol::Refusal;
 use std::alloc::Global;
 use std::io;

@@ -30,7 +30,7 @@
 //!   its last byte, which is N.
 //! - A line that begins with `#`, or is empty, is copied.
 //!
-//! HOW has words with commas between: the moment, as `at 1000100`, and how the reader behaves, see fake_streams.
+//! HOW has words with commas between: the moment, as `at 1000100`, and how the reader behaves, see support_streams.
 #![tactic(auto)]
 
 mod cases;

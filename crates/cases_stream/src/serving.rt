@@ -7,7 +7,7 @@ use chpw_decider::{Alone, Decider};
 use chpw_frame::{Received, read_tcp, write_tcp};
 use chpw_journal::MemorySink;
 use chpw_serve::{Ended, Gate, Messages, Observer, serve_alone, serve_stream};
-use fake_streams::{Course, Giver, Taker, Way};
+use support_streams::{Course, Giver, Taker, Way};
 use std::alloc::Global;
 use std::io;
 
