@@ -20,7 +20,7 @@ use std::marker::Brand;
 use std::sync::Wait;
 use std::thread::Threads;
 use std::time::{Clock, Duration};
-use test_realm::{PASSWORD, change, name, table};
+use support_realm::{PASSWORD, change, name, table};
 
 /// What is asked for on the command line.
 #[derive(Clone, Copy, Drop)]

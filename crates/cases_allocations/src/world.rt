@@ -10,7 +10,7 @@ use chpw_rules::{Config, Items, Name};
 use chpw_table::{Body, Counts, Digest, Moment, Opened, Table};
 use krb_keys::CONFOUNDER_LEN;
 use std::alloc::Global;
-use test_realm::name;
+use support_realm::name;
 
 pub const CONFOUNDER: [u8; CONFOUNDER_LEN] = [1; CONFOUNDER_LEN];
 
@@ -42,7 +42,7 @@ fn principals(alloc: Global) -> Result<Vec<Name>, Stop> {
 pub fn configured(alloc: Global) -> Result<Config, Stop>
     ensures fits { IfOk result (λ config. config_fits config ≡ true) }
 {
-    match test_realm::config(alloc, principals(alloc)?, 4, 100) {
+    match support_realm::config(alloc, principals(alloc)?, 4, 100) {
         Ok(config) => Ok(config),
         Err(error) => Err(Stop::from(error)),
     }

@@ -8,7 +8,7 @@ use chpw_client::{LONGEST_PASSWORD, Sent, client_request};
 use chpw_rules::{Config, Name};
 use std::alloc::Global;
 use std::io::{self, Error};
-use test_realm::name;
+use support_realm::name;
 
 /// What a client asks.
 #[derive(Drop)]

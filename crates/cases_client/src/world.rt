@@ -12,7 +12,7 @@ use chpw_serve::serve_alone;
 use chpw_table::Table;
 use std::alloc::Global;
 use std::io::{self, Error, ErrorKind};
-use test_realm::Tally;
+use support_realm::Tally;
 
 /// The client's address.
 const PEER: [u8; 4] = [127, 0, 0, 1];

@@ -7,7 +7,7 @@ use support_cases::{Census, Change};
 use chpw_journal::{Restored, restore};
 use chpw_table::{KeyRow, Table};
 use std::alloc::{AllocError, Global};
-use test_realm::name;
+use support_realm::name;
 
 /// Adds what restoring a journal gives with this change at each of its places, and what of alice's keys differs from
 /// what was written. Her four newest keys are kept.

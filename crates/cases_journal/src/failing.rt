@@ -9,7 +9,7 @@ use chpw_rules::ITERATION_COUNTS;
 use chpw_table::{Digest, JournalSink, Opened, Table};
 use krb_keys::Key;
 use std::alloc::{AllocError, Global};
-use test_realm::{NOW, name};
+use support_realm::{NOW, name};
 
 /// The length of a record of alice.
 const RECORD: usize = 66;
@@ -151,7 +151,7 @@ fn request(alloc: Global, change: &str, cusec: u32) -> Result<Opened, Refusal> {
         return Err(Refusal::NoSuchCase);
     };
     let digest = digest(alloc, password)?;
-    Ok(test_realm::change(alloc, name(alloc, client)?, cusec, digest)?)
+    Ok(support_realm::change(alloc, name(alloc, client)?, cusec, digest)?)
 }
 
 fn digest(alloc: Global, password: &str) -> Result<Digest, Refusal> {

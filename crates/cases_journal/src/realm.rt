@@ -3,7 +3,7 @@ use crate::refusal::Refusal;
 use chpw_rules::Name;
 use chpw_table::Table;
 use std::alloc::Global;
-use test_realm::name;
+use support_realm::name;
 
 /// The iteration count of the configuration.
 const ITERATIONS: u32 = 4096;
@@ -30,12 +30,12 @@ fn kvno(alloc: Global, table: &Table, text: &str) -> Result<u32, Refusal> {
 
 /// A table of the realm, before any change.
 pub fn table(alloc: Global) -> Result<Table, Refusal> {
-    test_realm::table(alloc, principals(alloc)?, ITERATIONS, 100).map_err(Refusal::from)
+    support_realm::table(alloc, principals(alloc)?, ITERATIONS, 100).map_err(Refusal::from)
 }
 
 /// That table, with a policy by which the four newest keys of a name are kept.
 pub fn deep_table(alloc: Global) -> Result<Table, Refusal> {
-    let mut config = test_realm::config(alloc, principals(alloc)?, ITERATIONS, 100)?;
+    let mut config = support_realm::config(alloc, principals(alloc)?, ITERATIONS, 100)?;
     config.policy.depth = 4;
     if !config.fits() {
         return Err(Refusal::NoSuchCase);

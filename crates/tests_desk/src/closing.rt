@@ -9,7 +9,7 @@ use std::marker::Brand;
 use std::process::Abort;
 use std::sync::Wait;
 use std::thread::{Threads, join};
-use test_realm::{NOW, PASSWORD, Tally};
+use support_realm::{NOW, PASSWORD, Tally};
 
 #[test]
 fn one_request_of_two_workers(rt: HostRuntime) {

@@ -7,7 +7,7 @@ use chpw_table::{DecideFault, Digest, Lookup, Opened, Refused, Table, Verdict};
 use std::alloc::Global;
 use std::process::Abort;
 use std::sync::Wait;
-use test_realm::Tally;
+use support_realm::Tally;
 
 /// The table of `alice`, `blice`, `clice` and so on, sixteen principals, each with kvno 1 under 4
 /// iterations, which new keys have too.
@@ -16,7 +16,7 @@ pub fn table(rt: &impl Abort, alloc: Global, max_entries: u32) -> Table {
     for number in 0..16 {
         assert!(rt; names.push(name(rt, alloc, number)).is_ok());
     }
-    let table = test_realm::table(alloc, names, 4, max_entries);
+    let table = support_realm::table(alloc, names, 4, max_entries);
     table.ok().expect(rt, "a table")
 }
 
@@ -34,7 +34,7 @@ pub fn name(rt: &impl Abort, alloc: Global, number: u8) -> Name {
 pub fn change(rt: &impl Abort, alloc: Global, number: u8, cusec: u32) -> Opened {
     let digest = Digest::of(9, 4, Vec::new(alloc)).expect(rt, "no keys");
     let name = name(rt, alloc, number);
-    let opened = test_realm::change(alloc, name, cusec, digest);
+    let opened = support_realm::change(alloc, name, cusec, digest);
     opened.ok().expect(rt, "a request")
 }
 

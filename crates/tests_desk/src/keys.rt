@@ -10,7 +10,7 @@ use std::alloc::Global;
 use std::marker::Brand;
 use std::process::Abort;
 use std::sync::Wait;
-use test_realm::{NOW, PASSWORD, Tally};
+use support_realm::{NOW, PASSWORD, Tally};
 
 #[test]
 fn keys_that_are_asked_for(rt: HostRuntime) {

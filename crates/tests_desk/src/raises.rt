@@ -8,7 +8,7 @@ use std::alloc::Global;
 use std::marker::Brand;
 use std::process::Abort;
 use std::sync::Wait;
-use test_realm::{NOW, PASSWORD, Tally};
+use support_realm::{NOW, PASSWORD, Tally};
 
 #[test]
 fn a_change_after_a_raise(rt: HostRuntime) {

@@ -10,7 +10,7 @@ use std::process::Abort;
 use std::sync::Wait;
 use std::thread;
 use std::thread::Threads;
-use test_realm::{NOW, PASSWORD, Tally};
+use support_realm::{NOW, PASSWORD, Tally};
 
 #[test]
 fn sixteen_workers(rt: HostRuntime) {

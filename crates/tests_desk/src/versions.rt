@@ -11,7 +11,7 @@ use std::process::Abort;
 use std::sync::Wait;
 use std::thread;
 use std::thread::Threads;
-use test_realm::{NOW, PASSWORD, Tally};
+use support_realm::{NOW, PASSWORD, Tally};
 
 // How often alice's password is changed, and how often each other worker looks.
 const CHANGES: u32 = 40;

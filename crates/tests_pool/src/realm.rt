@@ -10,7 +10,7 @@ use chpw_serve::WorkerWords;
 use chpw_table::{Moment, Table};
 use std::alloc::Global;
 use std::process::Abort;
-use test_realm::{config, name};
+use support_realm::{config, name};
 
 pub const CHANGED: &[u8] = b"code 0 password changed";
 

@@ -9,7 +9,7 @@ use std::sync::Wait;
 use std::sync::atomic::{AtomicU64, Ordering};
 use std::thread::{self, Threads, join};
 use std::time::{Clock, Duration, Instant};
-use test_realm::{NOW, PASSWORD};
+use support_realm::{NOW, PASSWORD};
 
 /// A name, and how often a pass looks it up.
 #[derive(Drop)]

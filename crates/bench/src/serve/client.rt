@@ -10,7 +10,7 @@ use chpw_table::Moment;
 use std::alloc::Global;
 use std::io;
 use std::net::TcpStream;
-use test_realm::{config, name};
+use support_realm::{config, name};
 
 /// A client: its connection, its requests, and the replies so far.
 #[derive(Drop)]

@@ -3,7 +3,7 @@ use chpw_decider::{Alone, Decider};
 use chpw_table::{DecideFault, Moment, Opened, Verdict};
 use std::alloc::Global;
 use std::process::Abort;
-use test_realm::Tally;
+use support_realm::Tally;
 
 const NOW: Moment = Moment {
     seconds: 1000,

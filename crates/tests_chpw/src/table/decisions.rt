@@ -4,7 +4,7 @@ use chpw_table::{DecideFault, Moment, Opened, Refused, Table, Verdict};
 use krb_keys::Key;
 use std::alloc::Global;
 use std::process::Abort;
-use test_realm::Tally;
+use support_realm::Tally;
 
 const NOW: Moment = Moment {
     seconds: 1000,

@@ -3,7 +3,7 @@ use chpw_rules::Items;
 use chpw_table::{Body, LAST_SECOND, Moment, Opened, Table, Verdict};
 use std::alloc::Global;
 use std::process::Abort;
-use test_realm::Tally;
+use support_realm::Tally;
 
 // A request whose KRB-PRIV held no new password: its id is used, and nothing else changes.
 fn asked(rt: &impl Abort, alloc: Global, id: (&str, &str, i64, u32)) -> Opened {

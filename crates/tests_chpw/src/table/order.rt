@@ -10,7 +10,7 @@ fn realm(rt: &impl Abort, alloc: Global, texts: &[&str]) -> Table {
     for text in texts {
         assert!(rt; names.push(named(rt, alloc, text)).is_ok());
     }
-    let table = test_realm::table(alloc, names, 4, 10);
+    let table = support_realm::table(alloc, names, 4, 10);
     table.ok().expect(rt, "a table")
 }
 

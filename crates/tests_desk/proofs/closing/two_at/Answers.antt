@@ -6,9 +6,9 @@ use Rattle.chpw_book.specs.contracts.pass.Pass as Pass
 use Rattle.chpw_book.specs.contracts.desk.Desk as Desk
 use Rattle.chpw_book.proofs.pass.Pass.TheSendSync as pass
 use Rattle.chpw_book.proofs.SendLemmas.{desk_sync}
-use Rattle.test_realm.specs.contracts.tally.Tally as Tally
-use Rattle.test_realm.specs.contracts.tally.TallyJournalSink.TheImpl as sink
-use Rattle.test_realm.proofs.tally.Tally.TheSendSync as tally
+use Rattle.support_realm.specs.contracts.tally.Tally as Tally
+use Rattle.support_realm.specs.contracts.tally.TallyJournalSink.TheImpl as sink
+use Rattle.support_realm.proofs.tally.Tally.TheSendSync as tally
 use Rattle.tests_desk.proofs.SendLemmas.{four_send}
 use Rattle.tests_desk.proofs.closing.two_at.Goals as goal
 

@@ -4,9 +4,9 @@ use Rattle.std.specs.contracts.alloc.Global as Global
 use Rattle.std.proofs.alloc.Global.TheSendSync as global
 use Rattle.chpw_book.specs.contracts.desk.Desk as Desk
 use Rattle.chpw_book.proofs.SendLemmas.{desk_sync}
-use Rattle.test_realm.specs.contracts.tally.Tally as Tally
-use Rattle.test_realm.specs.contracts.tally.TallyJournalSink.TheImpl as sink
-use Rattle.test_realm.proofs.tally.Tally.TheSendSync as tally
+use Rattle.support_realm.specs.contracts.tally.Tally as Tally
+use Rattle.support_realm.specs.contracts.tally.TallyJournalSink.TheImpl as sink
+use Rattle.support_realm.proofs.tally.Tally.TheSendSync as tally
 use Rattle.tests_desk.proofs.SendLemmas.{three_sync}
 use Rattle.tests_desk.proofs.sides.all_at.Goals as goal
 
