@@ -34,7 +34,7 @@ mod world;
 use calls::told;
 use page::Page;
 use pools::Machine;
-use read_fully::{Filled, fill};
+use chpw_read_fully::{Filled, fill};
 use std::io::{self, Error, ErrorKind, Write};
 use std::net::{Net, TcpListener, TcpStream};
 use std::sync::Wait;

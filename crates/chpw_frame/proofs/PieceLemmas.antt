@@ -7,7 +7,7 @@ use Rattle.std.specs.Int.{from_be_bytes, to_be_bytes, w32}
 use Rattle.std.specs.Io.KnownBytes.{Consumes, IsAtEnd}
 use Rattle.chpw_frame.specs.Stream.{message, cut_off, too_long, next_piece, after_piece, stated_length, sent, longest}
 use Rattle.chpw_frame.specs.Receiving.{TakesPiece, ConsumesSome, IsLength}
-use Rattle.read_fully.proofs.FillingLemmas.{consumes_more}
+use Rattle.chpw_read_fully.proofs.FillingLemmas.{consumes_more}
 use Rattle.chpw_frame.proofs.Tests.{is_below, not_below}
 
 -- the tests of a stream's front

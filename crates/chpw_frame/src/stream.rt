@@ -6,7 +6,7 @@ ghost use Rattle.chpw_frame.specs.Stream.{sent, longest};
 ghost use Rattle.chpw_frame.specs.declared.stream.Received.TheVariants.{Ended, CutOff};
 ghost use Rattle.chpw_frame.specs.Receiving.{IsReceived, TakesLength, IsLength, IsPut, AppendsFront};
 
-use read_fully::{Filled, fill, fill_vec};
+use chpw_read_fully::{Filled, fill, fill_vec};
 use std::alloc::{AllocError, Global};
 use std::io::{Read, Write};
 

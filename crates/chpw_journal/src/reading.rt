@@ -4,7 +4,7 @@ ghost use Rattle.std.specs.Int.{from_be_bytes, to_be_bytes, w16};
 ghost use Rattle.chpw_journal.specs.NextRecord.{IsNext, IsBody, CountsDown};
 
 use chpw_record::is_record_length;
-use read_fully::{Filled, fill, fill_vec};
+use chpw_read_fully::{Filled, fill, fill_vec};
 use std::alloc::{AllocError, Global};
 use std::io::Read;
 

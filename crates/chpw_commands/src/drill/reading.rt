@@ -4,7 +4,7 @@ ghost use Rattle.std.specs.Io.KnownBytes.{Consumes, IsAtEnd};
 ghost use Rattle.chpw_commands.specs.declared.drill.DrillFault.TheVariants.{Memory, Read as ReadFault};
 
 use crate::drill::DrillFault;
-use read_fully::{Filled, fill};
+use chpw_read_fully::{Filled, fill};
 use std::alloc::Global;
 use std::io::Read;
 

@@ -1,10 +1,10 @@
 -- What was read into a buffer, and in how many reads.
 use Rattle.std.specs.Prelude.{ℕ, ◌≤◌, ◌<◌, List, length, take, Option}
 use Rattle.std.specs.Io.KnownBytes.{Consumes, Keeps, IsAtEnd}
-use Rattle.read_fully.specs.declared.filling.Filled.{Filled}
-use Rattle.read_fully.specs.declared.filling.Filled.TheVariants as filled
-use Rattle.read_fully.specs.declared.filling.Step.{Step}
-use Rattle.read_fully.specs.declared.filling.Step.TheVariants as step
+use Rattle.chpw_read_fully.specs.declared.filling.Filled.{Filled}
+use Rattle.chpw_read_fully.specs.declared.filling.Filled.TheVariants as filled
+use Rattle.chpw_read_fully.specs.declared.filling.Step.{Step}
+use Rattle.chpw_read_fully.specs.declared.filling.Step.TheVariants as step
 
 -- what a filled buffer, or its beginning, holds was taken
 abbrev pub IsFill : Filled → List ℕ → Option (List ℕ) → Option (List ℕ) → Type 0

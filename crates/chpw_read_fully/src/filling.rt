@@ -1,6 +1,6 @@
 //! A buffer filled from a reader, read by read.
 ghost use Rattle.std.specs.Prelude.{◌≡◌, ◌<◌, ◌≤◌, length};
-ghost use Rattle.read_fully.specs.Filling.{IsFill, IsRead, FillCounts};
+ghost use Rattle.chpw_read_fully.specs.Filling.{IsFill, IsRead, FillCounts};
 
 use std::io::{ErrorKind, Read};
 

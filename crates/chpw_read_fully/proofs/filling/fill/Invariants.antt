@@ -1,6 +1,6 @@
 use Rattle.std.proofs.Common.{◌≤◌, ◌<◌, length, take}
 use Rattle.std.specs.Io.KnownBytes.{Consumes}
-use Rattle.read_fully.proofs.filling.fill.Given as goal
+use Rattle.chpw_read_fully.proofs.filling.fill.Given as goal
 
 abbrev pub invariant-loop-filled : goal.invariant-loop-filled
 invariant-loop-filled g l =
