@@ -1,6 +1,6 @@
 -- For the proofs of a step: what a table becomes at an event, part by part.
 use Rattle.std.specs.Prelude.{◌≡◌, ℕ, zero, suc, ◌+◌, ℤ, List, [], ◌∷◌, ◌<◌, length, map, take, Some, Bool, true, ◌&&◌, if◌then◌else◌}
-use Rattle.ordered_keys.specs.Trees.{with_first}
+use Rattle.chpw_ordered_keys.specs.Trees.{with_first}
 use Rattle.chpw_rules.specs.declared.name.Name.{Name}
 use Rattle.chpw_rules.specs.Names.{is_name}
 use Rattle.chpw_table.specs.declared.times.Moment.{Moment}

@@ -31,7 +31,7 @@ use crate::standing::StandingRules;
 use chpw_record::KeyRow;
 use chpw_rules::{Config, Items, Name, Policy};
 use opening::opening_table;
-use ordered_keys::{KeyTree, Keyed};
+use chpw_ordered_keys::{KeyTree, Keyed};
 pub use preparing::{Prepared, RowChange};
 pub use reopening::MOST_CARRIED;
 pub use restoring::KeyFault;

@@ -8,7 +8,7 @@ ghost use Rattle.chpw_versions.specs.Rows.{changed_at, changed_row, rows_after, 
 use chpw_fronts::{NumberedChange, NumberedKey};
 use chpw_rules::Name;
 use chpw_table::{Counts, Lookup, newest};
-use ordered_keys::{Keyed, place_of};
+use chpw_ordered_keys::{Keyed, place_of};
 use std::marker::Model;
 
 /// What is published of a principal. Its size is fixed, so that a change takes no memory.

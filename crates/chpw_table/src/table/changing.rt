@@ -16,7 +16,7 @@ use crate::key::{kvno_of, newest};
 use crate::request::Opened;
 use chpw_record::{KeyRow, record_bytes};
 use chpw_rules::{Items, Name};
-use ordered_keys::place_of;
+use chpw_ordered_keys::place_of;
 use std::alloc::{AllocError, Global};
 
 // A change with all the memory that it needs.

@@ -20,7 +20,7 @@ use crate::request::{Opened, RequestId};
 use crate::sink::JournalSink;
 use crate::times::{Moment, is_later};
 use crate::verdict::Verdict;
-use ordered_keys::KeyTree;
+use chpw_ordered_keys::KeyTree;
 
 impl Table {
     /// One step of the machine: the verdict on this request at this moment, and its effect.

@@ -1,11 +1,11 @@
 use Rattle.std.proofs.Common.{◌≡◌, ◌∷◌, ◌++◌, length, sym, ◌∙◌, ap, subst, arith, rules}
 use Rattle.std.specs.List.Sorted.{IsStrictlySortedBy}
 use Rattle.std.proofs.lemmas.List.{length-append}
-use Rattle.ordered_keys.specs.Trees.{keys, fork_keys, WereEven, with_first}
-use Rattle.ordered_keys.proofs.OrderLemmas.{first_length}
-use Rattle.ordered_keys.proofs.PutLemmas.{were_even, one_on_left, one_on_right, alone, sorted_left, sorted_right, after_left, after_right, after_here}
-use Rattle.ordered_keys.proofs.tree.KeyTree.+put.Goals as goal
-use Rattle.ordered_keys.proofs.tree.KeyTree.+put.Goals.{in-Less, in-Equal, in-Greater}
+use Rattle.chpw_ordered_keys.specs.Trees.{keys, fork_keys, WereEven, with_first}
+use Rattle.chpw_ordered_keys.proofs.OrderLemmas.{first_length}
+use Rattle.chpw_ordered_keys.proofs.PutLemmas.{were_even, one_on_left, one_on_right, alone, sorted_left, sorted_right, after_left, after_right, after_here}
+use Rattle.chpw_ordered_keys.proofs.tree.KeyTree.+put.Goals as goal
+use Rattle.chpw_ordered_keys.proofs.tree.KeyTree.+put.Goals.{in-Less, in-Equal, in-Greater}
 
 pub put-requires : goal.put-requires
 put-requires g t c κs within =

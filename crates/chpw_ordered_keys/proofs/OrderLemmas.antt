@@ -8,7 +8,7 @@ use Rattle.std.specs.declared.cmp.Ordering.TheVariants.{Less, Equal, Greater}
 use Rattle.std.specs.Ordering.{eq_by_cmp, is_eq, match_ordering, ordering_reverse}
 use Rattle.std.specs.BTreeSet.{insert_key}
 use Rattle.std.proofs.lemmas.List.Folds.{list_any-append}
-use Rattle.ordered_keys.specs.Trees.{with_first}
+use Rattle.chpw_ordered_keys.specs.Trees.{with_first}
 
 -- ---- what holds of all
 

@@ -6,8 +6,8 @@ use Rattle.std.specs.List.Sorted.{IsStrictlySortedBy}
 use Rattle.std.specs.Cmp.{IsTotalOrder}
 use Rattle.std.specs.BTreeSet.{insert_key}
 use Rattle.std.proofs.lemmas.List.{length-append}
-use Rattle.ordered_keys.specs.Trees.{AreEven, WereEven, with_first}
-use Rattle.ordered_keys.proofs.OrderLemmas.{first_length, first_keeps, sorted_front, sorted_back, insert_left, insert_right, insert_here}
+use Rattle.chpw_ordered_keys.specs.Trees.{AreEven, WereEven, with_first}
+use Rattle.chpw_ordered_keys.proofs.OrderLemmas.{first_length, first_keeps, sorted_front, sorted_back, insert_left, insert_right, insert_here}
 
 -- ---- how even the sides are
 

@@ -3,7 +3,7 @@ use Rattle.std.specs.Prelude.{◌≡◌, ◌≤◌, ◌+◌, ◌*◌, ℕ, List,
 use Rattle.std.specs.declared.cmp.Ordering.{Ordering}
 use Rattle.std.specs.BTreeSet.{insert_key}
 use Rattle.std.specs.Global.{Box}
-use Rattle.ordered_keys.specs.declared.tree.Fork.{Fork}
+use Rattle.chpw_ordered_keys.specs.declared.tree.Fork.{Fork}
 
 -- the keys of a node, from the left to the right
 abbrev pub fork_keys : {K : Type 0} → Fork K → List K

@@ -4,7 +4,7 @@ ghost use Rattle.std.specs.List.{list_any};
 ghost use Rattle.std.specs.List.Sorted.{IsStrictlySortedBy};
 ghost use Rattle.std.specs.Ordering.{eq_by_cmp};
 ghost use Rattle.std.specs.Option.{option_to_list};
-ghost use Rattle.ordered_keys.specs.Trees.{keys, fork_keys, IsEven, AreEven, with_first};
+ghost use Rattle.chpw_ordered_keys.specs.Trees.{keys, fork_keys, IsEven, AreEven, with_first};
 
 use crate::balance::rebalance;
 use std::alloc::{AllocError, Global};
@@ -49,7 +49,7 @@ impl<K> Model for KeyTree<K> {
 
     ghost Value = { List K };
 
-    ghost use Rattle.ordered_keys.specs.Trees.{keys, IsCounted, IsEven};
+    ghost use Rattle.chpw_ordered_keys.specs.Trees.{keys, IsCounted, IsEven};
 
     ghost view = { λ a. keys a.root };
 

@@ -1,6 +1,6 @@
 //! Restoring the balance of a node.
 ghost use Rattle.std.specs.Prelude.{◌≡◌, ◌<◌, ◌≤◌, ◌+◌, ◌*◌, ◌^◌, ◌∷◌, ◌++◌, length};
-ghost use Rattle.ordered_keys.specs.Trees.{fork_keys, WereEven};
+ghost use Rattle.chpw_ordered_keys.specs.Trees.{fork_keys, WereEven};
 
 use crate::tree::{Fork, KeyTree};
 use std::mem;

@@ -4,8 +4,8 @@ use denote.RattleType.{RattleType}
 use denote.Param.Send.{IsSend, sendable}
 use Rattle.std.proofs.Crossing
 use Rattle.std.proofs.option.Option.TheSendSync as option
-use Rattle.ordered_keys.specs.contracts.tree.KeyTree.{the_row}
-use Rattle.ordered_keys.proofs.tree.KeyTree.TheLaws.TheKnot
+use Rattle.chpw_ordered_keys.specs.contracts.tree.KeyTree.{the_row}
+use Rattle.chpw_ordered_keys.proofs.tree.KeyTree.TheLaws.TheKnot
 
 pub tree_send : (K : RattleType) → IsSend K → IsSend (the_row K)
 tree_send K s = search (option.the_send, Crossing.crosses, TheKnot.crosses, sendable) depth 60

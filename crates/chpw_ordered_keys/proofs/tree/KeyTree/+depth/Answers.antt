@@ -1,8 +1,8 @@
 use Rattle.std.proofs.Common.{◌∷◌, length, sym, ◌∙◌, ap, subst, arith}
 use Rattle.std.proofs.lemmas.List.{length-append}
-use Rattle.ordered_keys.specs.Trees.{keys, AreEven, IsEven}
-use Rattle.ordered_keys.proofs.DepthLemmas.{one_deeper}
-use Rattle.ordered_keys.proofs.tree.KeyTree.+depth.Goals as goal
+use Rattle.chpw_ordered_keys.specs.Trees.{keys, AreEven, IsEven}
+use Rattle.chpw_ordered_keys.proofs.DepthLemmas.{one_deeper}
+use Rattle.chpw_ordered_keys.proofs.tree.KeyTree.+depth.Goals as goal
 
 pub returns-then-on_left-on_right-clause-deep : goal.returns-then-on_left-on_right-clause-deep
 returns-then-on_left-on_right-clause-deep g t c =
