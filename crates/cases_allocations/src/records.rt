@@ -1,6 +1,6 @@
 //! Calls of krb_der: each record is read from its text, or written.
 ghost use Rattle.std.specs.Prelude.{◌≡◌, true, IfOk};
-ghost use Rattle.krb_elements.specs.Texts.{fits};
+ghost use Rattle.krb_codec.specs.Texts.{fits};
 
 use crate::page::Page;
 use crate::stop::{Stop, wanting};
@@ -15,7 +15,7 @@ use krb_der::{
     write_enc_ticket_part, write_encrypted_data, write_encryption_key, write_host_address,
     write_krb_error, write_krb_priv, write_principal_name, write_ticket, write_transited_encoding,
 };
-use krb_elements::Write;
+use krb_codec::Write;
 use std::alloc::{AllocError, Global};
 
 /// A record that was read and can be written.

@@ -1,6 +1,6 @@
 //! Each record: its text is read, and what was read is written.
 ghost use Rattle.std.specs.Prelude.{◌≡◌, true, IfOk};
-ghost use Rattle.krb_elements.specs.Texts.{fits};
+ghost use Rattle.krb_codec.specs.Texts.{fits};
 
 use hex::encode;
 use krb_der::{
@@ -13,7 +13,7 @@ use krb_der::{
     write_enc_ticket_part, write_encrypted_data, write_encryption_key, write_host_address,
     write_krb_error, write_krb_priv, write_principal_name, write_ticket, write_transited_encoding,
 };
-use krb_elements::Write;
+use krb_codec::Write;
 use std::alloc::{AllocError, Global};
 
 /// Why no text is written.

@@ -2,7 +2,7 @@
 -- the new password. In the earlier protocol the user-data is the new password itself
 -- (draft-ietf-cat-kerb-chg-password-02 section 3).
 use Rattle.std.specs.Prelude.{◌≡◌, ◌^◌, ◌-◌, ℕ, ◌+ℤ◌, pos, List, [], Some, None, option_map, if◌then◌else◌}
-use Rattle.krb_elements.specs.Texts.{text}
+use Rattle.krb_codec.specs.Texts.{text}
 use Rattle.krb_protocol.specs.Numbers as protocol
 use Rattle.krb_der.specs.Types as types
 use Rattle.krb_der.specs.Values.{ap_req_value, change_passwd_data_value, krb_priv_value, ticket_value}

@@ -2,7 +2,7 @@
 use Rattle.std.proofs.Common.{◌≡◌, ℕ, List, Bool, true, Option, Some, None, option_map, Result, Ok, Err, refl, sym, ◌∙◌, ap, subst, false}
 use Rattle.std.specs.Prelude.{◌==◌, option_and_then}
 use Rattle.krb_keys.specs.Keys.{IsProtocolKey}
-use Rattle.krb_elements.proofs.CompleteLemmas.{one_value}
+use Rattle.krb_codec.proofs.CompleteLemmas.{one_value}
 use Rattle.krb_der.specs.Types.{change_passwd_data}
 use Rattle.krb_der.specs.Values.{change_passwd_data_value}
 use Rattle.krb_der.specs.declared.change_passwd_data.ChangePasswdData.{ChangePasswdData}

@@ -6,12 +6,12 @@ use Rattle.std.specs.List.{list_any}
 use Rattle.std.proofs.lemmas.List.{drop-take, length-drop, length-take, length-take-le, take-append-drop, take-take}
 use Rattle.std.proofs.lemmas.Bool.{ltb-true}
 use Rattle.std.proofs.lemmas.Nat.{from_be_bytes-to_be_bytes_2}
-use Rattle.krb_elements.specs.Grammar.{Spells}
-use Rattle.krb_elements.proofs.CompleteLemmas.{no_prefix, same_or_not}
+use Rattle.krb_codec.specs.Grammar.{Spells}
+use Rattle.krb_codec.proofs.CompleteLemmas.{no_prefix, same_or_not}
 use Rattle.krb_der.specs.Types.{krb_priv}
 use Rattle.krb_der.specs.Values.{krb_priv_value}
 use Rattle.krb_der.specs.declared.krb_priv.KrbPriv.{KrbPriv}
-use Rattle.krb_elements.specs.declared.numbers.SeqNumber.{SeqNumber}
+use Rattle.krb_codec.specs.declared.numbers.SeqNumber.{SeqNumber}
 use Rattle.krb_keys.specs.declared.key.Key.{Key}
 use Rattle.krb_msgs.specs.Checks.{goes_on, of_none, of_one, stops}
 use Rattle.krb_msgs.specs.ApExchange.{OpensAp}

@@ -1,6 +1,6 @@
 -- What is made of a request opens to it.
 use Rattle.std.proofs.Common.{ℕ, List, Bool, true, false, Option, None, Ok, refl, sym, ◌∙◌, ap, subst}
-use Rattle.krb_elements.proofs.TextLemmas.{text_spells}
+use Rattle.krb_codec.proofs.TextLemmas.{text_spells}
 use Rattle.krb_der.specs.Types.{change_passwd_data}
 use Rattle.krb_msgs.specs.Accepted.{opened_of}
 use Rattle.krb_msgs.specs.PrivateMessages.{private_of}

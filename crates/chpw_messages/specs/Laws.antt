@@ -2,7 +2,7 @@
 use Rattle.std.specs.Prelude.{◌≡◌, ◌≤◌, ◌<◌, ◌^◌, ℕ, ◌+◌, ◌==◌, Bool, true, false, List, length, None, option_map}
 use Rattle.std.specs.List.{list_any}
 use Rattle.krb_keys.specs.declared.key.Key.{Key}
-use Rattle.krb_elements.specs.Texts.{text, fits}
+use Rattle.krb_codec.specs.Texts.{text, fits}
 use Rattle.krb_der.specs.Types.{ap_req, krb_priv, change_passwd_data}
 use Rattle.krb_der.specs.Values.{ap_req_value, krb_priv_value}
 use Rattle.krb_der.specs.declared.ap_req.ApReq.{ApReq}

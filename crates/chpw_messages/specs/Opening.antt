@@ -2,7 +2,7 @@
 -- frame, the AP-REQ, the KRB-PRIV and its user-data in turn. The version of the frame says how user-data
 -- is read, and nothing else.
 use Rattle.std.specs.Prelude.{◌≡◌, ℕ, ℤ, List, Bool, true, false, ◌==◌, Option, Some, None, Result, Ok, Err, option_map, unwrap_or}
-use Rattle.krb_elements.specs.BitStrings.{is_set}
+use Rattle.krb_codec.specs.BitStrings.{is_set}
 use Rattle.krb_protocol.specs.Numbers as protocol
 use Rattle.krb_protocol.specs.Refusals.{Refusal}
 use Rattle.krb_der.specs.declared.principal_name.PrincipalName.{PrincipalName}

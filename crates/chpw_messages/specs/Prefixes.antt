@@ -1,7 +1,7 @@
 -- A message that is cut short, its length set to what is left (RFC 3244 section 2), is no other request.
 use Rattle.std.specs.Prelude.{◌≡◌, ◌≤◌, ◌<◌, ◌+◌, ℕ, List, ◌++◌, length, take, drop, None, nat_lt, if◌then◌else◌}
 use Rattle.std.specs.Int.{to_be_bytes, w16}
-use Rattle.krb_elements.specs.Grammar.{Spells}
+use Rattle.krb_codec.specs.Grammar.{Spells}
 use Rattle.krb_der.specs.Types.{krb_priv}
 use Rattle.krb_der.specs.Values.{krb_priv_value}
 use Rattle.krb_der.specs.declared.krb_priv.KrbPriv.{KrbPriv}

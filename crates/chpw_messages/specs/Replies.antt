@@ -1,7 +1,7 @@
 -- The reply to a message (RFC 3244 section 2): an AP-REP and a KRB-PRIV, or a KRB-ERROR alone.
 use Rattle.std.specs.Prelude.{ℕ, pos, ◌%◌, ◌^◌, List, [], ◌++◌, take, drop, slice_index, unwrap_or}
 use Rattle.std.specs.Int.{to_be_bytes, w16}
-use Rattle.krb_elements.specs.Texts.{text}
+use Rattle.krb_codec.specs.Texts.{text}
 use Rattle.krb_der.specs.Types as types
 use Rattle.krb_der.specs.Values.{krb_error_value, ap_rep_value, krb_priv_value}
 use Rattle.krb_der.specs.declared.krb_error.KrbError.{KrbError}

@@ -2,10 +2,10 @@
 -- error code that it was made from.
 use Rattle.std.specs.Prelude.{◌≡◌, ◌≤◌, ◌<◌, ◌^◌, ℕ, ℤ, List, true, All, length, None, Ok}
 use Rattle.krb_keys.specs.declared.key.Key.{Key}
-use Rattle.krb_elements.specs.Shapes.{int32}
-use Rattle.krb_elements.specs.Texts.{is_in_range}
-use Rattle.krb_elements.specs.declared.kerberos_time.KerberosTime.{KerberosTime}
-use Rattle.krb_elements.specs.declared.numbers.Microseconds.{Microseconds}
+use Rattle.krb_codec.specs.Shapes.{int32}
+use Rattle.krb_codec.specs.Texts.{is_in_range}
+use Rattle.krb_codec.specs.declared.kerberos_time.KerberosTime.{KerberosTime}
+use Rattle.krb_codec.specs.declared.numbers.Microseconds.{Microseconds}
 use Rattle.krb_msgs.specs.Replies.{OpensReply}
 use Rattle.krb_msgs.specs.declared.reply.Reply.{Reply}
 use Rattle.chpw_frame.specs.Framing.{ap_of, first_fault, reply_versions, tail_of}

@@ -1,7 +1,7 @@
 -- A time as it is printed (RFC 3339 section 5.6): `YYYY-MM-DDTHH:MM:SS.FFFFFFZ`, in UTC, with six
 -- digits of the second's fraction.
 use Rattle.std.specs.Prelude.{◌≡◌, ℕ, ℤ, ◌/◌, ◌%◌, List, ◌++◌, codes, slice_range}
-use Rattle.krb_elements.specs.Times.{IsTime, pair, time_octets}
+use Rattle.krb_codec.specs.Times.{IsTime, pair, time_octets}
 
 -- the six decimal digits of a number below 1,000,000
 abbrev pub six_digits : ℕ → List ℕ

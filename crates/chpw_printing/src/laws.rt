@@ -1,5 +1,5 @@
 //! The printed text is that of the time that is meant.
-ghost use Rattle.krb_elements.specs.Times.{IsWritable};
+ghost use Rattle.krb_codec.specs.Times.{IsWritable};
 ghost use Rattle.chpw_printing.specs.Times.{Tells, time_text};
 
 /// The printed text of a time is a calendar day and a time of that day, and it is that time's.

@@ -1,10 +1,10 @@
 //! Times as they are printed.
 ghost use Rattle.std.specs.Prelude.{◌≡◌, ◌++◌, ◌<◌, true, OnOk};
-ghost use Rattle.krb_elements.specs.Times.{IsWritable, pair, time_octets};
+ghost use Rattle.krb_codec.specs.Times.{IsWritable, pair, time_octets};
 ghost use Rattle.chpw_printing.specs.Quoting.{is_field};
 ghost use Rattle.chpw_printing.specs.Times.{date_time, six_digits, time_text};
 
-use krb_elements::seconds_to_time;
+use krb_codec::seconds_to_time;
 use std::alloc::AllocError;
 
 /// Adds a time: `2026-11-25T06:31:50.123456Z`. It is given in seconds since 1970-01-01T00:00:00Z, of the years 0 to

@@ -1,15 +1,15 @@
 //! ChangePasswdData (RFC 3244 section 2).
 
 ghost use Rattle.std.specs.Prelude.{◌≡◌, refl, true, IfOk, Ok};
-ghost use Rattle.krb_elements.specs.Shapes.{Value};
+ghost use Rattle.krb_codec.specs.Shapes.{Value};
 ghost use Rattle.krb_der.specs.Types.{change_passwd_data};
 ghost use Rattle.krb_der.specs.Values.{change_passwd_data_value};
-ghost use Rattle.krb_elements.specs.Grammar.{Spells};
-ghost use Rattle.krb_elements.specs.Reading.{Gives, reads_all};
-ghost use Rattle.krb_elements.specs.Texts.{text, fits};
+ghost use Rattle.krb_codec.specs.Grammar.{Spells};
+ghost use Rattle.krb_codec.specs.Reading.{Gives, reads_all};
+ghost use Rattle.krb_codec.specs.Texts.{text, fits};
 
 use crate::principal_name::PrincipalName;
-use krb_elements::{
+use krb_codec::{
     Element, ExtensibleSequence, GeneralString, Layout, OctetString, Optional, Read, ReadError,
     Region, Required, Sink, Write, read_all, write_all,
 };

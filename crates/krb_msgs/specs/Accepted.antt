@@ -8,7 +8,7 @@ use Rattle.krb_der.specs.declared.encrypted_data.EncryptionKey.{EncryptionKey}
 use Rattle.krb_der.specs.declared.enc_ticket_part.EncTicketPart.{EncTicketPart}
 use Rattle.krb_der.specs.declared.authenticator.Authenticator.{Authenticator}
 use Rattle.krb_der.specs.declared.host_address.HostAddress.{HostAddress}
-use Rattle.krb_elements.specs.declared.kerberos_time.KerberosTime.{KerberosTime}
+use Rattle.krb_codec.specs.declared.kerberos_time.KerberosTime.{KerberosTime}
 use Rattle.krb_msgs.specs.Checks.{Held, Found, Passed}
 use Rattle.krb_msgs.specs.Tickets.{IsKeyIn}
 use Rattle.krb_msgs.specs.declared.ap_exchange.ApOpened.{ApOpened}

@@ -5,9 +5,9 @@ use Rattle.std.specs.Int.{to_be_bytes, w16}
 use Rattle.krb_aes.specs.Bytes.{AreBytes}
 use Rattle.krb_keys.specs.declared.key.Key.{Key}
 use Rattle.krb_keys.specs.KeyUsages.{usage_ticket, usage_ap_req_authenticator, usage_ap_rep_enc_part, usage_krb_priv}
-use Rattle.krb_elements.specs.Shapes.{Shape, Value}
-use Rattle.krb_elements.specs.Grammar.{Spells}
-use Rattle.krb_elements.specs.Texts.{text, fits}
+use Rattle.krb_codec.specs.Shapes.{Shape, Value}
+use Rattle.krb_codec.specs.Grammar.{Spells}
+use Rattle.krb_codec.specs.Texts.{text, fits}
 use Rattle.krb_protocol.specs.Numbers as protocol
 use Rattle.krb_der.specs.Types.{ap_req, ap_rep, enc_ticket_part, authenticator, enc_ap_rep_part, krb_priv, enc_krb_priv_part, krb_error}
 use Rattle.krb_der.specs.Values.{ap_req_value, ap_rep_value, enc_ticket_part_value, authenticator_value, enc_ap_rep_part_value, krb_priv_value, enc_krb_priv_part_value, krb_error_value}
@@ -20,9 +20,9 @@ use Rattle.krb_der.specs.declared.krb_priv.EncKrbPrivPart.{EncKrbPrivPart}
 use Rattle.krb_der.specs.declared.ap_rep.ApRep.{ApRep}
 use Rattle.krb_der.specs.declared.ap_rep.EncApRepPart.{EncApRepPart}
 use Rattle.krb_der.specs.declared.krb_error.KrbError.{KrbError}
-use Rattle.krb_elements.specs.declared.kerberos_time.KerberosTime.{KerberosTime}
-use Rattle.krb_elements.specs.declared.numbers.Microseconds.{Microseconds}
-use Rattle.krb_elements.specs.declared.numbers.SeqNumber.{SeqNumber}
+use Rattle.krb_codec.specs.declared.kerberos_time.KerberosTime.{KerberosTime}
+use Rattle.krb_codec.specs.declared.numbers.Microseconds.{Microseconds}
+use Rattle.krb_codec.specs.declared.numbers.SeqNumber.{SeqNumber}
 use Rattle.krb_msgs.specs.Parts.{sealed_part}
 use Rattle.krb_msgs.specs.Presented.{HasVersion, IsForUs, IsServiceKey, UsesSessionKey}
 use Rattle.krb_msgs.specs.Tickets.{IsKeyIn}

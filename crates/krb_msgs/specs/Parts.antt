@@ -1,7 +1,7 @@
 -- Messages and their sealed parts (RFC 4120 section 5.2.9).
 use Rattle.std.specs.Prelude.{◌≡◌, ℕ, List, Option, Result}
-use Rattle.krb_elements.specs.Shapes.{Shape, Value}
-use Rattle.krb_elements.specs.Grammar.{Spells}
+use Rattle.krb_codec.specs.Shapes.{Shape, Value}
+use Rattle.krb_codec.specs.Grammar.{Spells}
 use Rattle.krb_keys.specs.Keys.{etype_of, number_of}
 use Rattle.krb_keys.specs.Sealing.{IsSealed, sealed}
 use Rattle.krb_keys.specs.declared.key.Key.{Key}

@@ -7,7 +7,7 @@ use Rattle.krb_der.specs.Values.{ap_req_value}
 use Rattle.krb_der.specs.declared.ap_req.ApReq.{ApReq}
 use Rattle.krb_der.specs.declared.ticket.Ticket.{Ticket}
 use Rattle.krb_der.specs.declared.encrypted_data.EncryptedData.{EncryptedData}
-use Rattle.krb_elements.specs.BitStrings.{is_set}
+use Rattle.krb_codec.specs.BitStrings.{is_set}
 use Rattle.krb_msgs.specs.Checks.{Held, Found, Then, Passed}
 use Rattle.krb_msgs.specs.Parts.{Reads}
 use Rattle.krb_msgs.specs.ServiceKeys.{service_key}

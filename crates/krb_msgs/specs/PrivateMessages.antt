@@ -7,8 +7,8 @@ use Rattle.krb_der.specs.Types.{krb_priv, enc_krb_priv_part}
 use Rattle.krb_der.specs.Values.{krb_priv_value, enc_krb_priv_part_value}
 use Rattle.krb_der.specs.declared.krb_priv.KrbPriv.{KrbPriv}
 use Rattle.krb_der.specs.declared.krb_priv.EncKrbPrivPart.{EncKrbPrivPart}
-use Rattle.krb_elements.specs.declared.numbers.SeqNumber.{SeqNumber}
-use Rattle.krb_elements.specs.declared.kerberos_time.KerberosTime.{KerberosTime}
+use Rattle.krb_codec.specs.declared.numbers.SeqNumber.{SeqNumber}
+use Rattle.krb_codec.specs.declared.kerberos_time.KerberosTime.{KerberosTime}
 use Rattle.krb_msgs.specs.Checks.{Held, Then, Passed}
 use Rattle.krb_msgs.specs.Parts.{Reads, OpensPart}
 use Rattle.krb_msgs.specs.declared.private_message.Private.{Private}

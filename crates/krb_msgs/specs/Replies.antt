@@ -11,8 +11,8 @@ use Rattle.krb_der.specs.declared.ap_rep.EncApRepPart.{EncApRepPart}
 use Rattle.krb_der.specs.declared.krb_priv.KrbPriv.{KrbPriv}
 use Rattle.krb_der.specs.declared.krb_priv.EncKrbPrivPart.{EncKrbPrivPart}
 use Rattle.krb_der.specs.declared.krb_error.KrbError.{KrbError}
-use Rattle.krb_elements.specs.declared.kerberos_time.KerberosTime.{KerberosTime}
-use Rattle.krb_elements.specs.declared.numbers.Microseconds.{Microseconds}
+use Rattle.krb_codec.specs.declared.kerberos_time.KerberosTime.{KerberosTime}
+use Rattle.krb_codec.specs.declared.numbers.Microseconds.{Microseconds}
 use Rattle.krb_msgs.specs.Checks.{Held, Found, Then, Passed}
 use Rattle.krb_msgs.specs.Parts.{Reads, OpensPart}
 use Rattle.krb_msgs.specs.PrivateMessages.{IsPrivate}

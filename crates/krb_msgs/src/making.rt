@@ -2,7 +2,7 @@
 //! number as message type.
 
 ghost use Rattle.std.specs.Prelude.{◌≡◌, true, IfOk};
-ghost use Rattle.krb_elements.specs.Texts.{fits, text};
+ghost use Rattle.krb_codec.specs.Texts.{fits, text};
 ghost use Rattle.krb_der.specs.Types as types;
 ghost use Rattle.krb_der.specs.Types.{enc_ap_rep_part, enc_krb_priv_part, enc_ticket_part, krb_error};
 ghost use Rattle.krb_der.specs.Values.{ap_rep_value, ap_req_value, authenticator_value, enc_ap_rep_part_value, enc_krb_priv_part_value, enc_ticket_part_value, krb_error_value, krb_priv_value, ticket_value};

@@ -1,7 +1,7 @@
 //! Records of the world, by their values: each is written, read back, and written to the same text.
 
 use super::world;
-use krb_elements::{Read, Write, read_all, text_len, write_all};
+use krb_codec::{Read, Write, read_all, text_len, write_all};
 use std::alloc::Global;
 use std::process::Abort;
 use std::test::Fail;

@@ -1,6 +1,6 @@
 use Rattle.std.proofs.Common.{rules, ◌≡◌, ◌≤◌, true, length, List, ℕ, refl, sym, subst, ◌∙◌, arith}
-use Rattle.krb_elements.specs.Texts.{fits, text}
-use Rattle.krb_elements.proofs.TextLemmas.{text_spells}
+use Rattle.krb_codec.specs.Texts.{fits, text}
+use Rattle.krb_codec.proofs.TextLemmas.{text_spells}
 use Rattle.krb_der.specs.Types as types
 use Rattle.krb_der.specs.Values.{authenticator_value, enc_ticket_part_value, ticket_value}
 use Rattle.krb_der.specs.declared.ticket.Ticket.{Ticket}
