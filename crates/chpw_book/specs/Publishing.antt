@@ -14,9 +14,9 @@ use Rattle.chpw_table.specs.Decision.{newest_kvno}
 use Rattle.chpw_table.specs.History.{is_accepted}
 use Rattle.chpw_table.specs.declared.change.Accepted.{Accepted}
 use Rattle.chpw_table.specs.Versions.{change_by, accepted}
-use Rattle.chpw_fronts.specs.declared.change.NumberedChange.{NumberedChange}
-use Rattle.chpw_fronts.specs.declared.change.NumberedChange.TheVariants.{Key, Count}
-use Rattle.chpw_fronts.specs.Changes.{EndsWith}
+use Rattle.chpw_changelog.specs.declared.change.NumberedChange.{NumberedChange}
+use Rattle.chpw_changelog.specs.declared.change.NumberedChange.TheVariants.{Key, Count}
+use Rattle.chpw_changelog.specs.Changes.{EndsWith}
 use Rattle.chpw_versions.specs.declared.rows.Row.{Row}
 use Rattle.chpw_versions.specs.Known.{Known, Shelved}
 use Rattle.chpw_versions.specs.Rows.{Rowed}

@@ -2,7 +2,7 @@
 ghost use Rattle.std.specs.Prelude.{◌≡◌, ◌+◌, ◌-◌, ◌^◌, ◌<◌, ◌≤◌, [], All, IfOk, IfErr, IfSome, IfNone, OnErr, IsSome, length, map, true, false};
 ghost use Rattle.std.specs.List.{range_with_len};
 ghost use mathlib.Core.List.{IsPrefix};
-ghost use Rattle.chpw_fronts.specs.Pens.{opening_state};
+ghost use Rattle.chpw_changelog.specs.Pens.{opening_state};
 ghost use Rattle.chpw_table.specs.declared.outcome.DecideFault.TheVariants.{Full};
 ghost use Rattle.chpw_rules.specs.Limits.{is_in, iteration_counts};
 ghost use Rattle.chpw_table.specs.declared.history.Event.TheVariants.{Ask, Raise};
@@ -49,7 +49,7 @@ pub struct Book<D: DeskName, S: JournalSink> {
 }
 
 impl<D: DeskName, S: JournalSink> Model for Book<D, S> {
-    ghost use Rattle.chpw_fronts.specs.Pens.{opening_state};
+    ghost use Rattle.chpw_changelog.specs.Pens.{opening_state};
     ghost use Rattle.chpw_book.specs.Publishing.{BookView, IsPublished};
 
     ghost Value = { BookView };

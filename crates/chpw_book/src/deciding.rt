@@ -2,7 +2,7 @@
 ghost use Rattle.std.specs.Prelude.{◌≡◌, ◌<◌, IfOk, IfErr, OnOk, OnErr, true, length, vec_len, vec_capacity};
 ghost use mathlib.Core.List.{IsPrefix};
 ghost use Rattle.chpw_table.specs.declared.outcome.DecideFault.TheVariants.{Memory};
-ghost use Rattle.chpw_fronts.specs.Pens.{opening_state};
+ghost use Rattle.chpw_changelog.specs.Pens.{opening_state};
 ghost use Rattle.chpw_table.specs.declared.history.Event.TheVariants.{Ask};
 ghost use Rattle.chpw_table.specs.declared.verdict.Verdict.TheVariants.{Done};
 ghost use Rattle.chpw_table.specs.State.{keys_held};

@@ -1,7 +1,7 @@
 //! A raise of the iteration count of new keys, before the service listens.
 ghost use Rattle.std.specs.Prelude.{◌≡◌, ◌≤◌, ℕ, IfErr, OnOk, Some, true, length};
 ghost use Rattle.chpw_rules.specs.Limits.{is_in, iteration_counts};
-ghost use Rattle.chpw_fronts.specs.Pens.{opening_state};
+ghost use Rattle.chpw_changelog.specs.Pens.{opening_state};
 ghost use Rattle.chpw_service.specs.Faults.{IsLate};
 ghost use Rattle.chpw_service.specs.Raised.{told_as, IsRaise, IsRaiseOfFirst, IsRaisedWhereAsked};
 ghost use Rattle.chpw_service.specs.declared.fault.ServeFault.TheVariants.{CannotPrint};

@@ -13,12 +13,12 @@ use Rattle.chpw_table.specs.declared.change.KeyChange.{KeyChange}
 use Rattle.chpw_table.specs.State.{State, kept_count}
 use Rattle.chpw_table.specs.declared.change.Accepted.{Accepted}
 use Rattle.chpw_table.specs.Versions.{Shown, shown, shown_count, with_change}
-use Rattle.chpw_fronts.specs.declared.entry.LogEntry.{LogEntry}
-use Rattle.chpw_fronts.specs.declared.change.NumberedChange.{NumberedChange}
-use Rattle.chpw_fronts.specs.declared.change.NumberedChange.TheVariants.{Key, Count}
-use Rattle.chpw_fronts.specs.Changes.{named, named_key}
-use Rattle.chpw_fronts.specs.Pens.{changes_in, opening_state, opening_table}
-use Rattle.chpw_fronts.proofs.ListLemmas.{prefix_self, prefix_trans, prefix_same}
+use Rattle.chpw_changelog.specs.declared.entry.LogEntry.{LogEntry}
+use Rattle.chpw_changelog.specs.declared.change.NumberedChange.{NumberedChange}
+use Rattle.chpw_changelog.specs.declared.change.NumberedChange.TheVariants.{Key, Count}
+use Rattle.chpw_changelog.specs.Changes.{named, named_key}
+use Rattle.chpw_changelog.specs.Pens.{changes_in, opening_state, opening_table}
+use Rattle.chpw_changelog.proofs.ListLemmas.{prefix_self, prefix_trans, prefix_same}
 use Rattle.chpw_versions.specs.declared.version.Version.{Version}
 use Rattle.chpw_versions.specs.declared.version.Operation.{Operation}
 use Rattle.chpw_versions.specs.declared.view.View.{View}

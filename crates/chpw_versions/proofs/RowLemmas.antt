@@ -16,9 +16,9 @@ use Rattle.chpw_table.specs.declared.change.KeyChange.{KeyChange}
 use Rattle.chpw_table.specs.declared.change.Accepted.{Accepted}
 use Rattle.chpw_table.specs.Versions.{Shown, shown, shown_after, shown_count, count_after, with_change}
 use Rattle.chpw_table.proofs.NameLemmas.{is_same_name-Decides}
-use Rattle.chpw_fronts.specs.declared.change.NumberedKey.{NumberedKey}
-use Rattle.chpw_fronts.specs.declared.change.NumberedChange.TheVariants.{Key}
-use Rattle.chpw_fronts.specs.Changes.{name_at, named_key}
+use Rattle.chpw_changelog.specs.declared.change.NumberedKey.{NumberedKey}
+use Rattle.chpw_changelog.specs.declared.change.NumberedChange.TheVariants.{Key}
+use Rattle.chpw_changelog.specs.Changes.{name_at, named_key}
 use Rattle.chpw_versions.specs.declared.rows.Row.{Row}
 use Rattle.chpw_versions.specs.Rows.{names_of_rows, names_of, changed_row, changed_at, row_shown, shown_in, HasPositive}
 use Rattle.chpw_versions.specs.Following.{IsNumberOf, HasNumber}

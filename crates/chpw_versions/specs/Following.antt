@@ -10,11 +10,11 @@ use Rattle.chpw_rules.specs.Names.{is_same_name}
 use Rattle.chpw_table.specs.State.{State, kept_count}
 use Rattle.chpw_table.specs.declared.change.Accepted.{Accepted}
 use Rattle.chpw_table.specs.Versions.{shown, shown_count}
-use Rattle.chpw_fronts.specs.declared.change.NumberedChange.{NumberedChange}
-use Rattle.chpw_fronts.specs.declared.change.NumberedChange.TheVariants.{Key, Count}
-use Rattle.chpw_fronts.specs.declared.entry.LogEntry.{LogEntry}
-use Rattle.chpw_fronts.specs.Changes.{named, named_key}
-use Rattle.chpw_fronts.specs.Pens.{changes_in, opening_state, opening_table}
+use Rattle.chpw_changelog.specs.declared.change.NumberedChange.{NumberedChange}
+use Rattle.chpw_changelog.specs.declared.change.NumberedChange.TheVariants.{Key, Count}
+use Rattle.chpw_changelog.specs.declared.entry.LogEntry.{LogEntry}
+use Rattle.chpw_changelog.specs.Changes.{named, named_key}
+use Rattle.chpw_changelog.specs.Pens.{changes_in, opening_state, opening_table}
 use Rattle.chpw_versions.specs.declared.version.Version.{Version}
 use Rattle.chpw_versions.specs.declared.version.ListShown.{ListShown}
 use Rattle.chpw_versions.specs.declared.version.Operation.{Operation}

@@ -8,9 +8,9 @@ use Rattle.chpw_table.specs.State.{State, keys_held, new_count, kept_count}
 use Rattle.chpw_table.specs.Agreement.{Held}
 use Rattle.chpw_table.specs.declared.change.Accepted.{Accepted}
 use Rattle.chpw_table.specs.Versions.{Shown, shown, shown_count, shown_keys}
-use Rattle.chpw_fronts.specs.declared.change.NumberedKey.{NumberedKey}
-use Rattle.chpw_fronts.specs.declared.change.NumberedChange.{NumberedChange}
-use Rattle.chpw_fronts.specs.declared.change.NumberedChange.TheVariants.{Key, Count}
+use Rattle.chpw_changelog.specs.declared.change.NumberedKey.{NumberedKey}
+use Rattle.chpw_changelog.specs.declared.change.NumberedChange.{NumberedChange}
+use Rattle.chpw_changelog.specs.declared.change.NumberedChange.TheVariants.{Key, Count}
 use Rattle.chpw_versions.specs.declared.rows.Row.{Row}
 
 -- the rows, how many counts of a principal are kept, the count of new keys, and the changes accepted so far

@@ -2,10 +2,10 @@
 ghost use Rattle.std.specs.Prelude.{◌≡◌, ◌≤◌, ◌∷◌, All, IfSome, take, find, position, option_map, option_copied, slice_get};
 ghost use Rattle.std.specs.List.Sorted.{IsStrictlySortedBy};
 ghost use Rattle.chpw_rules.specs.Names.{is_same_name, name_cmp};
-ghost use Rattle.chpw_fronts.specs.declared.change.NumberedChange.TheVariants.{Key, Count};
+ghost use Rattle.chpw_changelog.specs.declared.change.NumberedChange.TheVariants.{Key, Count};
 ghost use Rattle.chpw_versions.specs.Rows.{changed_at, changed_row, rows_after, row_shown, shown_in, lookup_with, names_of_rows, IsPositive};
 
-use chpw_fronts::{NumberedChange, NumberedKey};
+use chpw_changelog::{NumberedChange, NumberedKey};
 use chpw_rules::Name;
 use chpw_table::{Counts, Lookup, newest};
 use chpw_ordered_keys::{Keyed, place_of};

@@ -3,8 +3,8 @@ ghost use Rattle.std.specs.Prelude.{◌≡◌, ◌+◌, ◌<◌, ◌^◌, ◌++�
 ghost use mathlib.Core.List.{IsPrefix};
 ghost use Rattle.chpw_table.specs.declared.change.Accepted.TheVariants.{Key, Count};
 ghost use Rattle.chpw_table.specs.Versions.{Shown, shown};
-ghost use Rattle.chpw_fronts.specs.Changes.{named};
-ghost use Rattle.chpw_fronts.specs.Pens.{opening_state, opening_table};
+ghost use Rattle.chpw_changelog.specs.Changes.{named};
+ghost use Rattle.chpw_changelog.specs.Pens.{opening_state, opening_table};
 ghost use Rattle.chpw_versions.specs.Rows.{ShowsOpening, names_of};
 ghost use Rattle.chpw_versions.specs.Rising.{IsNextVersion};
 ghost use Rattle.chpw_versions.specs.Following.{CanBeShown, IsNumberOf};
@@ -13,7 +13,7 @@ use crate::place::Place;
 use crate::rows::Rows;
 use crate::version::{Operation, Version};
 use crate::view::{HandsOn, Learns, Publishes, Settles, VersionWriter};
-use chpw_fronts::{Front, ChangeLog, ListName, Mark, NumberedChange, NumberedKey};
+use chpw_changelog::{Front, ChangeLog, ListName, Mark, NumberedChange, NumberedKey};
 use chpw_rules::Name;
 use left_right::writer::Writer;
 use std::alloc::{AllocError, Global};
@@ -31,8 +31,8 @@ pub struct Shelf<D: ListName> {
 impl<D: ListName> Model for Shelf<D> {
     ghost use Rattle.std.specs.Prelude.{IsSomeAnd, drop, option_map};
     ghost use Rattle.left_right.specs.Sides.{view as view_of};
-    ghost use Rattle.chpw_fronts.specs.Changes.{named};
-    ghost use Rattle.chpw_fronts.specs.Pens.{opening_state};
+    ghost use Rattle.chpw_changelog.specs.Changes.{named};
+    ghost use Rattle.chpw_changelog.specs.Pens.{opening_state};
     ghost use Rattle.chpw_versions.specs.Known.{Shelved};
     ghost use Rattle.chpw_versions.specs.Following.{IsShelved, IsWaiting};
 

@@ -1,10 +1,10 @@
 //! The published value.
 ghost use Rattle.std.specs.Prelude.{◌≡◌, IsTrue};
-ghost use Rattle.chpw_fronts.specs.declared.change.NumberedChange.TheVariants.{Count};
+ghost use Rattle.chpw_changelog.specs.declared.change.NumberedChange.TheVariants.{Count};
 ghost use Rattle.chpw_versions.specs.Following.{list_of, list_shown, IsKnown};
 
 use crate::rows::Rows;
-use chpw_fronts::{Front, ListName, Mark, NumberedChange};
+use chpw_changelog::{Front, ListName, Mark, NumberedChange};
 use left_right::Absorb;
 use std::alloc::AllocError;
 

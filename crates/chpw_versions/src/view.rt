@@ -2,7 +2,7 @@
 
 use crate::version::{Operation, Version};
 use atomic_table::{Join, Split};
-use chpw_fronts::LogEntry;
+use chpw_changelog::LogEntry;
 use chpw_table::Accepted;
 use crossbeam_utils::rule::{Outcome, Protocol};
 use left_right::reader::Reader;

@@ -55,7 +55,7 @@ fn count_raised_to(decision: u32) -> u32
 impl<D: DeskName, R: Wait + Abort> Decider for Overtaken<'_, D, R> {
     ghost use Rattle.std.specs.Prelude.{◌≡◌, refl, true};
     ghost use Rattle.std.proofs.Common.{◌∙◌};
-    ghost use Rattle.chpw_fronts.specs.Pens.{opening_state};
+    ghost use Rattle.chpw_changelog.specs.Pens.{opening_state};
     ghost use Rattle.chpw_book.specs.Publishing.{IsKvnoTold};
 
     ghost gathered = { λ a. a.place.pass.now.receipts };

@@ -1,6 +1,6 @@
 use Rattle.std.proofs.Common.{rules}
 use mathlib.Core.List.{IsPrefix}
-use Rattle.chpw_fronts.specs.Pens.{opening_state}
+use Rattle.chpw_changelog.specs.Pens.{opening_state}
 use Rattle.chpw_book.specs.Recorded.{RecordedView}
 use Rattle.chpw_table.proofs.AgreementLemmas.{agrees_itself}
 use Rattle.chpw_book.proofs.CallLemmas.{asks_of_first}

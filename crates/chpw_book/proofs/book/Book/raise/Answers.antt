@@ -1,6 +1,6 @@
 use Rattle.std.proofs.Common.{rules}
 use mathlib.Core.List.{IsPrefix}
-use Rattle.chpw_fronts.specs.Pens.{opening_state}
+use Rattle.chpw_changelog.specs.Pens.{opening_state}
 use Rattle.chpw_book.proofs.PublishLemmas.{published_next, list_room, adds_next}
 use Rattle.chpw_book.proofs.book.Book.raise.Goals as goal
 

@@ -1,6 +1,6 @@
 use Rattle.std.proofs.Common.{◌≡◌, List, sym, ◌∙◌, ap, subst}
-use Rattle.chpw_fronts.specs.declared.entry.LogEntry.{LogEntry}
-use Rattle.chpw_fronts.specs.Pens.{opening_table}
+use Rattle.chpw_changelog.specs.declared.entry.LogEntry.{LogEntry}
+use Rattle.chpw_changelog.specs.Pens.{opening_table}
 use Rattle.chpw_table.specs.Agreement.{Held}
 use Rattle.chpw_versions.specs.Rows.{Rowed, IsPositive, ShowsOpening}
 use Rattle.chpw_book.specs.Publishing.{table_rows}

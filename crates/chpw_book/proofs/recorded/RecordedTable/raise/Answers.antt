@@ -8,7 +8,7 @@ use Rattle.chpw_table.specs.History.{outcome}
 use Rattle.chpw_table.specs.Raising.{would_raise}
 use Rattle.chpw_table.specs.Agreement.{Held, Agrees}
 use Rattle.chpw_table.proofs.AgreementLemmas.{agrees_itself}
-use Rattle.chpw_fronts.specs.Pens.{opening_state}
+use Rattle.chpw_changelog.specs.Pens.{opening_state}
 use Rattle.chpw_book.specs.Passes.{PassView}
 use Rattle.chpw_book.specs.Receipts.{next_entry, receipt_of}
 use Rattle.chpw_book.specs.Recorded.{RecordedView, IsLinearized}

@@ -5,11 +5,11 @@ use Rattle.left_right.specs.Sides.{view}
 use Rattle.chpw_table.specs.declared.change.Accepted.{Accepted}
 use Rattle.chpw_versions.specs.Known.{Known}
 use Rattle.chpw_versions.specs.declared.version.Version.{Version}
-use Rattle.chpw_fronts.specs.Pens.{opening_state, opening_table}
+use Rattle.chpw_changelog.specs.Pens.{opening_state, opening_table}
 use Rattle.chpw_versions.specs.Rows.{IsPositive, lookup_with, shown_in, lookup_after}
 use Rattle.chpw_versions.specs.Rising.{AreNextVersions}
 use Rattle.chpw_versions.specs.Following.{IsOf, ShowsList, log_of, list_of, list_shown, front_by}
-use Rattle.chpw_fronts.proofs.ListLemmas.{prefix_trans}
+use Rattle.chpw_changelog.proofs.ListLemmas.{prefix_trans}
 use Rattle.chpw_versions.proofs.MoveLemmas.{looks, of_some, renamed, shown_list, shown_by, begins_shown}
 use Rattle.chpw_versions.proofs.RiseLemmas.{lookup_rises}
 use Rattle.chpw_versions.proofs.place.Place.lookup.Goals as goal

@@ -5,7 +5,7 @@ use Rattle.chpw_table.specs.declared.change.Accepted.{Accepted}
 use Rattle.chpw_versions.specs.Known.{Known}
 use Rattle.chpw_versions.specs.declared.version.Version.{Version}
 use Rattle.chpw_versions.specs.Following.{IsOf, ShowsList, log_of, list_of, list_shown, front_by}
-use Rattle.chpw_fronts.proofs.ListLemmas.{prefix_trans}
+use Rattle.chpw_changelog.proofs.ListLemmas.{prefix_trans}
 use Rattle.chpw_versions.proofs.MoveLemmas.{looks, of_some, renamed, shown_list}
 use Rattle.chpw_versions.proofs.place.Place.shown_now.Goals as goal
 

@@ -4,7 +4,7 @@ use Rattle.left_right.specs.Sides.{view}
 use Rattle.chpw_rules.specs.Names.{is_same_name}
 use Rattle.chpw_table.specs.declared.change.Accepted.{Accepted}
 use Rattle.chpw_table.specs.Versions.{shown}
-use Rattle.chpw_fronts.specs.Pens.{opening_state}
+use Rattle.chpw_changelog.specs.Pens.{opening_state}
 use Rattle.chpw_versions.specs.declared.rows.Row.{Row}
 use Rattle.chpw_versions.specs.declared.version.Version.{Version}
 use Rattle.chpw_versions.specs.Known.{Shelved}

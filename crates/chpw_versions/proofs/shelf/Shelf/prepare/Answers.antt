@@ -2,8 +2,8 @@ use Rattle.std.proofs.Common.{◌≡◌, sym, subst, Some}
 use Rattle.std.specs.Prelude.{OnOk}
 use Rattle.chpw_table.specs.declared.change.KeyChange.{KeyChange}
 use Rattle.chpw_table.specs.declared.change.Accepted.TheVariants.{Key}
-use Rattle.chpw_fronts.specs.declared.change.NumberedKey.{NumberedKey}
-use Rattle.chpw_fronts.specs.Pens.{opening_state}
+use Rattle.chpw_changelog.specs.declared.change.NumberedKey.{NumberedKey}
+use Rattle.chpw_changelog.specs.Pens.{opening_state}
 use Rattle.chpw_versions.specs.Known.{Shelved}
 use Rattle.chpw_versions.specs.Rising.{IsNextVersion}
 use Rattle.chpw_versions.proofs.RowLemmas.{named_change}

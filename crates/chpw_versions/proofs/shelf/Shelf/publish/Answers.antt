@@ -2,9 +2,9 @@ use Rattle.std.proofs.Common.{◌≡◌, ◌∙◌, ◌+◌, ◌<◌, ◌++◌, 
 use Rattle.left_right.specs.Sides.{view}
 use Rattle.crossbeam_utils.specs.Register.{TurnsAt}
 use Rattle.chpw_table.specs.declared.change.Accepted.{Accepted}
-use Rattle.chpw_fronts.specs.declared.change.NumberedChange.{NumberedChange}
-use Rattle.chpw_fronts.specs.Changes.{named}
-use Rattle.chpw_fronts.specs.Pens.{opening_state}
+use Rattle.chpw_changelog.specs.declared.change.NumberedChange.{NumberedChange}
+use Rattle.chpw_changelog.specs.Changes.{named}
+use Rattle.chpw_changelog.specs.Pens.{opening_state}
 use Rattle.chpw_versions.specs.declared.version.Version.{Version}
 use Rattle.chpw_versions.specs.Known.{Shelved}
 use Rattle.chpw_versions.specs.Following.{IsShelved, IsWaiting, IsRuled, Published}
