@@ -21,7 +21,7 @@ use Rattle.chpw_table.specs.Versions.{Shown, change_by, accepted}
 use Rattle.chpw_table.specs.Agreement.{Agrees}
 use Rattle.chpw_table.specs.Preparing.{IsNextRow}
 use Rattle.chpw_table.proofs.DoneLemmas.{done_key_row, done_whole}
-use Rattle.chpw_versions.specs.Known.{Known, Shelved}
+use Rattle.chpw_snapshots.specs.Known.{Known, Shelved}
 use Rattle.chpw_book.proofs.ChangeLemmas.{accepted_on, changes_counted}
 use Rattle.chpw_book.proofs.KeptLemmas.{kept_list}
 use Rattle.chpw_book.specs.Passes.{PassView}

@@ -29,7 +29,7 @@ use Rattle.chpw_table.specs.Versions.{Shown, change_by, entry_change, accepted, 
 use Rattle.chpw_table.proofs.KeyLemmas.{done_raises_target}
 use Rattle.chpw_table.proofs.VersionLemmas.{shows_held, shows_count}
 use Rattle.chpw_decider.proofs.KeepingLemmas.{legal_on, outcome_on}
-use Rattle.chpw_versions.specs.Rising.{IsNextVersion, AreNextVersions}
+use Rattle.chpw_snapshots.specs.Rising.{IsNextVersion, AreNextVersions}
 use Rattle.chpw_book.specs.RisingLaws.{VersionsRise}
 use Rattle.chpw_book.proofs.ChangeLemmas.{accepted_on}
 

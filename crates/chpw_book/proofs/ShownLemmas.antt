@@ -7,7 +7,7 @@ use Rattle.chpw_table.specs.State.{State, keys_held, new_count}
 use Rattle.chpw_table.specs.Decision.{newest_kvno}
 use Rattle.chpw_table.specs.Versions.{Shown, accepted, shown_count, shown_keys}
 use Rattle.chpw_table.proofs.VersionLemmas.{shows_held, shows_count}
-use Rattle.chpw_versions.specs.Rows.{lookup_with}
+use Rattle.chpw_snapshots.specs.Rows.{lookup_with}
 use Rattle.chpw_book.specs.ShownLaws.{LookupsShowHistories}
 
 keys_shown : (policy seen : ℕ) (held : Option (List KeyRow))

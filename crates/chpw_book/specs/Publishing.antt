@@ -17,10 +17,10 @@ use Rattle.chpw_table.specs.Versions.{change_by, accepted}
 use Rattle.chpw_changelog.specs.declared.change.NumberedChange.{NumberedChange}
 use Rattle.chpw_changelog.specs.declared.change.NumberedChange.TheVariants.{Key, Count}
 use Rattle.chpw_changelog.specs.Changes.{EndsWith}
-use Rattle.chpw_versions.specs.declared.rows.Row.{Row}
-use Rattle.chpw_versions.specs.Known.{Known, Shelved}
-use Rattle.chpw_versions.specs.Rows.{Rowed}
-use Rattle.chpw_versions.specs.Looking.{LooksUp}
+use Rattle.chpw_snapshots.specs.declared.rows.Row.{Row}
+use Rattle.chpw_snapshots.specs.Known.{Known, Shelved}
+use Rattle.chpw_snapshots.specs.Rows.{Rowed}
+use Rattle.chpw_snapshots.specs.Looking.{LooksUp}
 use Rattle.chpw_book.specs.Passes.{PassView}
 use Rattle.chpw_book.specs.Recorded.{RecordedView, IsLinearized, Enters, Grows, new_recorded}
 

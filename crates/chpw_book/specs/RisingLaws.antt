@@ -6,7 +6,7 @@ use Rattle.chpw_table.specs.declared.change.Accepted.{Accepted}
 use Rattle.chpw_table.specs.State.{State}
 use Rattle.chpw_table.specs.History.{IsLegal}
 use Rattle.chpw_table.specs.Versions.{Shown, accepted, shown, shown_count}
-use Rattle.chpw_versions.specs.Rising.{AreNextVersions}
+use Rattle.chpw_snapshots.specs.Rising.{AreNextVersions}
 
 -- each accepted change of a key raises its name's version by one, and each of the count raises the count
 abbrev pub VersionsRise : Type 0

@@ -33,7 +33,7 @@ use chpw_decider::JournaledTable;
 use chpw_table::{
     Counts, DecideFault, Entry, JournalSink, Moment, Opened, RaiseVerdict, Refused, Verdict,
 };
-use chpw_versions::Shelf;
+use chpw_snapshots::Shelf;
 use std::alloc::Global;
 use std::marker::Model;
 use std::sync::Wait;

@@ -28,7 +28,7 @@ use chpw_table::{
     Body, DecideFault, Entry, Event, JournalSink, KeyRow, Moment, Opened, Outcome, Prepared,
     Receipt, Refused, Table, Verdict,
 };
-use chpw_versions::Shelf;
+use chpw_snapshots::Shelf;
 use std::alloc::AllocError;
 
 impl<D: DeskName, S: JournalSink> RecordedTable<D, S> {

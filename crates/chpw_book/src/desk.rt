@@ -13,7 +13,7 @@ ghost use Rattle.chpw_decider.specs.Deciding.{IsCompletedFrom, IsFinal};
 ghost use Rattle.chpw_book.specs.Passes.{refused_with, raise_refused_with, new_pass};
 ghost use Rattle.chpw_book.specs.Calls.{Notes, AsksAfter, LacksAfter};
 ghost use Rattle.chpw_book.specs.Starting.{IsNamed, table_of, workers_of};
-ghost use Rattle.chpw_versions.specs.Looking.{LooksUp};
+ghost use Rattle.chpw_snapshots.specs.Looking.{LooksUp};
 
 use crate::book::Book;
 use crate::naming::DeskName;
@@ -25,7 +25,7 @@ use chpw_rules::Name;
 use chpw_table::{
     Counts, DecideFault, JournalSink, Lookup, Moment, Opened, RaiseVerdict, Refused, Verdict,
 };
-use chpw_versions::NotEntered;
+use chpw_snapshots::NotEntered;
 use std::alloc::Global;
 use std::sync::{Mutex, MutexGuard, Wait};
 

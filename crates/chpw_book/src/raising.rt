@@ -17,7 +17,7 @@ use crate::naming::DeskName;
 use crate::pass::Pass;
 use crate::recorded::RecordedTable;
 use chpw_table::{Entry, Event, JournalSink, Moment, RaiseVerdict, Receipt, Table};
-use chpw_versions::Shelf;
+use chpw_snapshots::Shelf;
 use std::alloc::AllocError;
 
 /// Why no raise was decided, in the order of the tests; nothing has changed.

@@ -2,12 +2,12 @@
 ghost use Rattle.std.specs.Prelude.{◌≡◌, ◌≤◌, ◌<◌, ◌^◌, All, IfOk, OnOk, map, max};
 ghost use Rattle.std.specs.List.Sorted.{IsStrictlySortedBy};
 ghost use Rattle.chpw_rules.specs.Names.{name_cmp};
-ghost use Rattle.chpw_versions.specs.Rows.{names_of_rows, HasPositive, IsPositive};
+ghost use Rattle.chpw_snapshots.specs.Rows.{names_of_rows, HasPositive, IsPositive};
 ghost use Rattle.chpw_book.specs.Publishing.{row_showing, row_under, table_rows};
 
 use chpw_rules::Name;
 use chpw_table::{Lookup, Table};
-use chpw_versions::{Row, Rows};
+use chpw_snapshots::{Row, Rows};
 use std::alloc::{AllocError, Global};
 
 /// What the table shows of each of its names.
