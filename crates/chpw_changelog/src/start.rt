@@ -6,7 +6,7 @@ ghost use Rattle.chpw_changelog.specs.Rules.{head_of};
 
 use crate::change::NumberedChange;
 use crate::entry::Mark;
-use crate::keeper::ChangeLog;
+use crate::change_log::ChangeLog;
 use crate::list_name::ListName;
 use crate::steps::{Head, start_log};
 use chpw_table::Table;

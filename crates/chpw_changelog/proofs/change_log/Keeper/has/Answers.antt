@@ -4,7 +4,7 @@ use Rattle.chpw_table.specs.declared.change.Accepted.{Accepted}
 use Rattle.chpw_changelog.specs.declared.entry.LogEntry.{LogEntry}
 use Rattle.chpw_changelog.specs.Pens.{first_pen, changes_in}
 use Rattle.chpw_changelog.proofs.ListLemmas.{whole, prefix_trans, prefix_written}
-use Rattle.chpw_changelog.proofs.keeper.ChangeLog.has.Goals as goal
+use Rattle.chpw_changelog.proofs.change_log.ChangeLog.has.Goals as goal
 
 pub returns-clause-begins : goal.returns-clause-begins
 returns-clause-begins g c =

@@ -2,7 +2,7 @@ use Rattle.std.proofs.Common.{◌≡◌, ◌++◌, ◌∷◌, [], length, sym, �
 use Rattle.chpw_changelog.specs.Changes.{named}
 use Rattle.chpw_changelog.specs.Pens.{first_pen, opening_state, changes_in, pen_after}
 use Rattle.chpw_changelog.proofs.ListLemmas.{added}
-use Rattle.chpw_changelog.proofs.keeper.ChangeLog.append.Goals as goal
+use Rattle.chpw_changelog.proofs.change_log.ChangeLog.append.Goals as goal
 
 pub invariant_of-self : goal.invariant_of-self
 invariant_of-self g c =
