@@ -7,7 +7,7 @@ ghost use Rattle.chpw_changelog.specs.Pens.{first_pen, opening_state, changes_in
 ghost use Rattle.chpw_changelog.specs.Rules.{head_of};
 
 use crate::change::NumberedChange;
-use crate::entry::Mark;
+use crate::entry::LogPrefix;
 use crate::front::Front;
 use crate::list_name::ListName;
 use crate::steps::{Head, check_pen, make_pen, spent};
@@ -20,7 +20,7 @@ use std::mem;
 pub struct ChangeLog<D: ListName> {
     head: Head,
     pen: Pen,
-    seen: Mark,
+    seen: LogPrefix,
     len: u32,
     last: NumberedChange,
     of: PhantomData<D>,
@@ -46,7 +46,7 @@ impl<D: ListName> Model for ChangeLog<D> {
 
 impl<D: ListName> ChangeLog<D> {
     // The keeper of a list that was started at this moment.
-    pub(crate) fn of(head: Head, pen: Pen, root: Mark) -> ChangeLog<D>
+    pub(crate) fn of(head: Head, pen: Pen, root: LogPrefix) -> ChangeLog<D>
         requires name { (root.book ≡ D.book) × (root.log ≡ D.root) }
         requires head { head ≡ head_of root.book }
         requires pen { (pen.book ≡ root.book) × (pen.nib.right ≡ may_write)

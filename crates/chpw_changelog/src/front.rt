@@ -5,14 +5,14 @@ ghost use Rattle.chpw_changelog.specs.Changes.{named, EndsWith};
 ghost use Rattle.chpw_changelog.specs.Pens.{opening_state, changes_in};
 
 use crate::change::NumberedChange;
-use crate::entry::Mark;
+use crate::entry::LogPrefix;
 use crate::list_name::ListName;
 use std::marker::{Model, PhantomData};
 
 /// A beginning of the list that someone is known to have seen. Contracts see it as its changes.
 #[derive(Drop)]
 pub struct Front<D: ListName> {
-    seen: Mark,
+    seen: LogPrefix,
     len: u32,
     last: NumberedChange,
     of: PhantomData<D>,
@@ -34,7 +34,7 @@ impl<D: ListName> Model for Front<D> {
 
 impl<D: ListName> Front<D> {
     // The front of this many changes with this last one, which `seen` knows.
-    pub(crate) fn of(seen: Mark, len: u32, last: NumberedChange) -> Front<D>
+    pub(crate) fn of(seen: LogPrefix, len: u32, last: NumberedChange) -> Front<D>
         requires book { seen.book ≡ D.book }
         requires len { len ≡ length (changes_in D.root seen.log) }
         requires last { EndsWith (opening_state D.root) (changes_in D.root seen.log) last }
@@ -49,7 +49,7 @@ impl<D: ListName> Front<D> {
     }
 
     /// What the front knows, without the list's name.
-    pub fn mark(&self) -> Mark
+    pub fn mark(&self) -> LogPrefix
         ensures value { (result.book ≡ D.book) × (changes_in D.root result.log ≡ self.now) }
     {
         self.seen.again()
@@ -83,7 +83,7 @@ impl<D: ListName> Front<D> {
 
     /// Whether it begins the list of `len` changes that are those which `seen` knows and then `last`; for no changes at
     /// all, whether it is empty. False is no certain answer.
-    pub fn begins(&self, seen: &Mark, last: NumberedChange, len: u32) -> bool
+    pub fn begins(&self, seen: &LogPrefix, last: NumberedChange, len: u32) -> bool
         requires book { seen.now.book ≡ D.book }
         ensures some { IsTrue result
             → len ≡ length (changes_in D.root seen.now.log ++ named (opening_state D.root) last ∷ [])

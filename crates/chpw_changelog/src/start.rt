@@ -5,7 +5,7 @@ ghost use Rattle.chpw_changelog.specs.Pens.{first_pen, opening_table, changes_in
 ghost use Rattle.chpw_changelog.specs.Rules.{head_of};
 
 use crate::change::NumberedChange;
-use crate::entry::Mark;
+use crate::entry::LogPrefix;
 use crate::change_log::ChangeLog;
 use crate::list_name::ListName;
 use crate::steps::{Head, start_log};
@@ -17,7 +17,7 @@ use logbook::{Pen, Seen, Start, Word};
 pub struct StartedList {
     head: Head,
     pen: Pen,
-    root: Mark,
+    root: LogPrefix,
     ghost head_is: { head ≡ head_of root.book },
     ghost pen_is: { (pen.book ≡ root.book) × (pen.nib.right ≡ may_write)
         × (pen.nib.key ≡ first_pen root.log) },
@@ -37,7 +37,7 @@ impl StartedList {
     }
 
     /// Knows the log as it was when the list was started.
-    pub fn root(&self) -> Mark
+    pub fn root(&self) -> LogPrefix
         ensures value { result ≡ self.now.root }
     {
         self.root.again()

@@ -8,7 +8,7 @@ ghost use Rattle.chpw_changelog.specs.Pens.{IsUnspent, first_pen, opening_state,
 ghost use Rattle.chpw_changelog.specs.Rules.{head_of};
 
 use crate::change::NumberedChange;
-use crate::entry::{LogEntry, Mark};
+use crate::entry::{LogEntry, LogPrefix};
 use crate::list_name::ListName;
 use crate::rule::{Append, Check, Found, ListRule, Make, Nothing, Turn};
 use chpw_table::Table;
@@ -21,7 +21,7 @@ pub(crate) type Head = Word<LogEntry, u64, ListRule>;
 type ListOffer = Offer<LogEntry, u64, ListRule, Nothing>;
 
 // A new pen.
-pub(crate) fn make_pen(head: &Head, seen: &Mark) -> Pen
+pub(crate) fn make_pen(head: &Head, seen: &LogPrefix) -> Pen
     requires head { head.now ≡ head_of seen.now.book }
     ensures pen { (result.book ≡ seen.now.book) × (result.nib.right ≡ may_write) }
 {
@@ -34,7 +34,7 @@ pub(crate) fn make_pen(head: &Head, seen: &Mark) -> Pen
 }
 
 // A new list that opens with this table, and its first pen.
-pub(crate) fn start_log(head: &Head, seen: &mut Mark, table: &Table) -> Pen
+pub(crate) fn start_log(head: &Head, seen: &mut LogPrefix, table: &Table) -> Pen
     requires head { head.now ≡ head_of seen.old.book }
     ensures book { (result.book ≡ seen.old.book) × (seen.new.book ≡ seen.old.book) }
     ensures pen { (result.nib.right ≡ may_write) × (result.nib.key ≡ first_pen seen.new.log) }
@@ -52,7 +52,7 @@ pub(crate) fn start_log(head: &Head, seen: &mut Mark, table: &Table) -> Pen
 // The change is written with this pen, which is spent then.
 pub(crate) fn spent<D: ListName>(
     head: &Head,
-    seen: &mut Mark,
+    seen: &mut LogPrefix,
     mut pen: Pen,
     next: &Pen,
     change: NumberedChange,
@@ -78,7 +78,7 @@ pub(crate) fn spent<D: ListName>(
 }
 
 // The pen isn't spent yet.
-pub(crate) fn check_pen(head: &Head, seen: &mut Mark, pen: &mut Pen)
+pub(crate) fn check_pen(head: &Head, seen: &mut LogPrefix, pen: &mut Pen)
     requires book { (head.now ≡ head_of seen.old.book) × (pen.old.book ≡ seen.old.book) }
     requires pen { pen.old.nib.right ≡ may_write }
     ensures book { (seen.new.book ≡ seen.old.book) × (pen.new.book ≡ pen.old.book)

@@ -13,7 +13,7 @@ use crate::place::Place;
 use crate::rows::Rows;
 use crate::version::{Operation, Version};
 use crate::view::{HandsOn, Learns, Publishes, Settles, VersionWriter};
-use chpw_changelog::{Front, ChangeLog, ListName, Mark, NumberedChange, NumberedKey};
+use chpw_changelog::{Front, ChangeLog, ListName, LogPrefix, NumberedChange, NumberedKey};
 use chpw_rules::Name;
 use left_right::writer::Writer;
 use std::alloc::{AllocError, Global};
@@ -56,7 +56,7 @@ impl<D: ListName> Shelf<D> {
         rt: &R,
         alloc: Global,
         keeper: ChangeLog<D>,
-        root: &Mark,
+        root: &LogPrefix,
         rows: Rows,
         again: Rows,
         places: usize,

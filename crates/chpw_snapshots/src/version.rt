@@ -4,7 +4,7 @@ ghost use Rattle.chpw_changelog.specs.declared.change.NumberedChange.TheVariants
 ghost use Rattle.chpw_snapshots.specs.Following.{list_of, list_shown, IsKnown};
 
 use crate::rows::Rows;
-use chpw_changelog::{Front, ListName, Mark, NumberedChange};
+use chpw_changelog::{Front, ListName, LogPrefix, NumberedChange};
 use left_right::Absorb;
 use std::alloc::AllocError;
 
@@ -15,8 +15,8 @@ pub struct Version {
     pub rows: Rows,
     pub len: u32,
     pub last: NumberedChange,
-    pub seen: Mark,
-    pub root: Mark,
+    pub seen: LogPrefix,
+    pub root: LogPrefix,
 }
 
 /// Which list a version shows, without its rows: the number of changes, the last of them, and what knows the list
@@ -25,14 +25,14 @@ pub struct Version {
 pub struct ListShown {
     pub len: u32,
     pub last: NumberedChange,
-    pub seen: Mark,
+    pub seen: LogPrefix,
 }
 
 /// A change, with what knows the list before it.
 #[derive(Drop)]
 pub struct Operation {
     pub change: NumberedChange,
-    pub seen: Mark,
+    pub seen: LogPrefix,
 }
 
 impl Version {
@@ -49,7 +49,7 @@ impl Version {
     }
 
     /// The version after no change.
-    pub(crate) fn of(rows: Rows, root: &Mark) -> Version
+    pub(crate) fn of(rows: Rows, root: &LogPrefix) -> Version
         ensures value { (result.rows ≡ rows) × (result.len ≡ 0) × (result.seen ≡ root.now)
             × (result.root ≡ root.now) }
         ensures last { result.last ≡ Count 0 }
