@@ -14,7 +14,7 @@ use logbook::{Pen, Seen, Start, Word};
 
 /// A list that was started at this moment, is empty, and has no name yet.
 #[derive(Drop)]
-pub struct StartedList {
+pub struct StartedLog {
     head: Head,
     pen: Pen,
     root: LogPrefix,
@@ -25,15 +25,15 @@ pub struct StartedList {
     ghost ready: { pen_after (first_pen root.log) root.log ≡ first_pen root.log },
 }
 
-impl StartedList {
+impl StartedLog {
     /// A list that opens with this table.
-    pub fn of(table: &Table) -> StartedList
+    pub fn of(table: &Table) -> StartedLog
         ensures opening { opening_table result.root.log ≡ table.now }
     {
         let (mut root, mut first, _second) = Seen::open(Start::alone(), 0, 0);
         let head = Word::tracked(0, &mut first);
         let pen = start_log(&head, &mut root, table);
-        StartedList { head, pen, root }
+        StartedLog { head, pen, root }
     }
 
     /// Knows the log as it was when the list was started.
@@ -48,7 +48,7 @@ impl StartedList {
         requires name { (self.root.book ≡ D.book) × (self.root.log ≡ D.root) }
         ensures value { result ≡ [] }
     {
-        let StartedList { head, pen, root } = self;
+        let StartedLog { head, pen, root } = self;
         ChangeLog::of(head, pen, root)
     }
 }
