@@ -6,7 +6,7 @@ use Rattle.std.proofs.sync.Mutex.TheSendSync as mutex
 use Rattle.std.specs.declared.sync.ledger.Ledger
 use Rattle.chpw_table.specs.declared.sink.JournalSink
 use Rattle.chpw_table.proofs.standing.StandingRules.TheSendSync as standing
-use Rattle.chpw_changelog.specs.declared.list_name.ListName
+use Rattle.chpw_changelog.specs.declared.list_name.LogName
 use Rattle.chpw_decider.proofs.SendLemmas.{journaled_send}
 use Rattle.chpw_snapshots.proofs.shelf.Shelf.TheSendSync as shelf
 use Rattle.chpw_book.specs.declared.naming.DeskName
@@ -15,7 +15,7 @@ use Rattle.chpw_book.specs.contracts.book.Book as Book
 use Rattle.chpw_book.specs.contracts.desk.Desk as Desk
 use Rattle.chpw_book.proofs.history.History.TheSendSync as history
 
-module _ (D S : RattleType) (g : DeskName.Ghosts D.Denot) (g' : Ledger.Ghosts D.Denot) (g'' : ListName.Ghosts D.Denot) (h : JournalSink.Ghosts S.Denot) where
+module _ (D S : RattleType) (g : DeskName.Ghosts D.Denot) (g' : Ledger.Ghosts D.Denot) (g'' : LogName.Ghosts D.Denot) (h : JournalSink.Ghosts S.Denot) where
   recorded_send : IsSend D → IsSend S → IsSend (RecordedTable.the_row D S h g g' g'')
   recorded_send d s = search (journaled_send, history.the_field_send, sendable) depth 40
 

@@ -9,7 +9,7 @@ ghost use Rattle.chpw_changelog.specs.Rules.{head_of};
 use crate::change::NumberedChange;
 use crate::entry::LogPrefix;
 use crate::front::Front;
-use crate::list_name::ListName;
+use crate::list_name::LogName;
 use crate::steps::{Head, check_pen, make_pen, spent};
 use logbook::Pen;
 use std::marker::{Model, PhantomData};
@@ -17,7 +17,7 @@ use std::mem;
 
 /// The only one that extends the list of accepted changes. Contracts see it as that list.
 #[derive(Drop)]
-pub struct ChangeLog<D: ListName> {
+pub struct ChangeLog<D: LogName> {
     head: Head,
     pen: Pen,
     seen: LogPrefix,
@@ -26,7 +26,7 @@ pub struct ChangeLog<D: ListName> {
     of: PhantomData<D>,
 }
 
-impl<D: ListName> Model for ChangeLog<D> {
+impl<D: LogName> Model for ChangeLog<D> {
     ghost use Rattle.std.specs.Prelude.{◌≡◌, List, length};
     ghost use Rattle.logbook.specs.Pages.{may_write};
     ghost use Rattle.chpw_table.specs.declared.change.Accepted.{Accepted};
@@ -44,7 +44,7 @@ impl<D: ListName> Model for ChangeLog<D> {
         × EndsWith (opening_state D.root) (changes_in D.root k.seen.log) k.last };
 }
 
-impl<D: ListName> ChangeLog<D> {
+impl<D: LogName> ChangeLog<D> {
     // The keeper of a list that was started at this moment.
     pub(crate) fn of(head: Head, pen: Pen, root: LogPrefix) -> ChangeLog<D>
         requires name { (root.book ≡ D.book) × (root.log ≡ D.root) }

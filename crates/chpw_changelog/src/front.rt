@@ -6,19 +6,19 @@ ghost use Rattle.chpw_changelog.specs.Pens.{opening_state, changes_in};
 
 use crate::change::NumberedChange;
 use crate::entry::LogPrefix;
-use crate::list_name::ListName;
+use crate::list_name::LogName;
 use std::marker::{Model, PhantomData};
 
 /// A beginning of the list that someone is known to have seen. Contracts see it as its changes.
 #[derive(Drop)]
-pub struct Front<D: ListName> {
+pub struct Front<D: LogName> {
     seen: LogPrefix,
     len: u32,
     last: NumberedChange,
     of: PhantomData<D>,
 }
 
-impl<D: ListName> Model for Front<D> {
+impl<D: LogName> Model for Front<D> {
     ghost use Rattle.std.specs.Prelude.{◌≡◌, List, length};
     ghost use Rattle.chpw_table.specs.declared.change.Accepted.{Accepted};
     ghost use Rattle.chpw_changelog.specs.Changes.{EndsWith};
@@ -32,7 +32,7 @@ impl<D: ListName> Model for Front<D> {
         × EndsWith (opening_state D.root) (changes_in D.root f.seen.log) f.last };
 }
 
-impl<D: ListName> Front<D> {
+impl<D: LogName> Front<D> {
     // The front of this many changes with this last one, which `seen` knows.
     pub(crate) fn of(seen: LogPrefix, len: u32, last: NumberedChange) -> Front<D>
         requires book { seen.book ≡ D.book }

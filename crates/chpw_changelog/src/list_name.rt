@@ -5,7 +5,7 @@ use std::marker::Brand;
 /// Names a list of accepted changes: the logbook that it is in, and the log as it was when the list was started. The
 /// starter of a list picks it. ChangeLog and fronts carry the name in their types, so that those of different lists can't
 /// be confused.
-pub trait ListName {
+pub trait LogName {
     ghost use Rattle.std.specs.Prelude.{List};
     ghost use Rattle.logbook.specs.Pages.{Book as LogbookName};
     ghost use Rattle.chpw_changelog.specs.declared.entry.LogEntry.{LogEntry as entry_spec};
@@ -16,7 +16,7 @@ pub trait ListName {
 }
 
 /// Each call that starts a list may take this name.
-impl ListName for Brand {
+impl LogName for Brand {
     ghost use Rattle.std.specs.Prelude.{[]};
 
     ghost book = { record { number = 0; log_name = 0; cells_name = 0 } };

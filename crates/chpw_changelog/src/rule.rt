@@ -2,7 +2,7 @@
 
 use crate::change::NumberedChange;
 use crate::entry::LogEntry;
-use crate::list_name::ListName;
+use crate::list_name::LogName;
 use chpw_table::Table;
 use logbook::{Gain, Pen, Plain, Play, Rule};
 use std::marker::PhantomData;
@@ -84,7 +84,7 @@ impl Plain<Table, LogEntry, u64> for Found {
 
 // What an entry is made of.
 #[derive(Drop)]
-pub(crate) struct Turn<'a, D: ListName> {
+pub(crate) struct Turn<'a, D: LogName> {
     pub(crate) change: NumberedChange,
     pub(crate) by: &'a Pen,
     pub(crate) next: &'a Pen,
@@ -100,7 +100,7 @@ impl Play<LogEntry, u64> for Append {
     ghost then = { Appends };
 }
 
-impl<'a, D: ListName> Plain<Turn<'a, D>, LogEntry, u64> for Append {
+impl<'a, D: LogName> Plain<Turn<'a, D>, LogEntry, u64> for Append {
     ghost use Rattle.std.specs.Prelude.{None};
     ghost use Rattle.chpw_changelog.specs.Pens.{no_entry, opening_state};
     ghost use Rattle.chpw_changelog.specs.Changes.{named};

@@ -7,7 +7,7 @@ ghost use Rattle.chpw_changelog.specs.Rules.{head_of};
 use crate::change::NumberedChange;
 use crate::entry::LogPrefix;
 use crate::change_log::ChangeLog;
-use crate::list_name::ListName;
+use crate::list_name::LogName;
 use crate::steps::{Head, start_log};
 use chpw_table::Table;
 use logbook::{Pen, Seen, Start, Word};
@@ -44,7 +44,7 @@ impl StartedLog {
     }
 
     /// The one keeper of the list, under a name for it.
-    pub fn with_name<D: ListName>(self) -> ChangeLog<D>
+    pub fn with_name<D: LogName>(self) -> ChangeLog<D>
         requires name { (self.root.book ≡ D.book) × (self.root.log ≡ D.root) }
         ensures value { result ≡ [] }
     {

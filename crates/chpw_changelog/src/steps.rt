@@ -9,7 +9,7 @@ ghost use Rattle.chpw_changelog.specs.Rules.{head_of};
 
 use crate::change::NumberedChange;
 use crate::entry::{LogEntry, LogPrefix};
-use crate::list_name::ListName;
+use crate::list_name::LogName;
 use crate::rule::{Append, Check, Found, ListRule, Make, Nothing, Turn};
 use chpw_table::Table;
 use logbook::{Offer, Pen, Word};
@@ -50,7 +50,7 @@ pub(crate) fn start_log(head: &Head, seen: &mut LogPrefix, table: &Table) -> Pen
 }
 
 // The change is written with this pen, which is spent then.
-pub(crate) fn spent<D: ListName>(
+pub(crate) fn spent<D: LogName>(
     head: &Head,
     seen: &mut LogPrefix,
     mut pen: Pen,

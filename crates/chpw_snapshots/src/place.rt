@@ -8,7 +8,7 @@ ghost use Rattle.chpw_snapshots.specs.Looking.{LooksUp};
 
 use crate::version::ListShown;
 use crate::view::{Enters, VersionReader};
-use chpw_changelog::{Front, ListName};
+use chpw_changelog::{Front, LogName};
 use chpw_rules::Name;
 use chpw_table::Lookup;
 use std::marker::Model;
@@ -16,14 +16,14 @@ use std::marker::Model;
 /// A reader of the versions, with what was seen through it and what it has learnt. Contracts see these as lists of
 /// accepted changes.
 #[derive(Drop)]
-pub struct Place<D: ListName> {
+pub struct Place<D: LogName> {
     reader: Option<VersionReader>,
     shown: ListShown,
     told: Front<D>,
     own: Option<Front<D>>,
 }
 
-impl<D: ListName> Model for Place<D> {
+impl<D: LogName> Model for Place<D> {
     ghost use Rattle.std.specs.Prelude.{IsSomeAnd, IfSome};
     ghost use mathlib.Core.List.{IsPrefix};
     ghost use Rattle.left_right.specs.Sides.{view as view_of};
@@ -44,7 +44,7 @@ impl<D: ListName> Model for Place<D> {
 #[derive(Clone, Copy, PartialEq, Eq, Debug, Drop)]
 pub struct NotEntered;
 
-impl<D: ListName> Place<D> {
+impl<D: LogName> Place<D> {
     /// What a table shows of a name after some list of accepted changes that begins with all that this place has seen
     /// and with all that it has learnt; none for an unknown name. No lookup shows an older version than one before it.
     /// It takes no lock, waits for nobody, and takes no memory of its own. After `NotEntered` the place is unchanged.

@@ -13,7 +13,7 @@ use crate::place::Place;
 use crate::rows::Rows;
 use crate::version::{Operation, Version};
 use crate::view::{HandsOn, Learns, Publishes, Settles, VersionWriter};
-use chpw_changelog::{Front, ChangeLog, ListName, LogPrefix, NumberedChange, NumberedKey};
+use chpw_changelog::{Front, ChangeLog, LogName, LogPrefix, NumberedChange, NumberedKey};
 use chpw_rules::Name;
 use left_right::writer::Writer;
 use std::alloc::{AllocError, Global};
@@ -22,13 +22,13 @@ use std::sync::Wait;
 
 /// The writer of the versions. It is ended by `end` and never dropped. Contracts see the list that readers see, which
 /// is all that was accepted, and the prepared change.
-pub struct Shelf<D: ListName> {
+pub struct Shelf<D: LogName> {
     writer: Option<VersionWriter>,
     keeper: ChangeLog<D>,
     waiting: Option<NumberedChange>,
 }
 
-impl<D: ListName> Model for Shelf<D> {
+impl<D: LogName> Model for Shelf<D> {
     ghost use Rattle.std.specs.Prelude.{IsSomeAnd, drop, option_map};
     ghost use Rattle.left_right.specs.Sides.{view as view_of};
     ghost use Rattle.chpw_changelog.specs.Changes.{named};
@@ -48,7 +48,7 @@ impl<D: ListName> Model for Shelf<D> {
         × IsWaiting D.book D.root s.keeper (drop w.behind w.log.items) s.waiting) };
 }
 
-impl<D: ListName> Shelf<D> {
+impl<D: LogName> Shelf<D> {
     /// A shelf with an empty list and room for this many places, which shows these rows; `again` is a copy of them.
     /// They show the list's opening: a row for each principal, in its order, with counts of at least 1, and the changes
     /// that its table had accepted before. It may wait, as a publication does.

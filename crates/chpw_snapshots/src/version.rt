@@ -4,7 +4,7 @@ ghost use Rattle.chpw_changelog.specs.declared.change.NumberedChange.TheVariants
 ghost use Rattle.chpw_snapshots.specs.Following.{list_of, list_shown, IsKnown};
 
 use crate::rows::Rows;
-use chpw_changelog::{Front, ListName, LogPrefix, NumberedChange};
+use chpw_changelog::{Front, LogName, LogPrefix, NumberedChange};
 use left_right::Absorb;
 use std::alloc::AllocError;
 
@@ -66,7 +66,7 @@ impl Version {
 
 impl ListShown {
     /// Whether the front is this list. False is no certain answer.
-    pub(crate) fn is<D: ListName>(&self, front: &Front<D>) -> bool
+    pub(crate) fn is<D: LogName>(&self, front: &Front<D>) -> bool
         requires known { IsKnown D.book D.root self.now }
         ensures same { IsTrue result → list_of D.root self.now ≡ front.now }
     {
