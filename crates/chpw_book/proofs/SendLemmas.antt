@@ -6,7 +6,7 @@ use Rattle.std.proofs.sync.Mutex.TheSendSync as mutex
 use Rattle.std.specs.declared.sync.ledger.Ledger
 use Rattle.chpw_table.specs.declared.sink.JournalSink
 use Rattle.chpw_table.proofs.standing.StandingRules.TheSendSync as standing
-use Rattle.chpw_changelog.specs.declared.list_name.LogName
+use Rattle.chpw_changelog.specs.declared.log_name.LogName
 use Rattle.chpw_decider.proofs.SendLemmas.{journaled_send}
 use Rattle.chpw_snapshots.proofs.shelf.Shelf.TheSendSync as shelf
 use Rattle.chpw_book.specs.declared.naming.DeskName

@@ -9,7 +9,7 @@ ghost use Rattle.chpw_changelog.specs.Rules.{head_of};
 use crate::change::NumberedChange;
 use crate::entry::LogPrefix;
 use crate::front::Front;
-use crate::list_name::LogName;
+use crate::log_name::LogName;
 use crate::steps::{Head, check_pen, make_pen, spent};
 use logbook::Pen;
 use std::marker::{Model, PhantomData};

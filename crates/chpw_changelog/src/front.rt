@@ -6,7 +6,7 @@ ghost use Rattle.chpw_changelog.specs.Pens.{opening_state, changes_in};
 
 use crate::change::NumberedChange;
 use crate::entry::LogPrefix;
-use crate::list_name::LogName;
+use crate::log_name::LogName;
 use std::marker::{Model, PhantomData};
 
 /// A beginning of the list that someone is known to have seen. Contracts see it as its changes.

@@ -2,7 +2,7 @@
 
 use crate::change::NumberedChange;
 use crate::entry::LogEntry;
-use crate::list_name::LogName;
+use crate::log_name::LogName;
 use chpw_table::Table;
 use logbook::{Gain, Pen, Plain, Play, Rule};
 use std::marker::PhantomData;

@@ -7,7 +7,7 @@ ghost use Rattle.chpw_changelog.specs.Rules.{head_of};
 use crate::change::NumberedChange;
 use crate::entry::LogPrefix;
 use crate::change_log::ChangeLog;
-use crate::list_name::LogName;
+use crate::log_name::LogName;
 use crate::steps::{Head, start_log};
 use chpw_table::Table;
 use logbook::{Pen, Seen, Start, Word};

@@ -9,7 +9,7 @@ ghost use Rattle.chpw_changelog.specs.Rules.{head_of};
 
 use crate::change::NumberedChange;
 use crate::entry::{LogEntry, LogPrefix};
-use crate::list_name::LogName;
+use crate::log_name::LogName;
 use crate::rule::{Append, Check, Found, ListRule, Make, Nothing, Turn};
 use chpw_table::Table;
 use logbook::{Offer, Pen, Word};
