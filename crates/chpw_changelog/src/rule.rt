@@ -8,9 +8,9 @@ use logbook::{Gain, Pen, Plain, Play, Rule};
 use std::marker::PhantomData;
 
 /// The rule of the log: the pen of each entry is spent.
-pub struct ListRule;
+pub struct LogRule;
 
-impl Rule<LogEntry, u64> for ListRule {
+impl Rule<LogEntry, u64> for LogRule {
     ghost use Rattle.std.specs.Prelude.{[]};
     ghost use base.Fml.{ftrue};
     ghost use Rattle.chpw_changelog.specs.Rules.{IsKept};

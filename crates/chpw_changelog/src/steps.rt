@@ -10,15 +10,15 @@ ghost use Rattle.chpw_changelog.specs.Rules.{head_of};
 use crate::change::NumberedChange;
 use crate::entry::{LogEntry, LogPrefix};
 use crate::log_name::LogName;
-use crate::rule::{Append, Check, Found, ListRule, Make, Nothing, Turn};
+use crate::rule::{Append, Check, Found, LogRule, Make, Nothing, Turn};
 use chpw_table::Table;
 use logbook::{Offer, Pen, Word};
 use std::marker::PhantomData;
 
 /// The word that each step on the log uses.
-pub(crate) type Head = Word<LogEntry, u64, ListRule>;
+pub(crate) type Head = Word<LogEntry, u64, LogRule>;
 
-type ListOffer = Offer<LogEntry, u64, ListRule, Nothing>;
+type ListOffer = Offer<LogEntry, u64, LogRule, Nothing>;
 
 // A new pen.
 pub(crate) fn make_pen(head: &Head, seen: &LogPrefix) -> Pen
