@@ -18,7 +18,7 @@ use std::marker::PhantomData;
 /// The word that each step on the log uses.
 pub(crate) type Head = Word<LogEntry, u64, LogRule>;
 
-type ListOffer = Offer<LogEntry, u64, LogRule, Nothing>;
+type LogOffer = Offer<LogEntry, u64, LogRule, Nothing>;
 
 // A new pen.
 pub(crate) fn make_pen(head: &Head, seen: &LogPrefix) -> Pen
@@ -26,7 +26,7 @@ pub(crate) fn make_pen(head: &Head, seen: &LogPrefix) -> Pen
     ensures pen { (result.book ≡ seen.now.book) × (result.nib.right ≡ may_write) }
 {
     let mut later = seen.again();
-    let mut offer: ListOffer = later.plain::<Nothing, (), Make>(&());
+    let mut offer: LogOffer = later.plain::<Nothing, (), Make>(&());
     let mut pen = later.no_pen();
     head.compare_exchange::<Make, Nothing>(0, 0, &mut later, &mut offer, &mut pen);
     let _word: Head = Word::tracked(0, &mut pen);
@@ -42,7 +42,7 @@ pub(crate) fn start_log(head: &Head, seen: &mut LogPrefix, table: &Table) -> Pen
     ensures empty { changes_in seen.new.log seen.new.log ≡ [] }
     ensures ready { pen_after (first_pen seen.new.log) seen.new.log ≡ first_pen seen.new.log }
 {
-    let mut offer: ListOffer = seen.plain::<Nothing, Table, Found>(table);
+    let mut offer: LogOffer = seen.plain::<Nothing, Table, Found>(table);
     let mut pen = seen.no_pen();
     head.compare_exchange::<Found, Nothing>(0, 0, seen, &mut offer, &mut pen);
     let _word: Head = Word::tracked(0, &mut pen);
@@ -73,7 +73,7 @@ pub(crate) fn spent<D: LogName>(
         next,
         of: PhantomData,
     };
-    let mut offer: ListOffer = seen.plain::<Nothing, Turn<'_, D>, Append>(&turn);
+    let mut offer: LogOffer = seen.plain::<Nothing, Turn<'_, D>, Append>(&turn);
     head.compare_exchange::<Append, Nothing>(0, 0, seen, &mut offer, &mut pen);
 }
 
@@ -86,6 +86,6 @@ pub(crate) fn check_pen(head: &Head, seen: &mut LogPrefix, pen: &mut Pen)
     ensures unspent { IsPrefix seen.old.log seen.new.log
         × IsUnspent pen.old.nib.key seen.new.log }
 {
-    let mut offer: ListOffer = seen.plain::<Nothing, (), Make>(&());
+    let mut offer: LogOffer = seen.plain::<Nothing, (), Make>(&());
     head.compare_exchange::<Check, Nothing>(0, 0, seen, &mut offer, pen);
 }
