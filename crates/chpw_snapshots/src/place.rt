@@ -7,7 +7,7 @@ ghost use Rattle.chpw_snapshots.specs.Following.{IsOf, IsKnown, list_of};
 ghost use Rattle.chpw_snapshots.specs.Looking.{LooksUp};
 
 use crate::version::ListShown;
-use crate::view::{Enters, VersionReader};
+use crate::view::{Enters, LeftRightReader};
 use chpw_changelog::{Front, LogName};
 use chpw_rules::Name;
 use chpw_table::Lookup;
@@ -17,7 +17,7 @@ use std::marker::Model;
 /// accepted changes.
 #[derive(Drop)]
 pub struct Place<D: LogName> {
-    reader: Option<VersionReader>,
+    reader: Option<LeftRightReader>,
     shown: ListShown,
     told: Front<D>,
     own: Option<Front<D>>,
@@ -115,7 +115,7 @@ impl<D: LogName> Place<D> {
     }
 
     /// A place over a reader that knows the whole list, which this is.
-    pub(crate) fn over(reader: VersionReader, shown: ListShown, told: Front<D>) -> Place<D>
+    pub(crate) fn over(reader: LeftRightReader, shown: ListShown, told: Front<D>) -> Place<D>
         requires reader { IsOf D.book D.root (view reader.place) }
         requires shown { list_of D.root shown ≡ (view reader.place).front }
         requires known { IsKnown D.book D.root shown }

@@ -31,7 +31,7 @@ impl Protocol<Version, View> for Ruled {
     ghost first = { unknown };
 }
 
-pub(crate) type VersionReader = Reader<Version, View, Ruled>;
+pub(crate) type LeftRightReader = Reader<Version, View, Ruled>;
 
 pub(crate) type VersionWriter = Writer<Version, Operation, View, Ruled>;
 
