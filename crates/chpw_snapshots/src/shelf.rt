@@ -12,7 +12,7 @@ ghost use Rattle.chpw_snapshots.specs.Following.{CanBeShown, IsNumberOf};
 use crate::place::Place;
 use crate::rows::Rows;
 use crate::version::{Operation, Version};
-use crate::view::{HandsOn, Learns, Publishes, Settles, VersionWriter};
+use crate::view::{HandsOn, Learns, Publishes, Settles, LeftRightWriter};
 use chpw_changelog::{Front, ChangeLog, LogName, LogPrefix, NumberedChange, NumberedKey};
 use chpw_rules::Name;
 use left_right::writer::Writer;
@@ -23,7 +23,7 @@ use std::sync::Wait;
 /// The writer of the versions. It is ended by `end` and never dropped. Contracts see the list that readers see, which
 /// is all that was accepted, and the prepared change.
 pub struct Shelf<D: LogName> {
-    writer: Option<VersionWriter>,
+    writer: Option<LeftRightWriter>,
     keeper: ChangeLog<D>,
     waiting: Option<NumberedChange>,
 }
@@ -69,7 +69,7 @@ impl<D: LogName> Shelf<D> {
     {
         let first = Version::of(rows, root);
         let second = Version::of(again, root);
-        let writer: VersionWriter = Writer::new(alloc, first, second, places)?;
+        let writer: LeftRightWriter = Writer::new(alloc, first, second, places)?;
         let (writer, _) = writer.publish_as::<Settles, R>(rt);
         Ok(Shelf {
             writer: Some(writer),
@@ -237,7 +237,7 @@ impl<D: LogName> Shelf<D> {
     }
 }
 
-fn put_back(place: &mut Option<VersionWriter>, writer: VersionWriter)
+fn put_back(place: &mut Option<LeftRightWriter>, writer: LeftRightWriter)
     requires empty { place.old ≡ None }
     ensures value { place.new ≡ Some writer }
 {

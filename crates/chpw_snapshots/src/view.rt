@@ -33,7 +33,7 @@ impl Protocol<Version, View> for Ruled {
 
 pub(crate) type LeftRightReader = Reader<Version, View, Ruled>;
 
-pub(crate) type VersionWriter = Writer<Version, Operation, View, Ruled>;
+pub(crate) type LeftRightWriter = Writer<Version, Operation, View, Ruled>;
 
 // A reader enters.
 pub(crate) struct Enters;
