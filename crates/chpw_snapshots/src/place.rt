@@ -16,14 +16,14 @@ use std::marker::Model;
 /// A reader of the versions, with what was seen through it and what it has learnt. Contracts see these as lists of
 /// accepted changes.
 #[derive(Drop)]
-pub struct Place<D: LogName> {
+pub struct SnapshotReader<D: LogName> {
     reader: Option<LeftRightReader>,
     shown: ListShown,
     told: Front<D>,
     own: Option<Front<D>>,
 }
 
-impl<D: LogName> Model for Place<D> {
+impl<D: LogName> Model for SnapshotReader<D> {
     ghost use Rattle.std.specs.Prelude.{IsSomeAnd, IfSome};
     ghost use mathlib.Core.List.{IsPrefix};
     ghost use Rattle.left_right.specs.Sides.{view as view_of};
@@ -44,7 +44,7 @@ impl<D: LogName> Model for Place<D> {
 #[derive(Clone, Copy, PartialEq, Eq, Debug, Drop)]
 pub struct NotEntered;
 
-impl<D: LogName> Place<D> {
+impl<D: LogName> SnapshotReader<D> {
     /// What a table shows of a name after some list of accepted changes that begins with all that this place has seen
     /// and with all that it has learnt; none for an unknown name. No lookup shows an older version than one before it.
     /// It takes no lock, waits for nobody, and takes no memory of its own. After `NotEntered` the place is unchanged.
@@ -115,14 +115,14 @@ impl<D: LogName> Place<D> {
     }
 
     /// A place over a reader that knows the whole list, which this is.
-    pub(crate) fn over(reader: LeftRightReader, shown: ListShown, told: Front<D>) -> Place<D>
+    pub(crate) fn over(reader: LeftRightReader, shown: ListShown, told: Front<D>) -> SnapshotReader<D>
         requires reader { IsOf D.book D.root (view reader.place) }
         requires shown { list_of D.root shown ≡ (view reader.place).front }
         requires known { IsKnown D.book D.root shown }
         ensures value { result
             ≡ record { seen = (view reader.place).front; told = told; own = None } }
     {
-        Place {
+        SnapshotReader {
             reader: Some(reader),
             shown,
             told,

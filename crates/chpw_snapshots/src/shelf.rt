@@ -9,7 +9,7 @@ ghost use Rattle.chpw_snapshots.specs.Rows.{ShowsOpening, names_of};
 ghost use Rattle.chpw_snapshots.specs.Rising.{IsNextVersion};
 ghost use Rattle.chpw_snapshots.specs.Following.{CanBeShown, IsNumberOf};
 
-use crate::place::Place;
+use crate::place::SnapshotReader;
 use crate::rows::Rows;
 use crate::version::{Operation, Version};
 use crate::view::{HandsOn, Learns, Publishes, Settles, LeftRightWriter};
@@ -79,7 +79,7 @@ impl<D: LogName> Shelf<D> {
     }
 
     /// A new place, which knows the whole list; `AllocError` if each is in use.
-    pub fn place(&mut self) -> Result<Place<D>, AllocError>
+    pub fn place(&mut self) -> Result<SnapshotReader<D>, AllocError>
         ensures same { self.new ≡ self.old }
         ensures known { IfOk result (λ p.
             p ≡ record { seen = self.old.list; told = self.old.list; own = None }) }
@@ -92,7 +92,7 @@ impl<D: LogName> Shelf<D> {
                 reader.learn::<Learns>(writer.tell::<HandsOn>());
                 let shown = writer.published().shown();
                 put_back(&mut self.writer, writer);
-                Ok(Place::over(reader, shown, self.keeper.front()))
+                Ok(SnapshotReader::over(reader, shown, self.keeper.front()))
             }
             Err(_) => {
                 put_back(&mut self.writer, writer);
@@ -210,7 +210,7 @@ impl<D: LogName> Shelf<D> {
 
     /// Whether what a place's last lookup showed is a beginning of the published list. False is no certain
     /// answer: it comes only where the place's reader can't enter.
-    pub fn has_shown(&self, place: &mut Place<D>) -> bool
+    pub fn has_shown(&self, place: &mut SnapshotReader<D>) -> bool
         ensures same { place.new ≡ place.old }
         ensures begins { IsTrue result → IsPrefix place.old.seen self.now.list }
     {
