@@ -9,7 +9,7 @@ ghost use Rattle.chpw_snapshots.specs.Rows.{ShowsOpening, names_of};
 ghost use Rattle.chpw_snapshots.specs.Rising.{IsNextVersion};
 ghost use Rattle.chpw_snapshots.specs.Following.{CanBeShown, IsNumberOf};
 
-use crate::place::SnapshotReader;
+use crate::reader::SnapshotReader;
 use crate::rows::Rows;
 use crate::version::{Operation, Version};
 use crate::view::{HandsOn, Learns, Publishes, Settles, LeftRightWriter};

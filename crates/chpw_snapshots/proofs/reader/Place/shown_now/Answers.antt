@@ -7,7 +7,7 @@ use Rattle.chpw_snapshots.specs.declared.version.Version.{Version}
 use Rattle.chpw_snapshots.specs.Following.{IsOf, ShowsList, log_of, list_of, list_shown, front_by}
 use Rattle.chpw_changelog.proofs.ListLemmas.{prefix_trans}
 use Rattle.chpw_snapshots.proofs.MoveLemmas.{looks, of_some, renamed, shown_list}
-use Rattle.chpw_snapshots.proofs.place.SnapshotReader.shown_now.Goals as goal
+use Rattle.chpw_snapshots.proofs.reader.SnapshotReader.shown_now.Goals as goal
 
 pub enter_as-requires : goal.enter_as-requires
 enter_as-requires g c x = looks _ _ x

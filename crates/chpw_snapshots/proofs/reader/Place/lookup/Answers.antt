@@ -12,7 +12,7 @@ use Rattle.chpw_snapshots.specs.Following.{IsOf, ShowsList, log_of, list_of, lis
 use Rattle.chpw_changelog.proofs.ListLemmas.{prefix_trans}
 use Rattle.chpw_snapshots.proofs.MoveLemmas.{looks, of_some, renamed, shown_list, shown_by, begins_shown}
 use Rattle.chpw_snapshots.proofs.RiseLemmas.{lookup_rises}
-use Rattle.chpw_snapshots.proofs.place.SnapshotReader.lookup.Goals as goal
+use Rattle.chpw_snapshots.proofs.reader.SnapshotReader.lookup.Goals as goal
 
 pub enter_as-requires : goal.enter_as-requires
 enter_as-requires g c x = looks _ _ x
