@@ -33,7 +33,7 @@ use chpw_decider::JournaledTable;
 use chpw_table::{
     Counts, DecideFault, Entry, JournalSink, Moment, Opened, RaiseVerdict, Refused, Verdict,
 };
-use chpw_snapshots::Shelf;
+use chpw_snapshots::SnapshotWriter;
 use std::alloc::Global;
 use std::marker::Model;
 use std::sync::Wait;
@@ -45,7 +45,7 @@ use std::sync::ledger::Share;
 /// `Replays` says. A book is taken apart when its desk is closed or abandoned.
 pub struct Book<D: DeskName, S: JournalSink> {
     pub(crate) recorded: RecordedTable<D, S>,
-    pub(crate) shelf: Shelf<D>,
+    pub(crate) shelf: SnapshotWriter<D>,
 }
 
 impl<D: DeskName, S: JournalSink> Model for Book<D, S> {
@@ -63,7 +63,7 @@ impl<D: DeskName, S: JournalSink> Model for Book<D, S> {
 impl<D: DeskName, S: JournalSink> Book<D, S> {
     /// A book with an empty history, and a pass for each of the workers, in order. None has seen or learnt a change.
     ///
-    /// Two faults: `NoPlaces` if `Shelf::place` gives no place to a worker, and `Memory` if a growth is refused: of the
+    /// Two faults: `NoPlaces` if `SnapshotWriter::place` gives no place to a worker, and `Memory` if a growth is refused: of the
     /// rows, the shelf, the passes or the counts, in this order. After a fault all that was given to it is gone.
     pub(crate) fn start<R: Wait>(
         rt: &R,
@@ -92,7 +92,7 @@ impl<D: DeskName, S: JournalSink> Book<D, S> {
         let root = list.root();
         let keeper = list.with_name::<D>();
         let places = usize::from(workers);
-        let mut shelf = Shelf::start(rt, alloc, keeper, &root, rows, again, places)?;
+        let mut shelf = SnapshotWriter::start(rt, alloc, keeper, &root, rows, again, places)?;
         let (totals, all): (_, Share<D>) = blank.open::<D>();
         let passes = match Pass::of_all(alloc, all, &mut shelf, workers) {
             Ok(passes) => passes,
@@ -289,7 +289,7 @@ impl<D: DeskName, S: JournalSink> Book<D, S> {
 }
 
 // After this verdict: the prepared change is published, and the pass learns it.
-fn tell<D: DeskName, R: Wait>(rt: &R, shelf: &mut Shelf<D>, pass: &mut Pass<D>, verdict: Verdict)
+fn tell<D: DeskName, R: Wait>(rt: &R, shelf: &mut SnapshotWriter<D>, pass: &mut Pass<D>, verdict: Verdict)
     requires waits { is_done verdict ≡ true → IsSome shelf.old.waiting }
     requires room { length shelf.old.list + 1 < 2 ^ 31 }
     requires told { IsPrefix pass.old.place.told shelf.old.list }
@@ -307,7 +307,7 @@ fn tell<D: DeskName, R: Wait>(rt: &R, shelf: &mut Shelf<D>, pass: &mut Pass<D>, 
 // After this verdict on a raise: the prepared change is published, and the pass learns it.
 fn tell_raise<D: DeskName, R: Wait>(
     rt: &R,
-    shelf: &mut Shelf<D>,
+    shelf: &mut SnapshotWriter<D>,
     pass: &mut Pass<D>,
     verdict: RaiseVerdict,
 )

@@ -28,7 +28,7 @@ use chpw_table::{
     Body, DecideFault, Entry, Event, JournalSink, KeyRow, Moment, Opened, Outcome, Prepared,
     Receipt, Refused, Table, Verdict,
 };
-use chpw_snapshots::Shelf;
+use chpw_snapshots::SnapshotWriter;
 use std::alloc::AllocError;
 
 impl<D: DeskName, S: JournalSink> RecordedTable<D, S> {
@@ -40,7 +40,7 @@ impl<D: DeskName, S: JournalSink> RecordedTable<D, S> {
     /// `Full`, `NeedKeys`, `Memory`.
     pub(crate) fn decide(
         &mut self,
-        shelf: &mut Shelf<D>,
+        shelf: &mut SnapshotWriter<D>,
         pass: &mut Pass<D>,
         now: Moment,
         opened: Opened,
@@ -86,7 +86,7 @@ impl<D: DeskName, S: JournalSink> RecordedTable<D, S> {
 // since the pass's reader can't enter.
 fn prepare<D: DeskName, S: JournalSink>(
     journaled: &mut JournaledTable<S>,
-    shelf: &Shelf<D>,
+    shelf: &SnapshotWriter<D>,
     pass: &mut Pass<D>,
     now: Moment,
     opened: Opened,
@@ -163,7 +163,7 @@ fn target_name(opened: &Opened) -> &Name
 fn make_room<D: DeskName>(
     entries: &mut Vec<Entry>,
     receipts: &mut Vec<Receipt>,
-    shelf: &mut Shelf<D>,
+    shelf: &mut SnapshotWriter<D>,
     table: &Table,
     prepared: &Prepared,
 ) -> Result<Opened, AllocError>

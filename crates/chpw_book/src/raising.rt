@@ -17,7 +17,7 @@ use crate::naming::DeskName;
 use crate::pass::Pass;
 use crate::recorded::RecordedTable;
 use chpw_table::{Entry, Event, JournalSink, Moment, RaiseVerdict, Receipt, Table};
-use chpw_snapshots::Shelf;
+use chpw_snapshots::SnapshotWriter;
 use std::alloc::AllocError;
 
 /// Why no raise was decided, in the order of the tests; nothing has changed.
@@ -49,7 +49,7 @@ impl<D: DeskName, S: JournalSink> RecordedTable<D, S> {
     /// changed: `Full`, `Memory`.
     pub(crate) fn raise(
         &mut self,
-        shelf: &mut Shelf<D>,
+        shelf: &mut SnapshotWriter<D>,
         pass: &mut Pass<D>,
         now: Moment,
         count: u32,
@@ -89,7 +89,7 @@ impl<D: DeskName, S: JournalSink> RecordedTable<D, S> {
 // refused for want of memory, since the pass's reader can't enter.
 fn has_room<D: DeskName>(
     table: &Table,
-    shelf: &Shelf<D>,
+    shelf: &SnapshotWriter<D>,
     pass: &mut Pass<D>,
 ) -> Result<(), RaiseFault>
     ensures room { OnOk result (table.now.events < table.now.max_entries) }
@@ -112,7 +112,7 @@ fn has_room<D: DeskName>(
 fn make_room<D: DeskName>(
     entries: &mut Vec<Entry>,
     receipts: &mut Vec<Receipt>,
-    shelf: &mut Shelf<D>,
+    shelf: &mut SnapshotWriter<D>,
     table: &Table,
     count: u32,
 ) -> Result<(), RaiseFault>

@@ -22,13 +22,13 @@ use std::sync::Wait;
 
 /// The writer of the versions. It is ended by `end` and never dropped. Contracts see the list that readers see, which
 /// is all that was accepted, and the prepared change.
-pub struct Shelf<D: LogName> {
+pub struct SnapshotWriter<D: LogName> {
     writer: Option<LeftRightWriter>,
     keeper: ChangeLog<D>,
     waiting: Option<NumberedChange>,
 }
 
-impl<D: LogName> Model for Shelf<D> {
+impl<D: LogName> Model for SnapshotWriter<D> {
     ghost use Rattle.std.specs.Prelude.{IsSomeAnd, drop, option_map};
     ghost use Rattle.left_right.specs.Sides.{view as view_of};
     ghost use Rattle.chpw_changelog.specs.Changes.{named};
@@ -48,7 +48,7 @@ impl<D: LogName> Model for Shelf<D> {
         × IsWaiting D.book D.root s.keeper (drop w.behind w.log.items) s.waiting) };
 }
 
-impl<D: LogName> Shelf<D> {
+impl<D: LogName> SnapshotWriter<D> {
     /// A shelf with an empty list and room for this many places, which shows these rows; `again` is a copy of them.
     /// They show the list's opening: a row for each principal, in its order, with counts of at least 1, and the changes
     /// that its table had accepted before. It may wait, as a publication does.
@@ -60,7 +60,7 @@ impl<D: LogName> Shelf<D> {
         rows: Rows,
         again: Rows,
         places: usize,
-    ) -> Result<Shelf<D>, AllocError>
+    ) -> Result<SnapshotWriter<D>, AllocError>
         requires places { (0 < places) × (places < 2 ^ 32) }
         requires root { (root.now.book ≡ D.book) × (root.now.log ≡ D.root) }
         requires rows { ShowsOpening (opening_table D.root) rows × (again ≡ rows) }
@@ -71,7 +71,7 @@ impl<D: LogName> Shelf<D> {
         let second = Version::of(again, root);
         let writer: LeftRightWriter = Writer::new(alloc, first, second, places)?;
         let (writer, _) = writer.publish_as::<Settles, R>(rt);
-        Ok(Shelf {
+        Ok(SnapshotWriter {
             writer: Some(writer),
             keeper,
             waiting: None,
