@@ -11,7 +11,7 @@ use Rattle.chpw_snapshots.specs.Known.{Shelved}
 use Rattle.chpw_snapshots.specs.Following.{IsShelved, IsWaiting}
 use Rattle.chpw_snapshots.proofs.RowLemmas.{has_number, found_number}
 use Rattle.chpw_snapshots.proofs.MoveLemmas.{of_some}
-use Rattle.chpw_snapshots.proofs.shelf.SnapshotWriter.number_of.Goals as goal
+use Rattle.chpw_snapshots.proofs.writer.SnapshotWriter.number_of.Goals as goal
 
 pub unreachable-requires-in_default-number_of : goal.unreachable-requires-in_default-number_of
 unreachable-requires-in_default-number_of g c =

@@ -9,7 +9,7 @@ use Rattle.chpw_snapshots.specs.Known.{Shelved}
 use Rattle.chpw_snapshots.specs.Following.{IsShelved, IsWaiting, CanBeShown}
 use Rattle.chpw_snapshots.proofs.RowLemmas.{none_mapped}
 use Rattle.chpw_snapshots.proofs.MoveLemmas.{of_some, put_some}
-use Rattle.chpw_snapshots.proofs.shelf.SnapshotWriter.wait.Goals as goal
+use Rattle.chpw_snapshots.proofs.writer.SnapshotWriter.wait.Goals as goal
 
 pub invariant_of-self-in-Ok : goal.invariant_of-self-in-Ok
 invariant_of-self-in-Ok g c =

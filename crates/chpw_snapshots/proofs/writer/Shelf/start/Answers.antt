@@ -3,7 +3,7 @@ use Rattle.left_right.specs.Sides.{view}
 use Rattle.chpw_table.specs.declared.change.Accepted.{Accepted}
 use Rattle.chpw_snapshots.specs.Following.{IsShelved, ShowsList}
 use Rattle.chpw_snapshots.proofs.MoveLemmas.{opens, settles, opening_version, shelved_first, ok_case}
-use Rattle.chpw_snapshots.proofs.shelf.SnapshotWriter.start.Goals as goal
+use Rattle.chpw_snapshots.proofs.writer.SnapshotWriter.start.Goals as goal
 
 pub new-requires-clause-rule : goal.new-requires-clause-rule
 new-requires-clause-rule g c =

@@ -9,7 +9,7 @@ use Rattle.chpw_snapshots.specs.declared.version.Version.{Version}
 use Rattle.chpw_snapshots.specs.Known.{Shelved}
 use Rattle.chpw_snapshots.specs.Following.{IsShelved, IsWaiting, IsRuled, Published}
 use Rattle.chpw_snapshots.proofs.MoveLemmas.{of_some, put_some, ok_case, published_at, shelved_after}
-use Rattle.chpw_snapshots.proofs.shelf.SnapshotWriter.publish.Goals as goal
+use Rattle.chpw_snapshots.proofs.writer.SnapshotWriter.publish.Goals as goal
 
 pub publish_as-writer-requires : goal.publish_as-writer-requires
 publish_as-writer-requires g c next is =

@@ -7,7 +7,7 @@ use Rattle.chpw_changelog.specs.Pens.{opening_state}
 use Rattle.chpw_snapshots.specs.Known.{Shelved}
 use Rattle.chpw_snapshots.specs.Rising.{IsNextVersion}
 use Rattle.chpw_snapshots.proofs.RowLemmas.{named_change}
-use Rattle.chpw_snapshots.proofs.shelf.SnapshotWriter.prepare.Goals as goal
+use Rattle.chpw_snapshots.proofs.writer.SnapshotWriter.prepare.Goals as goal
 
 pub number_of-number-requires : goal.number_of-number-requires
 number_of-number-requires g c = record { known = (c.requires.next.0, c.requires.next.1) }

@@ -1,5 +1,5 @@
 use Rattle.chpw_snapshots.proofs.MoveLemmas.{admits, forks, merges}
-use Rattle.chpw_snapshots.proofs.shelf.SnapshotWriter.place.Goals as goal
+use Rattle.chpw_snapshots.proofs.writer.SnapshotWriter.place.Goals as goal
 
 pub reader-requires : goal.reader-requires
 reader-requires g c x views h = admits x views h
