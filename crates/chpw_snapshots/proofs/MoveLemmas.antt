@@ -19,7 +19,7 @@ use Rattle.chpw_changelog.specs.declared.change.NumberedChange.TheVariants.{Key,
 use Rattle.chpw_changelog.specs.Changes.{named, named_key}
 use Rattle.chpw_changelog.specs.Pens.{changes_in, opening_state, opening_table}
 use Rattle.chpw_changelog.proofs.ListLemmas.{prefix_self, prefix_trans, prefix_same}
-use Rattle.chpw_snapshots.specs.declared.version.Version.{Version}
+use Rattle.chpw_snapshots.specs.declared.version.Snapshot.{Snapshot}
 use Rattle.chpw_snapshots.specs.declared.version.Operation.{Operation}
 use Rattle.chpw_snapshots.specs.declared.view.View.{View}
 use Rattle.chpw_snapshots.specs.Rows.{Rowed, names_of_rows, names_of, rows_after, shown_in, IsPositive, ShowsOpening, lookup_with, lookup_after}
@@ -28,34 +28,34 @@ use Rattle.chpw_snapshots.specs.Following.{applied, IsNumberOf, HasNumber, CanBe
 use Rattle.chpw_snapshots.proofs.RiseLemmas.{next_on}
 use Rattle.chpw_snapshots.proofs.RowLemmas.{names_changed, changed_shows, changed_positive, shown_more, count_more}
 
-abbrev AllTied : Version → List Accepted → List View → Type 0
+abbrev AllTied : Snapshot → List Accepted → List View → Type 0
 AllTied x list views = (seat : ℕ) (v : View) → get_elem? views seat ≡ some v → IsTied x list v
 
-unknown_tied : (x : Version) (list : List Accepted) → IsTied x list unknown
+unknown_tied : (x : Snapshot) (list : List Accepted) → IsTied x list unknown
 unknown_tied x list t = absurd (cc)
 
-moved : (x y : Version) (list n : List Accepted) (v : View) → y.root ≡ x.root → IsTied x list v → IsTied y (list ++ n) v
+moved : (x y : Snapshot) (list n : List Accepted) (v : View) → y.root ≡ x.root → IsTied x list v → IsTied y (list ++ n) v
 moved x y list n v e h k = let t = h k in (t.0 ∙ sym (ap (λ m. m.book) e), t.1 ∙ sym (ap (λ m. m.log) e), prefix_trans v.front list (list ++ n) t.2 (n, refl))
 
-same : (x : Version) (list : List Accepted) (views : List View) (seat : ℕ) (w : View) → AllTied x list views → IsTied x list w → AllTied x list (set views seat w)
+same : (x : Snapshot) (list : List Accepted) (views : List View) (seat : ℕ) (w : View) → AllTied x list views → IsTied x list w → AllTied x list (set views seat w)
 same x list views seat w each own j u at =
     ⊎_elim (λ (t : (j ≡ seat) × (w ≡ u)). subst (λ z. IsTied x list z) t.1 own)
     (λ (t : (j ≢ seat) × (get_elem? views j ≡ some u)). each j u t.1)
     (at_set views seat j w u at)
 
-snoc : (x : Version) (list : List Accepted) (views : List View) (w : View) → AllTied x list views → IsTied x list w → AllTied x list (views ++ w ∷ [])
+snoc : (x : Snapshot) (list : List Accepted) (views : List View) (w : View) → AllTied x list views → IsTied x list w → AllTied x list (views ++ w ∷ [])
 snoc x list views w each own j u at = ⊎_elim (each j u) (λ (e : w ≡ u). subst (λ z. IsTied x list z) e own) (at_snoc views w u j at)
 
 pub admits : Admits IsRuled unknown
 admits x views (list, is, each) = (list, is, snoc x list views unknown each (unknown_tied x list))
 
-pub opens : (x : Version) (list : List Accepted) → ShowsList x.root.book x.root.log list x → IsRuled x (unknown ∷ [])
+pub opens : (x : Snapshot) (list : List Accepted) → ShowsList x.root.book x.root.log list x → IsRuled x (unknown ∷ [])
 opens x list is = (list, is, snoc x list [] unknown (λ j u at. absurd (cc)) (unknown_tied x list))
 
-pub renamed : (b b' : LogbookName) (r r' : List LogEntry) (list : List Accepted) (x : Version) → b ≡ b' → r ≡ r' → ShowsList b r list x → ShowsList b' r' list x
+pub renamed : (b b' : LogbookName) (r r' : List LogEntry) (list : List Accepted) (x : Snapshot) → b ≡ b' → r ≡ r' → ShowsList b r list x → ShowsList b' r' list x
 renamed b b' r r' list x e f is = subst (λ c. ShowsList c r' list x) e (subst (λ l. ShowsList b l list x) f is)
 
-pub looks : (seat : ℕ) (v : View) (x : Version) → TurnsAt IsRuled seat v x x Looked
+pub looks : (seat : ℕ) (v : View) (x : Snapshot) → TurnsAt IsRuled seat v x x Looked
 looks seat v x views (list, is, each) at =
     let mine = each seat v at in
     let w : View = record v { front = list } in (
@@ -103,7 +103,7 @@ positive_after opening list (Count n) r policy next is =
     (count, is.1)
 
 -- the version with one operation more shows the list with one change more
-pub goes_on : (b : LogbookName) (r : List LogEntry) (list : List Accepted) (x : Version) (o : Operation) → ShowsList b r list x → o.seen.book ≡ b → changes_in r o.seen.log ≡ list → CanBeShown (opening_state r) list o.change
+pub goes_on : (b : LogbookName) (r : List LogEntry) (list : List Accepted) (x : Snapshot) (o : Operation) → ShowsList b r list x → o.seen.book ≡ b → changes_in r o.seen.log ≡ list → CanBeShown (opening_state r) list o.change
     → length list + 1 < 2147483648 → ShowsList b r (list ++ named (opening_state r) o.change ∷ []) (applied x o)
 goes_on b r list x o is ob ol can room =
     let c : Accepted = named (opening_state r) o.change in
@@ -129,14 +129,14 @@ goes_on b r list x o is ob ol can room =
     }
 
 -- the writer, which knows the whole list, makes the change of one operation
-pub published_at : (seat : ℕ) (b : LogbookName) (r : List LogEntry) (v : View) (x : Version) (list : List Accepted) (o : Operation) → IsShelved b r v x list → o.seen.book ≡ b → changes_in r o.seen.log ≡ list
+pub published_at : (seat : ℕ) (b : LogbookName) (r : List LogEntry) (v : View) (x : Snapshot) (list : List Accepted) (o : Operation) → IsShelved b r v x list → o.seen.book ≡ b → changes_in r o.seen.log ≡ list
     → CanBeShown (opening_state r) list o.change → length list + 1 < 2147483648 → TurnsAt IsRuled seat v x (applied x o) Published
 published_at seat b r v x list o sh ob ol can room views (all, is, each) at =
     let mine = each seat v at sh.0.0 in
     let pre : IsPrefix list all = subst (λ (l : List Accepted). IsPrefix l all) sh.1 mine.2 in
     let long : length list ≡ length all = sym sh.2.len_is ∙ is.len_is in
     let whole : list ≡ all = prefix_same list all all pre (prefix_self all) long in
-    let y : Version = applied x o in
+    let y : Snapshot = applied x o in
     let c : Accepted = named (opening_state r) o.change in
     let w : View = record v { front = v.front ++ named (opening_state v.root) o.change ∷ [] } in
     let next : ShowsList y.root.book y.root.log (list ++ c ∷ []) y = renamed b y.root.book r y.root.log (list ++ c ∷ []) y (sym sh.2.root_book) (sym sh.2.root_log) (goes_on b r list x o sh.2 ob ol can room) in
@@ -145,7 +145,7 @@ published_at seat b r v x list o sh ob ol can room views (all, is, each) at =
     let before : AllTied x list views = subst (λ (l : List Accepted). AllTied x l views) (sym whole) each in
     (w, (list ++ c ∷ [], next, same y (list ++ c ∷ []) views seat w (λ j u t. moved x y list (c ∷ []) u refl (before j u t)) (λ k. (mine.0, mine.1, own))), refl)
 
-pub shelved_after : (b : LogbookName) (r : List LogEntry) (v w : View) (x y : Version) (list : List Accepted) (o : Operation) → IsShelved b r v x list → o.seen.book ≡ b → changes_in r o.seen.log ≡ list
+pub shelved_after : (b : LogbookName) (r : List LogEntry) (v w : View) (x y : Snapshot) (list : List Accepted) (o : Operation) → IsShelved b r v x list → o.seen.book ≡ b → changes_in r o.seen.log ≡ list
     → CanBeShown (opening_state r) list o.change → length list + 1 < 2147483648 → y ≡ applied x o → Published v x y w → IsShelved b r w y (list ++ named (opening_state r) o.change ∷ [])
 shelved_after b r v w x y list o sh ob ol can room is told =
     let c : Accepted = named (opening_state r) o.change in (
@@ -153,20 +153,20 @@ shelved_after b r v w x y list o sh ob ol can room is told =
       ap (λ (z : View). z.front) told
           ∙ (ap (λ (l : List Accepted). l ++ named (opening_state v.root) y.last ∷ []) sh.1
           ∙ (ap (λ l. list ++ named (opening_state l) y.last ∷ []) sh.0.2
-          ∙ ap (λ (z : Version). list ++ named (opening_state r) z.last ∷ []) is)),
-      subst (λ (z : Version). ShowsList b r (list ++ c ∷ []) z) (sym is) (goes_on b r list x o sh.2 ob ol can room),
+          ∙ ap (λ (z : Snapshot). list ++ named (opening_state r) z.last ∷ []) is)),
+      subst (λ (z : Snapshot). ShowsList b r (list ++ c ∷ []) z) (sym is) (goes_on b r list x o sh.2 ob ol can room),
     )
 
-pub settles : (seat : ℕ) (v : View) (x y : Version) → y ≡ x → TurnsAt IsRuled seat v x y Settled
-settles seat v x y e = subst (λ (z : Version). TurnsAt IsRuled seat v x z Settled) (sym e) (stays seat v x)
+pub settles : (seat : ℕ) (v : View) (x y : Snapshot) → y ≡ x → TurnsAt IsRuled seat v x y Settled
+settles seat v x y e = subst (λ (z : Snapshot). TurnsAt IsRuled seat v x z Settled) (sym e) (stays seat v x)
   where
-    stays : (seat : ℕ) (v : View) (x : Version) → TurnsAt IsRuled seat v x x Settled
+    stays : (seat : ℕ) (v : View) (x : Snapshot) → TurnsAt IsRuled seat v x x Settled
     stays seat v x views (list, is, each) at =
         let w : View = record { known = true; number = x.root.book.number; log_name = x.root.book.log_name; cells_name = x.root.book.cells_name; root = x.root.log; front = [] } in
         (w, (list, is, same x list views seat w each (λ k. (refl, refl, (list, refl)))), ((refl, refl, refl), refl))
 
 -- the version at the opening shows no change
-pub opening_version : (r : List LogEntry) (rows : Rowed) (x : Version) → x.len ≡ 0 → x.rows ≡ rows → x.root.log ≡ r → x.seen ≡ x.root → ShowsOpening (opening_table r) rows → ShowsList x.root.book x.root.log [] x
+pub opening_version : (r : List LogEntry) (rows : Rowed) (x : Snapshot) → x.len ≡ 0 → x.rows ≡ rows → x.root.log ≡ r → x.seen ≡ x.root → ShowsOpening (opening_table r) rows → ShowsList x.root.book x.root.log [] x
 opening_version r rows x n same log seen shows =
     at (subst (λ l. ShowsOpening (opening_table l) x.rows) (sym log) (subst (λ (z : Rowed). ShowsOpening (opening_table r) z) (sym same) shows))
   where
@@ -187,11 +187,11 @@ opening_version r rows x n same log seen shows =
       last = λ h. absurd (omega arith);
     }
 
-pub shelved_first : (b : LogbookName) (r : List LogEntry) (v w : View) (x y : Version) → y ≡ x → x.root.book ≡ b → x.root.log ≡ r → ShowsList x.root.book x.root.log [] x → Settled v x y w → IsShelved b r w y []
+pub shelved_first : (b : LogbookName) (r : List LogEntry) (v w : View) (x y : Snapshot) → y ≡ x → x.root.book ≡ b → x.root.log ≡ r → ShowsList x.root.book x.root.log [] x → Settled v x y w → IsShelved b r w y []
 shelved_first b r v w x y e eb er is told = (
-  (told.0.0, told.0.1 ∙ (ap (λ (z : Version). z.root.book) e ∙ eb), told.0.2 ∙ (ap (λ (z : Version). z.root.log) e ∙ er)),
+  (told.0.0, told.0.1 ∙ (ap (λ (z : Snapshot). z.root.book) e ∙ eb), told.0.2 ∙ (ap (λ (z : Snapshot). z.root.log) e ∙ er)),
   told.1,
-  subst (λ (z : Version). ShowsList b r [] z) (sym e) (renamed x.root.book b x.root.log r [] x eb er is),
+  subst (λ (z : Snapshot). ShowsList b r [] z) (sym e) (renamed x.root.book b x.root.log r [] x eb er is),
 )
 
 pub forks : (seat : ℕ) (v : View) → Forks IsRuled seat v v v
@@ -215,12 +215,12 @@ ok_case (Ok a) P Q ok m = (a, m)
 ok_case (Err e) P Q ok m = absurd (cc)
 
 -- the list that a version shows is the one that its mark and last change make
-pub shown_list : (b : LogbookName) (r : List LogEntry) (list : List Accepted) (x : Version) → ShowsList b r list x → list ≡ list_shown r x
+pub shown_list : (b : LogbookName) (r : List LogEntry) (list : List Accepted) (x : Snapshot) → ShowsList b r list x → list ≡ list_shown r x
 shown_list b r [] x is = sym (ap (λ n. list_by (changes_in r x.seen.log) (named (opening_state r) x.last) n) is.len_is)
 shown_list b r (c ∷ cs) x is = is.last (omega arith) ∙ sym (ap (λ n. list_by (changes_in r x.seen.log) (named (opening_state r) x.last) n) is.len_is)
 
 -- what its rows show is what that list shows
-pub shown_by : (b : LogbookName) (r : List LogEntry) (list : List Accepted) (x : Version) (name : Name) → ShowsList b r list x
+pub shown_by : (b : LogbookName) (r : List LogEntry) (list : List Accepted) (x : Snapshot) (name : Name) → ShowsList b r list x
     → option_map (lookup_with x.rows.policy x.rows.seen) (shown_in x.rows.rows name) ≡ lookup_after (opening_table r) (list_shown r x) name
 shown_by b r list x name is =
     let e = shown_list b r list x is in
@@ -230,7 +230,7 @@ shown_by b r list x name is =
     ∙ ap (λ l. lookup_after (opening_table r) l name) e))
 
 -- what is told begins it, where `Front::begins` says so
-pub begins_shown : (b : LogbookName) (r : List LogEntry) (list told : List Accepted) (x : Version) → ShowsList b r list x
+pub begins_shown : (b : LogbookName) (r : List LogEntry) (list told : List Accepted) (x : Snapshot) → ShowsList b r list x
     → (x.len ≡ length (changes_in r x.seen.log ++ named (opening_state r) x.last ∷ []) → IsPrefix told (changes_in r x.seen.log ++ named (opening_state r) x.last ∷ []))
     → (x.len ≡ 0 → told ≡ []) → IsPrefix told (list_shown r x)
 begins_shown b r [] told x is tells empty = subst (λ (l : List Accepted). IsPrefix l (list_shown r x)) (sym (empty is.len_is)) (list_shown r x, refl)

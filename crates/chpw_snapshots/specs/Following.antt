@@ -15,7 +15,7 @@ use Rattle.chpw_changelog.specs.declared.change.NumberedChange.TheVariants.{Key,
 use Rattle.chpw_changelog.specs.declared.entry.LogEntry.{LogEntry}
 use Rattle.chpw_changelog.specs.Changes.{named, named_key}
 use Rattle.chpw_changelog.specs.Pens.{changes_in, opening_state, opening_table}
-use Rattle.chpw_snapshots.specs.declared.version.Version.{Version}
+use Rattle.chpw_snapshots.specs.declared.version.Snapshot.{Snapshot}
 use Rattle.chpw_snapshots.specs.declared.version.ListShown.{ListShown}
 use Rattle.chpw_snapshots.specs.declared.version.Operation.{Operation}
 use Rattle.chpw_snapshots.specs.declared.view.View.{View}
@@ -23,7 +23,7 @@ use Rattle.chpw_snapshots.specs.Rows.{rows_after, names_of_rows, names_of, shown
 use Rattle.chpw_snapshots.specs.Rising.{IsNextVersion, AreNextVersions}
 
 -- one more operation
-abbrev pub applied : Version → Operation → Version
+abbrev pub applied : Snapshot → Operation → Snapshot
 applied x o = record x {
   rows = rows_after o.change x.rows;
   len = (x.len + 1) % 4294967296;
@@ -51,7 +51,7 @@ list_by before last zero = []
 list_by before last (suc n) = before ++ last ∷ []
 
 -- the list that the version shows, all but the last change of which its mark knows
-abbrev pub list_shown : List LogEntry → Version → List Accepted
+abbrev pub list_shown : List LogEntry → Snapshot → List Accepted
 list_shown root x = list_by (changes_in root x.seen.log) (named (opening_state root) x.last) x.len
 
 -- the list that is kept of the version, likewise
@@ -64,7 +64,7 @@ IsKnown log root s = (s.seen.book ≡ log) × (s.len ≡ length (list_of root s)
 
 -- The version is of the list named by this log and root, and shows these changes of it, along which
 -- versions rise. Its rows count them, and those that the table had accepted before.
-pub record ShowsList (log : LogbookName) (root : List LogEntry) (list : List Accepted) (x : Version) : Type 0 where
+pub record ShowsList (log : LogbookName) (root : List LogEntry) (list : List Accepted) (x : Snapshot) : Type 0 where
   pub root_book : x.root.book ≡ log
   pub root_log : x.root.log ≡ root
   pub seen_book : x.seen.book ≡ log
@@ -90,25 +90,25 @@ log_of v = record { number = v.number; log_name = v.log_name; cells_name = v.cel
 abbrev pub IsOf : LogbookName → List LogEntry → View → Type 0
 IsOf log root v = (v.known ≡ true) × (log_of v ≡ log) × (v.root ≡ root)
 
-abbrev pub IsTied : Version → List Accepted → View → Type 0
+abbrev pub IsTied : Snapshot → List Accepted → View → Type 0
 IsTied x list v = v.known ≡ true → (log_of v ≡ x.root.book) × (v.root ≡ x.root.log) × IsPrefix v.front list
 
-abbrev pub IsRuled : Version → List View → Type 0
+abbrev pub IsRuled : Snapshot → List View → Type 0
 IsRuled x views =
     (list : List Accepted) × ShowsList x.root.book x.root.log list x
     × ((seat : ℕ) (v : View) → get_elem? views seat ≡ some v → IsTied x list v)
 
 -- a reader enters: the list goes on from what it saw, and the version shows it
-abbrev pub Looked : View → Version → Version → View → Type 0
+abbrev pub Looked : View → Snapshot → Snapshot → View → Type 0
 Looked v x y w =
     v.known ≡ true → IsOf (log_of v) v.root w × IsPrefix v.front w.front × ShowsList (log_of v) v.root w.front y
 
 -- the writer publishes: the list that it knew is extended by the last change
-abbrev pub Published : View → Version → Version → View → Type 0
+abbrev pub Published : View → Snapshot → Snapshot → View → Type 0
 Published v x y w = w ≡ record v { front = v.front ++ named (opening_state v.root) y.last ∷ [] }
 
 -- the writer learns whose list it is
-abbrev pub Settled : View → Version → Version → View → Type 0
+abbrev pub Settled : View → Snapshot → Snapshot → View → Type 0
 Settled v x y w = IsOf y.root.book y.root.log w × (w.front ≡ [])
 
 -- the operations that wait: none, or this change, which can be shown after this list
@@ -119,7 +119,7 @@ IsWaiting log root list ops (Some c) =
     × CanBeShown (opening_state root) list o.change
 
 -- what the writer holds shows this list, and it knows that
-abbrev pub IsShelved : LogbookName → List LogEntry → View → Version → List Accepted → Type 0
+abbrev pub IsShelved : LogbookName → List LogEntry → View → Snapshot → List Accepted → Type 0
 IsShelved log root v x list = IsOf log root v × (v.front ≡ list) × ShowsList log root list x
 
 -- what a reader that isn't lent out knows

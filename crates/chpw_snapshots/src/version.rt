@@ -11,7 +11,7 @@ use std::alloc::AllocError;
 /// The rows after a list of changes, with its length and its last change. `seen` knows the list without the last, and
 /// `root` says whose list it is; neither has bytes.
 #[derive(Drop)]
-pub struct Version {
+pub struct Snapshot {
     pub rows: Rows,
     pub len: u32,
     pub last: NumberedChange,
@@ -35,7 +35,7 @@ pub struct Operation {
     pub seen: LogPrefix,
 }
 
-impl Version {
+impl Snapshot {
     /// The list that it shows.
     pub(crate) fn shown(&self) -> ListShown
         ensures value { (root : _) → list_of root result ≡ list_shown root self.now }
@@ -49,12 +49,12 @@ impl Version {
     }
 
     /// The version after no change.
-    pub(crate) fn of(rows: Rows, root: &LogPrefix) -> Version
+    pub(crate) fn of(rows: Rows, root: &LogPrefix) -> Snapshot
         ensures value { (result.rows ≡ rows) × (result.len ≡ 0) × (result.seen ≡ root.now)
             × (result.root ≡ root.now) }
         ensures last { result.last ≡ Count 0 }
     {
-        Version {
+        Snapshot {
             rows,
             len: 0,
             last: NumberedChange::none(),
@@ -74,10 +74,10 @@ impl ListShown {
     }
 }
 
-impl Absorb<Operation> for Version {
+impl Absorb<Operation> for Snapshot {
     ghost use Rattle.chpw_snapshots.specs.Following.{applied as applied_to};
 
-    type State = Version;
+    type State = Snapshot;
 
     ghost state = { λ s. s };
 
@@ -85,7 +85,7 @@ impl Absorb<Operation> for Version {
 
     ghost never_fails = { Unit {0} };
 
-    fn absorb_first(&mut self, operation: &Operation, _other: &Version) -> Result<(), AllocError> {
+    fn absorb_first(&mut self, operation: &Operation, _other: &Snapshot) -> Result<(), AllocError> {
         self.rows.change(operation.change);
         self.len = self.len.wrapping_add(1);
         self.last = operation.change;

@@ -1,6 +1,6 @@
 //! The rule of the versions.
 
-use crate::version::{Operation, Version};
+use crate::version::{Operation, Snapshot};
 use atomic_table::{Join, Split};
 use chpw_changelog::LogEntry;
 use chpw_table::Accepted;
@@ -23,7 +23,7 @@ pub struct View {
 /// The rule: the version shows a list, and each view that knows whose it is has a beginning of it.
 pub struct Ruled;
 
-impl Protocol<Version, View> for Ruled {
+impl Protocol<Snapshot, View> for Ruled {
     ghost use Rattle.chpw_snapshots.specs.Following.{IsRuled, unknown};
 
     ghost holds = { IsRuled };
@@ -31,14 +31,14 @@ impl Protocol<Version, View> for Ruled {
     ghost first = { unknown };
 }
 
-pub(crate) type LeftRightReader = Reader<Version, View, Ruled>;
+pub(crate) type LeftRightReader = Reader<Snapshot, View, Ruled>;
 
-pub(crate) type LeftRightWriter = Writer<Version, Operation, View, Ruled>;
+pub(crate) type LeftRightWriter = Writer<Snapshot, Operation, View, Ruled>;
 
 // A reader enters.
 pub(crate) struct Enters;
 
-impl Outcome<Version, View> for Enters {
+impl Outcome<Snapshot, View> for Enters {
     ghost use Rattle.chpw_snapshots.specs.Following.{Looked};
 
     ghost then = { Looked };
@@ -47,7 +47,7 @@ impl Outcome<Version, View> for Enters {
 // The writer publishes.
 pub(crate) struct Publishes;
 
-impl Outcome<Version, View> for Publishes {
+impl Outcome<Snapshot, View> for Publishes {
     ghost use Rattle.chpw_snapshots.specs.Following.{Published};
 
     ghost then = { Published };
@@ -56,7 +56,7 @@ impl Outcome<Version, View> for Publishes {
 // The writer learns whose list it is.
 pub(crate) struct Settles;
 
-impl Outcome<Version, View> for Settles {
+impl Outcome<Snapshot, View> for Settles {
     ghost use Rattle.chpw_snapshots.specs.Following.{Settled};
 
     ghost then = { Settled };

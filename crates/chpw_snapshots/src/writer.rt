@@ -11,7 +11,7 @@ ghost use Rattle.chpw_snapshots.specs.Following.{CanBeShown, IsNumberOf};
 
 use crate::reader::SnapshotReader;
 use crate::rows::Rows;
-use crate::version::{Operation, Version};
+use crate::version::{Operation, Snapshot};
 use crate::view::{HandsOn, Learns, Publishes, Settles, LeftRightWriter};
 use chpw_changelog::{Front, ChangeLog, LogName, LogPrefix, NumberedChange, NumberedKey};
 use chpw_rules::Name;
@@ -67,8 +67,8 @@ impl<D: LogName> SnapshotWriter<D> {
         requires keeper { keeper ≡ [] }
         ensures value { IfOk result (λ s. s ≡ record { list = []; waiting = None }) }
     {
-        let first = Version::of(rows, root);
-        let second = Version::of(again, root);
+        let first = Snapshot::of(rows, root);
+        let second = Snapshot::of(again, root);
         let writer: LeftRightWriter = Writer::new(alloc, first, second, places)?;
         let (writer, _) = writer.publish_as::<Settles, R>(rt);
         Ok(SnapshotWriter {

@@ -5,7 +5,7 @@ use Rattle.chpw_table.specs.declared.change.Accepted.{Accepted}
 use Rattle.chpw_changelog.specs.declared.change.NumberedChange.{NumberedChange}
 use Rattle.chpw_changelog.specs.Changes.{named}
 use Rattle.chpw_changelog.specs.Pens.{opening_state}
-use Rattle.chpw_snapshots.specs.declared.version.Version.{Version}
+use Rattle.chpw_snapshots.specs.declared.version.Snapshot.{Snapshot}
 use Rattle.chpw_snapshots.specs.Known.{Shelved}
 use Rattle.chpw_snapshots.specs.Following.{IsShelved, IsWaiting, IsRuled, Published}
 use Rattle.chpw_snapshots.proofs.MoveLemmas.{of_some, put_some, ok_case, published_at, shelved_after}
@@ -21,7 +21,7 @@ publish_as-writer-requires g c next is =
     let waits = subst (λ (o : Option NumberedChange). IsWaiting b r list (drop w.behind w.log.items) o) c.in-Some.is inv.1 in
     let room : length list + 1 < 2147483648 = subst (λ (l : List Accepted). length l + 1 < 2147483648) (sym (ap (λ (s : Shelved). s.list) c.self.view_is)) c.requires.room in
     let after = rw waits.1 at is in
-    subst (λ (y : Version). TurnsAt IsRuled w.desk.place.id (view w.desk.place) w.desk.shown.value y Published) (sym after)
+    subst (λ (y : Snapshot). TurnsAt IsRuled w.desk.place.id (view w.desk.place) w.desk.shown.value y Published) (sym after)
     (published_at w.desk.place.id b r (view w.desk.place) w.desk.shown.value list waits.0 inv.0 waits.3 waits.4 waits.5 room)
 
 pub invariant_of-self : goal.invariant_of-self
