@@ -19,8 +19,8 @@ use Rattle.chpw_changelog.specs.declared.change.NumberedChange.TheVariants.{Key,
 use Rattle.chpw_changelog.specs.Changes.{named, named_key}
 use Rattle.chpw_changelog.specs.Pens.{changes_in, opening_state, opening_table}
 use Rattle.chpw_changelog.proofs.ListLemmas.{prefix_self, prefix_trans, prefix_same}
-use Rattle.chpw_snapshots.specs.declared.version.Snapshot.{Snapshot}
-use Rattle.chpw_snapshots.specs.declared.version.Operation.{Operation}
+use Rattle.chpw_snapshots.specs.declared.snapshot.Snapshot.{Snapshot}
+use Rattle.chpw_snapshots.specs.declared.snapshot.Operation.{Operation}
 use Rattle.chpw_snapshots.specs.declared.view.View.{View}
 use Rattle.chpw_snapshots.specs.Rows.{Rowed, names_of_rows, names_of, rows_after, shown_in, IsPositive, ShowsOpening, lookup_with, lookup_after}
 use Rattle.chpw_snapshots.specs.Rising.{IsNextVersion}

@@ -15,9 +15,9 @@ use Rattle.chpw_changelog.specs.declared.change.NumberedChange.TheVariants.{Key,
 use Rattle.chpw_changelog.specs.declared.entry.LogEntry.{LogEntry}
 use Rattle.chpw_changelog.specs.Changes.{named, named_key}
 use Rattle.chpw_changelog.specs.Pens.{changes_in, opening_state, opening_table}
-use Rattle.chpw_snapshots.specs.declared.version.Snapshot.{Snapshot}
-use Rattle.chpw_snapshots.specs.declared.version.ListShown.{ListShown}
-use Rattle.chpw_snapshots.specs.declared.version.Operation.{Operation}
+use Rattle.chpw_snapshots.specs.declared.snapshot.Snapshot.{Snapshot}
+use Rattle.chpw_snapshots.specs.declared.snapshot.ListShown.{ListShown}
+use Rattle.chpw_snapshots.specs.declared.snapshot.Operation.{Operation}
 use Rattle.chpw_snapshots.specs.declared.view.View.{View}
 use Rattle.chpw_snapshots.specs.Rows.{rows_after, names_of_rows, names_of, shown_in, IsPositive}
 use Rattle.chpw_snapshots.specs.Rising.{IsNextVersion, AreNextVersions}

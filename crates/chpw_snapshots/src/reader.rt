@@ -6,7 +6,7 @@ ghost use Rattle.chpw_changelog.specs.Pens.{opening_table};
 ghost use Rattle.chpw_snapshots.specs.Following.{IsOf, IsKnown, list_of};
 ghost use Rattle.chpw_snapshots.specs.Looking.{LooksUp};
 
-use crate::version::ListShown;
+use crate::snapshot::ListShown;
 use crate::view::{Enters, LeftRightReader};
 use chpw_changelog::{Front, LogName};
 use chpw_rules::Name;

@@ -1,6 +1,6 @@
 //! The rule of the versions.
 
-use crate::version::{Operation, Snapshot};
+use crate::snapshot::{Operation, Snapshot};
 use atomic_table::{Join, Split};
 use chpw_changelog::LogEntry;
 use chpw_table::Accepted;

@@ -11,7 +11,7 @@ ghost use Rattle.chpw_snapshots.specs.Following.{CanBeShown, IsNumberOf};
 
 use crate::reader::SnapshotReader;
 use crate::rows::Rows;
-use crate::version::{Operation, Snapshot};
+use crate::snapshot::{Operation, Snapshot};
 use crate::view::{HandsOn, Learns, Publishes, Settles, LeftRightWriter};
 use chpw_changelog::{Front, ChangeLog, LogName, LogPrefix, NumberedChange, NumberedKey};
 use chpw_rules::Name;

@@ -4,7 +4,7 @@ use mathlib.Core.List.{IsPrefix}
 use Rattle.left_right.specs.Sides.{view}
 use Rattle.chpw_table.specs.declared.change.Accepted.{Accepted}
 use Rattle.chpw_snapshots.specs.Known.{Known}
-use Rattle.chpw_snapshots.specs.declared.version.Snapshot.{Snapshot}
+use Rattle.chpw_snapshots.specs.declared.snapshot.Snapshot.{Snapshot}
 use Rattle.chpw_changelog.specs.Pens.{opening_state, opening_table}
 use Rattle.chpw_snapshots.specs.Rows.{IsPositive, lookup_with, shown_in, lookup_after}
 use Rattle.chpw_snapshots.specs.Rising.{AreNextVersions}

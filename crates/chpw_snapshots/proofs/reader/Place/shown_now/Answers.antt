@@ -3,7 +3,7 @@ use mathlib.Core.List.{IsPrefix}
 use Rattle.left_right.specs.Sides.{view}
 use Rattle.chpw_table.specs.declared.change.Accepted.{Accepted}
 use Rattle.chpw_snapshots.specs.Known.{Known}
-use Rattle.chpw_snapshots.specs.declared.version.Snapshot.{Snapshot}
+use Rattle.chpw_snapshots.specs.declared.snapshot.Snapshot.{Snapshot}
 use Rattle.chpw_snapshots.specs.Following.{IsOf, ShowsList, log_of, list_of, list_shown, front_by}
 use Rattle.chpw_changelog.proofs.ListLemmas.{prefix_trans}
 use Rattle.chpw_snapshots.proofs.MoveLemmas.{looks, of_some, renamed, shown_list}

@@ -6,7 +6,7 @@ use Rattle.chpw_table.specs.declared.change.Accepted.{Accepted}
 use Rattle.chpw_table.specs.Versions.{shown}
 use Rattle.chpw_changelog.specs.Pens.{opening_state}
 use Rattle.chpw_snapshots.specs.declared.rows.Row.{Row}
-use Rattle.chpw_snapshots.specs.declared.version.Snapshot.{Snapshot}
+use Rattle.chpw_snapshots.specs.declared.snapshot.Snapshot.{Snapshot}
 use Rattle.chpw_snapshots.specs.Known.{Shelved}
 use Rattle.chpw_snapshots.specs.Following.{IsShelved, IsWaiting}
 use Rattle.chpw_snapshots.proofs.RowLemmas.{has_number, found_number}

@@ -5,7 +5,7 @@ use Rattle.chpw_table.specs.declared.change.Accepted.{Accepted}
 use Rattle.chpw_changelog.specs.declared.change.NumberedChange.{NumberedChange}
 use Rattle.chpw_changelog.specs.Changes.{named}
 use Rattle.chpw_changelog.specs.Pens.{opening_state}
-use Rattle.chpw_snapshots.specs.declared.version.Snapshot.{Snapshot}
+use Rattle.chpw_snapshots.specs.declared.snapshot.Snapshot.{Snapshot}
 use Rattle.chpw_snapshots.specs.Known.{Shelved}
 use Rattle.chpw_snapshots.specs.Following.{IsShelved, IsWaiting, IsRuled, Published}
 use Rattle.chpw_snapshots.proofs.MoveLemmas.{of_some, put_some, ok_case, published_at, shelved_after}

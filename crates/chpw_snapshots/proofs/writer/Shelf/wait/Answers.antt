@@ -4,7 +4,7 @@ use Rattle.chpw_table.specs.declared.change.Accepted.{Accepted}
 use Rattle.chpw_changelog.specs.declared.change.NumberedChange.{NumberedChange}
 use Rattle.chpw_changelog.specs.Changes.{named}
 use Rattle.chpw_changelog.specs.Pens.{opening_state}
-use Rattle.chpw_snapshots.specs.declared.version.Operation.{Operation}
+use Rattle.chpw_snapshots.specs.declared.snapshot.Operation.{Operation}
 use Rattle.chpw_snapshots.specs.Known.{Shelved}
 use Rattle.chpw_snapshots.specs.Following.{IsShelved, IsWaiting, CanBeShown}
 use Rattle.chpw_snapshots.proofs.RowLemmas.{none_mapped}
