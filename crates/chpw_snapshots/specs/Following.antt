@@ -16,7 +16,7 @@ use Rattle.chpw_changelog.specs.declared.entry.LogEntry.{LogEntry}
 use Rattle.chpw_changelog.specs.Changes.{named, named_key}
 use Rattle.chpw_changelog.specs.Pens.{changes_in, opening_state, opening_table}
 use Rattle.chpw_snapshots.specs.declared.snapshot.Snapshot.{Snapshot}
-use Rattle.chpw_snapshots.specs.declared.snapshot.ListShown.{ListShown}
+use Rattle.chpw_snapshots.specs.declared.snapshot.ShownPrefix.{ShownPrefix}
 use Rattle.chpw_snapshots.specs.declared.snapshot.Operation.{Operation}
 use Rattle.chpw_snapshots.specs.declared.view.View.{View}
 use Rattle.chpw_snapshots.specs.Rows.{rows_after, names_of_rows, names_of, shown_in, IsPositive}
@@ -55,11 +55,11 @@ abbrev pub list_shown : List LogEntry → Snapshot → List Accepted
 list_shown root x = list_by (changes_in root x.seen.log) (named (opening_state root) x.last) x.len
 
 -- the list that is kept of the version, likewise
-abbrev pub list_of : List LogEntry → ListShown → List Accepted
+abbrev pub list_of : List LogEntry → ShownPrefix → List Accepted
 list_of root s = list_by (changes_in root s.seen.log) (named (opening_state root) s.last) s.len
 
 -- what is kept is of this log, and counts the list's changes
-abbrev pub IsKnown : LogbookName → List LogEntry → ListShown → Type 0
+abbrev pub IsKnown : LogbookName → List LogEntry → ShownPrefix → Type 0
 IsKnown log root s = (s.seen.book ≡ log) × (s.len ≡ length (list_of root s))
 
 -- The version is of the list named by this log and root, and shows these changes of it, along which

@@ -6,7 +6,7 @@ ghost use Rattle.chpw_changelog.specs.Pens.{opening_table};
 ghost use Rattle.chpw_snapshots.specs.Following.{IsOf, IsKnown, list_of};
 ghost use Rattle.chpw_snapshots.specs.Looking.{LooksUp};
 
-use crate::snapshot::ListShown;
+use crate::snapshot::ShownPrefix;
 use crate::view::{Enters, LeftRightReader};
 use chpw_changelog::{Front, LogName};
 use chpw_rules::Name;
@@ -18,7 +18,7 @@ use std::marker::Model;
 #[derive(Drop)]
 pub struct SnapshotReader<D: LogName> {
     reader: Option<LeftRightReader>,
-    shown: ListShown,
+    shown: ShownPrefix,
     told: Front<D>,
     own: Option<Front<D>>,
 }
@@ -93,7 +93,7 @@ impl<D: LogName> SnapshotReader<D> {
     }
 
     // The list that is shown now; none if the reader can't enter.
-    fn shown_now(&mut self) -> Option<ListShown>
+    fn shown_now(&mut self) -> Option<ShownPrefix>
         ensures same { self.new ≡ self.old }
         ensures later { IfSome result (λ s. IsPrefix self.old.seen (list_of D.root s)) }
         ensures known { IfSome result (λ s. IsKnown D.book D.root s) }
@@ -115,7 +115,7 @@ impl<D: LogName> SnapshotReader<D> {
     }
 
     /// A place over a reader that knows the whole list, which this is.
-    pub(crate) fn over(reader: LeftRightReader, shown: ListShown, told: Front<D>) -> SnapshotReader<D>
+    pub(crate) fn over(reader: LeftRightReader, shown: ShownPrefix, told: Front<D>) -> SnapshotReader<D>
         requires reader { IsOf D.book D.root (view reader.place) }
         requires shown { list_of D.root shown ≡ (view reader.place).front }
         requires known { IsKnown D.book D.root shown }

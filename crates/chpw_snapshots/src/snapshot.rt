@@ -22,7 +22,7 @@ pub struct Snapshot {
 /// Which list a version shows, without its rows: the number of changes, the last of them, and what knows the list
 /// without the last.
 #[derive(Drop)]
-pub struct ListShown {
+pub struct ShownPrefix {
     pub len: u32,
     pub last: NumberedChange,
     pub seen: LogPrefix,
@@ -37,11 +37,11 @@ pub struct Operation {
 
 impl Snapshot {
     /// The list that it shows.
-    pub(crate) fn shown(&self) -> ListShown
+    pub(crate) fn shown(&self) -> ShownPrefix
         ensures value { (root : _) → list_of root result ≡ list_shown root self.now }
         ensures parts { (result.len ≡ self.now.len) × (result.seen ≡ self.now.seen) }
     {
-        ListShown {
+        ShownPrefix {
             len: self.len,
             last: self.last,
             seen: self.seen.again(),
@@ -64,7 +64,7 @@ impl Snapshot {
     }
 }
 
-impl ListShown {
+impl ShownPrefix {
     /// Whether the front is this list. False is no certain answer.
     pub(crate) fn is<D: LogName>(&self, front: &Front<D>) -> bool
         requires known { IsKnown D.book D.root self.now }
