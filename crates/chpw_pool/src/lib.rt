@@ -31,4 +31,4 @@ pub use pool::{
     Meanwhile, NotStarted, Pool, PoolFault, no_gates, run_pool, run_pool_by, run_pool_with,
     run_shift,
 };
-pub use terms::Terms;
+pub use terms::PoolOptions;

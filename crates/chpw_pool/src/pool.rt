@@ -8,7 +8,7 @@ ghost use Rattle.chpw_pool.specs.Pools.{Ends};
 use crate::clock::MachineClock;
 use crate::engine::{Engine, outcome_of};
 use crate::follower::{JournalEnd, NoFollower};
-use crate::terms::Terms;
+use crate::terms::PoolOptions;
 use crate::worker::{Worker, work};
 use chpw_book::{AtDesk, Desk, DeskName, Pass};
 use chpw_serve::{Gate, Messages, NoGate, Observer, WorkerWords};
@@ -54,7 +54,7 @@ struct Shared<'a, T: time::Clock, M, D: DeskName, S: JournalSink, J> {
 /// Serves this many connections at a desk, the messages of connection i (from 0) by worker i modulo their number, one
 /// after the other; a worker draws its words from the stream of its own number, and its moments from the machine's
 /// clock. A connection's next message is read once the reply before it is written. It has the default bounds
-/// (`Terms::usual`). It returns when each connection has ended, or, after a fault, those before it; each thread has
+/// (`PoolOptions::usual`). It returns when each connection has ended, or, after a fault, those before it; each thread has
 /// ended then.
 pub fn run_pool<
     R: Threads + Wait + Net + time::Clock + Sync,
@@ -74,7 +74,7 @@ pub fn run_pool<
     requires passes { 0 < length passes.old }
     ensures ends { Ends connections result }
 {
-    let terms = Terms::usual(seed, connections);
+    let terms = PoolOptions::usual(seed, connections);
     run_pool_by(rt, alloc, rt, listener, service, desk, passes, terms)
 }
 
@@ -108,7 +108,7 @@ pub fn run_pool_with<
         journal: &NoFollower,
         room: None,
     };
-    let terms = Terms::usual(seed, connections);
+    let terms = PoolOptions::usual(seed, connections);
     run_gated(rt, &shared, listener, passes, terms, gates)
 }
 
@@ -128,7 +128,7 @@ pub fn run_pool_by<
     service: &M,
     desk: &Desk<D, S>,
     passes: &mut [Pass<D>],
-    terms: Terms,
+    terms: PoolOptions,
 ) -> Pool
     requires passes { 0 < length passes.old }
     ensures ends { Ends terms.connections result }
@@ -182,7 +182,7 @@ fn run_gated<
     shared: &Shared<'_, T, M, D, S, J>,
     listener: &L,
     passes: &mut [Pass<D>],
-    terms: Terms,
+    terms: PoolOptions,
     gates: Vec<G>,
 ) -> Pool
     requires passes { 0 < length passes.old }

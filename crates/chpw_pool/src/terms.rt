@@ -6,7 +6,7 @@ use chpw_connections::Bounds;
 
 /// What a pool is to do, what its connections may hold, and for how long.
 #[derive(Clone, Copy, Drop)]
-pub struct Terms {
+pub struct PoolOptions {
     /// The seed of the random words.
     pub seed: [u8; 32],
     /// After how many connections it ends.
@@ -28,13 +28,13 @@ const GRACE: u64 = 1_000;
 /// How many milliseconds a client has to end its side after the last reply.
 const LINGER: u64 = 1_000;
 
-impl Terms {
+impl PoolOptions {
     /// This many connections with the default bounds: 1,024 connections at a time, which hold 32 MiB and are ended
     /// after 30 seconds.
-    pub fn usual(seed: [u8; 32], connections: u32) -> Terms
+    pub fn usual(seed: [u8; 32], connections: u32) -> PoolOptions
         ensures value { result ≡ record { seed = seed; connections = connections; clients = 1024; buffers = 32; idle = 30 } }
     {
-        Terms {
+        PoolOptions {
             seed,
             connections,
             clients: 1_024,

@@ -24,7 +24,7 @@ use chpw_book::{Desk, DeskName, Pass};
 use chpw_invocation::ServeOptions;
 use chpw_journal::{FileSink, Journal};
 use chpw_messages::Service;
-use chpw_pool::{Engine, MachineClock, Terms};
+use chpw_pool::{Engine, MachineClock, PoolOptions};
 use chpw_serve::Clock as _;
 use std::alloc::Global;
 use std::fs::{File, Files};
@@ -132,7 +132,7 @@ fn tell_shared<R: Files + Wait + Eprint>(rt: &R, log: &Log<'_, R>, options: &Ser
 #[derive(Drop)]
 struct Start<'l, R> {
     options: &'l ServeOptions<'l>,
-    terms: Terms,
+    terms: PoolOptions,
     log: &'l Log<'l, R>,
     journal: JournalLength,
 }
@@ -285,10 +285,10 @@ fn datagrams_of<'a, R: Net>(
 }
 
 // The terms of the pool.
-fn terms_of(options: &ServeOptions<'_>, seed: [u8; 32]) -> Terms
+fn terms_of(options: &ServeOptions<'_>, seed: [u8; 32]) -> PoolOptions
     ensures value { IsAskedFor options.now seed result }
 {
-    Terms {
+    PoolOptions {
         seed,
         connections: options.connections,
         clients: options.clients,
@@ -302,7 +302,7 @@ fn engine_of<'a, 'l, R: Net + Wait + Eprint>(
     rt: &R,
     alloc: Global,
     workers: u8,
-    terms: &Terms,
+    terms: &PoolOptions,
     log: &'l Log<'l, R>,
     datagrams: Option<UdpSocket>,
 ) -> Result<Engine<Logging<LogLines<'l, R>>>, ServeFault<'a>>
