@@ -17,7 +17,7 @@ mod pool;
 mod reactor;
 mod sockets;
 mod state;
-mod terms;
+mod options;
 mod tokens;
 mod udp;
 mod worker;
@@ -31,4 +31,4 @@ pub use pool::{
     Meanwhile, NotStarted, Pool, PoolFault, no_gates, run_pool, run_pool_by, run_pool_with,
     run_shift,
 };
-pub use terms::PoolOptions;
+pub use options::PoolOptions;

@@ -8,7 +8,7 @@ ghost use Rattle.chpw_pool.specs.Pools.{Ends};
 use crate::clock::MachineClock;
 use crate::engine::{Engine, outcome_of};
 use crate::follower::{JournalEnd, NoFollower};
-use crate::terms::PoolOptions;
+use crate::options::PoolOptions;
 use crate::worker::{Worker, work};
 use chpw_book::{AtDesk, Desk, DeskName, Pass};
 use chpw_serve::{Gate, Messages, NoGate, Observer, WorkerWords};

@@ -1,7 +1,7 @@
 -- What a service asks of its pool.
 use Rattle.std.specs.Prelude.{◌≡◌, ℕ, List, [], ◌∷◌, Bool, false, nat_le, length}
 use Rattle.chpw_invocation.specs.declared.invocation.ServeOptions.{ServeOptions}
-use Rattle.chpw_pool.specs.declared.terms.PoolOptions.{PoolOptions}
+use Rattle.chpw_pool.specs.declared.options.PoolOptions.{PoolOptions}
 use Rattle.chpw_book.specs.Passes.{PassView}
 
 -- words of this seed, as many connections as its options say, and the bounds that they set
