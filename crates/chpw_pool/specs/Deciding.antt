@@ -9,8 +9,8 @@ use Rattle.chpw_datagrams.specs.Answers.{Answer, reply_for, after_keep}
 use Rattle.chpw_datagrams.specs.Senders.{is_answered, is_same_sender}
 use Rattle.chpw_datagrams.specs.declared.sender.Sender.{Sender}
 use Rattle.chpw_pool.specs.Datagrams.{TakesDatagram}
-use Rattle.chpw_pool.specs.declared.sockets.Place.{Place}
-use Rattle.chpw_pool.specs.declared.sockets.Place.TheVariants as place
+use Rattle.chpw_pool.specs.declared.sockets.Transport.{Transport}
+use Rattle.chpw_pool.specs.declared.sockets.Transport.TheVariants as place
 use Rattle.chpw_pool.specs.declared.udp.Datagram.{Datagram}
 use Rattle.chpw_pool.specs.declared.udp.Datagrams.{Datagrams}
 
@@ -18,13 +18,13 @@ use Rattle.chpw_pool.specs.declared.udp.Datagrams.{Datagrams}
 abbrev pub is_same_datagram : Sender → List ℕ → Datagram → Bool
 is_same_datagram sender message d = is_same_sender d.sender sender && bytes_eq d.message.items message
 
-abbrev pub is_at : Sender → List ℕ → Option Place → Bool
+abbrev pub is_at : Sender → List ℕ → Option Transport → Bool
 is_at sender message None = false
 is_at sender message (Some (place.Stream socket)) = false
 is_at sender message (Some (place.Datagram d)) = is_same_datagram sender message d
 
 -- the same datagram of the same sender is being answered
-abbrev pub is_under_way : List (Option Place) → Sender → List ℕ → Bool
+abbrev pub is_under_way : List (Option Transport) → Sender → List ℕ → Bool
 is_under_way places sender message = list_any (is_at sender message) places
 
 -- it is answerable, and has no kept reply
@@ -32,16 +32,16 @@ abbrev pub is_unanswered : Datagrams → Sender → List ℕ → ℕ → Bool
 is_unanswered d sender message now = is_answered d.port sender message && is_none (reply_for d.answered sender message now)
 
 -- it is decided; no other one is
-abbrev pub is_decided : Datagrams → List (Option Place) → Sender → List ℕ → ℕ → Bool
+abbrev pub is_decided : Datagrams → List (Option Transport) → Sender → List ℕ → ℕ → Bool
 is_decided d places sender message now = is_unanswered d sender message now && not (is_under_way places sender message)
 
 -- at this place is a datagram of this sender with this message: its reply goes to that sender
-abbrev pub IsPlaced : List (Option Place) → ℕ → Sender → List ℕ → Type 0
+abbrev pub IsPlaced : List (Option Transport) → ℕ → Sender → List ℕ → Type 0
 IsPlaced places slot sender message =
     (d : Datagram) × (slice_get places slot ≡ Some (Some (place.Datagram d))) × (d.sender ≡ sender) × (d.message.items ≡ message)
 
 -- a datagram waits for this worker as a connection whose place it has; the other places stay
-pub record IsQueued (sender : Sender) (message : List ℕ) (before after : List (Option Place)) (b : Bounds) (now number : ℕ)
+pub record IsQueued (sender : Sender) (message : List ℕ) (before after : List (Option Transport)) (b : Bounds) (now number : ℕ)
     (old new : Slab Connection) (worker workers : ℕ) : Type 0 where
   pub slot : ℕ
   pub taken : TakesDatagram b now sender.address number message old new slot worker workers
@@ -49,7 +49,7 @@ pub record IsQueued (sender : Sender) (message : List ℕ) (before after : List 
   pub others : (other : ℕ) → (other ≡ slot → ⊥) → slice_get after other ≡ slice_get before other
 
 -- a datagram that is to be decided waits for this worker
-pub record Queues (d : Datagrams) (before after : List (Option Place)) (b : Bounds) (now number : ℕ) (old new : Slab Connection) (worker workers : ℕ) : Type 0 where
+pub record Queues (d : Datagrams) (before after : List (Option Transport)) (b : Bounds) (now number : ℕ) (old new : Slab Connection) (worker workers : ℕ) : Type 0 where
   pub sender : Sender
   pub message : List ℕ
   pub decided : is_decided d before sender message now ≡ true

@@ -30,7 +30,7 @@ const BUFFER: usize = 16_384;
 
 /// How a connection came: with a socket of its own, or as a datagram.
 #[derive(Drop)]
-pub(crate) enum Place {
+pub(crate) enum Transport {
     Stream(Socket),
     Datagram(Datagram),
 }
@@ -91,7 +91,7 @@ impl Selector {
 #[derive(Drop)]
 pub(crate) struct Sockets {
     pub registry: Registry,
-    pub by_slot: Vec<Option<Place>>,
+    pub by_slot: Vec<Option<Transport>>,
     pub buffer: Vec<u8>,
     pub datagrams: Option<Datagrams>,
     /// The bytes of a datagram.
@@ -147,7 +147,7 @@ impl Sockets {
         match self.by_slot.get_mut(slot) {
             None => false,
             Some(place) => {
-                *place = Some(Place::Stream(Socket {
+                *place = Some(Transport::Stream(Socket {
                     stream,
                     is_shut: false,
                 }));
@@ -159,7 +159,7 @@ impl Sockets {
     /// Whether the socket of a connection has failed.
     pub fn has_failed(&self, slot: usize) -> bool {
         match self.by_slot.get(slot) {
-            Some(Some(Place::Stream(socket))) => !matches!(socket.stream.take_error(), Ok(None)),
+            Some(Some(Transport::Stream(socket))) => !matches!(socket.stream.take_error(), Ok(None)),
             _ => false,
         }
     }
@@ -177,24 +177,24 @@ impl Sockets {
         } = self;
         match state.todo(slot) {
             Todo::Read(_) => match by_slot.get_mut(slot) {
-                Some(Some(Place::Stream(socket))) => {
+                Some(Some(Transport::Stream(socket))) => {
                     state.read(slot, &mut socket.stream, buffer, now)
                 }
-                Some(Some(Place::Datagram(_))) => state.end_input(slot),
+                Some(Some(Transport::Datagram(_))) => state.end_input(slot),
                 _ => Progress::None,
             },
             Todo::Write => match (by_slot.get_mut(slot), datagrams) {
-                (Some(Some(Place::Stream(socket))), _) => {
+                (Some(Some(Transport::Stream(socket))), _) => {
                     state.write(slot, &mut socket.stream, now)
                 }
-                (Some(Some(Place::Datagram(datagram))), Some(datagrams)) => {
+                (Some(Some(Transport::Datagram(datagram))), Some(datagrams)) => {
                     datagrams.reply(state, slot, datagram, now)
                 }
                 _ => Progress::None,
             },
             Todo::Linger => match by_slot.get_mut(slot) {
-                Some(Some(Place::Stream(socket))) => socket.linger(state, slot, buffer),
-                Some(Some(Place::Datagram(_))) => state.end_input(slot),
+                Some(Some(Transport::Stream(socket))) => socket.linger(state, slot, buffer),
+                Some(Some(Transport::Datagram(_))) => state.end_input(slot),
                 _ => Progress::None,
             },
             Todo::Close => {
@@ -243,7 +243,7 @@ impl Sockets {
 // Handles a datagram that came.
 #[tactic(auto, using(crate::proofs::PlaceLemmas::queues))]
 fn decide(
-    by_slot: &mut [Option<Place>],
+    by_slot: &mut [Option<Transport>],
     datagrams: &Datagrams,
     state: &mut State,
     sender: Sender,
@@ -268,25 +268,25 @@ fn decide(
 }
 
 // Whether the same datagram of the same sender is being answered.
-fn is_under_way(by_slot: &[Option<Place>], sender: Sender, message: &[u8]) -> bool
+fn is_under_way(by_slot: &[Option<Transport>], sender: Sender, message: &[u8]) -> bool
     ensures value { result ≡ is_under_way by_slot.now sender message.now }
 {
     by_slot.iter().any(|place| is_at(place, sender, message))
 }
 
-fn is_at(place: &Option<Place>, sender: Sender, message: &[u8]) -> bool
+fn is_at(place: &Option<Transport>, sender: Sender, message: &[u8]) -> bool
     ensures value { result ≡ is_at sender message.now place.now }
 {
     match place {
-        Some(Place::Datagram(other)) => other.is(sender, message),
-        Some(Place::Stream(_)) | None => false,
+        Some(Transport::Datagram(other)) => other.is(sender, message),
+        Some(Transport::Stream(_)) | None => false,
     }
 }
 
 // Lets a datagram wait for its worker, if it can.
 fn queue(
     alloc: Global,
-    by_slot: &mut [Option<Place>],
+    by_slot: &mut [Option<Transport>],
     state: &mut State,
     sender: Sender,
     message: &[u8],
@@ -313,16 +313,16 @@ fn queue(
 
 // Stores the datagram that a connection came as.
 #[tactic(auto, using(crate::proofs::PlaceLemmas::elsewhere))]
-fn put_datagram(by_slot: &mut [Option<Place>], slot: usize, sender: Sender, message: Vec<u8>)
+fn put_datagram(by_slot: &mut [Option<Transport>], slot: usize, sender: Sender, message: Vec<u8>)
     ensures placed { slot < length by_slot.old → IsPlaced by_slot.new slot sender message.items }
     ensures others { (other : ℕ) → (other ≡ slot → ⊥) → slice_get by_slot.new other ≡ slice_get by_slot.old other }
 {
     if slot < by_slot.len() {
-        by_slot[slot] = Some(Place::Datagram(Datagram { sender, message }));
+        by_slot[slot] = Some(Transport::Datagram(Datagram { sender, message }));
     }
 }
 
-fn no_sockets(alloc: Global, count: usize) -> Result<Vec<Option<Place>>, AllocError> {
+fn no_sockets(alloc: Global, count: usize) -> Result<Vec<Option<Transport>>, AllocError> {
     let mut sockets = Vec::with_capacity(alloc, count)?;
     for _ in 0..count {
         sockets.push(None)?;
