@@ -28,7 +28,7 @@ pub use clock::{MachineClock, machine_moment};
 pub use engine::Engine;
 pub use follower::{Follower, JournalEnd, NoFollower};
 pub use pool::{
-    Meanwhile, NotStarted, Pool, PoolFault, no_gates, run_pool, run_pool_by, run_pool_with,
+    BackgroundTask, NotStarted, Pool, PoolFault, no_gates, run_pool, run_pool_by, run_pool_with,
     run_shift,
 };
 pub use options::PoolOptions;

@@ -208,7 +208,7 @@ fn run_gated<
 }
 
 /// What the thread that runs a shift does while the workers answer messages.
-pub trait Meanwhile {
+pub trait BackgroundTask {
     /// Its result.
     type Done;
 
@@ -225,7 +225,7 @@ struct Reacting<'a, R, L, G> {
     connections: u32,
 }
 
-impl<R: Wait + Net + time::Clock, L: OpenListener<Stream = TcpStream> + AsRawFd, G: Drop> Meanwhile
+impl<R: Wait + Net + time::Clock, L: OpenListener<Stream = TcpStream> + AsRawFd, G: Drop> BackgroundTask
     for Reacting<'_, R, L, G> {
     type Done = ();
 
@@ -253,7 +253,7 @@ pub fn run_shift<
     S: JournalSink + Send,
     G: Gate + Observer + Send + Drop,
     J: JournalEnd + Sync,
-    W: Meanwhile + Drop,
+    W: BackgroundTask + Drop,
 >(
     rt: &R,
     alloc: Global,
@@ -288,7 +288,7 @@ fn run_workers<
     S: JournalSink + Send,
     G: Gate + Observer + Send + Drop,
     J: JournalEnd + Sync,
-    W: Meanwhile + Drop,
+    W: BackgroundTask + Drop,
 >(
     rt: &R,
     shared: &Shared<'_, T, M, D, S, J>,

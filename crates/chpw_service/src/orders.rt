@@ -10,7 +10,7 @@ use chpw_config::explain;
 use chpw_control::Command;
 use chpw_invocation::ServeOptions;
 use chpw_messages::Service;
-use chpw_pool::{MachineClock, Meanwhile};
+use chpw_pool::{MachineClock, BackgroundTask};
 use chpw_reload::{ReloadFault, prepare};
 use chpw_serve::Clock as _;
 use std::alloc::Global;
@@ -47,7 +47,7 @@ pub(crate) struct Orders<'s, 'l, R: Wait + Eprint, T> {
     pub hall: &'s Hall<'l, R>,
 }
 
-impl<R: Files<File = File> + Net + Wait + Clock + Eprint + AllocGlobal, T: Clock> Meanwhile
+impl<R: Files<File = File> + Net + Wait + Clock + Eprint + AllocGlobal, T: Clock> BackgroundTask
     for Orders<'_, '_, R, T> {
     /// What is due once the desk is closed.
     type Done = Option<Due>;
