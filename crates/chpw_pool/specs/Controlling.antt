@@ -12,7 +12,7 @@ use Rattle.chpw_control.specs.Dialogs.{at_start}
 use Rattle.chpw_control.specs.Seats.{Happens, HappensToHear, IsFirst, IsNew, NobodyWaits, left_at, ordering_of, seats_of}
 use Rattle.chpw_control.specs.declared.callers.Callers.{Callers}
 use Rattle.chpw_control.specs.declared.callers.Seat.{Seat}
-use Rattle.chpw_pool.specs.declared.attendant.Standing.{Standing}
+use Rattle.chpw_pool.specs.declared.attendant.ConnectionCounts.{ConnectionCounts}
 use Rattle.chpw_pool.specs.declared.state.State.{State}
 
 -- these bytes were read, and came
@@ -102,7 +102,7 @@ abbrev pub patience_with : ℕ → Bool → Bool → ℕ
 patience_with patience due callers = if due then 0 else if callers then min patience 100 else patience
 
 -- how many connections are in each stage
-pub record IsCounted (s : State) (t : Standing) : Type 0 where
+pub record IsCounted (s : State) (t : ConnectionCounts) : Type 0 where
   pub reading : t.reading ≡ count_in counted.Reading (slots_of s.connections)
   pub waiting : t.waiting ≡ count_in counted.Waiting (slots_of s.connections)
   pub answering : t.answering ≡ count_in counted.Answering (slots_of s.connections)
@@ -111,5 +111,5 @@ pub record IsCounted (s : State) (t : Standing) : Type 0 where
   pub ending : t.ending ≡ count_in counted.Ending (slots_of s.connections)
 
 -- how many these are
-abbrev pub sum_of : Standing → ℕ
+abbrev pub sum_of : ConnectionCounts → ℕ
 sum_of t = t.reading + t.waiting + t.answering + t.confirming + t.writing + t.ending

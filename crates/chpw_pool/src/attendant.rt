@@ -9,7 +9,7 @@ use std::alloc::Global;
 
 /// How many connections there are, by their stages, and whether the follower is behind.
 #[derive(Clone, Copy, PartialEq, Eq, Debug, Drop)]
-pub struct Standing {
+pub struct ConnectionCounts {
     /// Those whose message is being read.
     pub reading: usize,
     /// Those whose message waits for a worker.
@@ -26,7 +26,7 @@ pub struct Standing {
     pub is_behind: bool,
 }
 
-impl Standing {
+impl ConnectionCounts {
     /// Those of all stages.
     pub fn connections(&self) -> usize
         ensures value { result ≡ min (sum_of self.now) (2 ^ 64 - 1) }
@@ -49,7 +49,7 @@ pub trait Attendant {
     fn listener(&mut self) -> Option<UnixListener>;
 
     /// The answer to `status` for this standing of the connections. Empty if memory is refused.
-    fn status(&mut self, alloc: Global, standing: &Standing) -> Vec<u8>;
+    fn status(&mut self, alloc: Global, standing: &ConnectionCounts) -> Vec<u8>;
 }
 
 /// No control socket.
@@ -58,7 +58,7 @@ impl Attendant for NoFollower {
         None
     }
 
-    fn status(&mut self, alloc: Global, _standing: &Standing) -> Vec<u8> {
+    fn status(&mut self, alloc: Global, _standing: &ConnectionCounts) -> Vec<u8> {
         let mut text = Vec::new(alloc);
         let _ = put_error(&mut text, "no service");
         text

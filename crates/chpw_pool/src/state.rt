@@ -17,7 +17,7 @@ ghost use Rattle.chpw_pool.specs.Rounds.{is_done, is_finished, is_looked_at, is_
 ghost use Rattle.chpw_pool.specs.declared.state.Progress.TheVariants as progress;
 
 use crate::accepting::Accepting;
-use crate::attendant::Standing;
+use crate::attendant::ConnectionCounts;
 use crate::worker::Reply;
 use chpw_connections::{Connections, Counted, Taken, Todo, Unconfirmed};
 use chpw_follower::{Asking, Misspoken};
@@ -442,12 +442,12 @@ impl State {
 
     /// How many connections are in each stage, and whether the follower is asked about a change.
     #[tactic(auto, using(crate::proofs::ControlLemmas::all_counted))]
-    pub fn standing(&self) -> Standing
+    pub fn standing(&self) -> ConnectionCounts
         ensures value { IsCounted self.now result }
         ensures all { sum_of result ≡ slab_len (slots_of self.now.connections) }
         ensures behind { result.is_behind ≡ is_waited self.now.asking }
     {
-        Standing {
+        ConnectionCounts {
             reading: self.connections.count(Counted::Reading),
             waiting: self.connections.count(Counted::Waiting),
             answering: self.connections.count(Counted::Answering),

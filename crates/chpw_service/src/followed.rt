@@ -9,7 +9,7 @@ use crate::notices::{Notice, is_first};
 use chpw_control::{FollowerState, JournalState, Status, Time, status_answer};
 use chpw_invocation::VERSION;
 use chpw_journal::FileSink;
-use chpw_pool::{Attendant, Follower, JournalEnd, MachineClock, Standing, Unconfirmed};
+use chpw_pool::{Attendant, Follower, JournalEnd, MachineClock, ConnectionCounts, Unconfirmed};
 use chpw_serve::Clock as _;
 use chpw_table::JournalSink;
 use mio::net::{UnixListener, UnixStream};
@@ -160,7 +160,7 @@ impl<R: Net<Listener = TcpListener, Stream = TcpStream> + Wait + Eprint, T: Cloc
         self.listener.take()
     }
 
-    fn status(&mut self, alloc: Global, standing: &Standing) -> Vec<u8> {
+    fn status(&mut self, alloc: Global, standing: &ConnectionCounts) -> Vec<u8> {
         let now = self.clock.now();
         let facts = self.log.facts();
         let status = Status {
