@@ -44,7 +44,7 @@ impl ConnectionCounts {
 }
 
 /// Answers for the service at its control socket.
-pub trait Attendant {
+pub trait StatusReporter {
     /// The socket's listener, which doesn't block; it is asked for once. None without a control socket.
     fn listener(&mut self) -> Option<UnixListener>;
 
@@ -53,7 +53,7 @@ pub trait Attendant {
 }
 
 /// No control socket.
-impl Attendant for NoFollower {
+impl StatusReporter for NoFollower {
     fn listener(&mut self) -> Option<UnixListener> {
         None
     }

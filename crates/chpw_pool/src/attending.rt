@@ -2,7 +2,7 @@
 ghost use Rattle.std.specs.Prelude.{◌≡◌, ◌&&◌, is_some, false, true, None};
 ghost use Rattle.chpw_pool.specs.Controlling.{patience_with};
 
-use crate::attendant::Attendant;
+use crate::attendant::StatusReporter;
 use crate::control::CALLERS;
 use crate::engine::milliseconds;
 use crate::follower::Follower;
@@ -75,7 +75,7 @@ impl<
     R: Wait + Clock,
     L: OpenListener<Stream = TcpStream> + AsRawFd,
     G,
-    F: Follower + Attendant + Drop,
+    F: Follower + StatusReporter + Drop,
 > Reactor<'a, R, L, G, F> {
     /// Callers at the control socket are accepted, read and answered, as far as their sockets allow without blocking;
     /// the thread for orders is woken. This is done whether or not the socket was reported: a report may come after

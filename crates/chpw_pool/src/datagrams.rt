@@ -1,6 +1,6 @@
 //! What the reactor does for messages that come in datagrams.
 
-use crate::attendant::Attendant;
+use crate::attendant::StatusReporter;
 use crate::engine::milliseconds;
 use crate::follower::Follower;
 use crate::reactor::Reactor;
@@ -18,7 +18,7 @@ impl<
     R: Wait + Clock,
     L: OpenListener<Stream = TcpStream> + AsRawFd,
     G,
-    F: Follower + Attendant + Drop,
+    F: Follower + StatusReporter + Drop,
 > Reactor<'a, R, L, G, F> {
     /// Reads the datagrams that have come. Each that waits for a worker is a connection, and no more are read than
     /// connections are to be accepted.

@@ -22,7 +22,7 @@ mod tokens;
 mod udp;
 mod worker;
 
-pub use attendant::{Attendant, ConnectionCounts};
+pub use attendant::{StatusReporter, ConnectionCounts};
 pub use chpw_connections::{Bounds, Unconfirmed};
 pub use clock::{MachineClock, machine_moment};
 pub use engine::Engine;

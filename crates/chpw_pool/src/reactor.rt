@@ -2,7 +2,7 @@
 //! sockets are under the lock that it shares with the workers.
 
 use crate::accepting::{Accepting, is_passing};
-use crate::attendant::Attendant;
+use crate::attendant::StatusReporter;
 use crate::attending::ControlPort;
 use crate::engine::{Engine, milliseconds};
 use crate::follower::Follower;
@@ -63,7 +63,7 @@ impl<G> Engine<G> {
     pub fn react<
         R: Wait + Clock,
         L: OpenListener<Stream = TcpStream> + AsRawFd,
-        F: Follower + Attendant + Drop,
+        F: Follower + StatusReporter + Drop,
     >(&self, rt: &R, listener: &L, connections: u32, mut follower: F) {
         let clients = self.hub.lock(rt).sockets.by_slot.len();
         let mut selector = self.selector.lock(rt);
@@ -95,7 +95,7 @@ impl<
     R: Wait + Clock,
     L: OpenListener<Stream = TcpStream> + AsRawFd,
     G,
-    F: Follower + Attendant + Drop,
+    F: Follower + StatusReporter + Drop,
 > Reactor<'a, R, L, G, F> {
     // Registers the listener.
     fn listen(&mut self, registry: &Registry) {

@@ -9,7 +9,7 @@ use crate::notices::{Notice, is_first};
 use chpw_control::{FollowerState, JournalState, Status, Time, status_answer};
 use chpw_invocation::VERSION;
 use chpw_journal::FileSink;
-use chpw_pool::{Attendant, Follower, JournalEnd, MachineClock, ConnectionCounts, Unconfirmed};
+use chpw_pool::{StatusReporter, Follower, JournalEnd, MachineClock, ConnectionCounts, Unconfirmed};
 use chpw_serve::Clock as _;
 use chpw_table::JournalSink;
 use mio::net::{UnixListener, UnixStream};
@@ -154,7 +154,7 @@ impl<R: Net<Listener = TcpListener, Stream = TcpStream> + Wait + Eprint, T: Cloc
     }
 }
 
-impl<R: Net<Listener = TcpListener, Stream = TcpStream> + Wait + Eprint, T: Clock> Attendant
+impl<R: Net<Listener = TcpListener, Stream = TcpStream> + Wait + Eprint, T: Clock> StatusReporter
     for Followed<'_, R, T> {
     fn listener(&mut self) -> Option<UnixListener> {
         self.listener.take()

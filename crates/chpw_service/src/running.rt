@@ -6,7 +6,7 @@ use crate::fault::{LateFault, ServeFault};
 use crate::followed::{ControlTerms, Followed};
 use crate::histories::{Hall, Opened, Rules, serve_histories};
 use chpw_book::DeskName;
-use chpw_pool::{Attendant, Follower, Pool, PoolFault};
+use chpw_pool::{StatusReporter, Follower, Pool, PoolFault};
 use std::fs::{File, Files};
 use std::net::{Net, TcpListener, TcpStream};
 use std::sync::Wait;
@@ -79,7 +79,7 @@ fn serve_all<
         + AllocGlobal
         + Sync,
     T: Clock + Sync,
-    F: Follower + Attendant + Send + Drop,
+    F: Follower + StatusReporter + Send + Drop,
 >(
     rt: &R,
     time: &T,
