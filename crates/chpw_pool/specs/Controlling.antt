@@ -12,7 +12,7 @@ use Rattle.chpw_control.specs.Dialogs.{at_start}
 use Rattle.chpw_control.specs.Seats.{Happens, HappensToHear, IsFirst, IsNew, NobodyWaits, left_at, ordering_of, seats_of}
 use Rattle.chpw_control.specs.declared.callers.Callers.{Callers}
 use Rattle.chpw_control.specs.declared.callers.Seat.{Seat}
-use Rattle.chpw_pool.specs.declared.attendant.ConnectionCounts.{ConnectionCounts}
+use Rattle.chpw_pool.specs.declared.status_reporter.ConnectionCounts.{ConnectionCounts}
 use Rattle.chpw_pool.specs.declared.state.State.{State}
 
 -- these bytes were read, and came

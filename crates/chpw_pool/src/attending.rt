@@ -2,7 +2,7 @@
 ghost use Rattle.std.specs.Prelude.{◌≡◌, ◌&&◌, is_some, false, true, None};
 ghost use Rattle.chpw_pool.specs.Controlling.{patience_with};
 
-use crate::attendant::StatusReporter;
+use crate::status_reporter::StatusReporter;
 use crate::control::CALLERS;
 use crate::engine::milliseconds;
 use crate::follower::Follower;

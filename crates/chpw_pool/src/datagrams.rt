@@ -1,6 +1,6 @@
 //! What the reactor does for messages that come in datagrams.
 
-use crate::attendant::StatusReporter;
+use crate::status_reporter::StatusReporter;
 use crate::engine::milliseconds;
 use crate::follower::Follower;
 use crate::reactor::Reactor;

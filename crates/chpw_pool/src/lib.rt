@@ -3,7 +3,7 @@
 #![tactic(auto)]
 
 mod accepting;
-mod attendant;
+mod status_reporter;
 mod attending;
 mod clock;
 mod control;
@@ -22,7 +22,7 @@ mod tokens;
 mod udp;
 mod worker;
 
-pub use attendant::{StatusReporter, ConnectionCounts};
+pub use status_reporter::{StatusReporter, ConnectionCounts};
 pub use chpw_connections::{Bounds, Unconfirmed};
 pub use clock::{MachineClock, machine_moment};
 pub use engine::Engine;

@@ -2,7 +2,7 @@
 //! sockets are under the lock that it shares with the workers.
 
 use crate::accepting::{Accepting, is_passing};
-use crate::attendant::StatusReporter;
+use crate::status_reporter::StatusReporter;
 use crate::attending::ControlPort;
 use crate::engine::{Engine, milliseconds};
 use crate::follower::Follower;

@@ -17,7 +17,7 @@ ghost use Rattle.chpw_pool.specs.Rounds.{is_done, is_finished, is_looked_at, is_
 ghost use Rattle.chpw_pool.specs.declared.state.Progress.TheVariants as progress;
 
 use crate::accepting::Accepting;
-use crate::attendant::ConnectionCounts;
+use crate::status_reporter::ConnectionCounts;
 use crate::worker::Reply;
 use chpw_connections::{Connections, Counted, Taken, Todo, Unconfirmed};
 use chpw_follower::{Asking, Misspoken};
