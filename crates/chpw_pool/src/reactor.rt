@@ -10,7 +10,7 @@ use crate::following::Link;
 use crate::hub::STEPS;
 use crate::sockets::Selector;
 use crate::state::{Progress, Shortage, TICK};
-use crate::tokens::{LISTENER, Reported};
+use crate::tokens::{LISTENER, EventSource};
 use crate::worker::peer_of;
 use mio::event::Event;
 use mio::unix::SourceFd;
@@ -170,12 +170,12 @@ impl<
     }
 
     fn look_at(&mut self, event: &Event) {
-        match Reported::of(event.token(), self.clients) {
-            Reported::Listener => self.accepting = self.accepting.reported(),
-            Reported::Follower => self.link.is_reported = true,
-            Reported::Datagrams => self.has_datagrams = true,
-            Reported::Control => self.port.is_due = true,
-            Reported::Connection(slot) => {
+        match EventSource::of(event.token(), self.clients) {
+            EventSource::Listener => self.accepting = self.accepting.reported(),
+            EventSource::Follower => self.link.is_reported = true,
+            EventSource::Datagrams => self.has_datagrams = true,
+            EventSource::Control => self.port.is_due = true,
+            EventSource::Connection(slot) => {
                 if event.is_error() {
                     self.engine.hub.lock(self.rt).look_for_error(slot);
                 }

@@ -1,7 +1,7 @@
 //! Which token reports whose events.
 ghost use Rattle.std.specs.Prelude.{◌≡◌, ◌+◌, ◌<◌, ◌^◌};
 ghost use Rattle.chpw_pool.specs.Tokens.{reported_by};
-ghost use Rattle.chpw_pool.specs.declared.tokens.Reported.TheVariants as reported;
+ghost use Rattle.chpw_pool.specs.declared.tokens.EventSource.TheVariants as reported;
 
 use mio::Token;
 
@@ -22,7 +22,7 @@ pub(crate) const CONTROL: Token = Token(usize::MAX - 4);
 
 /// What was reported.
 #[derive(Clone, Copy, PartialEq, Eq, Debug, Drop)]
-pub(crate) enum Reported {
+pub(crate) enum EventSource {
     /// The listener.
     Listener,
     /// The connection to the follower.
@@ -35,21 +35,21 @@ pub(crate) enum Reported {
     Control,
 }
 
-impl Reported {
+impl EventSource {
     /// What a token reports, if connections have the tokens below this number.
-    pub fn of(token: Token, connections: usize) -> Reported
+    pub fn of(token: Token, connections: usize) -> EventSource
         ensures value { result ≡ reported_by token.0 connections }
     {
         if token == LISTENER {
-            Reported::Listener
+            EventSource::Listener
         } else if token == FOLLOWER {
-            Reported::Follower
+            EventSource::Follower
         } else if token == DATAGRAMS {
-            Reported::Datagrams
+            EventSource::Datagrams
         } else if token.0 < connections {
-            Reported::Connection(token.0)
+            EventSource::Connection(token.0)
         } else {
-            Reported::Control
+            EventSource::Control
         }
     }
 }
