@@ -18,17 +18,17 @@ const BUFFER: usize = 64;
 
 /// The connection to the follower.
 #[derive(Drop)]
-pub(crate) struct Link<F> {
+pub(crate) struct FollowerLink<F> {
     pub follower: F,
     pub stream: Option<UnixStream>,
     /// Whether something may be read there.
     pub is_reported: bool,
 }
 
-impl<F: Follower + Drop> Link<F> {
+impl<F: Follower + Drop> FollowerLink<F> {
     /// A link that isn't open yet.
-    pub fn new(follower: F) -> Link<F> {
-        Link {
+    pub fn new(follower: F) -> FollowerLink<F> {
+        FollowerLink {
             follower,
             stream: None,
             is_reported: false,

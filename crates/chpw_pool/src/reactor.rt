@@ -6,7 +6,7 @@ use crate::status_reporter::StatusReporter;
 use crate::attending::ControlPort;
 use crate::engine::{Engine, milliseconds};
 use crate::follower::Follower;
-use crate::following::Link;
+use crate::following::FollowerLink;
 use crate::hub::STEPS;
 use crate::sockets::Selector;
 use crate::state::{Progress, Shortage, TICK};
@@ -34,7 +34,7 @@ pub(crate) struct Reactor<'a, R, L, G, F> {
     pub rt: &'a R,
     pub engine: &'a Engine<G>,
     listener: &'a L,
-    pub link: Link<F>,
+    pub link: FollowerLink<F>,
     /// How many connections it accepts.
     pub connections: u32,
     /// How many there may be at a time: the slots are the numbers below.
@@ -72,7 +72,7 @@ impl<G> Engine<G> {
             rt,
             engine: self,
             listener,
-            link: Link::new(follower),
+            link: FollowerLink::new(follower),
             connections,
             clients,
             accepting: Accepting::Ready,
