@@ -3,7 +3,7 @@
 use crate::script::Script;
 use crate::showing::{peer_text, shown, slots_text};
 use crate::words::{address, no_case, number};
-use chpw_connections::{Taken, Todo};
+use chpw_connections::{TakenMessage, Todo};
 use std::io;
 
 /// More than any case here notes.
@@ -51,7 +51,7 @@ impl Script {
         }
     }
 
-    fn taken_told(&self, taken: &Taken) -> io::Result<String> {
+    fn taken_told(&self, taken: &TakenMessage) -> io::Result<String> {
         let slot = taken.slot;
         let peer = peer_text(self.alloc, taken.peer)?;
         let message = shown(self.alloc, &taken.message)?;

@@ -20,7 +20,7 @@ use std::collections::VecDeque;
 
 /// A message for a worker, and its peer.
 #[derive(Drop)]
-pub struct Taken {
+pub struct TakenMessage {
     pub slot: usize,
     /// An IPv4 address, high byte first.
     pub peer: [u8; 4],
@@ -286,7 +286,7 @@ impl Connections {
 
     /// The message at the front of a worker's queue, which has waited there longest. None if none waits, and if it has
     /// waited too long: its connection has ended then, and the next one may be taken.
-    pub fn take(&mut self, worker: usize, now: u64) -> Option<Taken>
+    pub fn take(&mut self, worker: usize, now: u64) -> Option<TakenMessage>
         ensures message { IfSome result (λ t. queued_at (get (slots_of self.old) t.slot) ≡ Some t.message.items) }
         ensures in_time { IfSome result (λ t. is_late_in (bounds_of self.old) now (get (slots_of self.old) t.slot) ≡ false) }
         ensures happens { IfSome result (λ t. Happens 0 (slots_of self.old) (slots_of self.new) t.slot taken) }
@@ -309,7 +309,7 @@ impl Connections {
     }
 
     // The message in the slot at the front of a worker's queue.
-    fn take_first(&mut self, worker: usize, slot: usize) -> Option<Taken>
+    fn take_first(&mut self, worker: usize, slot: usize) -> Option<TakenMessage>
         requires first { queue_of self.old worker ≡ slot ∷ drop 1 (queue_of self.old worker) }
         ensures some { IsSome result }
         ensures message { IfSome result (λ t. queued_at (get (slots_of self.old) slot) ≡ Some t.message.items) }
@@ -324,7 +324,7 @@ impl Connections {
         let taken = self.slots.take(slot);
         self.queues.drop_first(worker);
         let message = taken?;
-        Some(Taken {
+        Some(TakenMessage {
             slot,
             peer,
             message,

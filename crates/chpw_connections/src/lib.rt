@@ -21,7 +21,7 @@ mod waiting;
 pub use bounds::Bounds;
 pub use confirming::Unconfirmed;
 pub use connection::MAX_MESSAGES;
-pub use connections::Taken;
+pub use connections::TakenMessage;
 pub use counting::Counted;
 pub use set::Connections;
 pub use todo::Todo;

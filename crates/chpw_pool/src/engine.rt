@@ -11,7 +11,7 @@ use crate::pool::{Pool, PoolFault};
 use crate::sockets::{Selector, Sockets};
 use crate::state::State;
 use crate::worker::Reply;
-use chpw_connections::{Bounds, Connections, Taken};
+use chpw_connections::{Bounds, Connections, TakenMessage};
 use chpw_control::Command;
 use chpw_serve::WorkerWords;
 use mio::Waker;
@@ -124,7 +124,7 @@ fn whole_milliseconds(since: Duration) -> u64
 impl<G> Engine<G> {
     /// The next message of a worker, as soon as there is one; none if none will come any more, or the worker is to take
     /// none for now.
-    pub(crate) fn next<R: Wait + Clock>(&self, rt: &R, worker: usize) -> Option<Taken> {
+    pub(crate) fn next<R: Wait + Clock>(&self, rt: &R, worker: usize) -> Option<TakenMessage> {
         let slot = self.workers.get(worker)?;
         for _ in rt.forever() {
             let mut hub = slot

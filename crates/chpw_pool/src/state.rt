@@ -19,7 +19,7 @@ ghost use Rattle.chpw_pool.specs.declared.state.Progress.TheVariants as progress
 use crate::accepting::Accepting;
 use crate::status_reporter::ConnectionCounts;
 use crate::worker::Reply;
-use chpw_connections::{Connections, Counted, Taken, Todo, Unconfirmed};
+use chpw_connections::{Connections, Counted, TakenMessage, Todo, Unconfirmed};
 use chpw_follower::{Asking, Misspoken};
 use std::io::{ErrorKind, Read, Write};
 
@@ -128,7 +128,7 @@ impl State {
     }
 
     /// The next message for a worker; none if it is to take none, or the next one waited too long.
-    pub fn take(&mut self, worker: usize, now: u64) -> Option<Taken>
+    pub fn take(&mut self, worker: usize, now: u64) -> Option<TakenMessage>
         ensures stopped { self.old.is_stopped ≡ true → (result ≡ None) × (self.new ≡ self.old) }
         ensures message { IfSome result (λ t. queued_at (get (slots_of self.old.connections) t.slot) ≡ Some t.message.items) }
         ensures in_time { IfSome result (λ t. is_late_in (bounds_of self.old.connections) now (get (slots_of self.old.connections) t.slot) ≡ false) }

@@ -8,7 +8,7 @@ ghost use Rattle.chpw_pool.specs.Turns.{IsReplyBehind, fills_at, has_changed_aft
 
 use crate::engine::Engine;
 use crate::follower::JournalEnd;
-use chpw_connections::Taken;
+use chpw_connections::TakenMessage;
 use chpw_decider::Decider;
 use chpw_serve::{Clock, Ended, Gate, Messages, Observer, Words, serve_stream};
 use chpw_table::Receipt;
@@ -61,7 +61,7 @@ pub(crate) fn work<
         let Some(taken) = engine.next(rt, number) else {
             return;
         };
-        let Taken {
+        let TakenMessage {
             slot,
             peer,
             message,
