@@ -2,11 +2,11 @@
 
 use crate::script::Script;
 use support_cases::Census;
-use chpw_connections::Bounds;
+use chpw_connections::ConnectionLimits;
 use std::alloc::Global;
 use std::io;
 
-const BOUNDS: Bounds = Bounds {
+const BOUNDS: ConnectionLimits = ConnectionLimits {
     connections: 1,
     bytes: 100,
     idle: 100,

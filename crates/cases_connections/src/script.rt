@@ -2,7 +2,7 @@
 
 use crate::showing::slots_text;
 use crate::words::{no_case, number};
-use chpw_connections::{Bounds, Connections};
+use chpw_connections::{ConnectionLimits, Connections};
 use std::alloc::Global;
 use std::io;
 
@@ -25,7 +25,7 @@ impl Script {
         let [connections, bytes, idle, grace, wait, linger, workers] = words.as_slice() else {
             return Err(no_case());
         };
-        let bounds = Bounds {
+        let bounds = ConnectionLimits {
             connections: number(connections)?,
             bytes: number(bytes)?,
             idle: number(idle)?,
@@ -36,7 +36,7 @@ impl Script {
         Script::new(alloc, bounds, number(workers)?)
     }
 
-    pub fn new(alloc: Global, bounds: Bounds, workers: usize) -> io::Result<Script> {
+    pub fn new(alloc: Global, bounds: ConnectionLimits, workers: usize) -> io::Result<Script> {
         if bounds.connections > MOST || workers > MOST {
             return Err(no_case());
         }

@@ -2,7 +2,7 @@
 use Rattle.std.specs.Prelude.{◌≡◌, ℕ, ◌<◌, List, [], ◌∷◌, ◌++◌, ◌⊎◌}
 use Rattle.std.specs.VecDeque.{deque_items, deque_len, deque_capacity}
 use Rattle.slab.specs.Slab.{Slab}
-use Rattle.chpw_connections.specs.declared.bounds.Bounds.{Bounds}
+use Rattle.chpw_connections.specs.declared.bounds.ConnectionLimits.{ConnectionLimits}
 use Rattle.chpw_connections.specs.declared.connection.Connection.{Connection}
 use Rattle.chpw_connections.specs.declared.set.Connections.{Connections}
 
@@ -10,7 +10,7 @@ use Rattle.chpw_connections.specs.declared.set.Connections.{Connections}
 abbrev pub slots_of : Connections → Slab Connection
 slots_of c = c.slots.connections
 
-abbrev pub bounds_of : Connections → Bounds
+abbrev pub bounds_of : Connections → ConnectionLimits
 bounds_of c = c.bounds
 
 -- how many were accepted, and how many removed after their end

@@ -4,7 +4,7 @@ use Rattle.slab.specs.Slab.{Slab, get}
 use Rattle.chpw_connections.specs.Holding.{held_by, held_in, size_by, growth_by, growth_at, begun_of}
 use Rattle.chpw_connections.specs.Stages.{Event, failed, stage}
 use Rattle.chpw_connections.specs.Sets.{waits, waits_since, Comes}
-use Rattle.chpw_connections.specs.declared.bounds.Bounds.{Bounds}
+use Rattle.chpw_connections.specs.declared.bounds.ConnectionLimits.{ConnectionLimits}
 use Rattle.chpw_connections.specs.declared.connection.Connection.{Connection}
 use Rattle.chpw_connections.specs.declared.room.Candidates.{Candidates}
 
@@ -90,12 +90,12 @@ abbrev pub is_large_in : Option Connection → Bool
 is_large_in None = false
 is_large_in (Some c) = nat_lt largest_small (size_by c.phase)
 
-abbrev pub read_within : Bounds → Bool → ℕ
+abbrev pub read_within : ConnectionLimits → Bool → ℕ
 read_within b large = if large then b.bytes / 2 else b.bytes - b.bytes / 4
 
 -- Room for a message is made at the cost of what has been under way for some time, so that messages that are just
 -- coming don't end each other; for a large one only at the cost of other large ones.
-abbrev pub for_message : Bounds → ℕ → Option Connection → Candidates
+abbrev pub for_message : ConnectionLimits → ℕ → Option Connection → Candidates
 for_message b now o = record { larger_than = if is_large_in o then largest_small else 0; begun_by = now - b.grace }
 
 -- Room for a reply is made at the cost of whatever is under way: what the reply reports has been done.
@@ -103,7 +103,7 @@ abbrev pub for_reply : ℕ → Candidates
 for_reply now = record { larger_than = 0; begun_by = now }
 
 -- more bytes of the message in a slot could be read now
-abbrev pub has_room_to_read : Bounds → ℕ → Slab Connection → ℕ → Bool
+abbrev pub has_room_to_read : ConnectionLimits → ℕ → Slab Connection → ℕ → Bool
 has_room_to_read b now slots slot =
     let o = get slots slot in
     has_room_besides (read_within b (is_large_in o)) (for_message b now o) slots slot (growth_at o)

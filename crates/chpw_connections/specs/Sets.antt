@@ -2,7 +2,7 @@
 use Rattle.std.specs.Prelude.{◌≡◌, ◌≢◌, ℕ, ◌≤◌, List, Option, Some, None, Bool, true, false, IsSomeAnd, MatchOption, MatchBool, if◌then◌else◌, nat_le, ◌-◌, [], option_map, take}
 use Rattle.slab.specs.Slab.{Slab, get, slab_len}
 use Rattle.chpw_connections.specs.Stages.{Stage, reading, queued, answering, writing, lingering, ended, Event, failed, stage, Goes, wanted_by, left_of}
-use Rattle.chpw_connections.specs.declared.bounds.Bounds.{Bounds}
+use Rattle.chpw_connections.specs.declared.bounds.ConnectionLimits.{ConnectionLimits}
 use Rattle.chpw_connections.specs.declared.connection.Connection.{Connection}
 
 -- it waits for its client: for a whole message, for its reply to be read, or for its end
@@ -68,7 +68,7 @@ queued_at None = None
 queued_at (Some c) = queued_by (stage c)
 
 -- how long each stage may last; a message that a worker has is not timed, nor is a reply that waits for a confirmation
-abbrev pub time_of : Bounds → Stage → Option ℕ
+abbrev pub time_of : ConnectionLimits → Stage → Option ℕ
 time_of b (reading bytes) = Some b.idle
 time_of b (writing left last) = Some b.idle
 time_of b lingering = Some b.linger
@@ -80,15 +80,15 @@ is_late_at None waited = false
 is_late_at (Some most) waited = nat_le most waited
 
 -- its time is up
-abbrev pub is_late : Bounds → ℕ → Connection → Bool
+abbrev pub is_late : ConnectionLimits → ℕ → Connection → Bool
 is_late b now c = is_late_at (time_of b (stage c)) (now - c.since)
 
-abbrev pub is_late_in : Bounds → ℕ → Option Connection → Bool
+abbrev pub is_late_in : ConnectionLimits → ℕ → Option Connection → Bool
 is_late_in b now None = false
 is_late_in b now (Some c) = is_late b now c
 
 -- a connection whose time is up ends, and another stays
-abbrev pub Passes : Bounds → ℕ → Option Connection → Option Connection → Type 0
+abbrev pub Passes : ConnectionLimits → ℕ → Option Connection → Option Connection → Type 0
 Passes b now old new = MatchBool (is_late_in b now old) (Comes 0 failed old new) (new ≡ old)
 
 abbrev pub is_lingering : Stage → Bool

@@ -3,7 +3,7 @@ use Rattle.std.specs.Prelude.{◌≡◌, ℕ, ◌+◌, ◌≤◌, ◌⊎◌, Lis
 use Rattle.chpw_connections.specs.Stages.{Stage, answering, confirming, abandoned, ended, replied, deferred, unanswered, released, after, stage}
 use Rattle.chpw_connections.specs.Sets.{time_of, is_late, Passes}
 use Rattle.chpw_connections.specs.Confirming.{is_confirming}
-use Rattle.chpw_connections.specs.declared.bounds.Bounds.{Bounds}
+use Rattle.chpw_connections.specs.declared.bounds.ConnectionLimits.{ConnectionLimits}
 use Rattle.chpw_connections.specs.declared.connection.Connection.{Connection}
 
 -- the stage is timed: no worker has its message, its reply waits for no confirmation, and it hasn't ended
@@ -21,7 +21,7 @@ is_with_worker abandoned = true
 is_with_worker s = false
 
 -- from some time after the moment since which it waits, its time is up, and stays so, and `pass` then ends it
-pub record EndsInTime (b : Bounds) (c : Connection) : Type 0 where
+pub record EndsInTime (b : ConnectionLimits) (c : Connection) : Type 0 where
   pub most : ℕ
   pub time : time_of b (stage c) ≡ Some most
   pub late : (now : ℕ) → c.since + most ≤ now → is_late b now c ≡ true
@@ -29,7 +29,7 @@ pub record EndsInTime (b : Bounds) (c : Connection) : Type 0 where
 
 -- each connection that waits for no worker's reply and for no confirmation ends in time
 abbrev pub AllEndInTime : Type 0
-AllEndInTime = (b : Bounds) (c : Connection) → is_timed (stage c) ≡ true → EndsInTime b c
+AllEndInTime = (b : ConnectionLimits) (c : Connection) → is_timed (stage c) ≡ true → EndsInTime b c
 
 -- it is timed from then on, or its reply waits for a confirmation, or it has ended
 abbrev pub GoesOn : Stage → Type 0

@@ -6,7 +6,7 @@ use Rattle.std.specs.declared.alloc.Global.{Global}
 use Rattle.slab.specs.Slab.{Slab, get}
 use Rattle.chpw_connections.specs.Stages.{stage}
 use Rattle.chpw_connections.specs.Sets.{queued_by, is_late_in}
-use Rattle.chpw_connections.specs.declared.bounds.Bounds.{Bounds}
+use Rattle.chpw_connections.specs.declared.bounds.ConnectionLimits.{ConnectionLimits}
 use Rattle.chpw_connections.specs.declared.connection.Connection.{Connection}
 use Rattle.chpw_connections.specs.declared.waiting.Queues.{Queues}
 
@@ -41,7 +41,7 @@ abbrev pub without : ℕ → List ℕ → List ℕ
 without slot queue = filter (λ other. not (other == slot)) queue
 
 -- the slots of a queue whose connections' time isn't up
-abbrev pub in_time : Bounds → ℕ → Slab Connection → List ℕ → List ℕ
+abbrev pub in_time : ConnectionLimits → ℕ → Slab Connection → List ℕ → List ℕ
 in_time b now slots queue = filter (λ slot. not (is_late_in b now (get slots slot))) queue
 
 -- one worker's queue became this one, and the others are unchanged

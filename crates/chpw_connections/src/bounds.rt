@@ -2,7 +2,7 @@
 
 /// How many connections are held, how many bytes, and for how long. Times are in milliseconds.
 #[derive(Clone, Copy, PartialEq, Eq, Debug, Drop)]
-pub struct Bounds {
+pub struct ConnectionLimits {
     /// Connections at a time, at least 1.
     pub connections: usize,
     /// The bytes of messages and replies that are held together.

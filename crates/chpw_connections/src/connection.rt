@@ -3,7 +3,7 @@ ghost use Rattle.std.specs.Prelude.{◌≡◌, ◌==◌, if◌then◌else◌, �
 ghost use Rattle.chpw_connections.specs.Messages.{wanted_after as wanted_of, whole_after as whole_of};
 ghost use Rattle.chpw_connections.specs.Reading.{is_unfinished, is_covered};
 
-use crate::bounds::Bounds;
+use crate::bounds::ConnectionLimits;
 use crate::room::Candidates;
 use chpw_frame::LONGEST_MESSAGE;
 use std::alloc::{AllocError, Global};
@@ -385,7 +385,7 @@ impl Connection {
     }
 
     /// Whether its time is up, within these bounds.
-    pub fn is_late(&self, bounds: &Bounds, now: u64) -> bool
+    pub fn is_late(&self, bounds: &ConnectionLimits, now: u64) -> bool
         ensures value { result ≡ is_late bounds.now now self.now }
     {
         let waited = now.saturating_sub(self.since);

@@ -18,7 +18,7 @@ mod slots;
 mod todo;
 mod waiting;
 
-pub use bounds::Bounds;
+pub use bounds::ConnectionLimits;
 pub use confirming::Unconfirmed;
 pub use connection::MAX_MESSAGES;
 pub use connections::TakenMessage;

@@ -3,7 +3,7 @@ ghost use Rattle.std.specs.Prelude.{◌≡◌, ◌+◌, ◌≤◌};
 ghost use Rattle.slab.specs.Slab.{slab_len};
 ghost use Rattle.chpw_connections.specs.Waiting.{lists_of, Holds};
 
-use crate::bounds::Bounds;
+use crate::bounds::ConnectionLimits;
 use crate::slots::Slots;
 use crate::waiting::Queues;
 use std::alloc::Global;
@@ -13,7 +13,7 @@ use std::collections::VecDeque;
 #[derive(Drop)]
 pub struct Connections {
     pub(crate) alloc: Global,
-    pub(crate) bounds: Bounds,
+    pub(crate) bounds: ConnectionLimits,
     pub(crate) slots: Slots,
     pub(crate) queues: Queues,
     // Slots noted for the caller.

@@ -15,18 +15,18 @@ use Rattle.chpw_connections.specs.Sets.{Comes, Happens, IsNew, wanted_at, is_end
 use Rattle.chpw_connections.specs.Stages.{Stage, reading, queued, answering, confirming, writing, lingering, abandoned, ended, came, failed, after, stage, read_to, received, wanted_by}
 use Rattle.chpw_connections.specs.Waiting.{waits_for}
 use Rattle.chpw_connections.specs.declared.connection.Connection.{Connection}
-use Rattle.chpw_connections.specs.declared.bounds.Bounds.{Bounds}
+use Rattle.chpw_connections.specs.declared.bounds.ConnectionLimits.{ConnectionLimits}
 use Rattle.chpw_pool.specs.Datagrams.{TakesDatagram, length_before, StaysOrEnds, DropsDatagram, CameOrFailed, CameIfRead}
 
 -- who gives way to a message has ended
-out_ends : (b : Bounds) (now : ℕ) (o : Option Connection) (old new : Option Connection) → gives_way_at (for_message b now o) old ≡ true → Comes 0 failed old new → stage_at new ≡ Some ended
+out_ends : (b : ConnectionLimits) (now : ℕ) (o : Option Connection) (old new : Option Connection) → gives_way_at (for_message b now o) old ≡ true → Comes 0 failed old new → stage_at new ≡ Some ended
 out_ends b now o None new is comes = absurd cc
 out_ends b now o (Some c) None is comes = absurd comes
 out_ends b now o (Some c) (Some d) is comes =
     let waited : waits (stage c) ≡ true = and_left (waits (stage c)) (nat_lt 0 (held_by c.phase) && (not (is_held_back c) && is_among (for_message b now o) c)) is in
     ap Some (comes.stage_is ∙ ends_waiting c.answered (stage c) waited)
 
-stays : (b : Bounds) (now : ℕ) (o : Option Connection) (old new : Option Connection) → PutsOut (for_message b now o) old new → StaysOrEnds old new
+stays : (b : ConnectionLimits) (now : ℕ) (o : Option Connection) (old new : Option Connection) → PutsOut (for_message b now o) old new → StaysOrEnds old new
 stays b now o old new (inl same) = inl same
 stays b now o old new (inr out) = inr (out_ends b now o old new out.0 out.1)
 
@@ -76,28 +76,28 @@ new_ends peer now number old new slot is = by_place (get new slot) is.here
     by_place None here = absurd here
     by_place (Some c) here = subst (λ (s : Stage). after c.answered s failed ≡ ended) (sym here.0) refl
 
-came_others : (b : Bounds) (now : ℕ) (old new : Slab Connection) (slot : ℕ) (bytes : List ℕ) → CameOrFailed b now old new slot bytes
+came_others : (b : ConnectionLimits) (now : ℕ) (old new : Slab Connection) (slot : ℕ) (bytes : List ℕ) → CameOrFailed b now old new slot bytes
     → (other : ℕ) → other ≢ slot → StaysOrEnds (get old other) (get new other)
 came_others b now old new slot bytes (inl happens) other differs = stays b now (get old slot) (get old other) (get new other) (happens.others other differs)
 came_others b now old new slot bytes (inr happens) other differs = stays b now (get old slot) (get old other) (get new other) (happens.others other differs)
 
-came_here : (b : Bounds) (now : ℕ) (old new : Slab Connection) (slot : ℕ) (bytes : List ℕ) → CameOrFailed b now old new slot bytes
+came_here : (b : ConnectionLimits) (now : ℕ) (old new : Slab Connection) (slot : ℕ) (bytes : List ℕ) → CameOrFailed b now old new slot bytes
     → EndsAtOnce (get old slot) → EndsAtOnce (get new slot)
 came_here b now old new slot bytes (inl happens) is = came_ends now bytes (get old slot) (get new slot) is happens.here
 came_here b now old new slot bytes (inr happens) is = failed_ends 0 (get old slot) (get new slot) is happens.here
 
-read_others : (b : Bounds) (now : ℕ) (old new : Slab Connection) (slot : ℕ) (bytes : List ℕ) → CameIfRead b now old new slot bytes
+read_others : (b : ConnectionLimits) (now : ℕ) (old new : Slab Connection) (slot : ℕ) (bytes : List ℕ) → CameIfRead b now old new slot bytes
     → (other : ℕ) → other ≢ slot → StaysOrEnds (get old other) (get new other)
 read_others b now old new slot bytes (inl same) other differs = inl (ap (λ (s : Slab Connection). get s other) same)
 read_others b now old new slot bytes (inr comes) other differs = came_others b now old new slot bytes comes other differs
 
-read_here : (b : Bounds) (now : ℕ) (old new : Slab Connection) (slot : ℕ) (bytes : List ℕ) → CameIfRead b now old new slot bytes
+read_here : (b : ConnectionLimits) (now : ℕ) (old new : Slab Connection) (slot : ℕ) (bytes : List ℕ) → CameIfRead b now old new slot bytes
     → EndsAtOnce (get old slot) → EndsAtOnce (get new slot)
 read_here b now old new slot bytes (inl same) is = subst (λ (s : Slab Connection). EndsAtOnce (get s slot)) (sym same) is
 read_here b now old new slot bytes (inr comes) is = came_here b now old new slot bytes comes is
 
 -- what was begun and is dropped leaves no connection
-module _ (first second : Bounds) (now number slot : ℕ) (peer len bytes : List ℕ) (old accepted begun whole over new : Slab Connection)
+module _ (first second : ConnectionLimits) (now number slot : ℕ) (peer len bytes : List ℕ) (old accepted begun whole over new : Slab Connection)
     (is_new : IsNew peer now number old accepted slot) (length_came : CameOrFailed first now accepted begun slot len)
     (bytes_came : CameIfRead second now begun whole slot bytes) (ends : Happens 0 whole over slot failed)
     (removed : is_ended_in (get over slot) ≡ true → Updates over new slot None) where
@@ -181,7 +181,7 @@ waits_here message peer now number workers worker (Some c) (Some d) (Some e) fit
     (first.stage_is ∙ ap (λ (s : Stage). after c.answered s (came (length_before message))) here.0) some second.stage_is
     (mapped (queued_by (stage e)) (e.number % workers) worker waits)
 
-module _ (b c d : Bounds) (now number slot worker workers : ℕ) (peer message : List ℕ) (old accepted begun new : Slab Connection) (fits : length message < 2 ^ 32)
+module _ (b c d : ConnectionLimits) (now number slot worker workers : ℕ) (peer message : List ℕ) (old accepted begun new : Slab Connection) (fits : length message < 2 ^ 32)
     (bounds : b ≡ d) (same : d ≡ c)
     (is_new : IsNew peer now number old accepted slot) (length_came : CameOrFailed c now accepted begun slot (length_before message))
     (some : wanted_at (get begun slot) ≢ 0)
@@ -199,8 +199,8 @@ module _ (b c d : Bounds) (now number slot worker workers : ℕ) (peer message :
     accepted = accepted;
     begun = begun;
     is_new = is_new;
-    length_came = subst (λ (x : Bounds). HappensWithRoom (for_message x now (get accepted slot)) now accepted begun slot (came (length_before message))) (sym (bounds ∙ same)) length_is;
-    message_came = subst (λ (x : Bounds). HappensWithRoom (for_message x now (get begun slot)) now begun new slot (came message)) (sym bounds) message_came;
+    length_came = subst (λ (x : ConnectionLimits). HappensWithRoom (for_message x now (get accepted slot)) now accepted begun slot (came (length_before message))) (sym (bounds ∙ same)) length_is;
+    message_came = subst (λ (x : ConnectionLimits). HappensWithRoom (for_message x now (get begun slot)) now begun new slot (came message)) (sym bounds) message_came;
     waits = waits_here message peer now number workers worker (get accepted slot) (get begun slot) (get new slot) fits is_new.here length_is.here some message_came.here is_for;
     is_for = is_for;
   }

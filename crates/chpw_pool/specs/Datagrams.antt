@@ -8,7 +8,7 @@ use Rattle.chpw_connections.specs.Stages.{came, ended, failed}
 use Rattle.chpw_connections.specs.Sets.{IsNew, queued_at, stage_at}
 use Rattle.chpw_connections.specs.Room.{HappensWithRoom, for_message}
 use Rattle.chpw_connections.specs.Waiting.{waits_for}
-use Rattle.chpw_connections.specs.declared.bounds.Bounds.{Bounds}
+use Rattle.chpw_connections.specs.declared.bounds.ConnectionLimits.{ConnectionLimits}
 use Rattle.chpw_connections.specs.declared.connection.Connection.{Connection}
 
 -- the length that precedes a message over TCP
@@ -21,7 +21,7 @@ in_datagram reply = drop 4 reply
 
 -- A new connection of this peer, of which the length came and then the message, each as over TCP; with them it waits
 -- for this worker, as the very bytes that it would be over TCP.
-pub record TakesDatagram (b : Bounds) (now : ℕ) (peer : List ℕ) (number : ℕ) (message : List ℕ) (old new : Slab Connection) (slot worker workers : ℕ) : Type 0 where
+pub record TakesDatagram (b : ConnectionLimits) (now : ℕ) (peer : List ℕ) (number : ℕ) (message : List ℕ) (old new : Slab Connection) (slot worker workers : ℕ) : Type 0 where
   pub accepted : Slab Connection
   pub begun : Slab Connection
   pub is_new : IsNew peer now number old accepted slot
@@ -39,11 +39,11 @@ abbrev pub DropsDatagram : Slab Connection → Slab Connection → Type 0
 DropsDatagram old new = (slot : ℕ) → StaysOrEnds (get old slot) (get new slot)
 
 -- each of the two pieces of a datagram: bytes came, or without room or memory for them it ended
-abbrev pub CameOrFailed : Bounds → ℕ → Slab Connection → Slab Connection → ℕ → List ℕ → Type 0
+abbrev pub CameOrFailed : ConnectionLimits → ℕ → Slab Connection → Slab Connection → ℕ → List ℕ → Type 0
 CameOrFailed b now old new slot bytes =
     HappensWithRoom (for_message b now (get old slot)) now old new slot (came bytes)
     ⊎ HappensWithRoom (for_message b now (get old slot)) 0 old new slot failed
 
 -- or nothing was read
-abbrev pub CameIfRead : Bounds → ℕ → Slab Connection → Slab Connection → ℕ → List ℕ → Type 0
+abbrev pub CameIfRead : ConnectionLimits → ℕ → Slab Connection → Slab Connection → ℕ → List ℕ → Type 0
 CameIfRead b now old new slot bytes = (new ≡ old) ⊎ CameOrFailed b now old new slot bytes

@@ -3,7 +3,7 @@ use Rattle.std.specs.Prelude.{◌≡◌, ℕ, ◌<◌, ◌⊎◌, List, length, 
 use Rattle.std.specs.List.{list_any}
 use Rattle.std.specs.Str.{bytes_eq}
 use Rattle.slab.specs.Slab.{Slab}
-use Rattle.chpw_connections.specs.declared.bounds.Bounds.{Bounds}
+use Rattle.chpw_connections.specs.declared.bounds.ConnectionLimits.{ConnectionLimits}
 use Rattle.chpw_connections.specs.declared.connection.Connection.{Connection}
 use Rattle.chpw_datagrams.specs.Answers.{Answer, reply_for, after_keep}
 use Rattle.chpw_datagrams.specs.Senders.{is_answered, is_same_sender}
@@ -41,7 +41,7 @@ IsPlaced places slot sender message =
     (d : Datagram) × (slice_get places slot ≡ Some (Some (place.Datagram d))) × (d.sender ≡ sender) × (d.message.items ≡ message)
 
 -- a datagram waits for this worker as a connection whose place it has; the other places stay
-pub record IsQueued (sender : Sender) (message : List ℕ) (before after : List (Option Transport)) (b : Bounds) (now number : ℕ)
+pub record IsQueued (sender : Sender) (message : List ℕ) (before after : List (Option Transport)) (b : ConnectionLimits) (now number : ℕ)
     (old new : Slab Connection) (worker workers : ℕ) : Type 0 where
   pub slot : ℕ
   pub taken : TakesDatagram b now sender.address number message old new slot worker workers
@@ -49,7 +49,7 @@ pub record IsQueued (sender : Sender) (message : List ℕ) (before after : List 
   pub others : (other : ℕ) → (other ≡ slot → ⊥) → slice_get after other ≡ slice_get before other
 
 -- a datagram that is to be decided waits for this worker
-pub record Queues (d : Datagrams) (before after : List (Option Transport)) (b : Bounds) (now number : ℕ) (old new : Slab Connection) (worker workers : ℕ) : Type 0 where
+pub record Queues (d : Datagrams) (before after : List (Option Transport)) (b : ConnectionLimits) (now number : ℕ) (old new : Slab Connection) (worker workers : ℕ) : Type 0 where
   pub sender : Sender
   pub message : List ℕ
   pub decided : is_decided d before sender message now ≡ true

@@ -6,7 +6,7 @@ use Rattle.slab.specs.Slab.{Slab, get, Updates}
 use Rattle.chpw_connections.specs.Stages.{Event, came, replied, deferred, unanswered, wrote, closed, failed}
 use Rattle.chpw_connections.specs.Sets.{Happens, wanted_at, left_at, is_answering_in}
 use Rattle.chpw_connections.specs.Room.{HappensWithRoom, has_room_besides, for_message, for_reply}
-use Rattle.chpw_connections.specs.declared.bounds.Bounds.{Bounds}
+use Rattle.chpw_connections.specs.declared.bounds.ConnectionLimits.{ConnectionLimits}
 use Rattle.chpw_connections.specs.declared.connection.Connection.{Connection}
 use Rattle.chpw_connections.specs.Todos.{todo_in}
 use Rattle.chpw_connections.specs.declared.todo.Todo.{Todo}
@@ -16,7 +16,7 @@ use Rattle.chpw_pool.specs.declared.worker.Reply.{Reply}
 
 -- these bytes were read, no more than were wanted, and came to the connection; without room or memory for them it
 -- ended
-pub record Takes (b : Bounds) (now : ℕ) (old new : Slab Connection) (slot : ℕ) (before after : Option (List ℕ)) : Type 0 where
+pub record Takes (b : ConnectionLimits) (now : ℕ) (old new : Slab Connection) (slot : ℕ) (before after : Option (List ℕ)) : Type 0 where
   pub bytes : List ℕ
   pub few : length bytes ≤ wanted_at (get old slot)
   pub read : Consumes before after bytes
@@ -47,7 +47,7 @@ pub record GivesNone (old new : Slab Connection) (slot : ℕ) (before after : Op
 
 -- What one call of its socket does for a connection: what is to be done for it, or nothing. To a message that came in a
 -- datagram no more bytes come: its other side has ended as soon as its reply is sent.
-abbrev pub Reads : Bounds → ℕ → Slab Connection → Slab Connection → ℕ → Type 0
+abbrev pub Reads : ConnectionLimits → ℕ → Slab Connection → Slab Connection → ℕ → Type 0
 Reads b now old new slot = (before : Option (List ℕ)) × ((after : Option (List ℕ)) × (Takes b now old new slot before after ⊎ TakesNone old new slot before after))
 
 abbrev pub Writes : ℕ → Slab Connection → Slab Connection → ℕ → Type 0
@@ -56,7 +56,7 @@ Writes now old new slot = (before : Option (List ℕ)) × ((after : Option (List
 abbrev pub Drains : Slab Connection → Slab Connection → ℕ → Type 0
 Drains old new slot = (before : Option (List ℕ)) × ((after : Option (List ℕ)) × (LetsGo old new before after ⊎ TakesNone old new slot before after))
 
-abbrev pub Steps : Bounds → ℕ → Todo → Slab Connection → Slab Connection → ℕ → Type 0
+abbrev pub Steps : ConnectionLimits → ℕ → Todo → Slab Connection → Slab Connection → ℕ → Type 0
 Steps b now (todo.Read n) old new slot = Reads b now old new slot ⊎ (new ≡ old)
 Steps b now todo.Write old new slot = Writes now old new slot ⊎ (new ≡ old)
 Steps b now todo.Linger old new slot = Drains old new slot ⊎ (new ≡ old)
@@ -64,14 +64,14 @@ Steps b now todo.Close old new slot = Updates old new slot None
 Steps b now todo.Wait old new slot = new ≡ old
 
 -- one after the other
-pub data RunsTo (b : Bounds) (now slot : ℕ) : Slab Connection → Slab Connection → Type 0 where
+pub data RunsTo (b : ConnectionLimits) (now slot : ℕ) : Slab Connection → Slab Connection → Type 0 where
   stays : {s : Slab Connection} → RunsTo b now slot s s
   goes : {old mid new : Slab Connection} → RunsTo b now slot old mid → Steps b now (todo_in (get mid slot)) mid new slot
       → RunsTo b now slot old new
 
 -- A worker's reply is to be written if there is room for it and its connection waits for it; without one, or without
 -- room for it, the connection ends.
-abbrev pub can_reply : Bounds → ℕ → Slab Connection → ℕ → Reply → Bool
+abbrev pub can_reply : ConnectionLimits → ℕ → Slab Connection → ℕ → Reply → Bool
 can_reply b now old slot r = has_room_besides b.bytes (for_reply now) old slot (length r.bytes.items) && is_answering_in (get old slot)
 
 -- if it waits until the KDC has the journal up to a mark, not before that
@@ -79,13 +79,13 @@ abbrev pub reply_event : Option ℕ → Reply → Event
 reply_event None r = replied r.bytes.items r.is_last
 reply_event (Some mark) r = deferred r.bytes.items r.is_last mark
 
-abbrev pub IsAnswered : Bounds → ℕ → Option ℕ → Option Reply → Slab Connection → Slab Connection → ℕ → Type 0
+abbrev pub IsAnswered : ConnectionLimits → ℕ → Option ℕ → Option Reply → Slab Connection → Slab Connection → ℕ → Type 0
 IsAnswered b now mark None old new slot = Happens now old new slot unanswered
 IsAnswered b now mark (Some r) old new slot = MatchBool (can_reply b now old slot r)
     (HappensWithRoom (for_reply now) now old new slot (reply_event mark r)) (Happens now old new slot unanswered)
 
 -- and then one thing is done after the other
-abbrev pub Answers : Bounds → ℕ → Option ℕ → Option Reply → Slab Connection → Slab Connection → ℕ → Type 0
+abbrev pub Answers : ConnectionLimits → ℕ → Option ℕ → Option Reply → Slab Connection → Slab Connection → ℕ → Type 0
 Answers b now mark reply old new slot = (mid : Slab Connection) × (IsAnswered b now mark reply old mid slot × RunsTo b now slot mid new)
 
 -- there was no room for messages of this kind

@@ -11,7 +11,7 @@ use crate::pool::{Pool, PoolFault};
 use crate::sockets::{Selector, Sockets};
 use crate::state::State;
 use crate::worker::Reply;
-use chpw_connections::{Bounds, Connections, TakenMessage};
+use chpw_connections::{ConnectionLimits, Connections, TakenMessage};
 use chpw_control::Command;
 use chpw_serve::WorkerWords;
 use mio::Waker;
@@ -56,7 +56,7 @@ impl<G: Drop> Engine<G> {
         rt: &R,
         alloc: Global,
         seed: [u8; 32],
-        bounds: Bounds,
+        bounds: ConnectionLimits,
         gates: Vec<G>,
         datagrams: Option<UdpSocket>,
     ) -> Result<Engine<G>, PoolFault>

@@ -23,7 +23,7 @@ mod udp;
 mod worker;
 
 pub use status_reporter::{StatusReporter, ConnectionCounts};
-pub use chpw_connections::{Bounds, Unconfirmed};
+pub use chpw_connections::{ConnectionLimits, Unconfirmed};
 pub use clock::{MachineClock, machine_moment};
 pub use engine::Engine;
 pub use follower::{Follower, JournalEnd, NoFollower};

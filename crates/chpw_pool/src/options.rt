@@ -2,7 +2,7 @@
 ghost use Rattle.std.specs.Prelude.{◌≡◌, ◌*◌};
 ghost use Rattle.chpw_pool.specs.Bounded.{bounds_asked};
 
-use chpw_connections::Bounds;
+use chpw_connections::ConnectionLimits;
 
 /// What a pool is to do, what its connections may hold, and for how long.
 #[derive(Clone, Copy, Drop)]
@@ -44,10 +44,10 @@ impl PoolOptions {
     }
 
     /// These bounds in bytes and milliseconds.
-    pub fn bounds(&self) -> Bounds
+    pub fn bounds(&self) -> ConnectionLimits
         ensures value { result ≡ bounds_asked self.now }
     {
-        Bounds {
+        ConnectionLimits {
             connections: self.clients as usize,
             bytes: usize::from(self.buffers) * 1_048_576,
             idle: u64::from(self.idle) * 1_000,
