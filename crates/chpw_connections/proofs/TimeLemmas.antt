@@ -4,7 +4,7 @@ use Rattle.std.proofs.lemmas.Bool.Decides.{nat_tests}
 use Rattle.chpw_connections.specs.Stages.{Stage, reading, queued, answering, confirming, writing, lingering, abandoned, ended, failed, after, stage}
 use Rattle.chpw_connections.specs.Sets.{time_of, is_late, is_late_at, Passes, Comes}
 use Rattle.chpw_connections.specs.Times.{is_timed, EndsInTime, AllEndInTime, AllGoOnByTheirWorker, AllGoOnReleased, NoneStays}
-use Rattle.chpw_connections.specs.declared.bounds.ConnectionLimits.{ConnectionLimits}
+use Rattle.chpw_connections.specs.declared.limits.ConnectionLimits.{ConnectionLimits}
 use Rattle.chpw_connections.specs.declared.connection.Connection.{Connection}
 
 has_time : (b : ConnectionLimits) (s : Stage) → is_timed s ≡ true → (most : ℕ) × (time_of b s ≡ Some most)

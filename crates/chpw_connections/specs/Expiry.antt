@@ -2,7 +2,7 @@
 use Rattle.std.specs.Prelude.{ℕ, ◌+◌, min, Option, Bool, ◌&&◌, is_some, count_by, if◌then◌else◌}
 use Rattle.slab.specs.Slab.{Slab}
 use Rattle.chpw_connections.specs.Sets.{queued_at, is_late_in}
-use Rattle.chpw_connections.specs.declared.bounds.ConnectionLimits.{ConnectionLimits}
+use Rattle.chpw_connections.specs.declared.limits.ConnectionLimits.{ConnectionLimits}
 use Rattle.chpw_connections.specs.declared.connection.Connection.{Connection}
 
 -- its message waits for a worker, and has waited too long

@@ -4,7 +4,7 @@ use Rattle.slab.specs.Slab.{Slab, get}
 use Rattle.chpw_connections.specs.Holding.{held_by, held_in, size_by, growth_by, growth_at, begun_of}
 use Rattle.chpw_connections.specs.Stages.{Event, failed, stage}
 use Rattle.chpw_connections.specs.Sets.{waits, waits_since, Comes}
-use Rattle.chpw_connections.specs.declared.bounds.ConnectionLimits.{ConnectionLimits}
+use Rattle.chpw_connections.specs.declared.limits.ConnectionLimits.{ConnectionLimits}
 use Rattle.chpw_connections.specs.declared.connection.Connection.{Connection}
 use Rattle.chpw_connections.specs.declared.room.Candidates.{Candidates}
 

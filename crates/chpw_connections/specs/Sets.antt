@@ -2,7 +2,7 @@
 use Rattle.std.specs.Prelude.{◌≡◌, ◌≢◌, ℕ, ◌≤◌, List, Option, Some, None, Bool, true, false, IsSomeAnd, MatchOption, MatchBool, if◌then◌else◌, nat_le, ◌-◌, [], option_map, take}
 use Rattle.slab.specs.Slab.{Slab, get, slab_len}
 use Rattle.chpw_connections.specs.Stages.{Stage, reading, queued, answering, writing, lingering, ended, Event, failed, stage, Goes, wanted_by, left_of}
-use Rattle.chpw_connections.specs.declared.bounds.ConnectionLimits.{ConnectionLimits}
+use Rattle.chpw_connections.specs.declared.limits.ConnectionLimits.{ConnectionLimits}
 use Rattle.chpw_connections.specs.declared.connection.Connection.{Connection}
 
 -- it waits for its client: for a whole message, for its reply to be read, or for its end

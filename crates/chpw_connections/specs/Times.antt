@@ -3,7 +3,7 @@ use Rattle.std.specs.Prelude.{◌≡◌, ℕ, ◌+◌, ◌≤◌, ◌⊎◌, Lis
 use Rattle.chpw_connections.specs.Stages.{Stage, answering, confirming, abandoned, ended, replied, deferred, unanswered, released, after, stage}
 use Rattle.chpw_connections.specs.Sets.{time_of, is_late, Passes}
 use Rattle.chpw_connections.specs.Confirming.{is_confirming}
-use Rattle.chpw_connections.specs.declared.bounds.ConnectionLimits.{ConnectionLimits}
+use Rattle.chpw_connections.specs.declared.limits.ConnectionLimits.{ConnectionLimits}
 use Rattle.chpw_connections.specs.declared.connection.Connection.{Connection}
 
 -- the stage is timed: no worker has its message, its reply waits for no confirmation, and it hasn't ended

@@ -3,7 +3,7 @@ ghost use Rattle.std.specs.Prelude.{◌≡◌, ◌==◌, if◌then◌else◌, �
 ghost use Rattle.chpw_connections.specs.Messages.{wanted_after as wanted_of, whole_after as whole_of};
 ghost use Rattle.chpw_connections.specs.Reading.{is_unfinished, is_covered};
 
-use crate::bounds::ConnectionLimits;
+use crate::limits::ConnectionLimits;
 use crate::room::Candidates;
 use chpw_frame::LONGEST_MESSAGE;
 use std::alloc::{AllocError, Global};

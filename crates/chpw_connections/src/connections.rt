@@ -10,7 +10,7 @@ ghost use Rattle.chpw_connections.specs.Queues.{queues_of, queue_of, workers_of,
 ghost use Rattle.chpw_connections.specs.Waiting.{waits_for, in_time, Becomes, Leaves};
 ghost use Rattle.chpw_connections.specs.Held.{slots_of, accepted_by, removed_by, expired_by, bounds_of, Counts};
 
-use crate::bounds::ConnectionLimits;
+use crate::limits::ConnectionLimits;
 use crate::connection::{Connection, Phase, at_most};
 use crate::set::Connections;
 use crate::slots::Slots;

@@ -3,7 +3,7 @@
 //! and asks what to do. Moments are milliseconds of a clock that doesn't go back.
 #![tactic(auto)]
 
-mod bounds;
+mod limits;
 mod confirming;
 mod connection;
 mod connections;
@@ -18,7 +18,7 @@ mod slots;
 mod todo;
 mod waiting;
 
-pub use bounds::ConnectionLimits;
+pub use limits::ConnectionLimits;
 pub use confirming::Unconfirmed;
 pub use connection::MAX_MESSAGES;
 pub use connections::TakenMessage;

@@ -3,7 +3,7 @@ ghost use Rattle.std.specs.Prelude.{◌≡◌, ◌+◌, ◌≤◌};
 ghost use Rattle.slab.specs.Slab.{slab_len};
 ghost use Rattle.chpw_connections.specs.Waiting.{lists_of, Holds};
 
-use crate::bounds::ConnectionLimits;
+use crate::limits::ConnectionLimits;
 use crate::slots::Slots;
 use crate::waiting::Queues;
 use std::alloc::Global;

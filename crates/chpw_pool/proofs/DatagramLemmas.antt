@@ -15,7 +15,7 @@ use Rattle.chpw_connections.specs.Sets.{Comes, Happens, IsNew, wanted_at, is_end
 use Rattle.chpw_connections.specs.Stages.{Stage, reading, queued, answering, confirming, writing, lingering, abandoned, ended, came, failed, after, stage, read_to, received, wanted_by}
 use Rattle.chpw_connections.specs.Waiting.{waits_for}
 use Rattle.chpw_connections.specs.declared.connection.Connection.{Connection}
-use Rattle.chpw_connections.specs.declared.bounds.ConnectionLimits.{ConnectionLimits}
+use Rattle.chpw_connections.specs.declared.limits.ConnectionLimits.{ConnectionLimits}
 use Rattle.chpw_pool.specs.Datagrams.{TakesDatagram, length_before, StaysOrEnds, DropsDatagram, CameOrFailed, CameIfRead}
 
 -- who gives way to a message has ended

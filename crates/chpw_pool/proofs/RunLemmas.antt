@@ -2,7 +2,7 @@
 use Rattle.std.proofs.Common.{◌≡◌, ℕ, subst}
 use Rattle.slab.specs.Slab.{Slab, get}
 use Rattle.chpw_connections.specs.Todos.{todo_in}
-use Rattle.chpw_connections.specs.declared.bounds.ConnectionLimits.{ConnectionLimits}
+use Rattle.chpw_connections.specs.declared.limits.ConnectionLimits.{ConnectionLimits}
 use Rattle.chpw_connections.specs.declared.connection.Connection.{Connection}
 use Rattle.chpw_pool.specs.Steps.{Steps, RunsTo, goes}
 

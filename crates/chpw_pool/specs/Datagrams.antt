@@ -8,7 +8,7 @@ use Rattle.chpw_connections.specs.Stages.{came, ended, failed}
 use Rattle.chpw_connections.specs.Sets.{IsNew, queued_at, stage_at}
 use Rattle.chpw_connections.specs.Room.{HappensWithRoom, for_message}
 use Rattle.chpw_connections.specs.Waiting.{waits_for}
-use Rattle.chpw_connections.specs.declared.bounds.ConnectionLimits.{ConnectionLimits}
+use Rattle.chpw_connections.specs.declared.limits.ConnectionLimits.{ConnectionLimits}
 use Rattle.chpw_connections.specs.declared.connection.Connection.{Connection}
 
 -- the length that precedes a message over TCP

@@ -6,7 +6,7 @@ use Rattle.slab.specs.Slab.{Slab, get, Updates}
 use Rattle.chpw_connections.specs.Stages.{Event, came, replied, deferred, unanswered, wrote, closed, failed}
 use Rattle.chpw_connections.specs.Sets.{Happens, wanted_at, left_at, is_answering_in}
 use Rattle.chpw_connections.specs.Room.{HappensWithRoom, has_room_besides, for_message, for_reply}
-use Rattle.chpw_connections.specs.declared.bounds.ConnectionLimits.{ConnectionLimits}
+use Rattle.chpw_connections.specs.declared.limits.ConnectionLimits.{ConnectionLimits}
 use Rattle.chpw_connections.specs.declared.connection.Connection.{Connection}
 use Rattle.chpw_connections.specs.Todos.{todo_in}
 use Rattle.chpw_connections.specs.declared.todo.Todo.{Todo}
