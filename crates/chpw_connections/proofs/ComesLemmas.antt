@@ -10,7 +10,7 @@ use Rattle.chpw_connections.specs.declared.connection.Connection.{Connection}
 use Rattle.chpw_connections.specs.declared.connection.Incoming.{Incoming}
 use Rattle.chpw_connections.specs.declared.connection.Phase.{Phase}
 use Rattle.chpw_connections.specs.declared.connection.Phase.TheVariants as phase
-use Rattle.chpw_connections.specs.declared.room.Candidates.{Candidates}
+use Rattle.chpw_connections.specs.declared.room.EvictionRule.{EvictionRule}
 
 -- one event does to a stage what the other does
 record Same (now count since : ℕ) (s : Stage) (e f : Event) : Type 0 where
@@ -77,7 +77,7 @@ wanted_comes now (Some c) None more comes = absurd comes
 wanted_comes now (Some c) (Some d) more comes =
     goes_too now c d (came (take (wanted_by (stage c)) more)) (came more) (wanted_same now c.answered c.since (stage c) more) comes
 
-pub wanted_happens : (who : Candidates) (now : ℕ) (old new : Slab Connection) (slot : ℕ) (more : List ℕ)
+pub wanted_happens : (who : EvictionRule) (now : ℕ) (old new : Slab Connection) (slot : ℕ) (more : List ℕ)
     → HappensWithRoom who now old new slot (came (wanted_of (get old slot) more)) → HappensWithRoom who now old new slot (came more)
 wanted_happens who now old new slot more happens = record {
   here = wanted_comes now (get old slot) (get new slot) more happens.here;

@@ -14,7 +14,7 @@ use Rattle.chpw_connections.specs.Sets.{queued_by, queued_at, Comes, Happens, wa
 use Rattle.chpw_connections.specs.Room.{gives_way_since, is_held_back, is_among, IsLongestBesides}
 use Rattle.chpw_connections.specs.Waiting.{queue_in, waits_for, times, times_for, Holds, Becomes, Leaves, without, is_newly_queued}
 use Rattle.chpw_connections.specs.declared.connection.Connection.{Connection}
-use Rattle.chpw_connections.specs.declared.room.Candidates.{Candidates}
+use Rattle.chpw_connections.specs.declared.room.EvictionRule.{EvictionRule}
 use Rattle.chpw_connections.proofs.QueueLemmas.{number, times_head, times_after, times_push_same, times_push_other, times_without, times_without_other, without_none, without_head}
 
 -- what neither brings a message to a queue nor takes it out
@@ -274,7 +274,7 @@ pub longest_not_queued : (slots : Slab Connection) (slot : ℕ) → IsLongest sl
 longest_not_queued slots slot is = client_none (get slots slot) is.0 is.1
 
 -- who gives way waits for its client
-gives_waits : (who : Candidates) (o : Option Connection) (since : ℕ) → gives_way_since who o ≡ Some since → (s : ℕ) × (waits_since o ≡ Some s)
+gives_waits : (who : EvictionRule) (o : Option Connection) (since : ℕ) → gives_way_since who o ≡ Some since → (s : ℕ) × (waits_since o ≡ Some s)
 gives_waits who None since is = absurd cc
 gives_waits who (Some c) since is =
     (c.since, by_tests (waits (stage c)) (nat_lt 0 (held_by c.phase) && (not (is_held_back c) && is_among who c)) is)
@@ -283,7 +283,7 @@ gives_waits who (Some c) since is =
     by_tests true b e = refl
     by_tests false b e = absurd cc
 
-pub longest_besides_not_queued : (slots : Slab Connection) (besides : ℕ) (who : Candidates) (slot : ℕ) → IsLongestBesides slots (Some besides) who slot
+pub longest_besides_not_queued : (slots : Slab Connection) (besides : ℕ) (who : EvictionRule) (slot : ℕ) → IsLongestBesides slots (Some besides) who slot
     → queued_at (get slots slot) ≡ None
 longest_besides_not_queued slots besides who slot is = by_test (slot == besides) is.1
   where

@@ -4,7 +4,7 @@ ghost use Rattle.chpw_connections.specs.Messages.{wanted_after as wanted_of, who
 ghost use Rattle.chpw_connections.specs.Reading.{is_unfinished, is_covered};
 
 use crate::limits::ConnectionLimits;
-use crate::room::Candidates;
+use crate::room::EvictionRule;
 use chpw_frame::LONGEST_MESSAGE;
 use std::alloc::{AllocError, Global};
 use std::mem;
@@ -424,14 +424,14 @@ impl Connection {
     }
 
     /// Whether it is one of the candidates, waits for its client and holds some bytes.
-    pub fn gives_way(&self, who: Candidates) -> bool
+    pub fn gives_way(&self, who: EvictionRule) -> bool
         ensures value { result ≡ gives_way_of who self.now }
     {
         self.waits_for_client() && self.held() > 0 && self.growth() == 0 && self.is_among(who)
     }
 
     // Whether its message or its reply is large enough, and has been under way for long enough.
-    fn is_among(&self, who: Candidates) -> bool
+    fn is_among(&self, who: EvictionRule) -> bool
         ensures value { result ≡ is_among_of who self.now }
     {
         self.size() > who.larger_than && self.begun() <= who.begun_by

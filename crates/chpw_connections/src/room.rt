@@ -16,7 +16,7 @@ const LARGEST_SMALL: usize = 4_096;
 /// Who may be ended to make room: connections with a message or reply of more than `larger_than` bytes that has been
 /// under way since `begun_by` or longer.
 #[derive(Clone, Copy, PartialEq, Eq, Debug, Default, Drop)]
-pub(crate) struct Candidates {
+pub(crate) struct EvictionRule {
     pub larger_than: usize,
     pub begun_by: u64,
 }
@@ -64,7 +64,7 @@ impl Connections {
     }
 
     // How many bytes all may hold with those of a connection's message, and who may be ended for it.
-    fn room_to_read(&self, slot: usize, now: u64) -> (usize, Candidates)
+    fn room_to_read(&self, slot: usize, now: u64) -> (usize, EvictionRule)
         ensures most { result.0 ≡ read_within (bounds_of self.now) (is_large_in (get (slots_of self.now) slot)) }
         ensures who { result.1 ≡ for_message (bounds_of self.now) now (get (slots_of self.now) slot) }
     {
@@ -77,7 +77,7 @@ impl Connections {
         };
         (
             most,
-            Candidates {
+            EvictionRule {
                 larger_than,
                 begun_by,
             },
@@ -119,7 +119,7 @@ impl Connections {
         ensures queues { queues_of self.new ≡ queues_of self.old }
     {
         let most = self.bounds.bytes;
-        let who = Candidates {
+        let who = EvictionRule {
             larger_than: 0,
             begun_by: now,
         };
@@ -144,7 +144,7 @@ impl Connections {
         slot: usize,
         count: usize,
         most: usize,
-        who: Candidates,
+        who: EvictionRule,
     ) -> bool
         ensures makes_room { MakesRoom who (slots_of self.old) (slots_of self.new) slot }
         ensures value { result ≡ has_room_besides most who (slots_of self.old) slot count }
@@ -175,14 +175,14 @@ impl Connections {
     }
 
     // Whether this many more bytes of a connection could be held within a bound if all that give way to it had ended.
-    fn could_make_room(&self, slot: usize, count: usize, most: usize, who: Candidates) -> bool
+    fn could_make_room(&self, slot: usize, count: usize, most: usize, who: EvictionRule) -> bool
         ensures value { result ≡ has_room_besides most who (slots_of self.now) slot count }
     {
         count <= most && self.slots.staying_besides(slot, who) <= most - count
     }
 
     // Ends others that give way, those that have waited longest first, until this many more bytes may be held.
-    fn put_out_for(&mut self, slot: usize, count: usize, most: usize, who: Candidates)
+    fn put_out_for(&mut self, slot: usize, count: usize, most: usize, who: EvictionRule)
         requires enough { has_room_besides most who (slots_of self.old) slot count ≡ true }
         ensures makes_room { MakesRoom who (slots_of self.old) (slots_of self.new) slot }
         ensures room { held_in (slots_of self.new) + count ≤ most }
