@@ -8,7 +8,7 @@ use std::marker::Model;
 
 /// The follower said something other than the number that it was asked.
 #[derive(Clone, Copy, Debug)]
-pub struct Misspoken;
+pub struct ProtocolFault;
 
 /// What a follower is asked, and what it has answered. A mark is a number of bytes of the journal, from its beginning.
 ///
@@ -84,10 +84,10 @@ impl Asking {
         self.asked
     }
 
-    /// Bytes came from the follower. The mark that it has confirmed with them, if it did; `Misspoken` if it said
+    /// Bytes came from the follower. The mark that it has confirmed with them, if it did; `ProtocolFault` if it said
     /// anything but the very line that it was asked, or anything unasked: the caller then closes the connection, and
     /// the state is that after `lose`.
-    pub fn hear(&mut self, bytes: &[u8]) -> Result<Option<u64>, Misspoken>
+    pub fn hear(&mut self, bytes: &[u8]) -> Result<Option<u64>, ProtocolFault>
         ensures value { OnOk result (after_bytes self.old bytes.now ≡ Some self.new) }
         ensures confirmed { IfOk result (λ mark. mark ≡ confirmed_by self.old.asked bytes.now) }
         ensures misspoken { OnErr result (after_bytes self.old bytes.now ≡ None) }
@@ -98,7 +98,7 @@ impl Asking {
                 return Ok(None);
             }
             self.lose();
-            return Err(Misspoken);
+            return Err(ProtocolFault);
         };
         match answer_of(mark, self.heard, bytes) {
             Answer::Whole => {
@@ -113,7 +113,7 @@ impl Asking {
             }
             Answer::Wrong => {
                 self.lose();
-                Err(Misspoken)
+                Err(ProtocolFault)
             }
         }
     }

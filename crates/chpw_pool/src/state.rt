@@ -20,7 +20,7 @@ use crate::accepting::Accepting;
 use crate::status_reporter::ConnectionCounts;
 use crate::worker::Reply;
 use chpw_connections::{Connections, Counted, TakenMessage, Todo, Unconfirmed};
-use chpw_follower::{Asking, Misspoken};
+use chpw_follower::{Asking, ProtocolFault};
 use std::io::{ErrorKind, Read, Write};
 
 /// The milliseconds between two searches for connections whose time is up.
@@ -173,7 +173,7 @@ impl State {
 
     // The follower sent these bytes. If they confirm a mark of the journal, the replies that need no more are to be
     // written.
-    fn hear(&mut self, bytes: &[u8], now: u64) -> Result<Option<u64>, Misspoken>
+    fn hear(&mut self, bytes: &[u8], now: u64) -> Result<Option<u64>, ProtocolFault>
         ensures asking { OnOk result (after_bytes self.old.asking bytes.now ≡ Some self.new.asking) }
         ensures confirmed { IfOk result (λ mark. mark ≡ confirmed_by self.old.asking.asked bytes.now) }
         ensures released { IfOk result (λ mark. Releases mark now (slots_of self.old.connections) (slots_of self.new.connections)) }
@@ -190,7 +190,7 @@ impl State {
     }
 
     /// As `hear`, unless the connection concerns a former journal: that is ignored.
-    pub fn heard(&mut self, bytes: &[u8], now: u64) -> Result<Option<u64>, Misspoken>
+    pub fn heard(&mut self, bytes: &[u8], now: u64) -> Result<Option<u64>, ProtocolFault>
         ensures former { self.old.is_of_former ≡ true → (result ≡ Ok None) × (self.new ≡ self.old) }
         ensures asking { self.old.is_of_former ≡ false → OnOk result (after_bytes self.old.asking bytes.now ≡ Some self.new.asking) }
         ensures confirmed { self.old.is_of_former ≡ false → IfOk result (λ mark. mark ≡ confirmed_by self.old.asking.asked bytes.now) }
