@@ -1,4 +1,4 @@
--- How the fields of `Asking` represent what is asked, and what the bytes of an answer mean.
+-- How the fields of `FollowerDialog` represent what is asked, and what the bytes of an answer mean.
 use Rattle.std.specs.Prelude.{◌≡◌, ℕ, ◌+◌, ◌≤◌, List, ◌++◌, Bool, true, length, take, Option, Some, None, nat_le, if◌then◌else◌}
 use Rattle.chpw_follower.specs.Asks.{Asked, line_of, is_answer, is_begun}
 use Rattle.chpw_follower.specs.declared.line.Answer.{Answer}

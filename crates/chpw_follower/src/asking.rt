@@ -14,14 +14,14 @@ pub struct ProtocolFault;
 ///
 /// One ask is under way at a time. `heard` counts the bytes of its answer.
 #[derive(Drop)]
-pub struct Asking {
+pub struct FollowerDialog {
     wanted: u64,
     confirmed: u64,
     asked: Option<u64>,
     heard: usize,
 }
 
-impl Model for Asking {
+impl Model for FollowerDialog {
     ghost Value = { State };
 
     ghost view = { λ a. record { wanted = a.wanted; confirmed = a.confirmed; asked = asked_of a.asked a.heard } };
@@ -29,12 +29,12 @@ impl Model for Asking {
     ghost invariant = { λ a. is_within a.asked a.heard ≡ true };
 }
 
-impl Asking {
+impl FollowerDialog {
     /// Nothing is wanted, asked or confirmed.
-    pub fn new() -> Asking
+    pub fn new() -> FollowerDialog
         ensures value { result ≡ at_start }
     {
-        Asking {
+        FollowerDialog {
             wanted: 0,
             confirmed: 0,
             asked: None,

@@ -6,5 +6,5 @@ mod asking;
 pub mod laws;
 mod line;
 
-pub use asking::{Asking, ProtocolFault};
+pub use asking::{FollowerDialog, ProtocolFault};
 pub use line::ask_line;

@@ -20,7 +20,7 @@ use crate::accepting::Accepting;
 use crate::status_reporter::ConnectionCounts;
 use crate::worker::Reply;
 use chpw_connections::{Connections, Counted, TakenMessage, Todo, Unconfirmed};
-use chpw_follower::{Asking, ProtocolFault};
+use chpw_follower::{FollowerDialog, ProtocolFault};
 use std::io::{ErrorKind, Read, Write};
 
 /// The milliseconds between two searches for connections whose time is up.
@@ -47,7 +47,7 @@ pub(crate) struct State {
     /// What there was no room for in this round.
     pub shortage: Shortage,
     /// What the follower is asked.
-    pub asking: Asking,
+    pub asking: FollowerDialog,
     /// The connection to the follower concerns a journal that another one has replaced: what comes there is ignored.
     pub is_of_former: bool,
 }
@@ -114,7 +114,7 @@ impl State {
             is_deserted: false,
             has_newcomer: false,
             shortage: Shortage::default(),
-            asking: Asking::new(),
+            asking: FollowerDialog::new(),
             is_of_former: false,
         }
     }
@@ -249,7 +249,7 @@ impl State {
         ensures of_former { self.new.is_of_former ≡ true }
         ensures same { self.new.connections ≡ self.old.connections }
     {
-        self.asking = Asking::new();
+        self.asking = FollowerDialog::new();
         self.is_of_former = true;
     }
 
