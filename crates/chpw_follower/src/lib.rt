@@ -2,9 +2,9 @@
 //! Without sockets, clock or threads: the caller, who has those, sends what is to be asked and hands in what came.
 #![tactic(auto)]
 
-mod asking;
+mod dialog;
 pub mod laws;
 mod line;
 
-pub use asking::{FollowerDialog, ProtocolFault};
+pub use dialog::{FollowerDialog, ProtocolFault};
 pub use line::ask_line;
