@@ -11,7 +11,7 @@ use Rattle.chpw_rules.specs.declared.name.Name.{Name}
 use Rattle.chpw_rules.specs.declared.config.PrincipalRow.{PrincipalRow}
 use Rattle.chpw_rules.specs.declared.config.ServiceRow.{ServiceRow}
 use Rattle.chpw_rules.specs.Names.{name_cmp}
-use Rattle.chpw_import.specs.declared.keytab.Brought.{Brought}
+use Rattle.chpw_import.specs.declared.keytab.KeytabImport.{KeytabImport}
 use Rattle.chpw_import.specs.declared.keytab.ImportFault.{ImportFault}
 use Rattle.chpw_import.specs.declared.keytab.ImportFault.TheVariants.{Keytab, Memory}
 use Rattle.chpw_import.specs.declared.slot.Slot.{Slot}
@@ -40,7 +40,7 @@ pub record ArePrincipals (realm : List ℕ) (iterations : ℕ) (es : List Keytab
   pub first : rows ≡ first_principals (λ s. latest realm s 0 es) iterations names
 
 -- the keys that a keytab with these bytes has of a realm
-pub record IsBrought (bytes realm : List ℕ) (iterations : ℕ) (b : Brought) : Type 0 where
+pub record IsBrought (bytes realm : List ℕ) (iterations : ℕ) (b : KeytabImport) : Type 0 where
   pub entries : keytab bytes ≡ Ok (views b.entries.items)
   pub service : AreServiceKeys realm b.entries.items b.service.items
   pub principals : ArePrincipals realm iterations b.entries.items b.principals.items

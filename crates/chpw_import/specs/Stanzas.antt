@@ -11,7 +11,7 @@ use Rattle.chpw_rules.specs.Names.{is_name, name_of as name_in}
 use Rattle.chpw_config_text.specs.Stanzas.{stanzas_of}
 use Rattle.chpw_invocation.specs.declared.invocation.ImportOptions.{ImportOptions}
 use Rattle.chpw_invocation.specs.declared.invocation.KeyOptions.{KeyOptions}
-use Rattle.chpw_import.specs.declared.keytab.Brought.{Brought}
+use Rattle.chpw_import.specs.declared.keytab.KeytabImport.{KeytabImport}
 use Rattle.chpw_import.specs.declared.numbers.KeyNumbers.{KeyNumbers}
 use Rattle.chpw_import.specs.Keytabs.{IsBrought}
 use Rattle.chpw_import.specs.LeftLines.{left_lines}
@@ -29,7 +29,7 @@ AppendsRows before behind service principals =
 -- the keys that a keytab with these bytes has of the realm, in stanzas that a configuration can have; and a line for
 -- each skipped entry
 pub record Imports (o : ImportOptions) (bytes : List ℕ) (before behind untold told : Option (List ℕ)) : Type 0 where
-  pub brought : Brought
+  pub brought : KeytabImport
   pub is_brought : IsBrought bytes o.realm.now o.iterations brought
   pub fits : (service_fits brought.service.items ≡ true) × (principals_fit brought.principals.items ≡ true)
   pub written : AppendsRows before behind brought.service.items brought.principals.items

@@ -6,7 +6,7 @@ ghost use Rattle.chpw_import.specs.Faults.{IsEarly, IsLate, IsOfBytes, IsOfImpor
 ghost use Rattle.chpw_import.specs.Stanzas.{Imports};
 
 use crate::fault::KeysFault;
-use crate::keytab::{Brought, ImportFault, bring_in};
+use crate::keytab::{KeytabImport, ImportFault, bring_in};
 use crate::left::left_text;
 use crate::output::{ErrorWriter, read_file, stanzas, write_text};
 use chpw_invocation::ImportOptions;
@@ -73,7 +73,7 @@ fn brought_in<'a>(
     alloc: Global,
     bytes: &[u8],
     options: ImportOptions<'a>,
-) -> Result<Brought, KeysFault<'a>>
+) -> Result<KeytabImport, KeysFault<'a>>
     ensures brought { IfOk result (IsBrought bytes.now options.entry.realm.now options.entry.iterations) }
     ensures fits { IfOk result (λ b.
         (service_fits b.service.items ≡ true) × (principals_fit b.principals.items ≡ true)) }

@@ -17,7 +17,7 @@ use std::alloc::{AllocError, Global};
 
 /// The keys that a keytab has of a realm.
 #[derive(Drop)]
-pub struct Brought {
+pub struct KeytabImport {
     /// The entries of the file, in its order.
     pub entries: Vec<KeytabEntry>,
     /// The keys of kadmin/changepw, newest first and of one version etype 18 first; at most 16.
@@ -50,7 +50,7 @@ pub fn bring_in(
     bytes: &[u8],
     realm: &[u8],
     iterations: u32,
-) -> Result<Brought, ImportFault>
+) -> Result<KeytabImport, ImportFault>
     ensures fault { IfErr result (IsOfKeytab bytes.now) }
     ensures brought { IfOk result (IsBrought bytes.now realm.now iterations) }
     ensures service_fits { IfOk result (λ b. service_fits b.service.items ≡ true) }
@@ -73,7 +73,7 @@ fn brought_of(
     entries: Vec<KeytabEntry>,
     realm: &[u8],
     iterations: u32,
-) -> Result<Brought, AllocError>
+) -> Result<KeytabImport, AllocError>
     ensures entries { IfOk result (λ b. b.entries.items ≡ entries.items) }
     ensures service { IfOk result (λ b.
         AreServiceKeys realm.now b.entries.items b.service.items) }
@@ -96,7 +96,7 @@ fn brought_of(
         principals: principals.as_slice(),
     };
     let left = left_of(alloc, realm, entries.as_slice(), &used)?;
-    Ok(Brought {
+    Ok(KeytabImport {
         entries,
         service,
         principals,

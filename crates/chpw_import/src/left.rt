@@ -4,7 +4,7 @@ ghost use Rattle.std.specs.Option.{option_copied};
 ghost use Rattle.chpw_import.specs.LeftLines.{entry_text, left_lines, left_text, length_text, line_of, reason_text, unpaired_text, words_of};
 
 use crate::entries::name_of;
-use crate::keytab::Brought;
+use crate::keytab::KeytabImport;
 use chpw_printing::{put_number, put_principal, put_signed};
 use krb_keytab::KeytabEntry;
 use std::alloc::{AllocError, Global};
@@ -42,7 +42,7 @@ pub struct Left {
 }
 
 /// A line for each skipped entry, after the file's name.
-pub fn left_text(alloc: Global, file: &str, brought: &Brought) -> Result<Vec<u8>, AllocError>
+pub fn left_text(alloc: Global, file: &str, brought: &KeytabImport) -> Result<Vec<u8>, AllocError>
     ensures value { IfOk result (λ text.
         text.items ≡ left_lines file.now brought.now.entries.items brought.now.left.items) }
 {
