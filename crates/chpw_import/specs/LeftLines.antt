@@ -4,7 +4,7 @@ use Rattle.std.specs.List.{slice_get}
 use Rattle.std.specs.Fmt.{decimal, signed_decimal}
 use Rattle.krb_keytab.specs.declared.entry.KeytabEntry.{KeytabEntry}
 use Rattle.chpw_printing.specs.Quoting.{principal_text}
-use Rattle.chpw_import.specs.declared.left.Left.{Left}
+use Rattle.chpw_import.specs.declared.left.SkippedEntry.{SkippedEntry}
 use Rattle.chpw_import.specs.declared.left.Reason.{Reason}
 use Rattle.chpw_import.specs.declared.left.Reason.TheVariants.{OtherRealm, BadName, NoVersion, OtherType, KeyLength, Repeated, Unpaired, BehindGap, TooManyKeys, TooManyPrincipals}
 use Rattle.chpw_import.specs.Entries.{name_in}
@@ -49,6 +49,6 @@ abbrev pub line_of : List ℕ → Reason → Option KeytabEntry → List ℕ
 line_of file why None = []
 line_of file why (Some e) = file ++ codes ": " ++ left_text e why ++ codes "\n"
 
-abbrev pub left_lines : List ℕ → List KeytabEntry → List Left → List ℕ
+abbrev pub left_lines : List ℕ → List KeytabEntry → List SkippedEntry → List ℕ
 left_lines file es [] = []
 left_lines file es (l ∷ left) = line_of file l.why (slice_get es l.index) ++ left_lines file es left

@@ -9,7 +9,7 @@ use Rattle.chpw_rules.specs.declared.config.PrincipalRow.{PrincipalRow}
 use Rattle.chpw_rules.specs.declared.config.ServiceRow.{ServiceRow}
 use Rattle.chpw_rules.specs.Fitting.{is_same_etype}
 use Rattle.chpw_rules.specs.Names.{is_same_name}
-use Rattle.chpw_import.specs.declared.left.Left.{Left}
+use Rattle.chpw_import.specs.declared.left.SkippedEntry.{SkippedEntry}
 use Rattle.chpw_import.specs.declared.left.Reason.{Reason}
 use Rattle.chpw_import.specs.declared.left.Reason.TheVariants.{Repeated, Unpaired, BehindGap, TooManyKeys, TooManyPrincipals}
 use Rattle.chpw_import.specs.declared.slot.Slot.{Slot}
@@ -77,16 +77,16 @@ why_left realm keys newest service principals index e =
 
 -- ---- the file
 
-abbrev pub told : ℕ → Option Reason → List Left
+abbrev pub told : ℕ → Option Reason → List SkippedEntry
 told index (Some why) = record { index = index; why = why } ∷ []
 told index None = []
 
 -- the skipped ones of entries, the first of which is the index-th of the file
-abbrev pub told_from : (ℕ → KeytabEntry → Option Reason) → ℕ → List KeytabEntry → List Left
+abbrev pub told_from : (ℕ → KeytabEntry → Option Reason) → ℕ → List KeytabEntry → List SkippedEntry
 told_from why index [] = []
 told_from why index (e ∷ es) = told index (why index e) ++ told_from why (index + 1) es
 
 -- each entry that isn't used, in the order of the file
-abbrev pub left_out : List ℕ → List KeytabEntry → List ServiceRow → List PrincipalRow → List Left
+abbrev pub left_out : List ℕ → List KeytabEntry → List ServiceRow → List PrincipalRow → List SkippedEntry
 left_out realm es service principals =
     told_from (why_left realm (λ s. latest realm s 0 es) (λ n. newest realm n es) service principals) 0 es

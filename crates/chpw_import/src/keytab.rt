@@ -7,7 +7,7 @@ ghost use Rattle.chpw_rules.specs.Names.{name_cmp};
 ghost use Rattle.chpw_import.specs.Keytabs.{ArePrincipals, AreServiceKeys, IsBrought, IsOfKeytab};
 ghost use Rattle.chpw_import.specs.LeftOut.{left_out};
 
-use crate::left::Left;
+use crate::left::SkippedEntry;
 use crate::left_out::{Used, left_of};
 use crate::rows::{principals_of, service_of};
 use crate::table::table_of;
@@ -25,7 +25,7 @@ pub struct KeytabImport {
     /// The others, in the order of their names.
     pub principals: Vec<PrincipalRow>,
     /// The skipped entries, in the order of the file.
-    pub left: Vec<Left>,
+    pub left: Vec<SkippedEntry>,
 }
 
 /// Why nothing is imported.

@@ -36,7 +36,7 @@ pub enum Reason {
 
 /// A skipped entry: the index-th of the file, from 0.
 #[derive(Clone, Copy, PartialEq, Eq, Debug, Drop)]
-pub struct Left {
+pub struct SkippedEntry {
     pub index: usize,
     pub why: Reason,
 }

@@ -8,7 +8,7 @@ ghost use Rattle.chpw_import.specs.Tables.{newest_at, slot_cmp};
 ghost use Rattle.chpw_import.specs.LeftOut.{has_version, is_found, is_key_of, told_from, unused, unused_of_service, usable, used_keys, why_left};
 
 use crate::entries::{named_in, usable_key};
-use crate::left::{Left, Reason};
+use crate::left::{SkippedEntry, Reason};
 use crate::rows::{is_service, pair_at};
 use crate::slot::{Found, Slot};
 use crate::table::{Table, newest_version, slot_of};
@@ -31,7 +31,7 @@ pub(crate) fn left_of(
     realm: &[u8],
     entries: &[KeytabEntry],
     used: &Used<'_>,
-) -> Result<Vec<Left>, AllocError>
+) -> Result<Vec<SkippedEntry>, AllocError>
     requires sorted { IsStrictlySortedBy name_cmp (map (λ row. row.name) used.now.principals.now) }
     ensures value { IfOk result (λ left. left.items ≡ told_from
         (why_left realm.now (get slot_cmp used.now.table.now.found) (newest_at used.now.table.now.newest)
@@ -42,7 +42,7 @@ pub(crate) fn left_of(
     while let [entry, others @ ..] = rest {
         let index = entries.len() - rest.len();
         if let Some(why) = why_left(alloc, realm, used, index, entry)? {
-            left.push(Left { index, why })?;
+            left.push(SkippedEntry { index, why })?;
         }
         rest = others;
     }

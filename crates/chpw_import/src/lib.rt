@@ -20,6 +20,6 @@ pub use fault::KeysFault;
 pub use import_command::{import, tell_keytab, write_keytab};
 pub use key_command::{key, tell_password, write_password};
 pub use keytab::{KeytabImport, ImportFault, bring_in};
-pub use left::{Left, Reason, left_text};
+pub use left::{SkippedEntry, Reason, left_text};
 pub use numbers::KeyNumbers;
 pub use password::{default_salt, has_carriage_return, password_in, password_row};
