@@ -8,7 +8,7 @@ ghost use Rattle.chpw_import.specs.Keytabs.{ArePrincipals, AreServiceKeys, IsBro
 ghost use Rattle.chpw_import.specs.LeftOut.{left_out};
 
 use crate::left::SkippedEntry;
-use crate::left_out::{Used, left_of};
+use crate::left_out::{UsableKeys, left_of};
 use crate::rows::{principals_of, service_of};
 use crate::table::table_of;
 use chpw_rules::{PrincipalRow, ServiceRow};
@@ -90,7 +90,7 @@ fn brought_of(
     let table = table_of(alloc, realm, entries.as_slice())?;
     let service = service_of(alloc, &table.found)?;
     let principals = principals_of(alloc, &table, iterations)?;
-    let used = Used {
+    let used = UsableKeys {
         table: &table,
         service: service.as_slice(),
         principals: principals.as_slice(),

@@ -19,7 +19,7 @@ use std::collections::BTreeMap;
 
 /// What is used of a keytab: its table, and the rows that it gives, the principals in the order of their names.
 #[derive(Clone, Copy, Drop)]
-pub(crate) struct Used<'a> {
+pub(crate) struct UsableKeys<'a> {
     pub table: &'a Table,
     pub service: &'a [ServiceRow],
     pub principals: &'a [PrincipalRow],
@@ -30,7 +30,7 @@ pub(crate) fn left_of(
     alloc: Global,
     realm: &[u8],
     entries: &[KeytabEntry],
-    used: &Used<'_>,
+    used: &UsableKeys<'_>,
 ) -> Result<Vec<SkippedEntry>, AllocError>
     requires sorted { IsStrictlySortedBy name_cmp (map (λ row. row.name) used.now.principals.now) }
     ensures value { IfOk result (λ left. left.items ≡ told_from
@@ -53,7 +53,7 @@ pub(crate) fn left_of(
 fn why_left(
     alloc: Global,
     realm: &[u8],
-    used: &Used<'_>,
+    used: &UsableKeys<'_>,
     index: usize,
     entry: &KeytabEntry,
 ) -> Result<Option<Reason>, AllocError>
@@ -75,7 +75,7 @@ fn why_left(
 // Why an entry with this name, whose key can be used, is skipped, if it is.
 fn why_unused(
     alloc: Global,
-    used: &Used<'_>,
+    used: &UsableKeys<'_>,
     index: usize,
     entry: &KeytabEntry,
     name: &Name,
