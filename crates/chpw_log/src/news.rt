@@ -48,7 +48,7 @@ pub enum News<'a> {
 
 /// The fields for the result of a message.
 #[derive(Clone, Copy, Drop)]
-pub(crate) struct Told<'a> {
+pub(crate) struct LogFields<'a> {
     pub(crate) client: Option<Party<'a>>,
     pub(crate) target: Option<Party<'a>>,
     /// The result code (RFC 3244 section 2), the error code (RFC 4120 section 7.5.9) and the text of the
@@ -87,7 +87,7 @@ impl<'a> Asked<'a> {
 
 impl<'a> News<'a> {
     /// The fields for it.
-    pub(crate) fn told(&self) -> Told<'a>
+    pub(crate) fn told(&self) -> LogFields<'a>
         ensures value { said result ≡ outcome_of self.now }
     {
         match *self {
@@ -95,7 +95,7 @@ impl<'a> News<'a> {
                 asked,
                 verdict,
                 kvno,
-            } => Told {
+            } => LogFields {
                 client: Some(asked.client),
                 target: asked.target,
                 code: verdict.code(),
@@ -103,7 +103,7 @@ impl<'a> News<'a> {
                 kvno,
                 text: verdict.text(),
             },
-            News::Full { asked, refusal } => Told {
+            News::Full { asked, refusal } => LogFields {
                 client: Some(asked.client),
                 target: asked.target,
                 code: refusal.code,
@@ -111,7 +111,7 @@ impl<'a> News<'a> {
                 kvno: None,
                 text: refusal.text,
             },
-            News::Unopened { refusal } => Told {
+            News::Unopened { refusal } => LogFields {
                 client: None,
                 target: None,
                 code: refusal.code,

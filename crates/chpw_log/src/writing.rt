@@ -10,7 +10,7 @@ ghost use Rattle.chpw_log.specs.Tellings.{said};
 
 use crate::line::Line;
 use crate::moment::put_moment;
-use crate::news::{Party, Told};
+use crate::news::{Party, LogFields};
 use chpw_printing::{put_number, put_principal, put_signed, put_words};
 use std::alloc::{AllocError, Global};
 
@@ -44,7 +44,7 @@ fn put_front(text: &mut Vec<u8>, line: &Line<'_>) -> Result<(), AllocError>
 }
 
 // Adds the fields for the result of the message, each after a space.
-fn put_told(text: &mut Vec<u8>, told: &Told<'_>) -> Result<(), AllocError>
+fn put_told(text: &mut Vec<u8>, told: &LogFields<'_>) -> Result<(), AllocError>
     ensures value { OnOk result (text.new.items ≡ text.old.items ++ 32 ∷ join_with_byte 32 (outcome_fields (said told.now))) }
     ensures fields { OnOk result (are_fields (outcome_fields (said told.now)) ≡ true) }
 {
@@ -54,7 +54,7 @@ fn put_told(text: &mut Vec<u8>, told: &Told<'_>) -> Result<(), AllocError>
 }
 
 // Adds client and target.
-fn put_parties(text: &mut Vec<u8>, told: &Told<'_>) -> Result<(), AllocError>
+fn put_parties(text: &mut Vec<u8>, told: &LogFields<'_>) -> Result<(), AllocError>
     ensures value { OnOk result (text.new.items ≡ text.old.items
         ++ codes " client " ++ or_dash party_text (said told.now).client
         ++ codes " target " ++ or_dash party_text (said told.now).target) }
@@ -68,7 +68,7 @@ fn put_parties(text: &mut Vec<u8>, told: &Told<'_>) -> Result<(), AllocError>
 }
 
 // Adds result code and error code.
-fn put_codes(text: &mut Vec<u8>, told: &Told<'_>) -> Result<(), AllocError>
+fn put_codes(text: &mut Vec<u8>, told: &LogFields<'_>) -> Result<(), AllocError>
     ensures value { OnOk result (text.new.items ≡ text.old.items
         ++ codes " code " ++ decimal told.now.code
         ++ codes " error " ++ or_dash signed_decimal told.now.error) }
@@ -82,7 +82,7 @@ fn put_codes(text: &mut Vec<u8>, told: &Told<'_>) -> Result<(), AllocError>
 }
 
 // Adds the version and the text.
-fn put_end(text: &mut Vec<u8>, told: &Told<'_>) -> Result<(), AllocError>
+fn put_end(text: &mut Vec<u8>, told: &LogFields<'_>) -> Result<(), AllocError>
     ensures value { OnOk result (text.new.items ≡ text.old.items
         ++ codes " kvno " ++ or_dash decimal told.now.kvno
         ++ codes " text " ++ words_text told.now.text.now) }
