@@ -7,7 +7,7 @@ use crate::events;
 use crate::fault::Fault;
 use crate::making::opened;
 use crate::words::{error_of, maybe_number, number, octets, text_of, verdict_of};
-use chpw_log::{Asked, Held, Limit, Line, News, write_held, write_line};
+use chpw_log::{Asked, Held, Limit, Line, MessageEvent, write_held, write_line};
 use chpw_table::{LAST_SECOND, Moment};
 use krb_protocol::Refusal;
 use std::alloc::Global;
@@ -54,7 +54,7 @@ fn decided(alloc: Global, place: Place, words: &[&str]) -> Result<String, Fault>
         return Err(Fault::NoSuchCase);
     };
     let opened = opened(alloc, client, target)?;
-    let news = News::Decided {
+    let news = MessageEvent::Decided {
         asked: Asked::of(&opened),
         verdict: verdict_of(verdict)?,
         kvno: maybe_number(kvno)?,
@@ -69,7 +69,7 @@ fn full(alloc: Global, place: Place, words: &[&str]) -> Result<String, Fault> {
     };
     let opened = opened(alloc, client, target)?;
     let refusal = refusal(code, error, text)?;
-    let news = News::Full {
+    let news = MessageEvent::Full {
         asked: Asked::of(&opened),
         refusal: &refusal,
     };
@@ -82,7 +82,7 @@ fn unopened(alloc: Global, place: Place, words: &[&str]) -> Result<String, Fault
         return Err(Fault::NoSuchCase);
     };
     let refusal = refusal(code, error, text)?;
-    shown(alloc, place, News::Unopened { refusal: &refusal })
+    shown(alloc, place, MessageEvent::Unopened { refusal: &refusal })
 }
 
 fn refusal(code: &str, error: &str, text: &str) -> Result<Refusal, Fault> {
@@ -156,7 +156,7 @@ pub(crate) fn is_moment(moment: Moment) -> bool
 }
 
 // The line, whose last byte must be a newline.
-fn shown(alloc: Global, place: Place, news: News<'_>) -> Result<String, Fault> {
+fn shown(alloc: Global, place: Place, news: MessageEvent<'_>) -> Result<String, Fault> {
     let Place {
         moment,
         worker,

@@ -15,8 +15,8 @@ use Rattle.chpw_table.specs.Replies.{Answer, answer_of}
 use Rattle.krb_protocol.specs.declared.refusal.Refusal.{Refusal}
 use Rattle.chpw_log.specs.declared.line.Line.{Line}
 use Rattle.chpw_log.specs.declared.news.Asked.{Asked}
-use Rattle.chpw_log.specs.declared.news.News.{News}
-use Rattle.chpw_log.specs.declared.news.News.TheVariants.{Decided, Full, Unopened}
+use Rattle.chpw_log.specs.declared.news.MessageEvent.{MessageEvent}
+use Rattle.chpw_log.specs.declared.news.MessageEvent.TheVariants.{Decided, Full, Unopened}
 use Rattle.chpw_log.specs.declared.news.Party.{Party}
 use Rattle.chpw_log.specs.Moments.{moment_text}
 
@@ -65,7 +65,7 @@ refused client target refusal = record {
   text = refusal.text.now;
 }
 
-abbrev pub outcome_of : News → Outcome
+abbrev pub outcome_of : MessageEvent → Outcome
 outcome_of (Decided asked verdict kvno) = decided asked (answer_of verdict) kvno
 outcome_of (Full asked refusal) =
     refused (Some (named asked.client)) (option_map named asked.target) refusal.now

@@ -16,7 +16,7 @@ pub use event::{ServiceEvent, write_event};
 pub use held::Held;
 pub use limit::{Leave, Limit};
 pub use line::{Line, micros_of};
-pub use news::{Asked, News, Party};
+pub use news::{Asked, MessageEvent, Party};
 pub use summing::write_held;
 pub use unconfirmed::write_unconfirmed;
 pub use writing::write_line;

@@ -3,7 +3,7 @@ ghost use Rattle.std.specs.Prelude.{◌<◌};
 ghost use Rattle.chpw_table.specs.Times.{IsMoment};
 ghost use Rattle.chpw_log.specs.Moments.{IsInMicros};
 
-use crate::news::News;
+use crate::news::MessageEvent;
 use chpw_table::Moment;
 
 /// The contents of a line about one message.
@@ -15,7 +15,7 @@ pub struct Line<'a> {
     pub worker: u8,
     /// The client's IPv4 address, high byte first.
     pub peer: [u8; 4],
-    pub news: News<'a>,
+    pub news: MessageEvent<'a>,
     ghost range: { IsMoment moment × (moment.micros < 1000000) },
 }
 

@@ -27,7 +27,7 @@ pub struct Asked<'a> {
 
 /// The result of a message.
 #[derive(Clone, Copy, Drop)]
-pub enum News<'a> {
+pub enum MessageEvent<'a> {
     /// It opened, and this was decided.
     Decided {
         asked: Asked<'a>,
@@ -85,13 +85,13 @@ impl<'a> Asked<'a> {
     }
 }
 
-impl<'a> News<'a> {
+impl<'a> MessageEvent<'a> {
     /// The fields for it.
     pub(crate) fn told(&self) -> LogFields<'a>
         ensures value { said result ≡ outcome_of self.now }
     {
         match *self {
-            News::Decided {
+            MessageEvent::Decided {
                 asked,
                 verdict,
                 kvno,
@@ -103,7 +103,7 @@ impl<'a> News<'a> {
                 kvno,
                 text: verdict.text(),
             },
-            News::Full { asked, refusal } => LogFields {
+            MessageEvent::Full { asked, refusal } => LogFields {
                 client: Some(asked.client),
                 target: asked.target,
                 code: refusal.code,
@@ -111,7 +111,7 @@ impl<'a> News<'a> {
                 kvno: None,
                 text: refusal.text,
             },
-            News::Unopened { refusal } => LogFields {
+            MessageEvent::Unopened { refusal } => LogFields {
                 client: None,
                 target: None,
                 code: refusal.code,

@@ -14,7 +14,7 @@ use crate::raising::RaiseTold;
 use crate::sheets::{Sheet, is_standard_error};
 use chpw_invocation::ServeOptions;
 use chpw_log::{
-    Held, Limit, Line, News, ServiceEvent, micros_of, write_event, write_held, write_line,
+    Held, Limit, Line, MessageEvent, ServiceEvent, micros_of, write_event, write_held, write_line,
     write_unconfirmed,
 };
 use chpw_pool::Unconfirmed;
@@ -380,7 +380,7 @@ impl<R: Wait + Eprint> Lines for LogLines<'_, R> {
     ghost takes = { λ a n b. Unit {0} };
 
     fn put(&mut self, line: &Line<'_>) {
-        if let News::Decided { verdict, .. } = line.news {
+        if let MessageEvent::Decided { verdict, .. } = line.news {
             self.log.facts.lock(self.log.rt).decided(verdict);
         }
         self.log.put(line);

@@ -8,7 +8,7 @@ ghost use Rattle.chpw_log.specs.Lines.{line_of};
 ghost use Rattle.chpw_service.specs.Noting.{Noted, opened as opened_line, unopened, journal_failed, decided_line, refused_line, failed_under};
 
 use crate::logging::{Log, LogLines};
-use chpw_log::{Asked, Line, News};
+use chpw_log::{Asked, Line, MessageEvent};
 use chpw_serve::{Gate, Observer, Spot};
 use chpw_table::{Event, Moment, Opened, Receipt, Verdict};
 use krb_protocol::Refusal;
@@ -100,7 +100,7 @@ impl<L: Lines> Observer for Logging<L> {
                 moment: now,
                 worker: self.worker,
                 peer,
-                news: News::Unopened { refusal },
+                news: MessageEvent::Unopened { refusal },
             }),
         }
     }
@@ -135,7 +135,7 @@ fn put_decided<L: Lines>(
         moment: now,
         worker,
         peer,
-        news: News::Decided {
+        news: MessageEvent::Decided {
             asked: Asked::of(opened),
             verdict,
             kvno,
@@ -160,7 +160,7 @@ fn put_full<L: Lines>(
         moment: now,
         worker,
         peer,
-        news: News::Full {
+        news: MessageEvent::Full {
             asked: Asked::of(opened),
             refusal,
         },
