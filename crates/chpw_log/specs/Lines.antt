@@ -14,10 +14,10 @@ use Rattle.chpw_table.specs.Requests.{client_of, named_or}
 use Rattle.chpw_table.specs.Replies.{Answer, answer_of}
 use Rattle.krb_protocol.specs.declared.refusal.Refusal.{Refusal}
 use Rattle.chpw_log.specs.declared.line.Line.{Line}
-use Rattle.chpw_log.specs.declared.news.Asked.{Asked}
-use Rattle.chpw_log.specs.declared.news.MessageEvent.{MessageEvent}
-use Rattle.chpw_log.specs.declared.news.MessageEvent.TheVariants.{Decided, Full, Unopened}
-use Rattle.chpw_log.specs.declared.news.Party.{Party}
+use Rattle.chpw_log.specs.declared.message_event.Asked.{Asked}
+use Rattle.chpw_log.specs.declared.message_event.MessageEvent.{MessageEvent}
+use Rattle.chpw_log.specs.declared.message_event.MessageEvent.TheVariants.{Decided, Full, Unopened}
+use Rattle.chpw_log.specs.declared.message_event.Party.{Party}
 use Rattle.chpw_log.specs.Moments.{moment_text}
 
 -- ---- whom a request names

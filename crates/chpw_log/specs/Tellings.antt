@@ -1,6 +1,6 @@
 -- For proofs alone: what the program's fields say.
 use Rattle.std.specs.Option.{option_map}
-use Rattle.chpw_log.specs.declared.news.LogFields.{LogFields}
+use Rattle.chpw_log.specs.declared.message_event.LogFields.{LogFields}
 use Rattle.chpw_log.specs.Lines.{Outcome, named}
 
 abbrev pub said : LogFields → Outcome

@@ -3,7 +3,7 @@ ghost use Rattle.std.specs.Prelude.{◌<◌};
 ghost use Rattle.chpw_table.specs.Times.{IsMoment};
 ghost use Rattle.chpw_log.specs.Moments.{IsInMicros};
 
-use crate::news::MessageEvent;
+use crate::message_event::MessageEvent;
 use chpw_table::Moment;
 
 /// The contents of a line about one message.

@@ -10,7 +10,7 @@ ghost use Rattle.chpw_log.specs.Tellings.{said};
 
 use crate::line::Line;
 use crate::moment::put_moment;
-use crate::news::{Party, LogFields};
+use crate::message_event::{Party, LogFields};
 use chpw_printing::{put_number, put_principal, put_signed, put_words};
 use std::alloc::{AllocError, Global};
 
