@@ -12,7 +12,7 @@ const MOST: u32 = 1_000_000;
 
 /// What is to be written for a message that didn't open.
 #[derive(Clone, Copy, Drop)]
-pub struct Leave {
+pub struct LinePermit {
     /// First the summary of how many were held back, if it is due.
     pub told: Option<Held>,
     /// Then a line of its own, if it has one.
@@ -90,7 +90,7 @@ impl Limit {
 
     /// What is to be written for a message from this peer that didn't open, at this time in microseconds. If it has no
     /// line of its own it is counted.
-    pub fn ask(&mut self, now: u64, peer: [u8; 4]) -> Leave
+    pub fn ask(&mut self, now: u64, peer: [u8; 4]) -> LinePermit
         ensures told { result.told ≡ told_at now self.old.held }
         ensures few { IfSome result.told (λ held. held.loopback + held.other ≤ 1000000) }
         ensures line { result.line ≡ is_free now self.old.lines }
@@ -102,7 +102,7 @@ impl Limit {
         if !line {
             self.held = self.held.with(now, peer);
         }
-        Leave { told, line }
+        LinePermit { told, line }
     }
 
     /// How many were held back, if a summary is due at this time; the count then starts again.
