@@ -7,7 +7,7 @@ use crate::events;
 use crate::fault::Fault;
 use crate::making::opened;
 use crate::words::{error_of, maybe_number, number, octets, text_of, verdict_of};
-use chpw_log::{Asked, Held, Limit, Line, MessageEvent, write_held, write_line};
+use chpw_log::{Asked, Held, LineLimit, Line, MessageEvent, write_held, write_line};
 use chpw_table::{LAST_SECOND, Moment};
 use krb_protocol::Refusal;
 use std::alloc::Global;
@@ -121,7 +121,7 @@ fn held(alloc: Global, words: &[&str]) -> Result<String, Fault> {
 // TIME@PEER ..: for each `+` if it has its line and otherwise `-`, after the summary before it; finally the last
 // summary.
 fn limited(alloc: Global, words: &[&str]) -> Result<String, Fault> {
-    let mut limit = Limit::new();
+    let mut limit = LineLimit::new();
     let mut text = String::new(alloc);
     for word in words {
         let Some((time, peer)) = word.split_once('@') else {

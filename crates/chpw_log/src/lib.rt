@@ -14,7 +14,7 @@ mod writing;
 
 pub use event::{ServiceEvent, write_event};
 pub use held::Held;
-pub use limit::{LinePermit, Limit};
+pub use limit::{LinePermit, LineLimit};
 pub use line::{Line, micros_of};
 pub use message_event::{Asked, MessageEvent, Party};
 pub use summing::write_held;

@@ -22,7 +22,7 @@ pub struct LinePermit {
 /// Which messages that didn't open have a line of their own: ten in any one second. The others are counted, and a
 /// summary of them is due once the first of them is a second old; the count then starts again.
 #[derive(Clone, Copy, Drop)]
-pub struct Limit {
+pub struct LineLimit {
     /// When the last ten lines were, newest first.
     lines: [Option<u64>; 10],
     held: Held,
@@ -76,13 +76,13 @@ impl Held {
     }
 }
 
-impl Limit {
+impl LineLimit {
     /// No line was written and nothing held back.
-    pub fn new() -> Limit
+    pub fn new() -> LineLimit
         ensures lines { result.lines ≡ no_lines }
         ensures held { result.held ≡ none_held }
     {
-        Limit {
+        LineLimit {
             lines: [None; 10],
             held: Held::none(),
         }

@@ -14,7 +14,7 @@ use crate::raising::RaiseTold;
 use crate::sheets::{Sheet, is_standard_error};
 use chpw_invocation::ServeOptions;
 use chpw_log::{
-    Held, Limit, Line, MessageEvent, ServiceEvent, micros_of, write_event, write_held, write_line,
+    Held, LineLimit, Line, MessageEvent, ServiceEvent, micros_of, write_event, write_held, write_line,
     write_unconfirmed,
 };
 use chpw_pool::Unconfirmed;
@@ -53,7 +53,7 @@ struct Book<'l> {
 #[derive(Drop)]
 struct End {
     sheet: Sheet,
-    limit: Limit,
+    limit: LineLimit,
     losses: Losses,
 }
 
@@ -94,7 +94,7 @@ fn book_at<'l, 'a: 'l, R: Files<File = File> + Net>(
                 path,
                 end: Mutex::new(End {
                     sheet,
-                    limit: Limit::new(),
+                    limit: LineLimit::new(),
                     losses: Losses::default(),
                 }),
             })),
