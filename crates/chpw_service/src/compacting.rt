@@ -10,7 +10,7 @@ ghost use Rattle.chpw_service.specs.declared.fault.ServeFault.TheVariants.{Memor
 use crate::answers::{done, refused, told, unwritten};
 use crate::fault::ServeFault;
 use crate::files::{read_regular, settings};
-use crate::histories::{Hall, Opening, next_opening};
+use crate::histories::{ServiceContext, Opening, next_opening};
 use crate::table::write_table;
 use chpw_control::FileName;
 use chpw_invocation::{ServeOptions, TableForm, TableOptions};
@@ -106,7 +106,7 @@ pub(crate) fn compact<
 >(
     rt: &R,
     time: &T,
-    hall: &Hall<'l, R>,
+    hall: &ServiceContext<'l, R>,
     compaction: Compaction,
     table: Table,
     mut sink: FileSink<File>,
@@ -147,7 +147,7 @@ enum NotReplaced {
 // Replaces the present journal by a compact one, once no reply waits for the follower.
 fn replace<'l, R: Files<File = File> + Wait + Clock + Eprint + AllocGlobal>(
     rt: &R,
-    hall: &Hall<'l, R>,
+    hall: &ServiceContext<'l, R>,
     base: &Table,
     held: &Table,
     sink: &mut FileSink<File>,

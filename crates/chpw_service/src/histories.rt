@@ -42,7 +42,7 @@ pub struct Rules {
 
 /// What all desks are served with.
 #[derive(Drop)]
-pub struct Hall<'l, R: Wait + Eprint> {
+pub struct ServiceContext<'l, R: Wait + Eprint> {
     pub engine: Engine<Logging<LogLines<'l, R>>>,
     pub workers: u8,
     pub log: &'l Log<'l, R>,
@@ -89,7 +89,7 @@ pub fn serve_histories<
 >(
     rt: &R,
     time: &T,
-    hall: &Hall<'l, R>,
+    hall: &ServiceContext<'l, R>,
     mut rules: Rules,
     first: Opened<D>,
 ) -> Result<Table, ServeFault<'a>>
@@ -117,7 +117,7 @@ pub fn serve_histories<
 fn further_opening<'a, 'l, R: Files<File = File> + Wait + Clock + Eprint + AllocGlobal, T: Clock>(
     rt: &R,
     time: &T,
-    hall: &Hall<'l, R>,
+    hall: &ServiceContext<'l, R>,
     rules: &mut Rules,
     served: Served,
 ) -> Result<Opening, ServeFault<'a>>
@@ -173,7 +173,7 @@ fn serve_history<
 >(
     rt: &R,
     time: &T,
-    hall: &Hall<'l, R>,
+    hall: &ServiceContext<'l, R>,
     rules: &Rules,
     opening: Opening,
     reported: &mut Reported,
@@ -199,7 +199,7 @@ fn serve_desk<
 >(
     rt: &R,
     time: &T,
-    hall: &Hall<'l, R>,
+    hall: &ServiceContext<'l, R>,
     rules: &Rules,
     opened: Opened<D>,
     reported: &mut Reported,
@@ -236,7 +236,7 @@ fn serve_shift<
 >(
     rt: &R,
     time: &T,
-    hall: &Hall<'l, R>,
+    hall: &ServiceContext<'l, R>,
     rules: &Rules,
     desk: &Desk<D, FileSink<File>>,
     passes: &mut [Pass<D>],

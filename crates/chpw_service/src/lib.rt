@@ -29,7 +29,7 @@ mod table;
 pub use fault::ServeFault;
 pub use files::{read_seed, read_settings};
 pub use followed::{FollowerTerms, JournalLength};
-pub use histories::{Hall, Opened, Rules, serve_histories};
+pub use histories::{ServiceContext, Opened, Rules, serve_histories};
 pub use logging::{Log, LogLines};
 pub use observers::{Lines, Logging};
 pub use serving::{serve, serve_by};

@@ -4,7 +4,7 @@ use crate::answers::{refused, reopened, told, compact_refusal, prepare_refusal};
 use crate::compacting::{Compaction, begin_compaction};
 use crate::fault::ServeFault;
 use crate::files::{open_file, read_regular, settings};
-use crate::histories::{Hall, Rules};
+use crate::histories::{ServiceContext, Rules};
 use crate::renewed::Renewed;
 use chpw_config::explain;
 use chpw_control::Command;
@@ -44,7 +44,7 @@ pub(crate) enum Due {
 pub(crate) struct Orders<'s, 'l, R: Wait + Eprint, T> {
     pub rt: &'s R,
     pub time: &'s T,
-    pub hall: &'s Hall<'l, R>,
+    pub hall: &'s ServiceContext<'l, R>,
 }
 
 impl<R: Files<File = File> + Net + Wait + Clock + Eprint + AllocGlobal, T: Clock> BackgroundTask

@@ -6,7 +6,7 @@ ghost use Rattle.chpw_service.specs.declared.fault.ServeFault.TheVariants.{Memor
 
 use crate::answers::{told, reload_refusal};
 use crate::fault::ServeFault;
-use crate::histories::{Hall, Opening, Rules, next_opening};
+use crate::histories::{ServiceContext, Opening, Rules, next_opening};
 use crate::notices::Notice;
 use crate::orders::Anew;
 use crate::renewed::Renewed;
@@ -30,7 +30,7 @@ use std::time::Clock;
 pub(crate) fn reload<'a, 'l, R: Wait + Clock + Eprint + AllocGlobal, T: Clock>(
     rt: &R,
     time: &T,
-    hall: &Hall<'l, R>,
+    hall: &ServiceContext<'l, R>,
     rules: &mut Rules,
     anew: Anew,
     table: Table,
@@ -85,7 +85,7 @@ fn made_anew(
 fn tell_reloaded<'l, R: Wait + Eprint + AllocGlobal, T: Clock>(
     rt: &R,
     time: &T,
-    hall: &Hall<'l, R>,
+    hall: &ServiceContext<'l, R>,
     table: &Table,
     lacked: &[Name],
 ) {

@@ -4,7 +4,7 @@ ghost use Rattle.chpw_service.specs.Faults.{IsLate, told_as};
 
 use crate::fault::{LateFault, ServeFault};
 use crate::followed::{ControlTerms, Followed};
-use crate::histories::{Hall, Opened, Rules, serve_histories};
+use crate::histories::{ServiceContext, Opened, Rules, serve_histories};
 use chpw_book::DeskName;
 use chpw_pool::{StatusReporter, Follower, Pool, PoolFault};
 use std::fs::{File, Files};
@@ -33,7 +33,7 @@ pub(crate) fn serve_from<
     rt: &R,
     time: &T,
     listener: &TcpListener,
-    hall: &Hall<'l, R>,
+    hall: &ServiceContext<'l, R>,
     control: ControlTerms,
     rules: Rules,
     first: Opened<D>,
@@ -84,7 +84,7 @@ fn serve_all<
     rt: &R,
     time: &T,
     listener: &TcpListener,
-    hall: &Hall<'l, R>,
+    hall: &ServiceContext<'l, R>,
     followed: F,
     rules: Rules,
     first: &mut Option<Opened<D>>,
@@ -125,7 +125,7 @@ fn serve_or_desert<
 >(
     rt: &R,
     time: &T,
-    hall: &Hall<'l, R>,
+    hall: &ServiceContext<'l, R>,
     rules: Rules,
     first: &mut Option<Opened<D>>,
 ) -> Result<(), LateFault>

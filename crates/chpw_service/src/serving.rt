@@ -13,7 +13,7 @@ use crate::facts::time_of;
 use crate::fault::ServeFault;
 use crate::files::{is_shared, read_seed, read_settings};
 use crate::followed::{ControlTerms, FollowerTerms, JournalLength, journal_length};
-use crate::histories::{Hall, Opened, Opening, Rules, first_opening, start_desk};
+use crate::histories::{ServiceContext, Opened, Opening, Rules, first_opening, start_desk};
 use crate::logging::{Log, LogLines, log_of};
 use crate::notices::Notice;
 use crate::observers::{Logging, log_observers};
@@ -206,7 +206,7 @@ fn raise_and_listen<
     desk: &Desk<D, FileSink<File>>,
     passes: &mut [Pass<D>],
     clock: &mut C,
-) -> Result<(TcpListener, Hall<'l, R>), ServeFault<'a>>
+) -> Result<(TcpListener, ServiceContext<'l, R>), ServeFault<'a>>
     ensures workers { IfOk result (λ r. r.1.workers ≡ start.entry.options.now.workers) }
     ensures raised { OnOk result (IsRaisedWhereAsked C.gives (opening_state D.root) clock.old clock.new
         passes.old passes.new start.entry.options.now.raise) }
@@ -224,7 +224,7 @@ fn listening<
     'a,
     'l,
     R: Net<Listener = TcpListener, Stream = TcpStream> + Wait + Print + Eprint + AllocGlobal,
->(rt: &R, start: Start<'l, R>) -> Result<(TcpListener, Hall<'l, R>), ServeFault<'a>>
+>(rt: &R, start: Start<'l, R>) -> Result<(TcpListener, ServiceContext<'l, R>), ServeFault<'a>>
     ensures workers { IfOk result (λ r. r.1.workers ≡ start.entry.options.now.workers) }
     ensures fault { IfErr result IsLate }
 {
@@ -237,7 +237,7 @@ fn listening<
     let listener = listen(rt, options.port)?;
     let datagrams = datagrams_of(rt, options)?;
     let engine = engine_of(rt, rt.alloc(), options.workers, &terms, log, datagrams)?;
-    let hall = Hall {
+    let hall = ServiceContext {
         engine,
         workers: options.workers,
         log,
