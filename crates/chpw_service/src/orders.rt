@@ -24,7 +24,7 @@ use std::time::Clock;
 /// A reload under way: the table that a start would open with now, the journal's file, read up to what that table has
 /// of it, and what the next desk is to serve by.
 #[derive(Drop)]
-pub(crate) struct Anew {
+pub(crate) struct PendingReload {
     pub renewed: Renewed,
     pub rest: File,
     pub rules: Rules,
@@ -34,7 +34,7 @@ pub(crate) struct Anew {
 #[derive(Drop)]
 pub(crate) enum Due {
     /// The next desk opens with the reloaded configuration.
-    Reload(Anew),
+    Reload(PendingReload),
     /// It goes on with a compact journal.
     Compact(Compaction),
 }
@@ -121,7 +121,7 @@ pub(crate) enum RenewFault<'a> {
 fn read_anew<'a, R: Files<File = File> + AllocGlobal>(
     rt: &R,
     options: &ServeOptions<'a>,
-) -> Result<Anew, RenewFault<'a>> {
+) -> Result<PendingReload, RenewFault<'a>> {
     let text = match read_regular(rt, options.config) {
         Ok(text) => text,
         Err(fault) => return Err(RenewFault::Start(fault)),
@@ -145,7 +145,7 @@ fn read_anew<'a, R: Files<File = File> + AllocGlobal>(
     let Ok(rest) = rest_of(rt, options.journal, renewal.kept) else {
         return Err(RenewFault::Start(ServeFault::CannotRead(options.journal)));
     };
-    Ok(Anew {
+    Ok(PendingReload {
         renewed: Renewed::of(renewal),
         rest,
         rules: Rules {

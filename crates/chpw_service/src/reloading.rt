@@ -8,7 +8,7 @@ use crate::answers::{told, reload_refusal};
 use crate::fault::ServeFault;
 use crate::histories::{ServiceContext, Opening, Rules, next_opening};
 use crate::notices::Notice;
-use crate::orders::Anew;
+use crate::orders::PendingReload;
 use crate::renewed::Renewed;
 use chpw_book::UnnamedDesk;
 use chpw_control::put_ok;
@@ -32,7 +32,7 @@ pub(crate) fn reload<'a, 'l, R: Wait + Clock + Eprint + AllocGlobal, T: Clock>(
     time: &T,
     hall: &ServiceContext<'l, R>,
     rules: &mut Rules,
-    anew: Anew,
+    anew: PendingReload,
     table: Table,
     sink: FileSink<File>,
 ) -> Result<Opening, ServeFault<'a>>
@@ -42,7 +42,7 @@ pub(crate) fn reload<'a, 'l, R: Wait + Clock + Eprint + AllocGlobal, T: Clock>(
     ensures workers { IfOk result (λ next. workers_of next.unnamed ≡ hall.now.workers) }
     ensures fault { IfErr result (λ fault. fault ≡ Memory) }
 {
-    let Anew {
+    let PendingReload {
         renewed,
         rest,
         rules: next_rules,
