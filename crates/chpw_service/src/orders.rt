@@ -5,7 +5,7 @@ use crate::compacting::{Compaction, begin_compaction};
 use crate::fault::ServeFault;
 use crate::files::{open_file, read_regular, settings};
 use crate::histories::{ServiceContext, Rules};
-use crate::renewed::Renewed;
+use crate::renewed::CheckedReload;
 use chpw_config::explain;
 use chpw_control::Command;
 use chpw_invocation::ServeOptions;
@@ -25,7 +25,7 @@ use std::time::Clock;
 /// of it, and what the next desk is to serve by.
 #[derive(Drop)]
 pub(crate) struct PendingReload {
-    pub renewed: Renewed,
+    pub renewed: CheckedReload,
     pub rest: File,
     pub rules: Rules,
 }
@@ -146,7 +146,7 @@ fn read_anew<'a, R: Files<File = File> + AllocGlobal>(
         return Err(RenewFault::Start(ServeFault::CannotRead(options.journal)));
     };
     Ok(PendingReload {
-        renewed: Renewed::of(renewal),
+        renewed: CheckedReload::of(renewal),
         rest,
         rules: Rules {
             service,

@@ -9,7 +9,7 @@ use crate::fault::ServeFault;
 use crate::histories::{ServiceContext, Opening, Rules, next_opening};
 use crate::notices::Notice;
 use crate::orders::PendingReload;
-use crate::renewed::Renewed;
+use crate::renewed::CheckedReload;
 use chpw_book::UnnamedDesk;
 use chpw_control::put_ok;
 use chpw_journal::FileSink;
@@ -69,7 +69,7 @@ pub(crate) fn reload<'a, 'l, R: Wait + Clock + Eprint + AllocGlobal, T: Clock>(
 // What a closed table becomes with the reloaded configuration and the rest of the journal.
 fn made_anew(
     alloc: Global,
-    renewed: Renewed,
+    renewed: CheckedReload,
     rest: File,
     closed: Table,
 ) -> Result<Reloaded, Refused>

@@ -8,11 +8,11 @@ use std::marker::Model;
 
 /// The table that a start would open with now. It keeps that it was prepared from some configuration and journal.
 #[derive(Drop)]
-pub(crate) struct Renewed {
+pub(crate) struct CheckedReload {
     renewal: Renewal,
 }
 
-impl Model for Renewed {
+impl Model for CheckedReload {
     ghost use Rattle.std.specs.Prelude.{List, Option, ℕ};
     ghost use Rattle.chpw_rules.specs.declared.config.Config.{Config as Settings};
     ghost use Rattle.chpw_reload.specs.declared.renewal.Renewal.{Renewal as TheRenewal};
@@ -25,13 +25,13 @@ impl Model for Renewed {
     ghost invariant = { λ r. (file : Settings) × (journal : Option (List ℕ)) × IsPrepared file journal r.renewal };
 }
 
-impl Renewed {
+impl CheckedReload {
     /// What was prepared.
-    pub fn of(renewal: Renewal) -> Renewed
+    pub fn of(renewal: Renewal) -> CheckedReload
         requires prepared { (file : Settings) × (journal : Option (List ℕ)) × IsPrepared file journal renewal }
         ensures value { result ≡ renewal }
     {
-        Renewed { renewal }
+        CheckedReload { renewal }
     }
 
     /// It was prepared.
@@ -39,7 +39,7 @@ impl Renewed {
         ensures value { result ≡ self }
         ensures prepared { (file : Settings) × (journal : Option (List ℕ)) × IsPrepared file journal result }
     {
-        let Renewed { renewal } = self;
+        let CheckedReload { renewal } = self;
         renewal
     }
 }
