@@ -19,7 +19,7 @@ mod places;
 mod raising;
 mod readiness;
 mod reloading;
-mod renewed;
+mod checked_reload;
 mod running;
 mod serving;
 mod sheets;

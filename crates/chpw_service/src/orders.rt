@@ -5,7 +5,7 @@ use crate::compacting::{Compaction, begin_compaction};
 use crate::fault::ServeFault;
 use crate::files::{open_file, read_regular, settings};
 use crate::histories::{ServiceContext, Rules};
-use crate::renewed::CheckedReload;
+use crate::checked_reload::CheckedReload;
 use chpw_config::explain;
 use chpw_control::Command;
 use chpw_invocation::ServeOptions;

@@ -9,7 +9,7 @@ use crate::fault::ServeFault;
 use crate::histories::{ServiceContext, Opening, Rules, next_opening};
 use crate::notices::Notice;
 use crate::orders::PendingReload;
-use crate::renewed::CheckedReload;
+use crate::checked_reload::CheckedReload;
 use chpw_book::UnnamedDesk;
 use chpw_control::put_ok;
 use chpw_journal::FileSink;
