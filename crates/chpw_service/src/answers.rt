@@ -2,18 +2,18 @@
 
 use crate::compacting::CompactFault;
 use crate::fault::ServeFault;
-use crate::orders::RenewFault;
+use crate::orders::PrepareFault;
 use chpw_control::{put_error, put_ok};
 use chpw_reload::{ReloadFault, put_fault};
 use std::alloc::{AllocError, Global};
 use std::str;
 
 /// The answer to a reload that was refused before the desk was closed.
-pub(crate) fn prepare_refusal(alloc: Global, fault: &RenewFault<'_>) -> Result<Vec<u8>, AllocError> {
+pub(crate) fn prepare_refusal(alloc: Global, fault: &PrepareFault<'_>) -> Result<Vec<u8>, AllocError> {
     match fault {
-        RenewFault::Start(fault) => refused(alloc, fault.to_string(alloc)?.as_str()),
-        RenewFault::Config(words) => refused(alloc, words.as_str()),
-        RenewFault::Reload(fault) => reload_refusal(alloc, fault),
+        PrepareFault::Start(fault) => refused(alloc, fault.to_string(alloc)?.as_str()),
+        PrepareFault::Config(words) => refused(alloc, words.as_str()),
+        PrepareFault::Reload(fault) => reload_refusal(alloc, fault),
     }
 }
 

@@ -108,7 +108,7 @@ impl<R: Files<File = File> + Net + Wait + Clock + Eprint + AllocGlobal, T: Clock
 
 /// Why a configuration can't be reloaded.
 #[derive(Drop)]
-pub(crate) enum RenewFault<'a> {
+pub(crate) enum PrepareFault<'a> {
     /// A file can't be read, or memory ran out.
     Start(ServeFault<'a>),
     /// The configuration has a fault, in the words of `check`.
@@ -121,29 +121,29 @@ pub(crate) enum RenewFault<'a> {
 fn read_anew<'a, R: Files<File = File> + AllocGlobal>(
     rt: &R,
     options: &ServeOptions<'a>,
-) -> Result<PendingReload, RenewFault<'a>> {
+) -> Result<PendingReload, PrepareFault<'a>> {
     let text = match read_regular(rt, options.config) {
         Ok(text) => text,
-        Err(fault) => return Err(RenewFault::Start(fault)),
+        Err(fault) => return Err(PrepareFault::Start(fault)),
     };
     let config = match settings(rt.alloc(), &text) {
         Ok(config) => config,
         Err(fault) => return Err(unset_fault(rt.alloc(), &text, fault)),
     };
     let Ok(service) = Service::of(rt.alloc(), &config) else {
-        return Err(RenewFault::Start(ServeFault::Memory));
+        return Err(PrepareFault::Start(ServeFault::Memory));
     };
     let max_entries = config.max_entries;
     let journal = match open_file(rt, options.journal) {
         Ok(journal) => journal,
-        Err(fault) => return Err(RenewFault::Start(fault)),
+        Err(fault) => return Err(PrepareFault::Start(fault)),
     };
     let renewal = match prepare(rt.alloc(), config, journal) {
         Ok(renewal) => renewal,
-        Err(fault) => return Err(RenewFault::Reload(fault)),
+        Err(fault) => return Err(PrepareFault::Reload(fault)),
     };
     let Ok(rest) = rest_of(rt, options.journal, renewal.kept) else {
-        return Err(RenewFault::Start(ServeFault::CannotRead(options.journal)));
+        return Err(PrepareFault::Start(ServeFault::CannotRead(options.journal)));
     };
     Ok(PendingReload {
         renewed: CheckedReload::of(renewal),
@@ -163,12 +163,12 @@ fn rest_of<R: Files<File = File>>(rt: &R, path: &str, kept: u64) -> io::Result<F
 }
 
 // A fault of the configuration with this text.
-fn unset_fault<'a>(alloc: Global, text: &[u8], fault: ServeFault<'a>) -> RenewFault<'a> {
+fn unset_fault<'a>(alloc: Global, text: &[u8], fault: ServeFault<'a>) -> PrepareFault<'a> {
     match (fault, str::from_utf8(text)) {
         (ServeFault::Config(fault), Ok(text)) => match explain(alloc, text, fault) {
-            Ok(words) => RenewFault::Config(words),
-            Err(_) => RenewFault::Start(ServeFault::Memory),
+            Ok(words) => PrepareFault::Config(words),
+            Err(_) => PrepareFault::Start(ServeFault::Memory),
         },
-        (fault, _) => RenewFault::Start(fault),
+        (fault, _) => PrepareFault::Start(fault),
     }
 }
