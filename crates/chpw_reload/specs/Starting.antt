@@ -9,7 +9,7 @@ use Rattle.chpw_journal.specs.declared.restoring.Restored.{Restored}
 use Rattle.chpw_journal.specs.JournalFile.{IsReadFrom}
 use Rattle.chpw_reload.specs.declared.fault.ReloadFault.{ReloadFault}
 use Rattle.chpw_reload.specs.declared.fault.ReloadFault.TheVariants.{Realm, Journal, Keys, Limits, Memory}
-use Rattle.chpw_reload.specs.declared.renewal.Renewal.{Renewal}
+use Rattle.chpw_reload.specs.declared.renewal.PreparedReload.{PreparedReload}
 use Rattle.chpw_reload.specs.declared.reloading.Reloaded.{Reloaded}
 use Rattle.chpw_reload.specs.Next.{lacked, next_config}
 use Rattle.chpw_reload.specs.Comparing.{HoldAlike, HoldApart}
@@ -24,7 +24,7 @@ pub record IsStarted (settings : Config) (closed renewed : State) (next : Reload
   pub few : length closed.used ≤ 2 ^ 31
 
 -- and over a renewed table that the rest of the journal gives
-pub record IsStartedFrom (r : Renewal) (rest : Option (List ℕ)) (closed : State) (next : Reloaded) : Type 0 where
+pub record IsStartedFrom (r : PreparedReload) (rest : Option (List ℕ)) (closed : State) (next : Reloaded) : Type 0 where
   pub realm : closed.fixed.realm ≡ r.settings.realm
   pub renewed : Restored
   pub read : IsReadFrom r.table rest renewed

@@ -15,4 +15,4 @@ mod renewal;
 pub use compacting::goes_with;
 pub use fault::{ReloadFault, put_fault};
 pub use reloading::{Refused, Reloaded, finish};
-pub use renewal::{Renewal, prepare};
+pub use renewal::{PreparedReload, prepare};

@@ -13,7 +13,7 @@ use crate::fault::ReloadFault;
 use crate::fitting::fitting;
 use crate::lacking::missing_names;
 use crate::next::next_config;
-use crate::renewal::{Renewal, read_on};
+use crate::renewal::{PreparedReload, read_on};
 use chpw_journal::RestoreFault;
 use chpw_rules::{Config, Name};
 use chpw_table::{MOST_CARRIED, Table};
@@ -42,7 +42,7 @@ pub struct Refused {
 /// the closed table's. Of several faults the first in `ReloadFault`'s order is returned.
 pub fn finish<F: Read + Drop>(
     alloc: Global,
-    renewal: Renewal,
+    renewal: PreparedReload,
     rest: F,
     closed: Table,
 ) -> Result<Reloaded, Refused>
@@ -63,7 +63,7 @@ pub fn finish<F: Read + Drop>(
 // The next configuration's table, before it takes over what the closed one used.
 fn start_table<F: Read + Drop>(
     alloc: Global,
-    renewal: Renewal,
+    renewal: PreparedReload,
     rest: F,
     closed: &Table,
 ) -> Result<Reloaded, ReloadFault>
@@ -73,7 +73,7 @@ fn start_table<F: Read + Drop>(
     if closed.realm() != renewal.settings.realm.as_slice() {
         return Err(ReloadFault::Realm);
     }
-    let Renewal {
+    let PreparedReload {
         settings,
         table,
         records,

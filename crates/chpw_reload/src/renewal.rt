@@ -14,7 +14,7 @@ use std::io::{BufReader, Read};
 
 /// The new configuration's table with the part of the journal replayed that was read so far.
 #[derive(Drop)]
-pub struct Renewal {
+pub struct PreparedReload {
     /// What the configuration sets beside its principals and the service's keys.
     pub settings: Config,
     pub table: Table,
@@ -31,7 +31,7 @@ pub fn prepare<F: Read + Drop>(
     alloc: Global,
     file: Config,
     journal: F,
-) -> Result<Renewal, ReloadFault>
+) -> Result<PreparedReload, ReloadFault>
     requires fits { config_fits file ≡ true }
     ensures prepared { IfOk result (IsPrepared file (F.remaining journal)) }
     ensures refused { IfErr result (IsUnprepared file (F.remaining journal)) }
@@ -48,7 +48,7 @@ pub fn prepare<F: Read + Drop>(
     }
 }
 
-fn renewal_of(settings: Config, restored: Restored) -> Renewal
+fn renewal_of(settings: Config, restored: Restored) -> PreparedReload
     ensures settings { result.settings ≡ settings }
     ensures table { result.table ≡ restored.table }
     ensures records { result.records ≡ restored.records }
@@ -60,7 +60,7 @@ fn renewal_of(settings: Config, restored: Restored) -> Renewal
         kept,
         torn: _,
     } = restored;
-    Renewal {
+    PreparedReload {
         settings,
         table,
         records,

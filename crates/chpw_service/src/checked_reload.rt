@@ -3,19 +3,19 @@ ghost use Rattle.std.specs.Prelude.{◌≡◌, List, Option, ℕ};
 ghost use Rattle.chpw_rules.specs.declared.config.Config.{Config as Settings};
 ghost use Rattle.chpw_reload.specs.Reloading.{IsPrepared};
 
-use chpw_reload::Renewal;
+use chpw_reload::PreparedReload;
 use std::marker::Model;
 
 /// The table that a start would open with now. It keeps that it was prepared from some configuration and journal.
 #[derive(Drop)]
 pub(crate) struct CheckedReload {
-    renewal: Renewal,
+    renewal: PreparedReload,
 }
 
 impl Model for CheckedReload {
     ghost use Rattle.std.specs.Prelude.{List, Option, ℕ};
     ghost use Rattle.chpw_rules.specs.declared.config.Config.{Config as Settings};
-    ghost use Rattle.chpw_reload.specs.declared.renewal.Renewal.{Renewal as TheRenewal};
+    ghost use Rattle.chpw_reload.specs.declared.renewal.PreparedReload.{PreparedReload as TheRenewal};
     ghost use Rattle.chpw_reload.specs.Reloading.{IsPrepared};
 
     ghost Value = { TheRenewal };
@@ -27,7 +27,7 @@ impl Model for CheckedReload {
 
 impl CheckedReload {
     /// What was prepared.
-    pub fn of(renewal: Renewal) -> CheckedReload
+    pub fn of(renewal: PreparedReload) -> CheckedReload
         requires prepared { (file : Settings) × (journal : Option (List ℕ)) × IsPrepared file journal renewal }
         ensures value { result ≡ renewal }
     {
@@ -35,7 +35,7 @@ impl CheckedReload {
     }
 
     /// It was prepared.
-    pub fn into_renewal(self) -> Renewal
+    pub fn into_renewal(self) -> PreparedReload
         ensures value { result ≡ self }
         ensures prepared { (file : Settings) × (journal : Option (List ℕ)) × IsPrepared file journal result }
     {
