@@ -18,7 +18,7 @@ use Rattle.chpw_journal.specs.Joined.{FollowOn}
 use Rattle.chpw_journal.specs.Known.{AreKnown, IsFoundAgain}
 use Rattle.chpw_journal.specs.Compact.{compacted, AreWholeRecords, MayCompact}
 use Rattle.chpw_report.specs.Held.{opening}
-use Rattle.chpw_reload.specs.declared.renewal.PreparedReload.{PreparedReload}
+use Rattle.chpw_reload.specs.declared.prepared_reload.PreparedReload.{PreparedReload}
 use Rattle.chpw_reload.specs.declared.reloading.Reloaded.{Reloaded}
 use Rattle.chpw_reload.specs.Comparing.{kept_by_both, HoldAlike}
 use Rattle.chpw_reload.specs.Reloading.{IsPrepared, IsReloaded}

@@ -11,7 +11,7 @@ use Rattle.chpw_table.specs.Verdicts.{adds_id}
 use Rattle.chpw_table.specs.Decision.{verdict}
 use Rattle.chpw_journal.specs.Runs.{IsSound, Run, last_state}
 use Rattle.chpw_journal.specs.Joined.{FollowOn}
-use Rattle.chpw_reload.specs.declared.renewal.PreparedReload.{PreparedReload}
+use Rattle.chpw_reload.specs.declared.prepared_reload.PreparedReload.{PreparedReload}
 use Rattle.chpw_reload.specs.declared.reloading.Reloaded.{Reloaded}
 use Rattle.chpw_reload.specs.Reloading.{IsPrepared, IsReloaded}
 use Rattle.chpw_reload.specs.ReloadRuns.{AreHistories, AreInARow, GoesOn, IsHistory, IsServiceRun}

@@ -10,9 +10,9 @@ mod lacking;
 pub mod laws;
 mod next;
 mod reloading;
-mod renewal;
+mod prepared_reload;
 
 pub use compacting::goes_with;
 pub use fault::{ReloadFault, put_fault};
 pub use reloading::{Refused, Reloaded, finish};
-pub use renewal::{PreparedReload, prepare};
+pub use prepared_reload::{PreparedReload, prepare};

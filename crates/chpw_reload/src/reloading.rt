@@ -13,7 +13,7 @@ use crate::fault::ReloadFault;
 use crate::fitting::fitting;
 use crate::lacking::missing_names;
 use crate::next::next_config;
-use crate::renewal::{PreparedReload, read_on};
+use crate::prepared_reload::{PreparedReload, read_on};
 use chpw_journal::RestoreFault;
 use chpw_rules::{Config, Name};
 use chpw_table::{MOST_CARRIED, Table};

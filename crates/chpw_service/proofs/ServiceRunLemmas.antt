@@ -4,7 +4,7 @@ use Rattle.chpw_rules.specs.declared.config.Config.{Config}
 use Rattle.chpw_table.specs.Agreement.{Held}
 use Rattle.chpw_table.specs.State.{State}
 use Rattle.chpw_table.proofs.AgreementLemmas.{agrees_itself}
-use Rattle.chpw_reload.specs.declared.renewal.PreparedReload.{PreparedReload}
+use Rattle.chpw_reload.specs.declared.prepared_reload.PreparedReload.{PreparedReload}
 use Rattle.chpw_reload.specs.declared.reloading.Reloaded.{Reloaded}
 use Rattle.chpw_reload.specs.Reloading.{IsPrepared, IsReloaded}
 use Rattle.chpw_reload.specs.ReloadRuns.{GoesOn}

@@ -15,7 +15,7 @@ pub(crate) struct CheckedReload {
 impl Model for CheckedReload {
     ghost use Rattle.std.specs.Prelude.{List, Option, ℕ};
     ghost use Rattle.chpw_rules.specs.declared.config.Config.{Config as Settings};
-    ghost use Rattle.chpw_reload.specs.declared.renewal.PreparedReload.{PreparedReload as TheRenewal};
+    ghost use Rattle.chpw_reload.specs.declared.prepared_reload.PreparedReload.{PreparedReload as TheRenewal};
     ghost use Rattle.chpw_reload.specs.Reloading.{IsPrepared};
 
     ghost Value = { TheRenewal };

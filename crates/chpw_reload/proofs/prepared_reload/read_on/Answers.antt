@@ -2,7 +2,7 @@ use Rattle.std.proofs.Common.{List, ℕ, Option, subst}
 use Rattle.std.specs.Io.Buffered.{reader_remaining}
 use Rattle.chpw_journal.specs.Restoring.{IsRefused, IsRestored}
 use Rattle.chpw_journal.proofs.FileLemmas.{unread}
-use Rattle.chpw_reload.proofs.renewal.read_on.Goals as goal
+use Rattle.chpw_reload.proofs.prepared_reload.read_on.Goals as goal
 
 pub returns-in-Ok-restore-clause-restored : goal.returns-in-Ok-restore-clause-restored
 returns-in-Ok-restore-clause-restored g c =
