@@ -16,7 +16,7 @@ use crate::followed::{FollowerTerms, JournalLength};
 use crate::logging::{Log, LogLines};
 use crate::notices::{Notice, is_first, take_unreported};
 use crate::observers::Logging;
-use crate::orders::{Due, Orders};
+use crate::orders::{AfterClose, Orders};
 use crate::reloading::reload;
 use chpw_book::{Desk, DeskName, Pass, StartFault, UnnamedDesk};
 use chpw_invocation::ServeOptions;
@@ -137,8 +137,8 @@ fn further_opening<'a, 'l, R: Files<File = File> + Wait + Clock + Eprint + Alloc
                 .tell_rollover(MachineClock::new(time).now(), &table);
             next_opening(table, sink, hall.workers)
         }
-        Some(Due::Reload(anew)) => reload(rt, time, hall, rules, anew, table, sink),
-        Some(Due::Compact(compaction)) => compact(rt, time, hall, compaction, table, sink),
+        Some(AfterClose::Reload(anew)) => reload(rt, time, hall, rules, anew, table, sink),
+        Some(AfterClose::Compact(compaction)) => compact(rt, time, hall, compaction, table, sink),
     }
 }
 
@@ -148,7 +148,7 @@ fn further_opening<'a, 'l, R: Files<File = File> + Wait + Clock + Eprint + Alloc
 struct Served {
     table: Table,
     sink: FileSink<File>,
-    due: Option<Due>,
+    due: Option<AfterClose>,
     is_over: bool,
     ghost room: { table.state.broken ≡ false
         → ⟦<FileSink<File> as JournalSink>⟧.failed sink < 2 ^ 64 - 1 },
@@ -240,7 +240,7 @@ fn serve_shift<
     rules: &Rules,
     desk: &Desk<D, FileSink<File>>,
     passes: &mut [Pass<D>],
-) -> Result<Option<Due>, NotStarted>
+) -> Result<Option<AfterClose>, NotStarted>
     requires passes { length passes.old ≡ hall.now.workers }
 {
     if is_full(passes, rules.max_entries) {

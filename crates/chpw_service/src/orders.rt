@@ -32,7 +32,7 @@ pub(crate) struct PendingReload {
 
 /// What is due once a desk is closed.
 #[derive(Drop)]
-pub(crate) enum Due {
+pub(crate) enum AfterClose {
     /// The next desk opens with the reloaded configuration.
     Reload(PendingReload),
     /// It goes on with a compact journal.
@@ -50,16 +50,16 @@ pub(crate) struct Orders<'s, 'l, R: Wait + Eprint, T> {
 impl<R: Files<File = File> + Net + Wait + Clock + Eprint + AllocGlobal, T: Clock> BackgroundTask
     for Orders<'_, '_, R, T> {
     /// What is due once the desk is closed.
-    type Done = Option<Due>;
+    type Done = Option<AfterClose>;
 
     /// Carries out one order after the other, until the workers are to take no more messages. If something is due after
     /// the desk, that is at once; the thread that opens the next desk then answers the caller.
-    fn run(self) -> Option<Due> {
+    fn run(self) -> Option<AfterClose> {
         let engine = &self.hall.engine;
         for _ in self.rt.forever() {
             match self.carry_out(engine.next_order(self.rt)?) {
                 Carried::Answered(answer) => engine.answer_order(self.rt, answer),
-                Carried::Due(due) => {
+                Carried::AfterClose(due) => {
                     engine.stop(self.rt);
                     return Some(due);
                 }
@@ -75,7 +75,7 @@ enum Carried {
     // It was carried out, or refused: the answer.
     Answered(Vec<u8>),
     // The rest of it is due once the desk is closed.
-    Due(Due),
+    AfterClose(AfterClose),
 }
 
 impl<R: Files<File = File> + Net + Wait + Clock + Eprint + AllocGlobal, T: Clock> Orders<
@@ -89,7 +89,7 @@ impl<R: Files<File = File> + Net + Wait + Clock + Eprint + AllocGlobal, T: Clock
         let options = self.hall.options;
         let answer = match command {
             Command::Reload => match read_anew(self.rt, options) {
-                Ok(anew) => return Carried::Due(Due::Reload(anew)),
+                Ok(anew) => return Carried::AfterClose(AfterClose::Reload(anew)),
                 Err(fault) => prepare_refusal(alloc, &fault),
             },
             Command::ReopenLog => {
@@ -97,7 +97,7 @@ impl<R: Files<File = File> + Net + Wait + Clock + Eprint + AllocGlobal, T: Clock
                 reopened(alloc, self.hall.log.reopen(options, now))
             }
             Command::Compact(copy) => match begin_compaction(self.rt, options, copy) {
-                Ok(compaction) => return Carried::Due(Due::Compact(compaction)),
+                Ok(compaction) => return Carried::AfterClose(AfterClose::Compact(compaction)),
                 Err(fault) => compact_refusal(alloc, &fault),
             },
             Command::Status | Command::Stop => refused(alloc, "not an order"),
