@@ -1,7 +1,7 @@
 -- Where files are, and which of them are one.
 use Rattle.std.specs.Prelude.{◌==◌, ◌&&◌, ◌||◌, ℕ, List, Bool, true, false, bytes_eq, if◌then◌else◌, Option, Some, None}
 use Rattle.std.specs.Borrow.{Bor}
-use Rattle.chpw_service.specs.declared.places.Place.{Place}
+use Rattle.chpw_service.specs.declared.places.FileId.{FileId}
 use Rattle.chpw_service.specs.declared.places.Places.{Places}
 use Rattle.chpw_service.specs.declared.places.Clash.{Clash}
 use Rattle.chpw_service.specs.declared.places.Clash.TheVariants.{Log, Journal}
@@ -13,7 +13,7 @@ are_one_name None (Some other) = false
 are_one_name (Some one) None = false
 are_one_name (Some one) (Some other) = bytes_eq one.now other.now
 
-abbrev pub are_one : Option Place → Option Place → Bool
+abbrev pub are_one : Option FileId → Option FileId → Bool
 are_one None other = false
 are_one (Some one) None = false
 are_one (Some one) (Some other) =

@@ -10,7 +10,7 @@ use std::os::unix::fs::MetadataExt;
 
 /// Where a file is.
 #[derive(Clone, Copy, Drop)]
-pub(crate) struct Place<'a> {
+pub(crate) struct FileId<'a> {
     /// The device, and the number on it: the file's own, or that of its directory if it doesn't exist yet.
     pub device: u64,
     pub number: u64,
@@ -21,10 +21,10 @@ pub(crate) struct Place<'a> {
 /// Where the files of a start are; none if there is no file, or none that can be found.
 #[derive(Clone, Copy, Drop)]
 pub(crate) struct Places<'a> {
-    pub config: Option<Place<'a>>,
-    pub seed: Option<Place<'a>>,
-    pub journal: Option<Place<'a>>,
-    pub log: Option<Place<'a>>,
+    pub config: Option<FileId<'a>>,
+    pub seed: Option<FileId<'a>>,
+    pub journal: Option<FileId<'a>>,
+    pub log: Option<FileId<'a>>,
 }
 
 /// A file that would be written to although it is another one of the start.
@@ -75,7 +75,7 @@ fn first_clash(places: &Places<'_>) -> Option<Clash>
 }
 
 // Whether there are two, and they are one file.
-fn is_one(one: Option<Place<'_>>, other: Option<Place<'_>>) -> bool
+fn is_one(one: Option<FileId<'_>>, other: Option<FileId<'_>>) -> bool
     ensures value { result ≡ are_one one.entry other.entry }
 {
     match (one, other) {
@@ -110,9 +110,9 @@ fn refused<'a>(options: &ServeOptions<'a>, clash: Option<Clash>) -> Result<(), S
     }
 }
 
-fn place_of<'a, R: Files>(rt: &R, path: &'a str) -> Option<Place<'a>> {
+fn place_of<'a, R: Files>(rt: &R, path: &'a str) -> Option<FileId<'a>> {
     if let Ok(metadata) = fs::metadata(rt, path) {
-        return Some(Place {
+        return Some(FileId {
             device: metadata.dev(),
             number: metadata.ino(),
             name: None,
@@ -124,7 +124,7 @@ fn place_of<'a, R: Files>(rt: &R, path: &'a str) -> Option<Place<'a>> {
         Some((folder, name)) => (folder, name),
     };
     let metadata = fs::metadata(rt, folder).ok()?;
-    Some(Place {
+    Some(FileId {
         device: metadata.dev(),
         number: metadata.ino(),
         name: Some(name),
