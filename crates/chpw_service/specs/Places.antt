@@ -2,7 +2,7 @@
 use Rattle.std.specs.Prelude.{◌==◌, ◌&&◌, ◌||◌, ℕ, List, Bool, true, false, bytes_eq, if◌then◌else◌, Option, Some, None}
 use Rattle.std.specs.Borrow.{Bor}
 use Rattle.chpw_service.specs.declared.places.FileId.{FileId}
-use Rattle.chpw_service.specs.declared.places.Places.{Places}
+use Rattle.chpw_service.specs.declared.places.FileIds.{FileIds}
 use Rattle.chpw_service.specs.declared.places.Clash.{Clash}
 use Rattle.chpw_service.specs.declared.places.Clash.TheVariants.{Log, Journal}
 
@@ -20,7 +20,7 @@ are_one (Some one) (Some other) =
     (one.device == other.device) && ((one.number == other.number) && are_one_name one.name other.name)
 
 -- what is written to is another file: the log's clash before the journal's
-abbrev pub clash_of : Places → Option Clash
+abbrev pub clash_of : FileIds → Option Clash
 clash_of p =
     if are_one p.log p.config || (are_one p.log p.seed || are_one p.log p.journal) then Some Log
     else if are_one p.journal p.config || are_one p.journal p.seed then Some Journal

@@ -1,7 +1,7 @@
 //! Where the files of a start are: none that is written may be another one.
 ghost use Rattle.std.specs.Prelude.{◌≡◌, IfErr, OnOk, None};
 ghost use Rattle.chpw_service.specs.Faults.{IsOfClash};
-ghost use Rattle.chpw_service.specs.Places.{are_one, are_one_name, clash_of};
+ghost use Rattle.chpw_service.specs.FileIds.{are_one, are_one_name, clash_of};
 
 use crate::fault::ServeFault;
 use chpw_invocation::ServeOptions;
@@ -20,7 +20,7 @@ pub(crate) struct FileId<'a> {
 
 /// Where the files of a start are; none if there is no file, or none that can be found.
 #[derive(Clone, Copy, Drop)]
-pub(crate) struct Places<'a> {
+pub(crate) struct FileIds<'a> {
     pub config: Option<FileId<'a>>,
     pub seed: Option<FileId<'a>>,
     pub journal: Option<FileId<'a>>,
@@ -43,7 +43,7 @@ pub(crate) fn keep_apart<'a, R: Files>(
 ) -> Result<(), ServeFault<'a>>
     ensures fault { IfErr result (IsOfClash options.now) }
 {
-    let places = Places {
+    let places = FileIds {
         config: place_of(rt, options.config),
         seed: place_of(rt, options.seed),
         journal: place_of(rt, options.journal),
@@ -56,10 +56,10 @@ pub(crate) fn keep_apart<'a, R: Files>(
 }
 
 // The first clash of these places: the log's before the journal's.
-fn first_clash(places: &Places<'_>) -> Option<Clash>
+fn first_clash(places: &FileIds<'_>) -> Option<Clash>
     ensures first { result ≡ clash_of places.now }
 {
-    let Places {
+    let FileIds {
         config,
         seed,
         journal,
