@@ -1,10 +1,10 @@
 -- Where files are, and which of them are one.
 use Rattle.std.specs.Prelude.{◌==◌, ◌&&◌, ◌||◌, ℕ, List, Bool, true, false, bytes_eq, if◌then◌else◌, Option, Some, None}
 use Rattle.std.specs.Borrow.{Bor}
-use Rattle.chpw_service.specs.declared.places.FileId.{FileId}
-use Rattle.chpw_service.specs.declared.places.FileIds.{FileIds}
-use Rattle.chpw_service.specs.declared.places.Clash.{Clash}
-use Rattle.chpw_service.specs.declared.places.Clash.TheVariants.{Log, Journal}
+use Rattle.chpw_service.specs.declared.file_ids.FileId.{FileId}
+use Rattle.chpw_service.specs.declared.file_ids.FileIds.{FileIds}
+use Rattle.chpw_service.specs.declared.file_ids.Clash.{Clash}
+use Rattle.chpw_service.specs.declared.file_ids.Clash.TheVariants.{Log, Journal}
 
 -- both exist, or neither does and they have one name
 abbrev pub are_one_name : Option (Bor (List ℕ)) → Option (Bor (List ℕ)) → Bool

@@ -15,7 +15,7 @@ mod logging;
 mod notices;
 mod observers;
 mod orders;
-mod places;
+mod file_ids;
 mod raising;
 mod readiness;
 mod reloading;

@@ -9,7 +9,7 @@ use crate::facts::Facts;
 use crate::fault::ServeFault;
 use crate::notices::{Losses, Notice, is_first};
 use crate::observers::Lines;
-use crate::places::keep_apart;
+use crate::file_ids::keep_apart;
 use crate::raising::RaiseTold;
 use crate::sheets::{Sheet, is_standard_error};
 use chpw_invocation::ServeOptions;
