@@ -10,7 +10,7 @@ use crate::fault::ServeFault;
 use crate::notices::{Losses, Notice, is_first};
 use crate::observers::Lines;
 use crate::file_ids::keep_apart;
-use crate::raising::RaiseTold;
+use crate::raising::RaiseReport;
 use crate::sheets::{Sheet, is_standard_error};
 use chpw_invocation::ServeOptions;
 use chpw_log::{
@@ -135,22 +135,22 @@ impl<R: Wait + Eprint> Log<'_, R> {
     }
 
     /// A raise was decided: an entry of the history, and a line if the count was raised.
-    pub(crate) fn tell_raise(&self, now: Moment, told: RaiseTold)
+    pub(crate) fn tell_raise(&self, now: Moment, told: RaiseReport)
         requires moment { IsMoment now }
         requires micros { now.micros < 1000000 }
     {
         match told {
-            RaiseTold::Raised(iterations) => {
+            RaiseReport::Raised(iterations) => {
                 self.facts.lock(self.rt).raised(u64::from(iterations));
                 self.put_event(now, &ServiceEvent::Raised { iterations });
             }
-            RaiseTold::NotHigher | RaiseTold::Broken => {
+            RaiseReport::NotHigher | RaiseReport::Broken => {
                 let iterations = self.facts().iterations;
                 self.facts.lock(self.rt).raised(iterations);
             }
-            RaiseTold::Full => {}
+            RaiseReport::Full => {}
         }
-        if matches!(told, RaiseTold::Broken) {
+        if matches!(told, RaiseReport::Broken) {
             self.tell_failed(now);
         }
     }

@@ -17,7 +17,7 @@ use std::sync::Wait;
 
 /// The result of a raise, displayed as the line that the program prints.
 #[derive(Clone, Copy, Drop)]
-pub(crate) enum RaiseTold {
+pub(crate) enum RaiseReport {
     /// New keys are made under this count.
     Raised(u32),
     /// New keys are already made under this count or a higher one.
@@ -28,7 +28,7 @@ pub(crate) enum RaiseTold {
     Full,
 }
 
-impl fmt::Display for RaiseTold {
+impl fmt::Display for RaiseReport {
     ghost use Rattle.std.specs.Prelude.{Some};
     ghost use Rattle.chpw_service.specs.Raised.{raised_line};
 
@@ -36,10 +36,10 @@ impl fmt::Display for RaiseTold {
 
     fn fmt<W: fmt::Write>(&self, f: &mut fmt::Formatter<W>) -> fmt::Result {
         match self {
-            RaiseTold::Raised(count) => write!(f, "raised {count}"),
-            RaiseTold::NotHigher => f.write_str("count not higher"),
-            RaiseTold::Broken => f.write_str("journal failed"),
-            RaiseTold::Full => f.write_str("history full"),
+            RaiseReport::Raised(count) => write!(f, "raised {count}"),
+            RaiseReport::NotHigher => f.write_str("count not higher"),
+            RaiseReport::Broken => f.write_str("journal failed"),
+            RaiseReport::Full => f.write_str("history full"),
         }
     }
 }
@@ -52,7 +52,7 @@ pub(crate) fn raise_where_asked<'a, D: DeskName, R: Wait + Print, C: Clock>(
     passes: &mut [Pass<D>],
     clock: &mut C,
     asked: Option<u32>,
-) -> Result<Option<RaiseTold>, ServeFault<'a>>
+) -> Result<Option<RaiseReport>, ServeFault<'a>>
     requires count { (count : ℕ) → asked ≡ Some count → (1 ≤ count) × (count ≤ 16777216) }
     ensures raised { OnOk result (IsRaisedWhereAsked C.gives (opening_state D.root) clock.old clock.new
         passes.old passes.new asked) }
@@ -72,7 +72,7 @@ fn raise_by_first<'a, D: DeskName, R: Wait + Print, C: Clock>(
     passes: &mut [Pass<D>],
     clock: &mut C,
     count: u32,
-) -> Result<Option<RaiseTold>, ServeFault<'a>>
+) -> Result<Option<RaiseReport>, ServeFault<'a>>
     requires count { is_in iteration_counts count ≡ true }
     ensures raised { OnOk result (IsRaiseOfFirst C.gives (opening_state D.root) clock.old clock.new
         passes.old passes.new count) }
@@ -96,7 +96,7 @@ fn raise<D: DeskName, R: Wait, C: Clock>(
     pass: &mut Pass<D>,
     clock: &mut C,
     count: u32,
-) -> Option<RaiseTold>
+) -> Option<RaiseReport>
     requires count { is_in iteration_counts count ≡ true }
     ensures raised { IsRaise C.gives (opening_state D.root) clock.old clock.new pass.old pass.new count result }
 {
@@ -105,19 +105,19 @@ fn raise<D: DeskName, R: Wait, C: Clock>(
 }
 
 // The result for this answer; none if memory was refused.
-fn told(count: u32, raised: Result<RaiseVerdict, RaiseFault>) -> Option<RaiseTold>
+fn told(count: u32, raised: Result<RaiseVerdict, RaiseFault>) -> Option<RaiseReport>
     ensures value { result ≡ told_as count raised }
 {
     match raised {
-        Ok(RaiseVerdict::Raised) => Some(RaiseTold::Raised(count)),
-        Ok(RaiseVerdict::NotHigher) => Some(RaiseTold::NotHigher),
-        Ok(RaiseVerdict::Broken) => Some(RaiseTold::Broken),
-        Err(RaiseFault::Full) => Some(RaiseTold::Full),
+        Ok(RaiseVerdict::Raised) => Some(RaiseReport::Raised(count)),
+        Ok(RaiseVerdict::NotHigher) => Some(RaiseReport::NotHigher),
+        Ok(RaiseVerdict::Broken) => Some(RaiseReport::Broken),
+        Err(RaiseFault::Full) => Some(RaiseReport::Full),
         Err(RaiseFault::Memory) => None,
     }
 }
 
-fn print_raised<'a, R: Print>(rt: &R, told: RaiseTold) -> Result<(), ServeFault<'a>>
+fn print_raised<'a, R: Print>(rt: &R, told: RaiseReport) -> Result<(), ServeFault<'a>>
     ensures fault { IfErr result (λ fault. fault ≡ CannotPrint) }
 {
     match println!(rt; "{told}") {
