@@ -81,7 +81,7 @@ pub(crate) struct ControlTerms {
 /// The follower at a socket, if there is one. Each change that it doesn't confirm has a line of its own in the log, and
 /// a notice on standard error once until it confirms one again.
 #[derive(Drop)]
-pub(crate) struct Followed<'l, R, T: Clock> {
+pub(crate) struct SocketFollower<'l, R, T: Clock> {
     rt: &'l R,
     terms: FollowerTerms<'l>,
     log: &'l Log<'l, R>,
@@ -96,7 +96,7 @@ pub(crate) struct Followed<'l, R, T: Clock> {
     ghost told: { IsTold since },
 }
 
-impl<'l, R, T: Clock> Followed<'l, R, T> {
+impl<'l, R, T: Clock> SocketFollower<'l, R, T> {
     /// A follower on these terms.
     pub fn of(
         rt: &'l R,
@@ -105,14 +105,14 @@ impl<'l, R, T: Clock> Followed<'l, R, T> {
         journal: &'l JournalLength,
         terms: FollowerTerms<'l>,
         control: ControlTerms,
-    ) -> Followed<'l, R, T> {
+    ) -> SocketFollower<'l, R, T> {
         let ControlTerms {
             listener,
             since,
             workers,
             ..
         } = control;
-        Followed {
+        SocketFollower {
             rt,
             terms,
             log,
@@ -127,7 +127,7 @@ impl<'l, R, T: Clock> Followed<'l, R, T> {
 }
 
 impl<R: Net<Listener = TcpListener, Stream = TcpStream> + Wait + Eprint, T: Clock> Follower
-    for Followed<'_, R, T> {
+    for SocketFollower<'_, R, T> {
     fn wait(&self) -> u64 {
         u64::from(self.terms.wait)
     }
@@ -155,7 +155,7 @@ impl<R: Net<Listener = TcpListener, Stream = TcpStream> + Wait + Eprint, T: Cloc
 }
 
 impl<R: Net<Listener = TcpListener, Stream = TcpStream> + Wait + Eprint, T: Clock> StatusReporter
-    for Followed<'_, R, T> {
+    for SocketFollower<'_, R, T> {
     fn listener(&mut self) -> Option<UnixListener> {
         self.listener.take()
     }

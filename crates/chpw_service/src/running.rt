@@ -3,7 +3,7 @@ ghost use Rattle.std.specs.Prelude.{◌≡◌, IfErr, IfSome, None, OnOk, length
 ghost use Rattle.chpw_service.specs.Faults.{IsLate, told_as};
 
 use crate::fault::{LateFault, ServeFault};
-use crate::followed::{ControlTerms, Followed};
+use crate::followed::{ControlTerms, SocketFollower};
 use crate::histories::{ServiceContext, Opened, Rules, serve_histories};
 use chpw_book::DeskName;
 use chpw_pool::{StatusReporter, Follower, Pool, PoolFault};
@@ -42,7 +42,7 @@ pub(crate) fn serve_from<
     requires passes { length first.passes.items ≡ hall.now.workers }
     ensures fault { IfErr result IsLate }
 {
-    let followed = Followed::of(rt, time, hall.log, &hall.journal, hall.follower, control);
+    let followed = SocketFollower::of(rt, time, hall.log, &hall.journal, hall.follower, control);
     let mut first = Some(first);
     let ended = serve_all(
         rt,
