@@ -11,7 +11,7 @@ use crate::notices::{Losses, Notice, is_first};
 use crate::observers::Lines;
 use crate::file_ids::keep_apart;
 use crate::raising::RaiseReport;
-use crate::sheets::{Sheet, is_standard_error};
+use crate::sheets::{LineOutput, is_standard_error};
 use chpw_invocation::ServeOptions;
 use chpw_log::{
     Held, LineLimit, Line, MessageEvent, ServiceEvent, micros_of, write_event, write_held, write_line,
@@ -52,7 +52,7 @@ struct Book<'l> {
 // Where the next line is appended.
 #[derive(Drop)]
 struct End {
-    sheet: Sheet,
+    sheet: LineOutput,
     limit: LineLimit,
     losses: Losses,
 }
@@ -89,7 +89,7 @@ fn book_at<'l, 'a: 'l, R: Files<File = File> + Net>(
 {
     match path {
         None => Ok(None),
-        Some(path) => match Sheet::at(rt, alloc, path) {
+        Some(path) => match LineOutput::at(rt, alloc, path) {
             Ok(sheet) => Ok(Some(Book {
                 path,
                 end: Mutex::new(End {
@@ -341,7 +341,7 @@ impl<R: Files<File = File> + Net + Wait + Eprint> Log<'_, R> {
             return Ok(());
         };
         keep_apart(self.rt, options)?;
-        match Sheet::at(self.rt, self.alloc, path) {
+        match LineOutput::at(self.rt, self.alloc, path) {
             Ok(sheet) => book.end.lock(self.rt).sheet = sheet,
             Err(error) => return Err(unlogged_fault(path, error)),
         }

@@ -40,7 +40,7 @@ pub(crate) enum Output {
 
 /// An output, and whether its last line is incomplete.
 #[derive(Drop)]
-pub(crate) struct Sheet {
+pub(crate) struct LineOutput {
     output: Output,
     torn: bool,
     /// Whether it takes a line without blocking, if that can be asked.
@@ -52,16 +52,16 @@ pub(crate) fn is_standard_error(path: &str) -> bool {
     path == STANDARD_ERROR
 }
 
-impl Sheet {
+impl LineOutput {
     /// The file at a path, or standard error for `-`. A missing file is made, readable and writable by its owner alone.
     /// A pipe would block its openers, and is refused before it is opened.
     pub(crate) fn at<R: Files<File = File> + Net>(
         rt: &R,
         alloc: Global,
         path: &str,
-    ) -> io::Result<Sheet> {
+    ) -> io::Result<LineOutput> {
         if is_standard_error(path) {
-            return Ok(Sheet {
+            return Ok(LineOutput {
                 output: Output::StandardError,
                 torn: false,
                 readiness: Readiness::of(rt, alloc, STANDARD_ERROR_FD)?,
@@ -75,7 +75,7 @@ impl Sheet {
         let file = how.open(rt, path)?;
         let torn = is_torn(rt, path, &file);
         let readiness = Readiness::of(rt, alloc, file.as_raw_fd())?;
-        Ok(Sheet {
+        Ok(LineOutput {
             output: Output::File(file),
             torn,
             readiness,
