@@ -1,9 +1,9 @@
 -- What the lines of a log are appended to.
 use Rattle.std.specs.Prelude.{ℕ, ◌==◌, List, ◌∷◌, Bool, true, false, not, ◌&&◌, Option, Some, None, if◌then◌else◌}
-use Rattle.chpw_service.specs.declared.sheets.Kind.{Kind}
-use Rattle.chpw_service.specs.declared.sheets.Kind.TheVariants.{Missing, File, Device, Other}
-use Rattle.chpw_service.specs.declared.sheets.Output.{Output}
-use Rattle.chpw_service.specs.declared.sheets.Output.TheVariants as output
+use Rattle.chpw_service.specs.declared.line_output.Kind.{Kind}
+use Rattle.chpw_service.specs.declared.line_output.Kind.TheVariants.{Missing, File, Device, Other}
+use Rattle.chpw_service.specs.declared.line_output.Output.{Output}
+use Rattle.chpw_service.specs.declared.line_output.Output.TheVariants as output
 use Rattle.chpw_service.specs.declared.readiness.Readiness.{Readiness}
 
 -- a log can be here

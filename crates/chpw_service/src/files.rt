@@ -6,7 +6,7 @@ ghost use Rattle.chpw_service.specs.Modes.{lets_others};
 ghost use Rattle.chpw_service.specs.Faults.{IsOfBytes, IsOfSettings, IsUnread, Sets};
 
 use crate::fault::ServeFault;
-use crate::sheets::{Kind, kind_of};
+use crate::line_output::{Kind, kind_of};
 use chpw_config::{ConfigError, ConfigFault, read_config};
 use chpw_rules::Config;
 use std::alloc::Global;

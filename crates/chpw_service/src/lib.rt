@@ -22,7 +22,7 @@ mod reloading;
 mod checked_reload;
 mod running;
 mod serving;
-mod sheets;
+mod line_output;
 mod starting;
 mod table;
 

@@ -11,7 +11,7 @@ use crate::notices::{Losses, Notice, is_first};
 use crate::observers::Lines;
 use crate::file_ids::keep_apart;
 use crate::raising::RaiseReport;
-use crate::sheets::{LineOutput, is_standard_error};
+use crate::line_output::{LineOutput, is_standard_error};
 use chpw_invocation::ServeOptions;
 use chpw_log::{
     Held, LineLimit, Line, MessageEvent, ServiceEvent, micros_of, write_event, write_held, write_line,

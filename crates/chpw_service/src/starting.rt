@@ -9,7 +9,7 @@ ghost use Rattle.chpw_service.specs.Opening.{IsOpening, opening_at};
 ghost use Rattle.chpw_service.specs.declared.fault.ServeFault.TheVariants.{Memory};
 
 use crate::fault::ServeFault;
-use crate::sheets::{Kind, kind_of};
+use crate::line_output::{Kind, kind_of};
 use chpw_journal::{FileSink, Journal, JournalFile, OpenFault, RestoreFault, quiet_after};
 use chpw_rules::Config;
 use chpw_serve::Clock;
