@@ -32,9 +32,9 @@ mod workers;
 mod world;
 
 use calls::told;
+use chpw_read_fully::{Filled, fill};
 use page::Page;
 use pools::Machine;
-use chpw_read_fully::{Filled, fill};
 use std::io::{self, Error, ErrorKind, Write};
 use std::net::{Net, TcpListener, TcpStream};
 use std::sync::Wait;

@@ -4,12 +4,12 @@ use crate::asking::Question;
 use crate::clock::Counting;
 use crate::reading::{changed, cut, told};
 use crate::world::{World, configured, no_case};
-use support_cases::Answers;
 use chpw_client::Sent;
 use hex::{decode, encode};
 use std::alloc::{AllocError, Global};
 use std::io::{self, Error};
 use std::mem;
+use support_cases::Answers;
 
 /// What the lines before have set.
 #[derive(Drop)]

@@ -27,9 +27,9 @@ mod clock;
 mod reading;
 mod world;
 
-use support_cases::print_answers;
 use cases::Cases;
 use std::io;
+use support_cases::print_answers;
 
 fn main(rt: HostRuntime) -> io::Result<()> {
     print_answers(&rt, &mut Cases::new(rt.alloc()))

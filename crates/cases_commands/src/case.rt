@@ -1,9 +1,9 @@
 //! One case of the drill or of the check.
 use chpw_commands::{DrillFault, explain_check, run_check, run_drill};
-use support_streams::{Course, Giver, Taker, Way};
 use hex::decode;
 use std::alloc::Global;
 use std::io::{Error, ErrorKind, Result};
+use support_streams::{Course, Giver, Taker, Way};
 
 /// What a script prints, and how it ends.
 pub fn drilled(alloc: Global, script: &str) -> Result<(Vec<u8>, String)> {

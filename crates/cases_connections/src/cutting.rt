@@ -1,10 +1,10 @@
 //! A message that comes in two pieces, or isn't whole.
 
 use crate::script::Script;
-use support_cases::Census;
 use chpw_connections::ConnectionLimits;
 use std::alloc::Global;
 use std::io;
+use support_cases::Census;
 
 const BOUNDS: ConnectionLimits = ConnectionLimits {
     connections: 1,

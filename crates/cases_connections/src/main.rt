@@ -10,9 +10,9 @@ mod words;
 
 use crate::script::Script;
 use crate::words::{bytes, no_case, number};
-use support_cases::{Answers, print_answers};
 use std::alloc::Global;
 use std::io;
+use support_cases::{Answers, print_answers};
 
 #[derive(Drop)]
 struct Cases {

@@ -8,9 +8,9 @@ mod statuses;
 mod words;
 
 use crate::fault::Fault;
-use support_cases::{Answers, print_answers};
 use std::alloc::Global;
 use std::io;
+use support_cases::{Answers, print_answers};
 
 #[derive(Drop)]
 struct Cases;

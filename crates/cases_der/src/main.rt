@@ -11,11 +11,11 @@ mod records;
 mod times;
 mod values;
 
-use support_cases::{Answers, print_answers};
 use hex::{FromHexError, decode};
 use krb_der::ReadError;
 use std::alloc::{AllocError, Global};
 use std::io;
+use support_cases::{Answers, print_answers};
 
 #[derive(Drop)]
 struct Cases;

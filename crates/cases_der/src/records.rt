@@ -3,6 +3,7 @@ ghost use Rattle.std.specs.Prelude.{◌≡◌, true, IfOk};
 ghost use Rattle.krb_codec.specs.Texts.{fits};
 
 use hex::encode;
+use krb_codec::Write;
 use krb_der::{
     ReadError, fits, read_ap_rep, read_ap_req, read_authenticator, read_authorization_data,
     read_change_passwd_data, read_checksum, read_enc_ap_rep_part, read_enc_krb_priv_part,
@@ -13,7 +14,6 @@ use krb_der::{
     write_enc_ticket_part, write_encrypted_data, write_encryption_key, write_host_address,
     write_krb_error, write_krb_priv, write_principal_name, write_ticket, write_transited_encoding,
 };
-use krb_codec::Write;
 use std::alloc::{AllocError, Global};
 
 /// Why no text is written.

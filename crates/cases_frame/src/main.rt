@@ -18,9 +18,9 @@ mod change;
 mod framing;
 mod streams;
 
-use support_cases::{Answers, print_answers};
 use std::alloc::Global;
 use std::io;
+use support_cases::{Answers, print_answers};
 
 #[derive(Drop)]
 struct Cases;

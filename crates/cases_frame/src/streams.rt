@@ -2,9 +2,9 @@
 
 use crate::framing::{bytes, shown};
 use chpw_frame::{LONGEST_MESSAGE, Received, read_tcp, write_tcp};
-use support_streams::{Course, Giver, Taker, Way};
 use std::alloc::Global;
 use std::io;
+use support_streams::{Course, Giver, Taker, Way};
 
 /// The answer to a case of a stream.
 pub fn answer(alloc: Global, kind: &str, text: &str) -> io::Result<String> {

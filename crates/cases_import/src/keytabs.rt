@@ -2,11 +2,11 @@
 ghost use Rattle.std.specs.Prelude.{◌≤◌};
 
 use crate::words::{behind, bytes, count, joined, said};
-use support_cases::Census;
 use chpw_import::write_keytab;
 use chpw_invocation::{ImportOptions, LONGEST_REALM, USUAL_COUNT};
 use std::alloc::{AllocError, Global};
 use std::io::{self, Error, ErrorKind};
+use support_cases::Census;
 
 /// The file's name in the faults.
 const FILE: &str = "keytab";

@@ -15,9 +15,9 @@ mod keytabs;
 mod passwords;
 mod words;
 
-use support_cases::{Answers, print_answers};
 use std::alloc::Global;
 use std::io;
+use support_cases::{Answers, print_answers};
 
 #[derive(Drop)]
 struct Cases;

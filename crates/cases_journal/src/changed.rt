@@ -3,10 +3,10 @@ use crate::journal::journal_of;
 use crate::realm::deep_table;
 use crate::refusal::Refusal;
 use crate::restoring::{show_census, show_told};
-use support_cases::{Census, Change};
 use chpw_journal::{Restored, restore};
 use chpw_table::{KeyRow, Table};
 use std::alloc::{AllocError, Global};
+use support_cases::{Census, Change};
 use support_realm::name;
 
 /// Adds what restoring a journal gives with this change at each of its places, and what of alice's keys differs from

@@ -2,10 +2,10 @@
 use crate::refusal::Refusal;
 use chpw_journal::FileSink;
 use chpw_table::JournalSink;
-use support_streams::{Course, Taker, Way};
 use std::alloc::Global;
 use std::fs::{Metadata, OpenFile};
 use std::io::{self, Error, ErrorKind, Write};
+use support_streams::{Course, Taker, Way};
 
 /// The length of a record.
 const RECORD: usize = 66;

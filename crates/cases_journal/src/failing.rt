@@ -3,12 +3,12 @@ use crate::journal::number;
 use crate::realm::{show_versions, table};
 use crate::refusal::Refusal;
 use crate::restoring::{show_bytes, show_census};
-use support_cases::Census;
 use chpw_journal::MemorySink;
 use chpw_rules::ITERATION_COUNTS;
 use chpw_table::{Digest, JournalSink, Opened, Table};
 use krb_keys::Key;
 use std::alloc::{AllocError, Global};
+use support_cases::Census;
 use support_realm::{NOW, name};
 
 /// The length of a record of alice.

@@ -17,7 +17,6 @@ mod refusal;
 mod restoring;
 mod unsynced;
 
-use support_cases::{Answers, Change, print_answers};
 use changed::show_changed;
 use compact::show_compact;
 use disk::show_appended;
@@ -28,6 +27,7 @@ use restoring::{show_failing, show_read, show_restored};
 use std::alloc::Global;
 use std::fs::{File, Files};
 use std::io::{self, Error, ErrorKind};
+use support_cases::{Answers, Change, print_answers};
 
 /// Adds the answer to a case.
 fn show_answer<R: Files<File = File>>(

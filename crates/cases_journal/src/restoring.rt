@@ -2,11 +2,11 @@
 use crate::journal::journal_of;
 use crate::realm::{show_versions, table};
 use crate::refusal::Refusal;
-use support_cases::Census;
 use chpw_journal::{Restored, restore};
-use support_streams::{Course, Giver, Way};
 use std::alloc::Global;
 use std::io::{BufReader, Read};
+use support_cases::Census;
+use support_streams::{Course, Giver, Way};
 
 /// Adds what restoring a journal with these pieces gives.
 pub fn show_restored(alloc: Global, text: &mut String, pieces: &str) -> Result<(), Refusal> {

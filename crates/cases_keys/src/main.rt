@@ -10,10 +10,10 @@ mod refusal;
 mod words;
 
 use answers::answer;
-use support_cases::{Answers, print_answers};
 use refusal::Refusal;
 use std::alloc::Global;
 use std::io::{self, Error, ErrorKind};
+use support_cases::{Answers, print_answers};
 
 #[derive(Drop)]
 struct Cases;

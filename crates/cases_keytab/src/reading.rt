@@ -1,11 +1,11 @@
 //! Keytabs, whole and cut short.
 
 use crate::showing::{entries_text, fault_text};
-use support_cases::Census;
 use hex::decode;
 use krb_keytab::{KeytabEntry, KeytabError, KeytabFault, read_keytab};
 use std::alloc::Global;
 use std::io;
+use support_cases::Census;
 
 /// The bytes of a text in hexadecimal, `-` for none.
 fn bytes(alloc: Global, text: &str) -> io::Result<Vec<u8>> {

@@ -7,7 +7,7 @@ use crate::events;
 use crate::fault::Fault;
 use crate::making::opened;
 use crate::words::{error_of, maybe_number, number, octets, text_of, verdict_of};
-use chpw_log::{Asked, Held, LineLimit, Line, MessageEvent, write_held, write_line};
+use chpw_log::{Asked, Held, Line, LineLimit, MessageEvent, write_held, write_line};
 use chpw_table::{LAST_SECOND, Moment};
 use krb_protocol::Refusal;
 use std::alloc::Global;

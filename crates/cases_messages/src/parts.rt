@@ -2,8 +2,8 @@
 
 use crate::refusal::Refusal;
 use crate::world::CONFOUNDER;
-use krb_der::{Bytes, EncryptedData};
 use krb_codec::{Write, write_all};
+use krb_der::{Bytes, EncryptedData};
 use krb_keys::{Key, seal};
 use std::alloc::{AllocError, Global};
 

@@ -10,11 +10,11 @@ mod journal;
 mod refusal;
 mod reloading;
 
-use support_cases::{Answers, print_answers};
 use refusal::Refusal;
 use reloading::show_reload;
 use std::alloc::Global;
 use std::io::{self, Error, ErrorKind};
+use support_cases::{Answers, print_answers};
 
 #[derive(Drop)]
 struct Cases;

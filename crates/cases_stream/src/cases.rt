@@ -9,9 +9,9 @@ use crate::wanting::wanting;
 use crate::world::Setting;
 use crate::writing::{broken, replied, written};
 use crate::{deciding, words};
-use support_cases::{Answers, Change};
 use std::alloc::{AllocError, Global};
 use std::io;
+use support_cases::{Answers, Change};
 
 /// What the lines before have set.
 #[derive(Drop)]

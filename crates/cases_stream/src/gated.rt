@@ -5,10 +5,10 @@ use crate::serving::{How, ended_text, serve_by, stream_of};
 use crate::world::{Setting, World};
 use chpw_serve::{Ended, Gate, Observer, Spot};
 use chpw_table::{Event, Moment, Opened, Receipt};
-use support_streams::Way;
 use krb_protocol::Refusal;
 use std::alloc::Global;
 use std::io;
+use support_streams::Way;
 
 /// The places that were passed and what was heard there, each with a separator.
 #[derive(Drop)]

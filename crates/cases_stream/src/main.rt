@@ -48,9 +48,9 @@ mod words;
 mod world;
 mod writing;
 
-use support_cases::print_answers;
 use cases::Cases;
 use std::io;
+use support_cases::print_answers;
 
 fn main(rt: HostRuntime) -> io::Result<()> {
     print_answers(&rt, &mut Cases::new(rt.alloc()))

@@ -7,9 +7,9 @@ use chpw_decider::{Alone, Decider};
 use chpw_frame::{Received, read_tcp, write_tcp};
 use chpw_journal::MemorySink;
 use chpw_serve::{Ended, Gate, Messages, Observer, serve_alone, serve_stream};
-use support_streams::{Course, Giver, Taker, Way};
 use std::alloc::Global;
 use std::io;
+use support_streams::{Course, Giver, Taker, Way};
 
 /// The client's address.
 pub const PEER: [u8; 4] = [127, 0, 0, 1];

@@ -4,10 +4,10 @@
 use crate::messages::{Message, no_case};
 use crate::serving::{How, serve_anew, served_as, stream_of, stream_of_one};
 use crate::world::Setting;
-use support_cases::{Census, Change};
 use std::alloc::Global;
 use std::io;
 use std::ops::Range;
+use support_cases::{Census, Change};
 
 /// The results of a message with this change at each of its places.
 pub fn varied(

@@ -1,11 +1,11 @@
 //! One case.
 use crate::holding::{Found, configuration, found_in, report};
 use crate::journal::journal_of;
-use support_cases::Census;
 use chpw_config::read_config;
 use chpw_report::{Form, HeldTable};
 use std::alloc::Global;
 use std::io::{Error, ErrorKind, Result, Write};
+use support_cases::Census;
 
 /// Prints the result of a case with this configuration: the report of the table with the journal's changes, after a
 /// line with the form.

@@ -8,7 +8,7 @@ use Rattle.chpw_table.specs.declared.sink.JournalSink
 use Rattle.chpw_table.proofs.standing.StandingRules.TheSendSync as standing
 use Rattle.chpw_changelog.specs.declared.log_name.LogName
 use Rattle.chpw_decider.proofs.SendLemmas.{journaled_send}
-use Rattle.chpw_snapshots.proofs.shelf.SnapshotWriter.TheSendSync as shelf
+use Rattle.chpw_snapshots.proofs.writer.SnapshotWriter.TheSendSync as shelf
 use Rattle.chpw_book.specs.declared.naming.DeskName
 use Rattle.chpw_book.specs.contracts.recorded.RecordedTable as RecordedTable
 use Rattle.chpw_book.specs.contracts.book.Book as Book

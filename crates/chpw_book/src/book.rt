@@ -30,10 +30,10 @@ use crate::recorded::RecordedTable;
 use crate::rows::rows_of;
 use crate::unnamed::{StartFault, UnnamedDesk};
 use chpw_decider::JournaledTable;
+use chpw_snapshots::SnapshotWriter;
 use chpw_table::{
     Counts, DecideFault, Entry, JournalSink, Moment, Opened, RaiseVerdict, Refused, Verdict,
 };
-use chpw_snapshots::SnapshotWriter;
 use std::alloc::Global;
 use std::marker::Model;
 use std::sync::Wait;
@@ -289,7 +289,12 @@ impl<D: DeskName, S: JournalSink> Book<D, S> {
 }
 
 // After this verdict: the prepared change is published, and the pass learns it.
-fn tell<D: DeskName, R: Wait>(rt: &R, shelf: &mut SnapshotWriter<D>, pass: &mut Pass<D>, verdict: Verdict)
+fn tell<D: DeskName, R: Wait>(
+    rt: &R,
+    shelf: &mut SnapshotWriter<D>,
+    pass: &mut Pass<D>,
+    verdict: Verdict,
+)
     requires waits { is_done verdict ≡ true → IsSome shelf.old.waiting }
     requires room { length shelf.old.list + 1 < 2 ^ 31 }
     requires told { IsPrefix pass.old.place.told shelf.old.list }

@@ -24,11 +24,11 @@ use crate::pass::Pass;
 use crate::recorded::RecordedTable;
 use chpw_decider::JournaledTable;
 use chpw_rules::Name;
+use chpw_snapshots::SnapshotWriter;
 use chpw_table::{
     Body, DecideFault, Entry, Event, JournalSink, KeyRow, Moment, Opened, Outcome, Prepared,
     Receipt, Refused, Table, Verdict,
 };
-use chpw_snapshots::SnapshotWriter;
 use std::alloc::AllocError;
 
 impl<D: DeskName, S: JournalSink> RecordedTable<D, S> {

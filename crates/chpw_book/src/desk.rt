@@ -22,10 +22,10 @@ use crate::raising::RaiseFault;
 use crate::standing::OpeningRules;
 use crate::unnamed::{StartFault, UnnamedDesk};
 use chpw_rules::Name;
+use chpw_snapshots::NotEntered;
 use chpw_table::{
     Counts, DecideFault, JournalSink, Lookup, Moment, Opened, RaiseVerdict, Refused, Verdict,
 };
-use chpw_snapshots::NotEntered;
 use std::alloc::Global;
 use std::sync::{Mutex, MutexGuard, Wait};
 

@@ -16,8 +16,8 @@ ghost use Rattle.chpw_book.specs.Publishing.{IsRecorded, IsPublished, with_waiti
 use crate::naming::DeskName;
 use crate::pass::Pass;
 use crate::recorded::RecordedTable;
-use chpw_table::{Entry, Event, JournalSink, Moment, RaiseVerdict, Receipt, Table};
 use chpw_snapshots::SnapshotWriter;
+use chpw_table::{Entry, Event, JournalSink, Moment, RaiseVerdict, Receipt, Table};
 use std::alloc::AllocError;
 
 /// Why no raise was decided, in the order of the tests; nothing has changed.

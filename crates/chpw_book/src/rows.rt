@@ -6,8 +6,8 @@ ghost use Rattle.chpw_snapshots.specs.Rows.{names_of_rows, HasPositive, IsPositi
 ghost use Rattle.chpw_book.specs.Publishing.{row_showing, row_under, table_rows};
 
 use chpw_rules::Name;
-use chpw_table::{Lookup, Table};
 use chpw_snapshots::{Row, Rows};
+use chpw_table::{Lookup, Table};
 use std::alloc::{AllocError, Global};
 
 /// What the table shows of each of its names.

@@ -5,8 +5,8 @@ ghost use Rattle.chpw_changelog.specs.Pens.{first_pen, opening_table, changes_in
 ghost use Rattle.chpw_changelog.specs.Rules.{head_of};
 
 use crate::change::NumberedChange;
-use crate::entry::LogPrefix;
 use crate::change_log::ChangeLog;
+use crate::entry::LogPrefix;
 use crate::log_name::LogName;
 use crate::steps::{Head, start_log};
 use chpw_table::Table;

@@ -10,8 +10,8 @@ ghost use Rattle.chpw_connections.specs.Queues.{queues_of, queue_of, workers_of,
 ghost use Rattle.chpw_connections.specs.Waiting.{waits_for, in_time, Becomes, Leaves};
 ghost use Rattle.chpw_connections.specs.Held.{slots_of, accepted_by, removed_by, expired_by, bounds_of, Counts};
 
-use crate::limits::ConnectionLimits;
 use crate::connection::{Connection, Phase, at_most};
+use crate::limits::ConnectionLimits;
 use crate::set::Connections;
 use crate::slots::Slots;
 use crate::waiting::Queues;
@@ -31,7 +31,11 @@ pub struct TakenMessage {
 impl Connections {
     /// No connections yet, for this many workers, but at least one.
     #[tactic(auto, using(crate::proofs::HoldsLemmas::holds_none))]
-    pub fn new(alloc: Global, bounds: ConnectionLimits, workers: usize) -> Result<Connections, AllocError>
+    pub fn new(
+        alloc: Global,
+        bounds: ConnectionLimits,
+        workers: usize,
+    ) -> Result<Connections, AllocError>
         ensures none { IfOk result (λ c. slab_len (slots_of c) ≡ 0) }
         ensures counts { IfOk result (λ c. Counts c 0 0) }
         ensures expired { IfOk result (λ c. expired_by c ≡ 0) }

@@ -3,12 +3,12 @@
 //! and asks what to do. Moments are milliseconds of a clock that doesn't go back.
 #![tactic(auto)]
 
-mod limits;
 mod confirming;
 mod connection;
 mod connections;
 mod counting;
 pub mod laws;
+mod limits;
 mod longest;
 mod phases;
 mod queues;
@@ -18,10 +18,10 @@ mod slots;
 mod todo;
 mod waiting;
 
-pub use limits::ConnectionLimits;
 pub use confirming::Unconfirmed;
 pub use connection::MAX_MESSAGES;
 pub use connections::TakenMessage;
 pub use counting::Counted;
+pub use limits::ConnectionLimits;
 pub use set::Connections;
 pub use todo::Todo;

@@ -6,7 +6,7 @@ ghost use Rattle.chpw_import.specs.Faults.{IsEarly, IsLate, IsOfBytes, IsOfImpor
 ghost use Rattle.chpw_import.specs.Stanzas.{Imports};
 
 use crate::fault::KeysFault;
-use crate::keytab::{KeytabImport, ImportFault, bring_in};
+use crate::keytab::{ImportFault, KeytabImport, bring_in};
 use crate::left::left_text;
 use crate::output::{ErrorWriter, read_file, stanzas, write_text};
 use chpw_invocation::ImportOptions;

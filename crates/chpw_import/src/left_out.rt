@@ -8,7 +8,7 @@ ghost use Rattle.chpw_import.specs.Tables.{newest_at, slot_cmp};
 ghost use Rattle.chpw_import.specs.LeftOut.{has_version, is_found, is_key_of, told_from, unused, unused_of_service, usable, used_keys, why_left};
 
 use crate::entries::{named_in, usable_key};
-use crate::left::{SkippedEntry, Reason};
+use crate::left::{Reason, SkippedEntry};
 use crate::rows::{is_service, pair_at};
 use crate::slot::{Found, Slot};
 use crate::table::{Table, newest_version, slot_of};

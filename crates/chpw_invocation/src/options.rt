@@ -38,7 +38,11 @@ pub(crate) struct OptionLine {
 }
 
 /// A required option with a value.
-pub(crate) fn required_option(name: &'static str, value: &'static str, help: &'static str) -> OptionLine
+pub(crate) fn required_option(
+    name: &'static str,
+    value: &'static str,
+    help: &'static str,
+) -> OptionLine
     ensures rule { specs_of.rule_for result ≡ specs_of.required name.entry.now }
 {
     let kind = OptionKind::Required;
@@ -151,7 +155,9 @@ pub(crate) fn argument_of<'a>(alloc: Global, line: &OptionLine) -> Arg<'a>
         OptionKind::Required => option_arg(alloc, line, true),
         OptionKind::Optional => option_arg(alloc, line, false),
         OptionKind::Number(limit) => option_arg(alloc, line, true).value_parser(up_to(limit)),
-        OptionKind::OptionalNumber(limit) => option_arg(alloc, line, false).value_parser(up_to(limit)),
+        OptionKind::OptionalNumber(limit) => option_arg(alloc, line, false).value_parser(up_to(
+            limit,
+        )),
         OptionKind::Flag => Arg::new(alloc, line.name)
             .long(line.name)
             .action(ArgAction::SetTrue)

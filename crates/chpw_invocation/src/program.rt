@@ -10,7 +10,8 @@ use crate::invocation::{
     LONGEST_IDLE, MOST_BUFFERS, MOST_CLIENTS, MOST_WORKERS,
 };
 use crate::options::{
-    OptionLine, argument_of, flag, number, optional, optional_number, optional_word, required_option, word,
+    OptionLine, argument_of, flag, number, optional, optional_number, optional_word,
+    required_option, word,
 };
 use clap::Command;
 use std::alloc::{AllocError, Global};

@@ -3,8 +3,8 @@ ghost use Rattle.std.specs.Prelude.{◌≡◌, ◌≤◌, IfOk, length};
 ghost use Rattle.std.specs.Int.{from_be_bytes, to_be_bytes, w16};
 ghost use Rattle.chpw_journal.specs.NextRecord.{IsNext, IsBody, CountsDown};
 
-use chpw_record::is_record_length;
 use chpw_read_fully::{Filled, fill, fill_vec};
+use chpw_record::is_record_length;
 use std::alloc::{AllocError, Global};
 use std::io::Read;
 

@@ -6,15 +6,15 @@ mod held;
 pub mod laws;
 mod limit;
 mod line;
-mod moment;
 mod message_event;
+mod moment;
 mod summing;
 mod unconfirmed;
 mod writing;
 
 pub use event::{ServiceEvent, write_event};
 pub use held::Held;
-pub use limit::{LinePermit, LineLimit};
+pub use limit::{LineLimit, LinePermit};
 pub use line::{Line, micros_of};
 pub use message_event::{Asked, MessageEvent, Party};
 pub use summing::write_held;

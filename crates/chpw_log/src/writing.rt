@@ -9,8 +9,8 @@ ghost use Rattle.chpw_log.specs.Moments.{moment_text};
 ghost use Rattle.chpw_log.specs.Tellings.{said};
 
 use crate::line::Line;
+use crate::message_event::{LogFields, Party};
 use crate::moment::put_moment;
-use crate::message_event::{Party, LogFields};
 use chpw_printing::{put_number, put_principal, put_signed, put_words};
 use std::alloc::{AllocError, Global};
 

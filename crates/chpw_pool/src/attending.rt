@@ -2,12 +2,12 @@
 ghost use Rattle.std.specs.Prelude.{◌≡◌, ◌&&◌, is_some, false, true, None};
 ghost use Rattle.chpw_pool.specs.Controlling.{patience_with};
 
-use crate::status_reporter::StatusReporter;
 use crate::control::CALLERS;
 use crate::engine::milliseconds;
 use crate::follower::Follower;
 use crate::reactor::Reactor;
 use crate::state::TICK;
+use crate::status_reporter::StatusReporter;
 use crate::tokens::CONTROL;
 use chpw_control::Command;
 use mio::net::{UnixListener, UnixStream};

@@ -1,10 +1,10 @@
 //! What the reactor does for messages that come in datagrams.
 
-use crate::status_reporter::StatusReporter;
 use crate::engine::milliseconds;
 use crate::follower::Follower;
 use crate::reactor::Reactor;
 use crate::state::Progress;
+use crate::status_reporter::StatusReporter;
 use std::net::{OpenListener, TcpStream};
 use std::os::fd::AsRawFd;
 use std::sync::Wait;

@@ -3,7 +3,6 @@
 #![tactic(auto)]
 
 mod accepting;
-mod status_reporter;
 mod attending;
 mod clock;
 mod control;
@@ -13,22 +12,23 @@ mod follower;
 mod following;
 mod hub;
 mod one_message;
+mod options;
 mod pool;
 mod reactor;
 mod sockets;
 mod state;
-mod options;
+mod status_reporter;
 mod tokens;
 mod udp;
 mod worker;
 
-pub use status_reporter::{StatusReporter, ConnectionCounts};
 pub use chpw_connections::{ConnectionLimits, Unconfirmed};
 pub use clock::{MachineClock, machine_moment};
 pub use engine::Engine;
 pub use follower::{Follower, JournalEnd, NoFollower};
+pub use options::PoolOptions;
 pub use pool::{
     BackgroundTask, NotStarted, Pool, PoolFault, no_gates, run_pool, run_pool_by, run_pool_with,
     run_shift,
 };
-pub use options::PoolOptions;
+pub use status_reporter::{ConnectionCounts, StatusReporter};

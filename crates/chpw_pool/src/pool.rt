@@ -225,8 +225,11 @@ struct Reacting<'a, R, L, G> {
     connections: u32,
 }
 
-impl<R: Wait + Net + time::Clock, L: OpenListener<Stream = TcpStream> + AsRawFd, G: Drop> BackgroundTask
-    for Reacting<'_, R, L, G> {
+impl<
+    R: Wait + Net + time::Clock,
+    L: OpenListener<Stream = TcpStream> + AsRawFd,
+    G: Drop,
+> BackgroundTask for Reacting<'_, R, L, G> {
     type Done = ();
 
     fn run(self) {

@@ -2,7 +2,6 @@
 //! sockets are under the lock that it shares with the workers.
 
 use crate::accepting::{Accepting, is_passing};
-use crate::status_reporter::StatusReporter;
 use crate::attending::ControlPort;
 use crate::engine::{Engine, milliseconds};
 use crate::follower::Follower;
@@ -10,7 +9,8 @@ use crate::following::FollowerLink;
 use crate::hub::STEPS;
 use crate::sockets::Selector;
 use crate::state::{Progress, Shortage, TICK};
-use crate::tokens::{LISTENER, EventSource};
+use crate::status_reporter::StatusReporter;
+use crate::tokens::{EventSource, LISTENER};
 use crate::worker::peer_of;
 use mio::event::Event;
 use mio::unix::SourceFd;

@@ -159,7 +159,10 @@ impl Sockets {
     /// Whether the socket of a connection has failed.
     pub fn has_failed(&self, slot: usize) -> bool {
         match self.by_slot.get(slot) {
-            Some(Some(Transport::Stream(socket))) => !matches!(socket.stream.take_error(), Ok(None)),
+            Some(Some(Transport::Stream(socket))) => !matches!(
+                socket.stream.take_error(),
+                Ok(None)
+            ),
             _ => false,
         }
     }

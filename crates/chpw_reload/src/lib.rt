@@ -9,10 +9,10 @@ mod fitting;
 mod lacking;
 pub mod laws;
 mod next;
-mod reloading;
 mod prepared_reload;
+mod reloading;
 
 pub use compacting::goes_with;
 pub use fault::{ReloadFault, put_fault};
-pub use reloading::{Refused, Reloaded, finish};
 pub use prepared_reload::{PreparedReload, prepare};
+pub use reloading::{Refused, Reloaded, finish};

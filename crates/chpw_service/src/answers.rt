@@ -9,7 +9,10 @@ use std::alloc::{AllocError, Global};
 use std::str;
 
 /// The answer to a reload that was refused before the desk was closed.
-pub(crate) fn prepare_refusal(alloc: Global, fault: &PrepareFault<'_>) -> Result<Vec<u8>, AllocError> {
+pub(crate) fn prepare_refusal(
+    alloc: Global,
+    fault: &PrepareFault<'_>,
+) -> Result<Vec<u8>, AllocError> {
     match fault {
         PrepareFault::Start(fault) => refused(alloc, fault.to_string(alloc)?.as_str()),
         PrepareFault::Config(words) => refused(alloc, words.as_str()),
@@ -51,7 +54,10 @@ pub(crate) fn unwritten(alloc: Global, path: &str) -> Result<Vec<u8>, AllocError
 }
 
 /// The answer to a compact journal that was refused before the desk was closed.
-pub(crate) fn compact_refusal(alloc: Global, fault: &CompactFault<'_>) -> Result<Vec<u8>, AllocError> {
+pub(crate) fn compact_refusal(
+    alloc: Global,
+    fault: &CompactFault<'_>,
+) -> Result<Vec<u8>, AllocError> {
     match fault {
         CompactFault::Unread(fault) => refused(alloc, fault.to_string(alloc)?.as_str()),
         CompactFault::NoCopy(copy) => unwritten(alloc, copy.as_str()),

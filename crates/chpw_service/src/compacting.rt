@@ -10,7 +10,7 @@ ghost use Rattle.chpw_service.specs.declared.fault.ServeFault.TheVariants.{Memor
 use crate::answers::{done, refused, told, unwritten};
 use crate::fault::ServeFault;
 use crate::files::{read_regular, settings};
-use crate::histories::{ServiceContext, Opening, next_opening};
+use crate::histories::{Opening, ServiceContext, next_opening};
 use crate::table::write_table;
 use chpw_control::FileName;
 use chpw_invocation::{ServeOptions, TableForm, TableOptions};

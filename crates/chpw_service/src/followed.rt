@@ -9,7 +9,9 @@ use crate::notices::{Notice, is_first};
 use chpw_control::{FollowerState, JournalState, Status, Time, status_answer};
 use chpw_invocation::VERSION;
 use chpw_journal::FileSink;
-use chpw_pool::{StatusReporter, Follower, JournalEnd, MachineClock, ConnectionCounts, Unconfirmed};
+use chpw_pool::{
+    ConnectionCounts, Follower, JournalEnd, MachineClock, StatusReporter, Unconfirmed,
+};
 use chpw_serve::Clock as _;
 use chpw_table::JournalSink;
 use mio::net::{UnixListener, UnixStream};

@@ -3,33 +3,33 @@
 #![tactic(auto)]
 
 mod answers;
+mod checked_reload;
 mod closing;
 mod compacting;
 mod control_socket;
 mod facts;
 mod fault;
+mod file_ids;
 mod files;
 mod followed;
 mod histories;
+mod line_output;
 mod logging;
 mod notices;
 mod observers;
 mod orders;
-mod file_ids;
 mod raising;
 mod readiness;
 mod reloading;
-mod checked_reload;
 mod running;
 mod serving;
-mod line_output;
 mod starting;
 mod table;
 
 pub use fault::ServeFault;
 pub use files::{read_seed, read_settings};
 pub use followed::{FollowerTerms, JournalLength};
-pub use histories::{ServiceContext, Opened, Rules, serve_histories};
+pub use histories::{Opened, Rules, ServiceContext, serve_histories};
 pub use logging::{Log, LogLines};
 pub use observers::{Lines, Logging};
 pub use serving::{serve, serve_by};

@@ -7,15 +7,15 @@ ghost use Rattle.chpw_service.specs.Faults.{IsOfClash, IsOfLog, IsUnlogged};
 
 use crate::facts::Facts;
 use crate::fault::ServeFault;
+use crate::file_ids::keep_apart;
+use crate::line_output::{LineOutput, is_standard_error};
 use crate::notices::{Losses, Notice, is_first};
 use crate::observers::Lines;
-use crate::file_ids::keep_apart;
 use crate::raising::RaiseReport;
-use crate::line_output::{LineOutput, is_standard_error};
 use chpw_invocation::ServeOptions;
 use chpw_log::{
-    Held, LineLimit, Line, MessageEvent, ServiceEvent, micros_of, write_event, write_held, write_line,
-    write_unconfirmed,
+    Held, Line, LineLimit, MessageEvent, ServiceEvent, micros_of, write_event, write_held,
+    write_line, write_unconfirmed,
 };
 use chpw_pool::Unconfirmed;
 use chpw_table::{Moment, Table};

@@ -1,16 +1,16 @@
 //! Orders of callers at the control socket.
 
-use crate::answers::{refused, reopened, told, compact_refusal, prepare_refusal};
+use crate::answers::{compact_refusal, prepare_refusal, refused, reopened, told};
+use crate::checked_reload::CheckedReload;
 use crate::compacting::{Compaction, begin_compaction};
 use crate::fault::ServeFault;
 use crate::files::{open_file, read_regular, settings};
-use crate::histories::{ServiceContext, Rules};
-use crate::checked_reload::CheckedReload;
+use crate::histories::{Rules, ServiceContext};
 use chpw_config::explain;
 use chpw_control::Command;
 use chpw_invocation::ServeOptions;
 use chpw_messages::Service;
-use chpw_pool::{MachineClock, BackgroundTask};
+use chpw_pool::{BackgroundTask, MachineClock};
 use chpw_reload::{ReloadFault, prepare};
 use chpw_serve::Clock as _;
 use std::alloc::Global;

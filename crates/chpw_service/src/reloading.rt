@@ -4,12 +4,12 @@ ghost use Rattle.chpw_book.specs.Starting.{table_of, workers_of};
 ghost use Rattle.chpw_reload.specs.ReloadRuns.{GoesOn};
 ghost use Rattle.chpw_service.specs.declared.fault.ServeFault.TheVariants.{Memory};
 
-use crate::answers::{told, reload_refusal};
+use crate::answers::{reload_refusal, told};
+use crate::checked_reload::CheckedReload;
 use crate::fault::ServeFault;
-use crate::histories::{ServiceContext, Opening, Rules, next_opening};
+use crate::histories::{Opening, Rules, ServiceContext, next_opening};
 use crate::notices::Notice;
 use crate::orders::PendingReload;
-use crate::checked_reload::CheckedReload;
 use chpw_book::UnnamedDesk;
 use chpw_control::put_ok;
 use chpw_journal::FileSink;

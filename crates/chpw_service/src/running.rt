@@ -4,9 +4,9 @@ ghost use Rattle.chpw_service.specs.Faults.{IsLate, told_as};
 
 use crate::fault::{LateFault, ServeFault};
 use crate::followed::{ControlTerms, SocketFollower};
-use crate::histories::{ServiceContext, Opened, Rules, serve_histories};
+use crate::histories::{Opened, Rules, ServiceContext, serve_histories};
 use chpw_book::DeskName;
-use chpw_pool::{StatusReporter, Follower, Pool, PoolFault};
+use chpw_pool::{Follower, Pool, PoolFault, StatusReporter};
 use std::fs::{File, Files};
 use std::net::{Net, TcpListener, TcpStream};
 use std::sync::Wait;

@@ -13,7 +13,7 @@ use crate::facts::time_of;
 use crate::fault::ServeFault;
 use crate::files::{is_shared, read_seed, read_settings};
 use crate::followed::{ControlTerms, FollowerTerms, JournalLength, journal_length};
-use crate::histories::{ServiceContext, Opened, Opening, Rules, first_opening, start_desk};
+use crate::histories::{Opened, Opening, Rules, ServiceContext, first_opening, start_desk};
 use crate::logging::{Log, LogLines, log_of};
 use crate::notices::Notice;
 use crate::observers::{Logging, log_observers};

@@ -115,7 +115,11 @@ impl<D: LogName> SnapshotReader<D> {
     }
 
     /// A place over a reader that knows the whole list, which this is.
-    pub(crate) fn over(reader: LeftRightReader, shown: ShownPrefix, told: Front<D>) -> SnapshotReader<D>
+    pub(crate) fn over(
+        reader: LeftRightReader,
+        shown: ShownPrefix,
+        told: Front<D>,
+    ) -> SnapshotReader<D>
         requires reader { IsOf D.book D.root (view reader.place) }
         requires shown { list_of D.root shown ≡ (view reader.place).front }
         requires known { IsKnown D.book D.root shown }

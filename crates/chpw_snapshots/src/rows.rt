@@ -6,9 +6,9 @@ ghost use Rattle.chpw_changelog.specs.declared.change.NumberedChange.TheVariants
 ghost use Rattle.chpw_snapshots.specs.Rows.{changed_at, changed_row, rows_after, row_shown, shown_in, lookup_with, names_of_rows, IsPositive};
 
 use chpw_changelog::{NumberedChange, NumberedKey};
+use chpw_ordered_keys::{Keyed, place_of};
 use chpw_rules::Name;
 use chpw_table::{Counts, Lookup, newest};
-use chpw_ordered_keys::{Keyed, place_of};
 use std::marker::Model;
 
 /// What is published of a principal. Its size is fixed, so that a change takes no memory.

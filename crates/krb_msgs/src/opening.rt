@@ -4,8 +4,8 @@ ghost use Rattle.krb_msgs.specs.Answers.{Answers};
 ghost use Rattle.krb_msgs.specs.Parts.{OpensPart, Reads};
 
 use crate::fault::OpenError;
-use krb_der::{EncryptedData, ReadError};
 use krb_codec::{Read, read_all};
+use krb_der::{EncryptedData, ReadError};
 use krb_keys::{Key, unseal_in_place};
 use std::alloc::Global;
 

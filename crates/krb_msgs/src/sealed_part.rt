@@ -4,8 +4,8 @@ ghost use Rattle.std.specs.Prelude.{◌≡◌, ◌<◌, IfOk, length};
 ghost use Rattle.krb_codec.specs.Texts.{text};
 ghost use Rattle.krb_msgs.specs.Parts.{sealed_part};
 
-use krb_der::{Bytes, EncryptedData};
 use krb_codec::{Write, write_all};
+use krb_der::{Bytes, EncryptedData};
 use krb_keys::{CONFOUNDER_LEN, Key, seal};
 use std::alloc::{AllocError, Global};
 

@@ -3,7 +3,7 @@ ghost use Rattle.std.specs.Prelude.{◌≡◌, map, IfOk, IfSome};
 ghost use Rattle.chpw_table.specs.Times.{IsMoment};
 ghost use Rattle.chpw_commands.specs.Asking.{times_of, flags_of, target_in, derived_of, digest_of, bad_body_of, ask_of, body_of, opened_of, asked_of};
 
-use crate::drill::words::{CountedKey, counted_keys, parse_target, number, split_first};
+use crate::drill::words::{CountedKey, counted_keys, number, parse_target, split_first};
 use chpw_rules::{Limits, MIN_CLASS_COUNTS};
 use chpw_table::{Body, COUNTS_LIMIT, Digest, LAST_SECOND, Moment, Opened, Target};
 use krb_keys::Key;

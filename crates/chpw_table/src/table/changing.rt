@@ -14,9 +14,9 @@ ghost use Rattle.chpw_record.specs.Records.{record_bytes as record_bytes_spec};
 use super::{Principal, Table, kept_by};
 use crate::key::{kvno_of, newest};
 use crate::request::Opened;
+use chpw_ordered_keys::place_of;
 use chpw_record::{KeyRow, record_bytes};
 use chpw_rules::{Items, Name};
-use chpw_ordered_keys::place_of;
 use std::alloc::{AllocError, Global};
 
 // A change with all the memory that it needs.

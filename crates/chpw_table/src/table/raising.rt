@@ -13,8 +13,8 @@ use super::Table;
 use crate::raising::{Full, Raise, RaiseVerdict};
 use crate::sink::JournalSink;
 use crate::times::Moment;
-use chpw_record::raise_bytes;
 use chpw_ordered_keys::KeyTree;
+use chpw_record::raise_bytes;
 
 impl Table {
     /// Raises the iteration count of new keys to this one, 1 to 16,777,216: the verdict, and its effect. It takes no

@@ -1,6 +1,6 @@
 use Rattle.std.proofs.Common.{sym, ◌∙◌, ap}
 use Rattle.chpw_changelog.proofs.StepLemmas.{makes}
-use Rattle.chpw_changelog.proofs.steps.made.Goals as goal
+use Rattle.chpw_changelog.proofs.steps.make_pen.Goals as goal
 
 pub compare_exchange-requires : goal.compare_exchange-requires
 compare_exchange-requires c =

@@ -1,6 +1,6 @@
 use Rattle.std.proofs.Common.{sym, ◌∙◌, ap}
 use Rattle.chpw_changelog.proofs.StepLemmas.{founds}
-use Rattle.chpw_changelog.proofs.steps.founded.Goals as goal
+use Rattle.chpw_changelog.proofs.steps.start_log.Goals as goal
 
 pub compare_exchange-requires : goal.compare_exchange-requires
 compare_exchange-requires c =

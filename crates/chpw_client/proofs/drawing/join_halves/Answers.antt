@@ -1,7 +1,7 @@
 use Rattle.std.proofs.Common.{◌≡◌, ◌∙◌, ◌++◌, ◌∷◌, [], List, ℕ, ap, ap₂, length, drop, append-nil, refl, rules}
 use Rattle.std.proofs.lemmas.List.{drop_at, take_at}
 use borrow.Rule.Slice.PartMut.{put_mid}
-use Rattle.chpw_client.proofs.drawing.joined.Goals as goal
+use Rattle.chpw_client.proofs.drawing.join_halves.Goals as goal
 
 abbrev zeros : List ℕ
 zeros = 0 ∷ 0 ∷ 0 ∷ 0 ∷ 0 ∷ 0 ∷ 0 ∷ 0 ∷ 0 ∷ 0 ∷ 0 ∷ 0 ∷ 0 ∷ 0 ∷ 0 ∷ 0 ∷ []

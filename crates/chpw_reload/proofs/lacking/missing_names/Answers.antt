@@ -5,7 +5,7 @@ use Rattle.chpw_rules.specs.declared.name.Name.{Name}
 use Rattle.chpw_journal.proofs.ListLemmas.{take_more, take_whole}
 use Rattle.chpw_report.specs.Configurations.{names_of}
 use Rattle.chpw_reload.specs.Next.{is_unknown}
-use Rattle.chpw_reload.proofs.lacking.lacked.Goals as goal
+use Rattle.chpw_reload.proofs.lacking.missing_names.Goals as goal
 
 pub loop-name-preserved : goal.loop-name-preserved
 loop-name-preserved c =

@@ -1,7 +1,7 @@
 use Rattle.std.proofs.Common.{◌≡◌, ◌≤◌, ◌-◌, filter, take, length}
 use Rattle.chpw_report.specs.Configurations.{names_of}
 use Rattle.chpw_reload.specs.Next.{is_unknown}
-use Rattle.chpw_reload.proofs.lacking.lacked.Given as goal
+use Rattle.chpw_reload.proofs.lacking.missing_names.Given as goal
 
 abbrev pub invariant-loop-name : goal.invariant-loop-name
 invariant-loop-name l =

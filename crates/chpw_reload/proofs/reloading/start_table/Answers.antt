@@ -1,6 +1,6 @@
 use Rattle.std.proofs.Common.{◌≡◌, rules}
 use Rattle.chpw_reload.proofs.StartingLemmas.{started_from, refused_over}
-use Rattle.chpw_reload.proofs.reloading.started.Goals as goal
+use Rattle.chpw_reload.proofs.reloading.start_table.Goals as goal
 
 pub returns-in-Ok-clause-started : goal.returns-in-Ok-clause-started
 returns-in-Ok-clause-started g c =

@@ -1,7 +1,7 @@
 use Rattle.std.proofs.Common.{◌≡◌, ℕ, sym, ◌∙◌, map, bit_xor, arith}
 use Rattle.std.proofs.lemmas.Grind.{same_number_lists}
 use Rattle.std.proofs.lemmas.List.{length-map, get_or-map}
-use Rattle.krb_keys.proofs.hmac.padded.Goals as goal
+use Rattle.krb_keys.proofs.hmac.hash_of_pad.Goals as goal
 
 pub returns : goal.returns
 returns c =

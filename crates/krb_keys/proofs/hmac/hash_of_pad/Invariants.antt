@@ -1,5 +1,5 @@
 use Rattle.std.proofs.Common.{◌≡◌, ℕ, ◌<◌, ◌≤◌, bit_xor, get_or}
-use Rattle.krb_keys.proofs.hmac.padded.Given as goal
+use Rattle.krb_keys.proofs.hmac.hash_of_pad.Given as goal
 
 abbrev pub invariant-loop-byte : goal.invariant-loop-byte
 invariant-loop-byte l =

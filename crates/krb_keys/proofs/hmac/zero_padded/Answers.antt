@@ -1,6 +1,6 @@
 use Rattle.std.proofs.Common.{ℕ, List, ◌++◌, length, replicate, ap, ◌∙◌, drop}
 use Rattle.std.proofs.lemmas.List.{drop-replicate}
-use Rattle.krb_keys.proofs.hmac.filled.Goals as goal
+use Rattle.krb_keys.proofs.hmac.zero_padded.Goals as goal
 
 pub returns : goal.returns
 returns c =

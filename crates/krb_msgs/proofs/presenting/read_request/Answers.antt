@@ -7,7 +7,7 @@ use Rattle.krb_msgs.specs.Checks.{met, unmet, of_one, of_none, goes_on, stops}
 use Rattle.krb_msgs.specs.Parts.{Reads}
 use Rattle.krb_msgs.specs.Presented.{HasVersion, IsForUs, IsKnownEtype, Presents, UsesSessionKey}
 use Rattle.krb_msgs.proofs.AnswerLemmas.{passes_on}
-use Rattle.krb_msgs.proofs.presenting.presented.Goals as goal
+use Rattle.krb_msgs.proofs.presenting.read_request.Goals as goal
 
 pub returns-in_err-request : goal.returns-in_err-request
 unfolding Presents

@@ -1,5 +1,5 @@
 use Rattle.chpw_book.specs.Starting.{ledger_name, ledger_parts, list_book, list_root, workers_of}
-use Rattle.bench.proofs.lookup.measure.Given as goal
+use Rattle.support_bench.proofs.lookup.measure.Given as goal
 
 abbrev pub ghosts-at_desk-D-DeskName : goal.ghosts-at_desk-D-DeskName
 ghosts-at_desk-D-DeskName g a = record { workers = workers_of a.unnamed }

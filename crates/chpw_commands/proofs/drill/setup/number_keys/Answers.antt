@@ -1,6 +1,6 @@
 use Rattle.std.proofs.Common.{arith}
 use Rattle.chpw_commands.proofs.SetupLemmas.{numbered_more}
-use Rattle.chpw_commands.proofs.drill.setup.numbered.Goals as goal
+use Rattle.chpw_commands.proofs.drill.setup.number_keys.Goals as goal
 
 pub loop-key-preserved : goal.loop-key-preserved
 loop-key-preserved c = record {

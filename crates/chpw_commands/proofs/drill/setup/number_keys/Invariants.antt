@@ -1,6 +1,6 @@
 use Rattle.std.proofs.Common.{◌≡◌, ◌+◌, ◌++◌, drop}
 use Rattle.chpw_commands.specs.Setup.{numbered}
-use Rattle.chpw_commands.proofs.drill.setup.numbered.Given as goal
+use Rattle.chpw_commands.proofs.drill.setup.number_keys.Given as goal
 
 abbrev pub invariant-loop-key : goal.invariant-loop-key
 invariant-loop-key l = record {

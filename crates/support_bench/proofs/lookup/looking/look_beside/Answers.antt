@@ -6,8 +6,8 @@ use Rattle.chpw_book.specs.contracts.pass.Pass as Pass
 use Rattle.chpw_book.specs.contracts.desk.Desk as Desk
 use Rattle.chpw_book.proofs.pass.Pass.TheSendSync as pass
 use Rattle.chpw_book.proofs.SendLemmas.{desk_sync}
-use Rattle.bench.proofs.SendLemmas.{four_send}
-use Rattle.bench.proofs.lookup.looking.look_beside.Goals as goal
+use Rattle.support_bench.proofs.SendLemmas.{four_send}
+use Rattle.support_bench.proofs.lookup.looking.look_beside.Goals as goal
 
 pub join-decided-requires-send-F : goal.join-decided-requires-send-F
 join-decided-requires-send-F g c κs within =

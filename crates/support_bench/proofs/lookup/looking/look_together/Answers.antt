@@ -4,10 +4,10 @@ use Rattle.std.specs.contracts.sync.atomic.AtomicU64 as AtomicU64
 use Rattle.std.proofs.sync.atomic.AtomicU64.TheSendSync as atomic
 use Rattle.chpw_book.specs.contracts.desk.Desk as Desk
 use Rattle.chpw_book.proofs.SendLemmas.{desk_sync}
-use Rattle.bench.specs.contracts.lookup.looking.Sought as Sought
-use Rattle.bench.proofs.lookup.looking.Sought.TheSendSync as sought
-use Rattle.bench.proofs.SendLemmas.{three_sync}
-use Rattle.bench.proofs.lookup.looking.look_together.Goals as goal
+use Rattle.support_bench.specs.contracts.lookup.looking.Sought as Sought
+use Rattle.support_bench.proofs.lookup.looking.Sought.TheSendSync as sought
+use Rattle.support_bench.proofs.SendLemmas.{three_sync}
+use Rattle.support_bench.proofs.lookup.looking.look_together.Goals as goal
 
 pub for_each_mut-requires-sync-F : goal.for_each_mut-requires-sync-F
 for_each_mut-requires-sync-F g c κs within =
