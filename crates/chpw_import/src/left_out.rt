@@ -94,7 +94,7 @@ fn why_unused(
     let is_pair = pair_at(alloc, &used.table.found, name, entry.kvno, 1)?.is_some();
     let newest = newest_version(&used.table.newest, name);
     let keys = used_keys(used.principals, name);
-    Ok(why_unused(entry.kvno, newest, keys, is_pair))
+    Ok(why_key_unused(entry.kvno, newest, keys, is_pair))
 }
 
 // Whether the slot has the key of the index-th entry.
@@ -133,7 +133,7 @@ fn used_keys<'a>(principals: &'a [PrincipalRow], name: &Name) -> &'a [KeyBytes]
 }
 
 // Why a principal's key isn't used, if it isn't.
-fn why_unused(kvno: u32, newest: u32, keys: &[KeyBytes], is_pair: bool) -> Option<Reason>
+fn why_key_unused(kvno: u32, newest: u32, keys: &[KeyBytes], is_pair: bool) -> Option<Reason>
     ensures value { result ≡ unused kvno newest keys.now is_pair }
 {
     if has_version(kvno, keys) {

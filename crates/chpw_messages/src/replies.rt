@@ -9,7 +9,7 @@ ghost use Rattle.chpw_messages.specs.Replies.{error_frame, error_record};
 use chpw_frame::join_reply;
 use chpw_table::Moment;
 use krb_der::{Bytes, KerberosTime, KrbError, Microseconds, OctetString};
-use krb_msgs::{copied, make_error, service_name};
+use krb_msgs::{copy_bytes, make_error, service_name};
 use krb_protocol::{KRB_ERROR, PVNO, Refusal};
 use std::alloc::{AllocError, Global};
 
@@ -41,7 +41,7 @@ fn krb_error(
         error_code: refusal.error,
         crealm: None,
         cname: None,
-        realm: copied(alloc, realm)?,
+        realm: copy_bytes(alloc, realm)?,
         sname: service_name(alloc)?,
         e_text: None,
         e_data: Some(user_data(alloc, refusal.code, refusal.text)?),

@@ -79,7 +79,7 @@ where
     }
     let now = moment(rt)?;
     let config = settings(rt, options.config)?;
-    let seed = read_seed(rt, options.seed)?;
+    let seed = seed_of(rt, options.seed)?;
     if config.service.as_slice().is_empty() {
         return Err(Ending::BadArgument);
     }
@@ -113,7 +113,7 @@ where
     }
 }
 
-fn read_seed<'a, R: Files<File = File>>(rt: &R, file: &'a str) -> Result<[u8; 32], Ending<'a>>
+fn seed_of<'a, R: Files<File = File>>(rt: &R, file: &'a str) -> Result<[u8; 32], Ending<'a>>
     ensures early { IfErr result IsUnasked }
 {
     match read_seed(rt, file) {

@@ -7,6 +7,6 @@ pub returns : goal.returns
 returns c =
     let n : length c.args.words ≡ 8 = search rules in
     record {
-      value = c.joined.ensures.value ∙ ap₂ (λ (xs ys : List ℕ). xs ++ ys) c.word_bytes.ensures.value c.word_bytes-2.ensures.value
+      value = c.join_halves.ensures.value ∙ ap₂ (λ (xs ys : List ℕ). xs ++ ys) c.word_bytes.ensures.value c.word_bytes-2.ensures.value
           ∙ ap word_bytes (sym (after_place c.args.words 0 8 n));
     }

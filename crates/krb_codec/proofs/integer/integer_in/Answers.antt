@@ -13,16 +13,16 @@ returns-then-not-is_shortest-clause-value c =
 pub returns-then-n-high-clause-value : goal.returns-then-n-high-clause-value
 returns-then-n-high-clause-value c =
     let good : is_shortest_integer c.args.content.now ≡ true = sym c.is_shortest.ensures ∙ c.if-not-is_shortest.false in
-    let fn : FitsSigned w64 c.signed-n.result = search rules in
-    let above : c.args.low ≤ℤ c.signed-n.result = omega (arith, ints) in
-    let below : c.signed-n.result ≤ℤ c.args.high = omega (arith, ints) in
-    rw (to_z-of_z w64 c.signed-n.result fn) (sym (integer_complete c.args.low c.args.high c.args.place c.args.content.now c.signed-n.result (good, c.signed-n.ensures, above, below)))
+    let fn : FitsSigned w64 c.to_signed-n.result = search rules in
+    let above : c.args.low ≤ℤ c.to_signed-n.result = omega (arith, ints) in
+    let below : c.to_signed-n.result ≤ℤ c.args.high = omega (arith, ints) in
+    rw (to_z-of_z w64 c.to_signed-n.result fn) (sym (integer_complete c.args.low c.args.high c.args.place c.args.content.now c.to_signed-n.result (good, c.to_signed-n.ensures, above, below)))
 
 pub returns-else-low-n-clause-value : goal.returns-else-low-n-clause-value
 returns-else-low-n-clause-value c =
     let good : is_shortest_integer c.args.content.now ≡ true = sym c.is_shortest.ensures ∙ c.if-not-is_shortest.false in
-    let fn : FitsSigned w64 c.signed-n.result = search rules in
-    let is = c.signed-n.ensures in
+    let fn : FitsSigned w64 c.to_signed-n.result = search rules in
+    let is = c.to_signed-n.ensures in
     let out : (signed c.args.content.now <ℤ c.args.low) ⊎ (c.args.high <ℤ signed c.args.content.now) = elim c.else-low-n.branch [
       | else-low-n-via-then-low-n+else-n-high w ↦ inr (rw (← is) (omega (arith, ints)))
       | else-low-n-via-else-low-n w ↦ inl (rw (← is) (omega (arith, ints)))

@@ -34,7 +34,7 @@ put-requires-in-Greater g t c κs within =
     (omega (arith, c.decreases, all, parts, size), (search rules, (subst (IsStrictlySortedBy g.K.Ord.cmp) (sym side) right, (c.requires.one, omega (arith, c.requires.few, all, parts, size)))))
 
 pub rebalanced-requires : goal.rebalanced-requires
-rebalanced-requires g t c =
+rebalance-requires g t c =
     let fork = c.in-Some-take.fork.value in
     let new = c.match-cmp.fork.value in
     let is : c.args.self.now ≡ fork.left ++ fork.key ∷ fork.right = sym c.in-Some-take.ensures.keys in
@@ -69,4 +69,4 @@ returns g t c =
       | in-Equal w ↦ rw w.fork-is (after_here g.K.Ord.cmp g.met.K.Ord.total _ _ _ _ _ _ is c.requires.sorted one (compared ∙ w.in-Equal.is))
       | in-Greater w ↦ rw w.fork-is (rw w.deref_mut-in-Greater.ensures.value (after_right g.K.Ord.cmp g.met.K.Ord.total _ _ _ _ _ _ is c.requires.sorted one _ (compared ∙ w.in-Greater.is) (rw w.deref_mut-in-Greater.ensures.value at w.put-in-Greater.ensures.value)))
     ] in
-    record { value = c.rebalanced.ensures.keys ∙ now }
+    record { value = c.rebalance.ensures.keys ∙ now }
