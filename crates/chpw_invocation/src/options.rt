@@ -173,7 +173,7 @@ fn positional_arg<'a>(alloc: Global, line: &OptionLine, is_required: bool) -> Ar
     ensures local { result.global ≡ false }
 {
     Arg::new(alloc, line.name)
-        .required_option(is_required)
+        .required(is_required)
         .action(ArgAction::Set)
         .value_name(line.value)
         .help(line.help)
@@ -186,7 +186,7 @@ fn option_arg<'a>(alloc: Global, line: &OptionLine, is_required: bool) -> Arg<'a
 {
     Arg::new(alloc, line.name)
         .long(line.name)
-        .required_option(is_required)
+        .required(is_required)
         .action(ArgAction::Set)
         .value_name(line.value)
         .help(line.help)
