@@ -6,7 +6,7 @@ import subprocess
 
 from .tree import TOP
 
-COMMAND = re.compile(r"tools/believe ((?:[\w:+-]+ ?)+)")
+COMMAND = re.compile(r"tools/believe ([a-z-](?:[\w:+-]+ ?)+)")
 COUNT = re.compile(r"\d[\d,]* lines in \d[\d,]* definitions")
 
 
