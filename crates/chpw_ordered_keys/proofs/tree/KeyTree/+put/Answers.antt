@@ -33,7 +33,7 @@ put-requires-in-Greater g t c κs within =
     let size = ap length side in
     (omega (arith, c.decreases, all, parts, size), (search rules, (subst (IsStrictlySortedBy g.K.Ord.cmp) (sym side) right, (c.requires.one, omega (arith, c.requires.few, all, parts, size)))))
 
-pub rebalanced-requires : goal.rebalanced-requires
+pub rebalance-requires : goal.rebalance-requires
 rebalance-requires g t c =
     let fork = c.in-Some-take.fork.value in
     let new = c.match-cmp.fork.value in
