@@ -7,5 +7,6 @@ use denote.Struct.Tuple.{TupleAt}
 use Rattle.std.specs.Prelude.{ℕ, [], ◌∷◌}
 use denote.Param.Send.{IsSend, sendable}
 
-pub six_send : (n : ℕ) (δ : Ty) (ν : Sym) (A B C D E F : RattleType) → IsSend A → IsSend B → IsSend C → IsSend D → IsSend E → IsSend F → IsSend (param n (arg δ no (TupleAt ν (A ∷ B ∷ C ∷ D ∷ E ∷ F ∷ []))))
+pub six_send : (n : ℕ) (δ : Ty) (ν : Sym) (A B C D E F : RattleType) → IsSend A → IsSend B
+    → IsSend C → IsSend D → IsSend E → IsSend F → IsSend (param n (arg δ no (TupleAt ν (A ∷ B ∷ C ∷ D ∷ E ∷ F ∷ []))))
 six_send n δ ν A B C D E F a b c d e f = search sendable depth 30

@@ -20,7 +20,8 @@ use Rattle.chpw_book.specs.Recorded.{RecordedView, IsLinearized}
 use Rattle.chpw_book.specs.Calls.{Adds, Notes, AsksAfter, LacksAfter}
 
 -- what happens under the lock happens at the desk
-pub notes_of : (opening : State) (b later : RecordedView) (mine more : PassView) (now : Moment) (event : Event) → Adds opening b later mine more now event → Notes opening mine more now event
+pub notes_of : (opening : State) (b later : RecordedView) (mine more : PassView) (now : Moment) (event : Event)
+    → Adds opening b later mine more now event → Notes opening mine more now event
 notes_of opening b later mine more now event h = record { before = b.history; entry = h.entry; happens = h.happens }
 
 -- Full is told of a full table alone
@@ -46,11 +47,13 @@ pub asks_of_first : (opening : State) (workers : ℕ) (b : RecordedView) (now : 
 asks_of_first opening workers b now o f k h = record {
   before = b.history;
   legal = k.legal;
-  asks = asks_for b.table (missing b.table.state now o) (missing (outcome opening b.history) now o) f (same_missing b.table.state (outcome opening b.history) now o k.agrees) h;
+  asks = asks_for b.table (missing b.table.state now o) (missing (outcome opening b.history) now o) f
+      (same_missing b.table.state (outcome opening b.history) now o k.agrees) h;
 }
 
 -- so is what it lacks
-pub lacks_after : (opening : State) (workers : ℕ) (b : RecordedView) (now : Moment) (o : Opened) → IsLinearized opening workers b → LacksAfter opening now o (missing b.table.state now o)
+pub lacks_after : (opening : State) (workers : ℕ) (b : RecordedView) (now : Moment) (o : Opened)
+    → IsLinearized opening workers b → LacksAfter opening now o (missing b.table.state now o)
 lacks_after opening workers b now o k = record {
   before = b.history;
   legal = k.legal;

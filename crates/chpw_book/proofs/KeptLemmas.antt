@@ -37,9 +37,11 @@ known_put true kept key None h = h
 known_put true kept key (Some keys) h = search rules
 known_put false kept key held h = h
 
-known_event : (s : State) (now : Moment) (io : Bool) (event : Event) (name : Name) → IsSome (keys_held (step_event s now io event) name) → IsSome (keys_held s name)
+known_event : (s : State) (now : Moment) (io : Bool) (event : Event) (name : Name)
+    → IsSome (keys_held (step_event s now io event) name) → IsSome (keys_held s name)
 known_event s now io (Ask o v) name h =
-    known_put _ (kept_count s) (new_key s o) (keys_held s name) (subst (λ (x : Option (List KeyRow)). IsSome x) (keys_after s (verdict s now o io) now o io name) h)
+    known_put _ (kept_count s) (new_key s o) (keys_held s name)
+    (subst (λ (x : Option (List KeyRow)). IsSome x) (keys_after s (verdict s now o io) now o io name) h)
 known_event s now io (Raise count v) name h = h
 
 pub known_before : NamesAreTheOpenings

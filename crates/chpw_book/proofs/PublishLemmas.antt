@@ -1,5 +1,6 @@
 -- The published list goes on with the history.
-use Rattle.std.proofs.Common.{◌≡◌, ℕ, ◌+◌, ◌^◌, ◌<◌, List, [], ◌∷◌, ◌++◌, ◌≤◌, length, length-append, Bool, true, false, ◌&&◌, ◌||◌, Option, None, refl, sym, ◌∙◌, ap, subst, arith, if◌then◌else◌, append-nil}
+use Rattle.std.proofs.Common.{◌≡◌, ℕ, ◌+◌, ◌^◌, ◌<◌, List, [], ◌∷◌, ◌++◌, ◌≤◌, length, length-append, Bool, true, false}
+use Rattle.std.proofs.Common.{◌&&◌, ◌||◌, Option, None, refl, sym, ◌∙◌, ap, subst, arith, if◌then◌else◌, append-nil}
 use Rattle.std.proofs.lemmas.List.Sums.{count_by-le-length}
 use mathlib.Core.List.{IsPrefix}
 use Rattle.chpw_rules.specs.declared.name.Name.{Name}
@@ -52,7 +53,8 @@ shorter xs ys p =
     omega (arith, a, same)
 
 -- after an accepted event the pass was told more than it knew
-told_more : (opening : State) (before : List Entry) (e : Entry) (mine more : Known) → IsPrefix mine.told (accepted opening before) → IsPrefix mine.seen (accepted opening before)
+told_more : (opening : State) (before : List Entry) (e : Entry) (mine more : Known)
+    → IsPrefix mine.told (accepted opening before) → IsPrefix mine.seen (accepted opening before)
     → more ≡ told_list (is_accepted e.event) (accepted opening (before ++ e ∷ [])) mine → is_accepted e.event ≡ true
     → (length mine.told < length more.told) × (length mine.seen < length more.told)
 told_more opening before e mine more begins saw is done =
@@ -77,7 +79,9 @@ published_at opening before e b broken event s t p a is h done accepts =
     ap (λ (x : Event). s.list ++ (if is_accepted x then change_by b x ∷ [] else [])) (sym is) ∙ kept_list opening b before s.list e a p.list in
     at done accepts (ap (λ (d : Bool). s.list ++ (if d then change_by b event ∷ [] else [])) (sym accepts) ∙ list)
   where
-    at : (done : Bool) → is_accepted event ≡ done → s.list ++ (if done then change_by b event ∷ [] else []) ≡ accepted opening (before ++ e ∷ []) → IsPublished opening (before ++ e ∷ []) broken (published done t)
+    at : (done : Bool) → is_accepted event ≡ done
+        → s.list ++ (if done then change_by b event ∷ [] else []) ≡ accepted opening (before ++ e ∷ [])
+        → IsPublished opening (before ++ e ∷ []) broken (published done t)
     at true y list = record {
       list = ap (λ (w : Option Accepted). joined w t.list) (h.waits y) ∙ (ap (λ (xs : List Accepted). xs ++ change_by b event ∷ []) h.list ∙ list);
       free = λ w. refl;
@@ -86,10 +90,12 @@ published_at opening before e b broken event s t p a is h done accepts =
 
 -- a decision and its publication keep it the history's
 pub published_next : (opening : State) (workers : ℕ) (b later : RecordedView) (mine mid : PassView) (s t : Shelved) (now : Moment) (event : Event)
-    → IsPublished opening b.history b.table.state.broken s → IsRecorded opening workers b later mine mid s t now event → IsPublished opening later.history later.table.state.broken (published (is_accepted event) t)
+    → IsPublished opening b.history b.table.state.broken s → IsRecorded opening workers b later mine mid s t now event
+    → IsPublished opening later.history later.table.state.broken (published (is_accepted event) t)
 published_next opening workers b later mine mid s t now event p h =
     subst (λ (es : List Entry). IsPublished opening es later.table.state.broken (published (is_accepted event) t)) (sym h.grows.history)
-    (published_at opening b.history h.entry b.table.state later.table.state.broken event s t p h.linearized.0.agrees (ap (λ (e : Entry). e.event) h.enters.entry_is) h.shelves (is_accepted event) refl)
+    (published_at opening b.history h.entry b.table.state later.table.state.broken event s t p h.linearized.0.agrees
+    (ap (λ (e : Entry). e.event) h.enters.entry_is) h.shelves (is_accepted event) refl)
 
 -- it has room for one more
 pub list_room : (opening : State) (workers : ℕ) (b later : RecordedView) (mine mid : PassView) (s t : Shelved) (now : Moment) (event : Event)
@@ -104,7 +110,8 @@ list_room opening workers b later mine mid s t now event p h =
 
 -- all that a call does
 pub adds_next : (opening : State) (workers : ℕ) (b later : RecordedView) (mine mid more : PassView) (s t u : Shelved) (now : Moment) (event : Event)
-    → IsPublished opening b.history b.table.state.broken s → IsRecorded opening workers b later mine mid s t now event → IsPublished opening later.history later.table.state.broken u
+    → IsPublished opening b.history b.table.state.broken s → IsRecorded opening workers b later mine mid s t now event
+    → IsPublished opening later.history later.table.state.broken u
     → IsPrefix mine.place.told s.list → more ≡ record mid { place = told_list (is_accepted event) u.list mid.place } → Adds opening b later mine more now event
 adds_next opening workers b later mine mid more s t u now event p h q begins is =
     let place : more.place ≡ told_list (is_accepted event) (accepted opening (b.history ++ h.entry ∷ [])) mine.place =
@@ -134,7 +141,8 @@ adds_next opening workers b later mine mid more s t u now event p h q begins is 
 -- ---- the shelf after a decision
 
 shelves_at : (before : State) (was now : Bool) (o : Opened) (row v : Verdict) (s t : Shelved) → (was ≡ false → s.waiting ≡ None)
-    → (d io : Bool) → is_done row ≡ d → v ≡ (if d && io then Broken else row) → now ≡ (was || io) → t ≡ with_waiting d (change_by before (Ask o Done)) s → Shelves before now (Ask o v) s t
+    → (d io : Bool) → is_done row ≡ d → v ≡ (if d && io then Broken else row)
+    → now ≡ (was || io) → t ≡ with_waiting d (change_by before (Ask o Done)) s → Shelves before now (Ask o v) s t
 shelves_at before was now o row v s t free true io is vi ni ti = record {
   list = ap (λ (x : Shelved). x.list) ti;
   waits = λ h. ap (λ (x : Shelved). x.waiting) ti;
@@ -156,5 +164,6 @@ shelves_at before was now o row v s t free false io is vi ni ti = record {
     at false ni b = refl
 
 pub shelves_next : (before : State) (was now io : Bool) (o : Opened) (row v : Verdict) (s t : Shelved) → (was ≡ false → s.waiting ≡ None)
-    → v ≡ (if is_done row && io then Broken else row) → now ≡ (was || io) → t ≡ with_waiting (is_done row) (change_by before (Ask o Done)) s → Shelves before now (Ask o v) s t
+    → v ≡ (if is_done row && io then Broken else row) → now ≡ (was || io)
+    → t ≡ with_waiting (is_done row) (change_by before (Ask o Done)) s → Shelves before now (Ask o v) s t
 shelves_next before was now io o row v s t free vi ni ti = shelves_at before was now o row v s t free (is_done row) io refl vi ni ti

@@ -11,7 +11,13 @@ use Rattle.chpw_snapshots.specs.Rows.{lookup_with}
 use Rattle.chpw_book.specs.ShownLaws.{LookupsShowHistories}
 
 keys_shown : (policy seen : ℕ) (held : Option (List KeyRow))
-    → option_map (lookup_with policy seen) (option_map shown_keys held) ≡ option_map (λ (keys : List KeyRow). record { kvno = newest_kvno keys; held = map (λ (k : KeyRow). k.count) keys; policy = policy; seen = seen }) held
+    → option_map (lookup_with policy seen) (option_map shown_keys held)
+    ≡ option_map (λ (keys : List KeyRow). record {
+      kvno = newest_kvno keys;
+      held = map (λ (k : KeyRow). k.count) keys;
+      policy = policy;
+      seen = seen;
+    }) held
 keys_shown policy seen None = refl
 keys_shown policy seen (Some keys) = refl
 

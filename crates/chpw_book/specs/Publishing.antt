@@ -50,7 +50,8 @@ pub record Shelves (before : State) (broken : Bool) (event : Event) (s t : Shelv
   pub free : is_accepted event ≡ false → broken ≡ false → t.waiting ≡ None
 
 -- For the proofs: an event's entry is recorded, and its change waits to be published.
-pub record IsRecorded (opening : State) (workers : ℕ) (before later : RecordedView) (mine more : PassView) (s t : Shelved) (now : Moment) (event : Event) : Type 0 where
+pub record IsRecorded (opening : State) (workers : ℕ)
+    (before later : RecordedView) (mine more : PassView) (s t : Shelved) (now : Moment) (event : Event) : Type 0 where
   pub entry : Entry
   pub enters : Enters before.history entry mine more now event
   pub grows : Grows before later mine.worker entry

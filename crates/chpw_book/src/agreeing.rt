@@ -50,7 +50,13 @@ struct Standing {
 // Whether this is the receipt of the entry that stands here.
 fn is_of(receipt: &Receipt, entry: &Entry, standing: Standing) -> bool
     requires room { standing.count < 2 ^ 32 - 1 }
-    ensures same { Decides result (receipt.now ≡ record { worker = entry.entry.now.worker; number = standing.count + 1; position = standing.position; basis = standing.basis; entry = entry.entry.now }) }
+    ensures same { Decides result (receipt.now ≡ record {
+      worker = entry.entry.now.worker;
+      number = standing.count + 1;
+      position = standing.position;
+      basis = standing.basis;
+      entry = entry.entry.now;
+    }) }
 {
     receipt.worker == entry.worker
         && receipt.number == standing.count + 1

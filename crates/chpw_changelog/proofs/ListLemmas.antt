@@ -1,12 +1,14 @@
 -- The list of a pen, along longer logs.
-use Rattle.std.proofs.Common.{◌≡◌, ℕ, ◌==◌, ◌<◌, ◌≤◌, Bool, true, false, List, [], ◌∷◌, ◌++◌, length, if◌then◌else◌, refl, ap, sym, ◌∙◌, subst, arith, append_assoc, length-append, append-nil}
+use Rattle.std.proofs.Common.{◌≡◌, ℕ, ◌==◌, ◌<◌, ◌≤◌, Bool, true, false, List, [], ◌∷◌, ◌++◌, length, if◌then◌else◌}
+use Rattle.std.proofs.Common.{refl, ap, sym, ◌∙◌, subst, arith, append_assoc, length-append, append-nil}
 use Rattle.std.proofs.lemmas.Bool.Decides.{nat_tests}
 use mathlib.Core.List.{IsPrefix}
 use Rattle.chpw_table.specs.declared.change.Accepted.{Accepted}
 use Rattle.chpw_changelog.specs.declared.entry.LogEntry.{LogEntry}
 use Rattle.chpw_changelog.specs.Pens.{written_by, pen_after, IsUnspent, newest_or}
 
-written_step : (b : Bool) (c : Accepted) (a1 a0 r1 r0 : List Accepted) (p1 p0 : ℕ) (ys : List LogEntry) → a1 ≡ r1 ++ written_by p1 ys → a0 ≡ r0 ++ written_by p0 ys
+written_step : (b : Bool) (c : Accepted) (a1 a0 r1 r0 : List Accepted) (p1 p0 : ℕ) (ys : List LogEntry)
+    → a1 ≡ r1 ++ written_by p1 ys → a0 ≡ r0 ++ written_by p0 ys
     → (if b then c ∷ a1 else a0) ≡ (if b then c ∷ r1 else r0) ++ written_by (if b then p1 else p0) ys
 written_step true c a1 a0 r1 r0 p1 p0 ys h1 h0 = ap (λ w. c ∷ w) h1
 written_step false c a1 a0 r1 r0 p1 p0 ys h1 h0 = h0
@@ -15,7 +17,8 @@ pub written_append : (k : ℕ) (xs ys : List LogEntry) → written_by k (xs ++ y
 written_append k [] ys = refl
 written_append k (e ∷ l) ys = written_step (e.by == k) e.change _ _ _ _ _ _ ys (written_append e.next l ys) (written_append k l ys)
 
-pen_step : (b : Bool) (a1 a0 p1 p0 : ℕ) (ys : List LogEntry) → a1 ≡ pen_after p1 ys → a0 ≡ pen_after p0 ys → (if b then a1 else a0) ≡ pen_after (if b then p1 else p0) ys
+pen_step : (b : Bool) (a1 a0 p1 p0 : ℕ) (ys : List LogEntry)
+    → a1 ≡ pen_after p1 ys → a0 ≡ pen_after p0 ys → (if b then a1 else a0) ≡ pen_after (if b then p1 else p0) ys
 pen_step true a1 a0 p1 p0 ys h1 h0 = h1
 pen_step false a1 a0 p1 p0 ys h1 h0 = h0
 
@@ -48,7 +51,8 @@ pub prefix_written : (k : ℕ) (xs ys : List LogEntry) → IsPrefix xs ys → Is
 prefix_written k xs ys p = (written_by (pen_after k xs) p.0, sym (written_append k xs p.0) ∙ ap (λ l. written_by k l) p.1)
 
 -- where the pen of a list is not spent, the list is whole
-pub whole : (k p : ℕ) (xs ys : List LogEntry) → pen_after k xs ≡ p → IsPrefix xs ys → IsUnspent p ys → (written_by k ys ≡ written_by k xs) × (pen_after k ys ≡ p)
+pub whole : (k p : ℕ) (xs ys : List LogEntry)
+    → pen_after k xs ≡ p → IsPrefix xs ys → IsUnspent p ys → (written_by k ys ≡ written_by k xs) × (pen_after k ys ≡ p)
 whole k p xs ys is pre u =
     let rest : IsUnspent p pre.0 = unspent_tail p xs pre.0 (subst (λ l. IsUnspent p l) (sym pre.1) u) in
     let none : written_by (pen_after k xs) pre.0 ≡ [] = ap (λ q. written_by q pre.0) is ∙ unspent_written p pre.0 rest in
@@ -65,7 +69,8 @@ added k xs log ys e is pre u all =
     let t : (e.by == e.by) ≡ true = grind (arith, nat_tests) in
     let one : written_by (pen_after k log) (e ∷ []) ≡ e.change ∷ [] = ap (λ q. written_by q (e ∷ [])) w.1 ∙ rw t refl in
     let pen : pen_after (pen_after k log) (e ∷ []) ≡ e.next = ap (λ q. pen_after q (e ∷ [])) w.1 ∙ rw t refl in (
-      ap (λ l. written_by k l) all ∙ (written_append k log (e ∷ []) ∙ (ap (λ l. l ++ written_by (pen_after k log) (e ∷ [])) w.0 ∙ ap (λ l. written_by k xs ++ l) one)),
+      ap (λ l. written_by k l) all ∙ (written_append k log (e ∷ [])
+          ∙ (ap (λ l. l ++ written_by (pen_after k log) (e ∷ [])) w.0 ∙ ap (λ l. written_by k xs ++ l) one)),
       ap (λ l. pen_after k l) all ∙ (pen_append k log (e ∷ []) ∙ pen),
     )
 
@@ -102,7 +107,8 @@ begins_shorter f l z c pf pl less =
     let a = length-append l (c ∷ []) in
     prefix_trans f l (l ++ c ∷ []) (prefix_shorter f l z pf pl (omega (arith, a, less))) (c ∷ [], refl)
 
-pub begins_whole : (f l z : List Accepted) (c d : Accepted) → IsPrefix f z → IsPrefix l z → length f ≡ length (l ++ c ∷ []) → (rest : List Accepted) → f ≡ rest ++ d ∷ [] → d ≡ c → IsPrefix f (l ++ c ∷ [])
+pub begins_whole : (f l z : List Accepted) (c d : Accepted) → IsPrefix f z → IsPrefix l z
+    → length f ≡ length (l ++ c ∷ []) → (rest : List Accepted) → f ≡ rest ++ d ∷ [] → d ≡ c → IsPrefix f (l ++ c ∷ [])
 begins_whole f l z c d pf pl e rest is same =
     let a = length-append l (c ∷ []) in
     let b = length-append rest (d ∷ []) in

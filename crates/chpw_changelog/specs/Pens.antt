@@ -23,7 +23,18 @@ IsUnspent pen (e ∷ es) = ((e.by == pen) ≡ false) × IsUnspent pen es
 
 abbrev pub no_state : State
 no_state = record {
-  fixed = record { realm = []; policy = record { min_length = 0; min_classes = 0; depth = 0; iterations = 0; set_needs_initial = false }; rules = record { list = [] }; quiet_until = pos 0 };
+  fixed = record {
+    realm = [];
+    policy = record {
+      min_length = 0;
+      min_classes = 0;
+      depth = 0;
+      iterations = 0;
+      set_needs_initial = false;
+    };
+    rules = record { list = [] };
+    quiet_until = pos 0;
+  };
   principals = [];
   used = [];
   clock = pos 0;

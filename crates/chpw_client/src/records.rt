@@ -3,7 +3,9 @@ ghost use Rattle.std.specs.Prelude.{◌≡◌, IfOk};
 ghost use Rattle.krb_codec.specs.Texts.{text};
 ghost use Rattle.krb_der.specs.Types.{change_passwd_data};
 ghost use Rattle.krb_der.specs.Values.{change_passwd_data_value};
-ghost use Rattle.chpw_client.specs.Requests.{authenticator as authenticator_of, change, principal as principal_of, private_part as private_part_of, sent_key as sent_key_of, ticket_part as ticket_part_of, user_data as user_data_of};
+ghost use Rattle.chpw_client.specs.Requests.{authenticator as authenticator_of, change, principal as principal_of};
+ghost use Rattle.chpw_client.specs.Requests.{private_part as private_part_of, sent_key as sent_key_of};
+ghost use Rattle.chpw_client.specs.Requests.{ticket_part as ticket_part_of, user_data as user_data_of};
 ghost use Rattle.chpw_client.specs.Questions.{IsAskable, question_of};
 
 use crate::asked::Asked;

@@ -17,7 +17,8 @@ use Rattle.chpw_config.specs.Faults.{location, fault_at, placed, ◌>>=◌}
 use Rattle.chpw_rules.specs.Fitting.{is_same_service_key}
 use Rattle.chpw_rules.specs.Names.{is_same_name}
 use Rattle.chpw_config.specs.Kinds.{a_number, a_flag, a_name, a_target, a_hex_key, a_table, a_list, required}
-use Rattle.chpw_rules.specs.Limits.{kvnos, iteration_counts, min_lengths, min_class_counts, depths, etypes, key_length, key_counts, aes128_length, aes256_length}
+use Rattle.chpw_rules.specs.Limits.{kvnos, iteration_counts, min_lengths, min_class_counts, depths}
+use Rattle.chpw_rules.specs.Limits.{etypes, key_length, key_counts, aes128_length, aes256_length}
 
 -- a list's elements one after the other, each read with those before it known
 abbrev pub walk : {A : Type 0} → (List A → Data → Result A ConfigFault) → List A → Items

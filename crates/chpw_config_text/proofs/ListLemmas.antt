@@ -1,5 +1,6 @@
 -- A list is read as it is written, element by element.
-use Rattle.std.proofs.Common.{◌≡◌, ◌∙◌, sym, ℕ, suc, ◌+◌, true, false, not, ◌&&◌, ◌==◌, List, [], ◌∷◌, ◌++◌, length, map, Result, Ok, refl, ap, append-nil, append_assoc}
+use Rattle.std.proofs.Common.{◌≡◌, ◌∙◌, sym, ℕ, suc, ◌+◌, true, false, not, ◌&&◌, ◌==◌, List, []}
+use Rattle.std.proofs.Common.{◌∷◌, ◌++◌, length, map, Result, Ok, refl, ap, append-nil, append_assoc}
 use Rattle.std.specs.List.{list_all, list_any}
 use Rattle.std.proofs.lemmas.Bool.{and_parts, not-true}
 use Rattle.toml.specs.Data.{Data}
@@ -9,7 +10,8 @@ use Rattle.chpw_rules.specs.declared.limits.Limits.{Limits}
 use Rattle.chpw_rules.specs.declared.config.KeyBytes.{KeyBytes}
 use Rattle.chpw_rules.specs.declared.config.PrincipalRow.{PrincipalRow}
 use Rattle.chpw_rules.specs.declared.config.ServiceRow.{ServiceRow}
-use Rattle.chpw_rules.specs.Fitting.{descend_from, is_same_principal, is_same_service_key, key_fits, kvnos_descend, none_again, principal_fits, rule_fits, service_key_fits}
+use Rattle.chpw_rules.specs.Fitting.{descend_from, is_same_principal, is_same_service_key, key_fits}
+use Rattle.chpw_rules.specs.Fitting.{kvnos_descend, none_again, principal_fits, rule_fits, service_key_fits}
 use Rattle.chpw_rules.specs.Limits.{is_in, key_counts}
 use Rattle.chpw_rules.specs.Names.{is_name, is_same_name}
 use Rattle.chpw_config.specs.declared.fault.ConfigFault.{ConfigFault}

@@ -3,7 +3,9 @@ use Rattle.std.proofs.Common.{◌≡◌, ℕ, List, take, refl, ◌∙◌, arith
 use Rattle.std.proofs.lemmas.List.{take_all, length-take}
 use Rattle.slab.specs.Slab.{Slab, get}
 use Rattle.chpw_connections.specs.Messages.{wanted_after}
-use Rattle.chpw_connections.specs.Stages.{Stage, reading, queued, answering, confirming, writing, lingering, abandoned, ended, Event, came, after, count_after, since_after, stage, wanted_by, IsRoomFor, IsRoomBehind, Goes}
+use Rattle.chpw_connections.specs.Stages.{Stage, reading, queued, answering, confirming, writing}
+use Rattle.chpw_connections.specs.Stages.{lingering, abandoned, ended, Event, came, after, count_after}
+use Rattle.chpw_connections.specs.Stages.{since_after, stage, wanted_by, IsRoomFor, IsRoomBehind, Goes}
 use Rattle.chpw_connections.specs.Sets.{Comes, wanted_of}
 use Rattle.chpw_connections.specs.Room.{HappensWithRoom}
 use Rattle.chpw_connections.specs.declared.connection.Connection.{Connection}
@@ -65,7 +67,8 @@ wanted_same now count since (reading b) more =
     }
 wanted_same now count since (queued m) more = record { stage_too = refl; count_too = refl; since_too = refl; room_too = room_same now (take 0 more) more }
 wanted_same now count since answering more = record { stage_too = refl; count_too = refl; since_too = refl; room_too = room_same now (take 0 more) more }
-wanted_same now count since (confirming r l m) more = record { stage_too = refl; count_too = refl; since_too = refl; room_too = room_same now (take 0 more) more }
+wanted_same now count since (confirming r l m) more =
+    record { stage_too = refl; count_too = refl; since_too = refl; room_too = room_same now (take 0 more) more }
 wanted_same now count since (writing w l) more = record { stage_too = refl; count_too = refl; since_too = refl; room_too = room_same now (take 0 more) more }
 wanted_same now count since lingering more = record { stage_too = refl; count_too = refl; since_too = refl; room_too = room_same now (take 0 more) more }
 wanted_same now count since abandoned more = record { stage_too = refl; count_too = refl; since_too = refl; room_too = room_same now (take 0 more) more }

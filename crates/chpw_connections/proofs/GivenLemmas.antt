@@ -1,5 +1,6 @@
 -- What the ends of those that give way would let go of.
-use Rattle.std.proofs.Common.{◌≡◌, ◌≢◌, ℕ, zero, suc, ◌+◌, ◌<◌, ◌≤◌, List, [], ◌∷◌, length, take, refl, sym, ◌∙◌, ap, arith, Bool, true, false, ◌&&◌, nat_lt, not, cond, Option, Some, None, get_or}
+use Rattle.std.proofs.Common.{◌≡◌, ◌≢◌, ℕ, zero, suc, ◌+◌, ◌<◌, ◌≤◌, List, [], ◌∷◌, length, take, refl, sym, ◌∙◌}
+use Rattle.std.proofs.Common.{ap, arith, Bool, true, false, ◌&&◌, nat_lt, not, cond, Option, Some, None, get_or}
 use Rattle.std.specs.List.{sum_by}
 use Rattle.std.proofs.Math.Logic.{⊎_elim}
 use Rattle.std.proofs.lemmas.Bool.{cases_lt}
@@ -10,7 +11,9 @@ use Rattle.slab.specs.Slab.{Slab, get}
 use Rattle.chpw_connections.specs.Stages.{failed, stage, stage_of, ended}
 use Rattle.chpw_connections.specs.Holding.{held_by, held_at, held_in, begun_of}
 use Rattle.chpw_connections.specs.Sets.{waits, Comes, Happens}
-use Rattle.chpw_connections.specs.Room.{is_held_back, is_among, gives_way, gives_way_at, gives_way_since, given_at, given_in, staying_besides, has_room_besides, IsLongestBesides, NobodyWaitsBesides}
+use Rattle.chpw_connections.specs.Room.{is_held_back, is_among, gives_way, gives_way_at}
+use Rattle.chpw_connections.specs.Room.{gives_way_since, given_at, given_in, staying_besides}
+use Rattle.chpw_connections.specs.Room.{has_room_besides, IsLongestBesides, NobodyWaitsBesides}
 use Rattle.chpw_connections.specs.declared.connection.Phase.{Phase}
 use Rattle.chpw_connections.specs.declared.connection.Phase.TheVariants as phase
 use Rattle.chpw_connections.specs.declared.connection.Connection.{Connection}

@@ -1,5 +1,7 @@
 -- Whatever happens to a connection, its slot stands in its worker's queue while its message waits.
-use Rattle.std.proofs.Common.{◌≡◌, ◌≢◌, ℕ, zero, suc, ◌+◌, ◌<◌, ◌≤◌, ◌%◌, List, [], ◌∷◌, ◌++◌, length, drop, refl, sym, ◌∙◌, ap, ap₂, subst, arith, Bool, true, false, ◌&&◌, not, cond, ◌==◌, nat_lt, Option, Some, None, is_some, option_map, get_or, IfSome, IfNone, MatchOption}
+use Rattle.std.proofs.Common.{◌≡◌, ◌≢◌, ℕ, zero, suc, ◌+◌, ◌<◌, ◌≤◌, ◌%◌, List, [], ◌∷◌, ◌++◌, length, drop, refl}
+use Rattle.std.proofs.Common.{sym, ◌∙◌, ap, ap₂, subst, arith, Bool, true, false, ◌&&◌, not, cond, ◌==◌, nat_lt}
+use Rattle.std.proofs.Common.{Option, Some, None, is_some, option_map, get_or, IfSome, IfNone, MatchOption}
 use Rattle.std.proofs.Math.Logic.{⊎_elim}
 use Rattle.std.proofs.lemmas.Bool.{cases_eq, cases_lt}
 use Rattle.std.proofs.lemmas.List.{get_or_past}
@@ -7,7 +9,9 @@ use Rattle.std.proofs.lemmas.List.Sums.{sum_by-cons}
 use Rattle.std.specs.List.{count_by}
 use Rattle.std.proofs.lemmas.Bool.Decides.{nat_tests}
 use Rattle.slab.specs.Slab.{Slab, get, slab_len, Updates}
-use Rattle.chpw_connections.specs.Stages.{Stage, reading, queued, answering, confirming, writing, lingering, abandoned, ended, Event, came, taken, replied, deferred, unanswered, released, wrote, closed, failed, after, stage, is_over, received}
+use Rattle.chpw_connections.specs.Stages.{Stage, reading, queued, answering, confirming, writing, lingering}
+use Rattle.chpw_connections.specs.Stages.{abandoned, ended, Event, came, taken, replied, deferred, unanswered}
+use Rattle.chpw_connections.specs.Stages.{released, wrote, closed, failed, after, stage, is_over, received}
 use Rattle.chpw_connections.specs.Holding.{held_by, begun_of}
 use Rattle.chpw_connections.specs.Messages.{wanted_after}
 use Rattle.chpw_connections.specs.Sets.{queued_by, queued_at, Comes, Happens, waits, waits_since, is_ended, is_ended_in, IsLongest}
@@ -15,7 +19,8 @@ use Rattle.chpw_connections.specs.Room.{gives_way_since, is_held_back, is_among,
 use Rattle.chpw_connections.specs.Waiting.{queue_in, waits_for, times, times_for, Holds, Becomes, Leaves, without, is_newly_queued}
 use Rattle.chpw_connections.specs.declared.connection.Connection.{Connection}
 use Rattle.chpw_connections.specs.declared.room.EvictionRule.{EvictionRule}
-use Rattle.chpw_connections.proofs.QueueLemmas.{number, times_head, times_after, times_push_same, times_push_other, times_without, times_without_other, without_none, without_head}
+use Rattle.chpw_connections.proofs.QueueLemmas.{number, times_head, times_after, times_push_same, times_push_other}
+use Rattle.chpw_connections.proofs.QueueLemmas.{times_without, times_without_other, without_none, without_head}
 
 -- what neither brings a message to a queue nor takes it out
 abbrev pub is_quiet : Event → Bool
@@ -204,8 +209,10 @@ module _ (queues after_queues : List (List ℕ)) (old new : Slab Connection) (sl
   holds_both = λ worker s.
       subst (λ (n : ℕ). times s (queue_in after_queues worker) ≡ times_for worker (waits_for n (get new s))) (sym len) (
       ⊎_elim
-      (λ (same : s ≡ slot). subst (λ (j : ℕ). times j (queue_in after_queues worker) ≡ times_for worker (waits_for (length queues) (get new j))) (sym same) (here worker))
-      (λ (differs : s ≢ slot). apart worker s differs ∙ h worker s ∙ ap (λ (o : Option Connection). times_for worker (waits_for (length queues) o)) (sym (others s differs)))
+      (λ (same : s ≡ slot). subst (λ (j : ℕ). times j (queue_in after_queues worker)
+      ≡ times_for worker (waits_for (length queues) (get new j))) (sym same) (here worker))
+      (λ (differs : s ≢ slot). apart worker s differs ∙ h worker s
+      ∙ ap (λ (o : Option Connection). times_for worker (waits_for (length queues) o)) (sym (others s differs)))
       (cases_eq s slot)
       )
 

@@ -1,5 +1,6 @@
 -- The order in which the slots of a queue are taken.
-use Rattle.std.proofs.Common.{◌≡◌, ℕ, List, [], ◌∷◌, ◌++◌, take, drop, refl, sym, ◌∙◌, ap, subst, Bool, true, false, cond, inl, inr, append_assoc, take-append-drop}
+use Rattle.std.proofs.Common.{◌≡◌, ℕ, List, [], ◌∷◌, ◌++◌, take, drop, refl, sym, ◌∙◌, ap, subst}
+use Rattle.std.proofs.Common.{Bool, true, false, cond, inl, inr, append_assoc, take-append-drop}
 use Rattle.std.specs.List.{filter}
 use Rattle.chpw_connections.specs.Orders.{Step, joins, takes, keeps, Run, behind_step, run, empty_queue, Picks, FirstInFirstOut}
 

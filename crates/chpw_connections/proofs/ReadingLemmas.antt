@@ -1,5 +1,6 @@
 -- What is wanted of a message.
-use Rattle.std.proofs.Common.{◌≡◌, ℕ, ◌+◌, ◌≤◌, List, ◌++◌, length, take, nat_lt, nat_le, refl, sym, ◌∙◌, ap, subst, Bool, true, false, ◌==◌, cond, Option, Some, None, arith}
+use Rattle.std.proofs.Common.{◌≡◌, ℕ, ◌+◌, ◌≤◌, List, ◌++◌, length, take, nat_lt, nat_le, refl, sym}
+use Rattle.std.proofs.Common.{◌∙◌, ap, subst, Bool, true, false, ◌==◌, cond, Option, Some, None, arith}
 use Rattle.std.proofs.lemmas.List.{length-append, length-take}
 use Rattle.chpw_connections.specs.Messages.{wanted_after, whole_after}
 use Rattle.std.proofs.lemmas.Bool.Decides.{nat_tests}

@@ -1,5 +1,6 @@
 -- Who is put out to make room.
-use Rattle.std.proofs.Common.{◌≡◌, ◌≢◌, ℕ, ◌≤◌, refl, sym, ◌∙◌, ap, subst, arith, Bool, true, false, ◌==◌, ◌&&◌, not, nat_lt, cond, Option, Some, None, inl, inr}
+use Rattle.std.proofs.Common.{◌≡◌, ◌≢◌, ℕ, ◌≤◌, refl, sym, ◌∙◌, ap, subst, arith, Bool, true}
+use Rattle.std.proofs.Common.{false, ◌==◌, ◌&&◌, not, nat_lt, cond, Option, Some, None, inl, inr}
 use Rattle.std.proofs.Math.Logic.{⊎_elim}
 use Rattle.std.proofs.lemmas.Bool.{cases_eq}
 use Rattle.std.proofs.lemmas.Bool.Decides.{nat_tests}
@@ -7,7 +8,8 @@ use Rattle.slab.specs.Slab.{Slab, get}
 use Rattle.chpw_connections.specs.Stages.{Stage, reading, queued, answering, confirming, writing, lingering, abandoned, ended, Event, failed, after, stage}
 use Rattle.chpw_connections.specs.Holding.{held_by, begun_of}
 use Rattle.chpw_connections.specs.Sets.{waits, Comes, Happens}
-use Rattle.chpw_connections.specs.Room.{is_held_back, is_among, gives_way, gives_way_at, gives_way_since, waits_besides, IsLongestBesides, PutsOut, LongestFirst, MakesRoom, HappensWithRoom}
+use Rattle.chpw_connections.specs.Room.{is_held_back, is_among, gives_way, gives_way_at, gives_way_since, waits_besides}
+use Rattle.chpw_connections.specs.Room.{IsLongestBesides, PutsOut, LongestFirst, MakesRoom, HappensWithRoom}
 use Rattle.chpw_connections.specs.declared.connection.Connection.{Connection}
 use Rattle.chpw_connections.specs.declared.room.EvictionRule.{EvictionRule}
 
@@ -59,7 +61,8 @@ was_before : (who : EvictionRule) (old mid : Option Connection) → PutsOut who 
 was_before who old mid (inl same) is = same
 was_before who old mid (inr out) is = absurd (let not = out_waits_not who old mid out.0 out.1 in cc)
 
-puts_out_next : (who : EvictionRule) (old mid new : Option Connection) → PutsOut who old mid → gives_way_at who mid ≡ true → Comes 0 failed mid new → PutsOut who old new
+puts_out_next : (who : EvictionRule) (old mid new : Option Connection)
+    → PutsOut who old mid → gives_way_at who mid ≡ true → Comes 0 failed mid new → PutsOut who old new
 puts_out_next who old mid new out is comes =
     inr (subst (λ (o : Option Connection). (gives_way_at who o ≡ true) × Comes 0 failed o new) (was_before who old mid out is) (is, comes))
 

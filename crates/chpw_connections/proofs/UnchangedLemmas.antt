@@ -3,7 +3,9 @@ use Rattle.std.proofs.Common.{◌≡◌, ℕ, List, [], ◌∷◌, ◌++◌, tak
 use Rattle.std.proofs.lemmas.List.{append-nil}
 use Rattle.std.proofs.lemmas.List.Elements.{All-append, All-cons}
 use Rattle.chpw_connections.specs.Messages.{wanted_after}
-use Rattle.chpw_connections.specs.Stages.{Stage, reading, queued, answering, confirming, writing, lingering, abandoned, ended, Event, came, taken, replied, deferred, unanswered, released, wrote, closed, failed, received, is_over}
+use Rattle.chpw_connections.specs.Stages.{Stage, reading, queued, answering, confirming, writing, lingering}
+use Rattle.chpw_connections.specs.Stages.{abandoned, ended, Event, came, taken, replied, deferred}
+use Rattle.chpw_connections.specs.Stages.{unanswered, released, wrote, closed, failed, received, is_over}
 use Rattle.chpw_connections.specs.Lives.{Life, accepted, behind, life}
 use Rattle.chpw_connections.specs.Unchanged.{settled, settle, is_ordinary, ordinary, seen, seen_all, ChangesNoAnswer, SeesOrdinary}
 

@@ -17,7 +17,8 @@ IsLongestBelow slots besides who (Some p) n = (waits_besides slots besides who p
     × ((k s : ℕ) → k < n → waits_besides slots besides who k ≡ Some s → p.0 ≤ s)
 
 -- the next slot
-pub longest_next : (slots : Slab Connection) (besides : Option ℕ) (who : EvictionRule) (longest : Option (ℕ × ℕ)) (n : ℕ) (w : Option ℕ) → waits_besides slots besides who n ≡ w
+pub longest_next : (slots : Slab Connection) (besides : Option ℕ)
+    (who : EvictionRule) (longest : Option (ℕ × ℕ)) (n : ℕ) (w : Option ℕ) → waits_besides slots besides who n ≡ w
     → IsLongestBelow slots besides who longest n → IsLongestBelow slots besides who (earlier longest n w) (n + 1)
 longest_next slots besides who None n None is below = below_more (λ k. waits_besides slots besides who k ≡ None) n below is
 longest_next slots besides who (Some p) n None is below = (
@@ -51,7 +52,8 @@ longest_next slots besides who (Some p) n (Some since) is below =
     (cases_lt since p.0)
 
 -- past the last slot there is nobody
-past_none : (slots : Slab Connection) (besides : Option ℕ) (who : EvictionRule) (n k : ℕ) → length slots.slots ≤ n → n ≤ k → waits_besides slots besides who k ≡ None
+past_none : (slots : Slab Connection) (besides : Option ℕ) (who : EvictionRule) (n k : ℕ)
+    → length slots.slots ≤ n → n ≤ k → waits_besides slots besides who k ≡ None
 past_none slots None who n k few past = ap waits_since (get_or_past slots.slots k None (omega arith))
 past_none slots (Some b) who n k few past = by_test (k == b)
   where
@@ -72,7 +74,8 @@ longest_of_all slots besides who p n few below = (
       (cases_lt k n)),
 )
 
-pub nobody_of_all : (slots : Slab Connection) (besides : Option ℕ) (who : EvictionRule) (n : ℕ) → length slots.slots ≤ n → IsLongestBelow slots besides who None n
+pub nobody_of_all : (slots : Slab Connection) (besides : Option ℕ) (who : EvictionRule) (n : ℕ)
+    → length slots.slots ≤ n → IsLongestBelow slots besides who None n
     → NobodyWaitsBesides slots besides who
 nobody_of_all slots besides who n few below k =
     ⊎_elim (λ (lt : k < n). below k lt) (λ (past : n ≤ k). past_none slots besides who n k few past) (cases_lt k n)

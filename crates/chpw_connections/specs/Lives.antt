@@ -1,7 +1,9 @@
 -- The whole life of a connection: what came, what went to workers, what they replied, what was written.
 use Rattle.std.specs.Prelude.{◌≡◌, ℕ, ◌+◌, ◌≤◌, List, [], ◌∷◌, ◌++◌, length, take, All}
 use Rattle.chpw_connections.specs.Messages.{IsPiece}
-use Rattle.chpw_connections.specs.Stages.{Stage, reading, queued, answering, confirming, writing, lingering, abandoned, ended, Event, came, taken, replied, deferred, wrote, received, count_after, after}
+use Rattle.chpw_connections.specs.Stages.{Stage, reading, queued, answering, confirming, writing}
+use Rattle.chpw_connections.specs.Stages.{lingering, abandoned, ended, Event, came, taken}
+use Rattle.chpw_connections.specs.Stages.{replied, deferred, wrote, received, count_after, after}
 
 pub record Life : Type 0 where
   pub came : List ℕ

@@ -1,5 +1,6 @@
 -- Who is ended to make room, when connections would hold too much.
-use Rattle.std.specs.Prelude.{◌≡◌, ◌≢◌, ℕ, ◌+◌, ◌-◌, ◌/◌, ◌≤◌, ◌==◌, Option, Some, None, Bool, true, false, ◌&&◌, not, nat_lt, nat_le, if◌then◌else◌, ◌⊎◌, sum_by}
+use Rattle.std.specs.Prelude.{◌≡◌, ◌≢◌, ℕ, ◌+◌, ◌-◌, ◌/◌, ◌≤◌, ◌==◌, Option, Some, None, Bool}
+use Rattle.std.specs.Prelude.{true, false, ◌&&◌, not, nat_lt, nat_le, if◌then◌else◌, ◌⊎◌, sum_by}
 use Rattle.slab.specs.Slab.{Slab, get}
 use Rattle.chpw_connections.specs.Holding.{held_by, held_in, size_by, growth_by, growth_at, begun_of}
 use Rattle.chpw_connections.specs.Stages.{Event, failed, stage}

@@ -1,5 +1,6 @@
 -- What happens to the connections of a set. Slots are numbers, and moments milliseconds.
-use Rattle.std.specs.Prelude.{◌≡◌, ◌≢◌, ℕ, ◌≤◌, List, Option, Some, None, Bool, true, false, IsSomeAnd, MatchOption, MatchBool, if◌then◌else◌, nat_le, ◌-◌, [], option_map, take}
+use Rattle.std.specs.Prelude.{◌≡◌, ◌≢◌, ℕ, ◌≤◌, List, Option, Some, None, Bool, true, false, IsSomeAnd}
+use Rattle.std.specs.Prelude.{MatchOption, MatchBool, if◌then◌else◌, nat_le, ◌-◌, [], option_map, take}
 use Rattle.slab.specs.Slab.{Slab, get, slab_len}
 use Rattle.chpw_connections.specs.Stages.{Stage, reading, queued, answering, writing, lingering, ended, Event, failed, stage, Goes, wanted_by, left_of}
 use Rattle.chpw_connections.specs.declared.limits.ConnectionLimits.{ConnectionLimits}

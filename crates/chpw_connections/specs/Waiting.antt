@@ -1,5 +1,6 @@
 -- Which slots wait for which worker: a queue of slots for each worker, and the connections in the slots.
-use Rattle.std.specs.Prelude.{◌≡◌, ◌≢◌, ℕ, ◌<◌, ◌%◌, ◌==◌, List, [], length, map, filter, count_by, slice_index_or, Option, Some, None, option_map, is_some, Bool, not, ◌&&◌, if◌then◌else◌}
+use Rattle.std.specs.Prelude.{◌≡◌, ◌≢◌, ℕ, ◌<◌, ◌%◌, ◌==◌, List, [], length, map, filter, count_by, slice_index_or}
+use Rattle.std.specs.Prelude.{Option, Some, None, option_map, is_some, Bool, not, ◌&&◌, if◌then◌else◌}
 use Rattle.std.specs.VecDeque.{deque_items, deque_len, deque_capacity}
 use Rattle.std.specs.declared.collections.VecDeque.{VecDeque}
 use Rattle.std.specs.declared.alloc.Global.{Global}

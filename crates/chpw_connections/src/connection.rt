@@ -96,7 +96,9 @@ pub(crate) struct Connection {
 
 impl Connection {
     ghost use Rattle.chpw_connections.specs.Holding.{held_by, size_by, growth_by, begun_of};
-    ghost use Rattle.chpw_connections.specs.Stages.{stage, stage_of, after, is_last_reply, reading, queued, Goes, came, taken, replied, deferred, unanswered, released, wrote, closed, failed, wanted_by, left_of};
+    ghost use Rattle.chpw_connections.specs.Stages.{stage, stage_of, after, is_last_reply, reading, queued};
+    ghost use Rattle.chpw_connections.specs.Stages.{Goes, came, taken, replied, deferred, unanswered};
+    ghost use Rattle.chpw_connections.specs.Stages.{released, wrote, closed, failed, wanted_by, left_of};
     ghost use Rattle.chpw_connections.specs.Sets.{waits, is_late, queued_by};
     ghost use Rattle.chpw_connections.specs.Confirming.{is_confirmed as is_confirmed_by, overdue_in};
     ghost use Rattle.chpw_connections.specs.Waiting.{is_newly_queued};

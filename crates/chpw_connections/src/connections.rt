@@ -1,10 +1,16 @@
 //! A set of connections, within bounds.
-ghost use Rattle.std.specs.Prelude.{MatchBool, ◌≡◌, ◌≢◌, ◌+◌, ◌<◌, ◌≤◌, ◌==◌, ℕ, not, nat_lt, true, false, IfSome, IfNone, IsSome, IfOk, Some, None, ◌⊎◌, ◌∷◌, ◌++◌, [], ◌%◌, length, drop, if◌then◌else◌, is_some};
+ghost use Rattle.std.specs.Prelude.{MatchBool, ◌≡◌, ◌≢◌, ◌+◌, ◌<◌, ◌≤◌, ◌==◌, ℕ, not, nat_lt};
+ghost use Rattle.std.specs.Prelude.{true, false, IfSome, IfNone, IsSome, IfOk, Some, None, ◌⊎◌};
+ghost use Rattle.std.specs.Prelude.{◌∷◌, ◌++◌, [], ◌%◌, length, drop, if◌then◌else◌, is_some};
 ghost use Rattle.slab.specs.Slab.{get, slab_len, Updates};
 ghost use Rattle.chpw_connections.specs.Holding.{held_in, growth_at};
 ghost use Rattle.chpw_connections.specs.Stages.{came, taken, replied, unanswered, wrote, closed, failed};
-ghost use Rattle.chpw_connections.specs.Sets.{Happens, wanted_at, left_at, queued_at, is_late_in, Passes, is_lingering_in, is_ended_in, is_reading_in, is_answering_in, wanted_of, IsNew};
-ghost use Rattle.chpw_connections.specs.Room.{HappensWithRoom, has_room_besides, has_room_to_read as has_room_to_read_in, read_within, for_message, for_reply, is_large_in};
+ghost use Rattle.chpw_connections.specs.Sets.{Happens, wanted_at, left_at, queued_at};
+ghost use Rattle.chpw_connections.specs.Sets.{is_late_in, Passes, is_lingering_in, is_ended_in};
+ghost use Rattle.chpw_connections.specs.Sets.{is_reading_in, is_answering_in, wanted_of, IsNew};
+ghost use Rattle.chpw_connections.specs.Room.{HappensWithRoom, has_room_besides};
+ghost use Rattle.chpw_connections.specs.Room.{has_room_to_read as has_room_to_read_in};
+ghost use Rattle.chpw_connections.specs.Room.{read_within, for_message, for_reply, is_large_in};
 ghost use Rattle.chpw_connections.specs.Expiry.{one_more, is_dropped_in, dropped_in, and_more};
 ghost use Rattle.chpw_connections.specs.Queues.{queues_of, queue_of, workers_of, DropsLate};
 ghost use Rattle.chpw_connections.specs.Waiting.{waits_for, in_time, Becomes, Leaves};
@@ -129,12 +135,14 @@ impl Connections {
     /// for a connection that wants none now, change nothing.
     #[tactic(auto, using(crate::proofs::ComesLemmas::wanted_happens, crate::proofs::ReadingLemmas::unwanted_unread))]
     pub fn receive(&mut self, slot: usize, bytes: &[u8], now: u64) -> Option<usize>
-        ensures queued { IfSome result (λ worker. HappensWithRoom (for_message (bounds_of self.old) now (get (slots_of self.old) slot)) now (slots_of self.old) (slots_of self.new) slot (came bytes.now)) }
+        ensures queued { IfSome result (λ worker. HappensWithRoom (for_message (bounds_of self.old) now
+            (get (slots_of self.old) slot)) now (slots_of self.old) (slots_of self.new) slot (came bytes.now)) }
         ensures joins { IfSome result (λ worker. Becomes (queues_of self.old) (queues_of self.new) worker (queue_of self.old worker ++ slot ∷ [])) }
         ensures worker { IfSome result (λ worker. IfSome (get (slots_of self.old) slot) (λ c. worker ≡ c.number % workers_of self.old)) }
         ensures within { IfSome result (λ worker. worker < workers_of self.new) }
         ensures waits { IfSome result (λ worker. waits_for (workers_of self.new) (get (slots_of self.new) slot) ≡ Some worker) }
-        ensures read { IfNone result (HappensWithRoom (for_message (bounds_of self.old) now (get (slots_of self.old) slot)) now (slots_of self.old) (slots_of self.new) slot (came bytes.now)
+        ensures read { IfNone result (HappensWithRoom (for_message (bounds_of self.old) now
+            (get (slots_of self.old) slot)) now (slots_of self.old) (slots_of self.new) slot (came bytes.now)
             ⊎ HappensWithRoom (for_message (bounds_of self.old) now (get (slots_of self.old) slot)) 0 (slots_of self.old) (slots_of self.new) slot failed) }
         ensures stays { IfNone result ((queues_of self.new ≡ queues_of self.old) ⊎ Leaves (queues_of self.old) (queues_of self.new) slot) }
         ensures unread { is_reading_in (get (slots_of self.old) slot) ≡ false → (result ≡ None) × (self.new ≡ self.old) }
@@ -159,12 +167,14 @@ impl Connections {
     // These bytes came, all of which are wanted.
     #[tactic(auto, using(crate::proofs::RoomLemmas::happens_with_room))]
     fn receive_wanted(&mut self, slot: usize, bytes: &[u8], now: u64) -> Option<usize>
-        ensures queued { IfSome result (λ worker. HappensWithRoom (for_message (bounds_of self.old) now (get (slots_of self.old) slot)) now (slots_of self.old) (slots_of self.new) slot (came bytes.now)) }
+        ensures queued { IfSome result (λ worker. HappensWithRoom (for_message (bounds_of self.old) now
+            (get (slots_of self.old) slot)) now (slots_of self.old) (slots_of self.new) slot (came bytes.now)) }
         ensures joins { IfSome result (λ worker. Becomes (queues_of self.old) (queues_of self.new) worker (queue_of self.old worker ++ slot ∷ [])) }
         ensures worker { IfSome result (λ worker. IfSome (get (slots_of self.old) slot) (λ c. worker ≡ c.number % workers_of self.old)) }
         ensures within { IfSome result (λ worker. worker < workers_of self.new) }
         ensures waits { IfSome result (λ worker. waits_for (workers_of self.new) (get (slots_of self.new) slot) ≡ Some worker) }
-        ensures read { IfNone result (HappensWithRoom (for_message (bounds_of self.old) now (get (slots_of self.old) slot)) now (slots_of self.old) (slots_of self.new) slot (came bytes.now)
+        ensures read { IfNone result (HappensWithRoom (for_message (bounds_of self.old) now
+            (get (slots_of self.old) slot)) now (slots_of self.old) (slots_of self.new) slot (came bytes.now)
             ⊎ HappensWithRoom (for_message (bounds_of self.old) now (get (slots_of self.old) slot)) 0 (slots_of self.old) (slots_of self.new) slot failed) }
         ensures stays { IfNone result ((queues_of self.new ≡ queues_of self.old) ⊎ Leaves (queues_of self.old) (queues_of self.new) slot) }
         ensures enough { held_in (slots_of self.old) + growth_at (get (slots_of self.old) slot)
@@ -399,7 +409,8 @@ impl Connections {
         ensures counts { Counts self.new (accepted_by self.old) (removed_by self.old) }
         ensures expired { expired_by self.new ≡ one_more (is_dropped_in (bounds_of self.old) now (get (slots_of self.old) slot)) (expired_by self.old) }
         ensures bounds { bounds_of self.new ≡ bounds_of self.old }
-        ensures queues { MatchBool (is_late_in (bounds_of self.old) now (get (slots_of self.old) slot)) (Leaves (queues_of self.old) (queues_of self.new) slot) (queues_of self.new ≡ queues_of self.old) }
+        ensures queues { MatchBool (is_late_in (bounds_of self.old) now (get (slots_of self.old) slot))
+            (Leaves (queues_of self.old) (queues_of self.new) slot) (queues_of self.new ≡ queues_of self.old) }
     {
         if self.is_late(slot, now) {
             self.count_dropped(slot);

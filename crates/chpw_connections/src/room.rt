@@ -4,7 +4,8 @@ ghost use Rattle.chpw_connections.specs.Holding.{held_in, growth_at};
 ghost use Rattle.chpw_connections.specs.Stages.{failed};
 ghost use Rattle.chpw_connections.specs.Sets.{Happens, IsLongest, NobodyWaits, is_answering_in};
 ghost use Rattle.slab.specs.Slab.{get};
-ghost use Rattle.chpw_connections.specs.Room.{MakesRoom, is_large_in, read_within, for_message, for_reply, has_room_besides, has_room_to_read as has_room_to_read_in};
+ghost use Rattle.chpw_connections.specs.Room.{MakesRoom, is_large_in, read_within, for_message, for_reply};
+ghost use Rattle.chpw_connections.specs.Room.{has_room_besides, has_room_to_read as has_room_to_read_in};
 ghost use Rattle.chpw_connections.specs.Queues.{queues_of};
 ghost use Rattle.chpw_connections.specs.Held.{slots_of, accepted_by, removed_by, expired_by, bounds_of, Counts};
 
@@ -88,10 +89,12 @@ impl Connections {
     pub(crate) fn find_room_to_read(&mut self, slot: usize, now: u64) -> bool
         ensures makes_room { MakesRoom (for_message (bounds_of self.old) now (get (slots_of self.old) slot)) (slots_of self.old) (slots_of self.new) slot }
         ensures value { result ≡ has_room_to_read_in (bounds_of self.old) now (slots_of self.old) slot }
-        ensures room { result ≡ true → held_in (slots_of self.new) + growth_at (get (slots_of self.old) slot) ≤ read_within (bounds_of self.old) (is_large_in (get (slots_of self.old) slot)) }
+        ensures room { result ≡ true → held_in (slots_of self.new) + growth_at (get (slots_of self.old) slot)
+            ≤ read_within (bounds_of self.old) (is_large_in (get (slots_of self.old) slot)) }
         ensures within { result ≡ true → held_in (slots_of self.new) + growth_at (get (slots_of self.old) slot) ≤ (bounds_of self.new).bytes }
         ensures fits { result ≡ true → held_in (slots_of self.new) + growth_at (get (slots_of self.old) slot) < 2 ^ 64 }
-        ensures enough { held_in (slots_of self.old) + growth_at (get (slots_of self.old) slot) ≤ read_within (bounds_of self.old) (is_large_in (get (slots_of self.old) slot))
+        ensures enough { held_in (slots_of self.old) + growth_at (get (slots_of self.old) slot)
+            ≤ read_within (bounds_of self.old) (is_large_in (get (slots_of self.old) slot))
             → slots_of self.new ≡ slots_of self.old }
         ensures none { result ≡ false → slots_of self.new ≡ slots_of self.old }
         ensures counts { Counts self.new (accepted_by self.old) (removed_by self.old) }
@@ -107,7 +110,8 @@ impl Connections {
     // Makes room for a reply of this many bytes to a connection's message; whether there is, and a worker answers it.
     pub(crate) fn find_room_to_reply(&mut self, slot: usize, count: usize, now: u64) -> bool
         ensures makes_room { MakesRoom (for_reply now) (slots_of self.old) (slots_of self.new) slot }
-        ensures value { result ≡ (is_answering_in (get (slots_of self.old) slot) && has_room_besides (bounds_of self.old).bytes (for_reply now) (slots_of self.old) slot count) }
+        ensures value { result ≡ (is_answering_in (get (slots_of self.old) slot)
+            && has_room_besides (bounds_of self.old).bytes (for_reply now) (slots_of self.old) slot count) }
         ensures within { result ≡ true → held_in (slots_of self.new) + count ≤ (bounds_of self.new).bytes }
         ensures fits { result ≡ true → held_in (slots_of self.new) + count < 2 ^ 64 }
         ensures enough { held_in (slots_of self.old) + count ≤ (bounds_of self.old).bytes

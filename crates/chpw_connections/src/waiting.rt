@@ -12,7 +12,9 @@ pub(crate) struct Queues {
 }
 
 impl Queues {
-    ghost use Rattle.std.specs.Prelude.{◌≡◌, ◌≢◌, ◌==◌, ◌<◌, ◌%◌, ◌∷◌, ◌++◌, ℕ, [], length, drop, map, not, nat_lt, slice_index_or, true, false, if◌then◌else◌, IfSome, IfNone, IfOk, OnOk, MatchOption};
+    ghost use Rattle.std.specs.Prelude.{◌≡◌, ◌≢◌, ◌==◌, ◌<◌, ◌%◌, ◌∷◌, ◌++◌, ℕ, [], length};
+    ghost use Rattle.std.specs.Prelude.{drop, map, not, nat_lt, slice_index_or, true, false};
+    ghost use Rattle.std.specs.Prelude.{if◌then◌else◌, IfSome, IfNone, IfOk, OnOk, MatchOption};
     ghost use Rattle.std.specs.VecDeque.{deque_len, deque_capacity, deque_items};
     ghost use Rattle.chpw_connections.specs.Waiting.{lists_of, queue_in, without, Becomes, HasRoomAt};
 
@@ -84,7 +86,8 @@ impl Queues {
     /// Takes the slot of the connection of this number out of its worker's queue; does nothing without a number.
     pub fn leave(&mut self, number: Option<u32>, slot: usize)
         ensures leaves { MatchOption number (lists_of self.new ≡ lists_of self.old) (λ n.
-            Becomes (lists_of self.old) (lists_of self.new) (n % length (lists_of self.old)) (without slot (queue_in (lists_of self.old) (n % length (lists_of self.old))))) }
+            Becomes (lists_of self.old) (lists_of self.new) (n % length (lists_of self.old))
+            (without slot (queue_in (lists_of self.old) (n % length (lists_of self.old))))) }
     {
         if let Some(number) = number {
             let worker = self.worker_of(number);

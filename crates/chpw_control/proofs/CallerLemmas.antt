@@ -1,12 +1,16 @@
 -- Whatever happens to somebody at the control socket, it has its one answer.
-use Rattle.std.proofs.Common.{◌≡◌, ℕ, List, [], ◌∷◌, ◌++◌, take, drop, length, ◌==◌, ◌⊎◌, inl, inr, Bool, true, false, not, cond, ◌&&◌, Option, Some, None, Result, Ok, Err, refl, sym, ◌∙◌, ap, subst, append_assoc}
+use Rattle.std.proofs.Common.{◌≡◌, ℕ, List, [], ◌∷◌, ◌++◌, take, drop, length, ◌==◌, ◌⊎◌}
+use Rattle.std.proofs.Common.{inl, inr, Bool, true, false, not, cond, ◌&&◌, Option, Some}
+use Rattle.std.proofs.Common.{None, Result, Ok, Err, refl, sym, ◌∙◌, ap, subst, append_assoc}
 use Rattle.std.proofs.lemmas.List.{append-nil, take-append-drop}
 use Rattle.chpw_control.specs.declared.command.Command.{Command}
 use Rattle.chpw_control.specs.declared.fault.ControlFault.{ControlFault}
 use Rattle.chpw_control.specs.declared.fault.ControlFault.TheVariants.{LineTooLong, NoWholeLine, Late, Memory}
 use Rattle.chpw_control.specs.Commands.{command_of}
 use Rattle.chpw_control.specs.Dialogs.{State, is_short, is_whole, line_in, goes_on, told_of, after_bytes, told_by}
-use Rattle.chpw_control.specs.Callers.{Stage, asking, waiting, served, answered, deserted, over, Event, came, lacked, closed, expired, taken, told, wrote, failed, after, told_to, error_line, written_to, is_out}
+use Rattle.chpw_control.specs.Callers.{Stage, asking, waiting, served, answered, deserted, over}
+use Rattle.chpw_control.specs.Callers.{Event, came, lacked, closed, expired, taken, told, wrote}
+use Rattle.chpw_control.specs.Callers.{failed, after, told_to, error_line, written_to, is_out}
 use Rattle.chpw_control.specs.CallerLives.{Life, accepted, behind, life, answers_after, IsOnce, IsToldOnce, Served}
 
 abbrev Told : Type 0
@@ -31,7 +35,8 @@ Holds l (answered left) = IsOnce l × ((answer : List ℕ) × (l.answers ≡ ans
 Holds l deserted = HasTaken l × IsUntold l
 Holds l over = IsOnce l × IsToldOnce l
 
-served_by : (c : List ℕ) (k : List Command) (a : List (List ℕ)) (w : List ℕ) (s : Stage) → Holds (made c k a w s) s → IsOnce (made c k a w s) × IsToldOnce (made c k a w s)
+served_by : (c : List ℕ) (k : List Command) (a : List (List ℕ)) (w : List ℕ) (s : Stage)
+    → Holds (made c k a w s) s → IsOnce (made c k a w s) × IsToldOnce (made c k a w s)
 served_by c k a w (asking s) h = (inl h.1, inl h.2)
 served_by c k a w (waiting command) h = (inl h.1, inl h.2)
 served_by c k a w served h = (inr h.0, inl h.1)
@@ -57,7 +62,8 @@ refuses c k a w f none untold unwritten =
 
 -- behind what was told of all that came
 hears : (c : List ℕ) (k : List Command) (a : List (List ℕ)) (w : List ℕ) (t : Option Told) → told_of c ≡ t → k ≡ [] → a ≡ [] → w ≡ []
-    → Holds (made c k (answers_after (asking (Some c)) (told_to (after_bytes (Some []) c) t) a) w (told_to (after_bytes (Some []) c) t)) (told_to (after_bytes (Some []) c) t)
+    → Holds (made c k (answers_after (asking (Some c)) (told_to (after_bytes (Some []) c) t) a) w
+    (told_to (after_bytes (Some []) c) t)) (told_to (after_bytes (Some []) c) t)
 hears c k a w None h none untold unwritten = (on_untold c h, none, (untold, unwritten))
 hears c k a w (Some (Ok command)) h none untold unwritten = (h, none, (untold, unwritten))
 hears c k a w (Some (Err f)) h none untold unwritten = refuses c k a w f none untold unwritten

@@ -1,5 +1,7 @@
 -- How an answer ends.
-use Rattle.std.proofs.Common.{◌≡◌, ℕ, ◌+◌, ◌-◌, ◌<◌, List, [], ◌∷◌, ◌++◌, length, take, Bool, true, false, ◌&&◌, ◌||◌, not, cond, inl, inr, ◌⊎◌, suc, zero, codes, refl, sym, ◌∙◌, ap, subst, append_assoc, arith, length-append, nat_eq, Result, Ok, Err, OnOk, is_ok}
+use Rattle.std.proofs.Common.{◌≡◌, ℕ, ◌+◌, ◌-◌, ◌<◌, List, [], ◌∷◌, ◌++◌, length, take, Bool, true, false}
+use Rattle.std.proofs.Common.{◌&&◌, ◌||◌, not, cond, inl, inr, ◌⊎◌, suc, zero, codes, refl, sym, ◌∙◌, ap}
+use Rattle.std.proofs.Common.{subst, append_assoc, arith, length-append, nat_eq, Result, Ok, Err, OnOk, is_ok}
 use Rattle.std.specs.Prelude.{◌==◌}
 use Rattle.std.specs.List.{ends_with, list_any}
 use Rattle.std.specs.Str.{bytes_eq}
@@ -39,7 +41,8 @@ first_newline : (line rest front back : List ℕ) → is_whole line ≡ false �
     → ((front ≡ line) × (back ≡ rest)) ⊎ ((between : List ℕ) × (rest ≡ between ++ 10 ∷ back))
 first_newline [] rest [] back h e = inl (refl, cc)
 first_newline [] rest (x ∷ front) back h e = inr (front, cc)
-first_newline (x ∷ line) rest [] back h e = absurd (let is : x ≡ 10 = cc in let f : is_whole (10 ∷ line) ≡ false = subst (λ (y : ℕ). is_whole (y ∷ line) ≡ false) is h in cc)
+first_newline (x ∷ line) rest [] back h e = absurd (let is : x ≡ 10 = cc in
+    let f : is_whole (10 ∷ line) ≡ false = subst (λ (y : ℕ). is_whole (y ∷ line) ≡ false) is h in cc)
 first_newline (x ∷ line) rest (y ∷ front) back h e = further (first_newline line rest front back (behind (is_newline x) h) cc)
   where
     behind : (b : Bool) → (b || is_whole line) ≡ false → is_whole line ≡ false
@@ -155,7 +158,8 @@ no_whole_ok : (lines : List (List ℕ)) (n : ℕ) → are_lines lines ≡ true �
     → HasOk (take n (lines_text (lines ++ ok_line ∷ []))) → ⊥
 no_whole_ok [] n h less has = by_case (take_line n ok_line [])
   where
-    by_case : (take n (ok_line ++ 10 ∷ []) ≡ take n ok_line) ⊎ ((k : ℕ) × (n ≡ length ok_line + suc k) × (take n (ok_line ++ 10 ∷ []) ≡ ok_line ++ 10 ∷ take k [])) → ⊥
+    by_case : (take n (ok_line ++ 10 ∷ []) ≡ take n ok_line)
+        ⊎ ((k : ℕ) × (n ≡ length ok_line + suc k) × (take n (ok_line ++ 10 ∷ []) ≡ ok_line ++ 10 ∷ take k [])) → ⊥
     by_case (inl e) = one_line (take n ok_line) (whole_take n ok_line refl) (subst HasOk e has)
     by_case (inr found) = absurd (let e : n ≡ 2 + suc found.0 = found.1 in let l : n < 3 = less in omega arith)
 no_whole_ok (line ∷ lines) n h less has = by_case (take_line n line (lines_text (lines ++ ok_line ∷ []))) (no_whole_ok lines)
@@ -201,7 +205,8 @@ printed_line (x ∷ text) h =
     by_byte (is_newline x) refl (printed_line text parts.1) parts.0
   where
     by_byte : (b : Bool) → is_newline x ≡ b → is_whole text ≡ false → is_in (range 0x20 0x7e) x ≡ true → is_whole (x ∷ text) ≡ false
-    by_byte true e more in_it = absurd (let is : x ≡ 10 = eqb-true x 10 e in let f : is_in (range 0x20 0x7e) 10 ≡ true = subst (λ (y : ℕ). is_in (range 0x20 0x7e) y ≡ true) is in_it in cc)
+    by_byte true e more in_it = absurd (let is : x ≡ 10 = eqb-true x 10 e in
+        let f : is_in (range 0x20 0x7e) 10 ≡ true = subst (λ (y : ℕ). is_in (range 0x20 0x7e) y ≡ true) is in_it in cc)
     by_byte false e more in_it = ap (λ (b : Bool). b || is_whole text) e ∙ more
 
 error_is_line : (words : List ℕ) → are_printed (words_text words) ≡ true → is_line (error_line words) ≡ true
@@ -254,7 +259,8 @@ no_ok_line name value = by_test (bytes_eq (name ++ 32 ∷ value) (codes "ok")) r
     by_test : (b : Bool) → bytes_eq (name ++ 32 ∷ value) (codes "ok") ≡ b → bytes_eq (name ++ 32 ∷ value) (codes "ok") ≡ false
     by_test true e =
         let same = (bytes_eq-Decides (name ++ 32 ∷ value) (codes "ok")).0 e in
-        absurd (let f : list_any (λ (byte : ℕ). byte == 32) (codes "ok") ≡ true = subst (λ (xs : List ℕ). list_any (λ (byte : ℕ). byte == 32) xs ≡ true) same (has_space name value) in cc)
+        absurd (let f : list_any (λ (byte : ℕ). byte == 32) (codes "ok") ≡ true = subst (λ (xs : List ℕ).
+        list_any (λ (byte : ℕ). byte == 32) xs ≡ true) same (has_space name value) in cc)
     by_test false e = e
 
 row_plain : (name value : List ℕ) → is_whole name ≡ false → is_whole value ≡ false → is_whole (name ++ 32 ∷ value) ≡ false

@@ -1,9 +1,11 @@
 //! All callers at the control socket.
-ghost use Rattle.std.specs.Prelude.{◌≡◌, ◌≢◌, ◌<◌, ◌≤◌, ◌+◌, ℕ, IfOk, IfSome, IfNone, OnSome, Some, None, length, option_copied, is_some, true, false, ◌==◌, nat_le};
+ghost use Rattle.std.specs.Prelude.{◌≡◌, ◌≢◌, ◌<◌, ◌≤◌, ◌+◌, ℕ, IfOk, IfSome, IfNone, OnSome, Some};
+ghost use Rattle.std.specs.Prelude.{None, length, option_copied, is_some, true, false, ◌==◌, nat_le};
 ghost use Rattle.slab.specs.Slab.{get, slab_len, HasRoomFor, Updates};
 ghost use Rattle.chpw_control.specs.Dialogs.{at_start};
 ghost use Rattle.chpw_control.specs.Callers.{asking, closed, expired, failed, told, taken, wrote};
-ghost use Rattle.chpw_control.specs.Seats.{Happens, HappensToHear, IsNew, IsFirst, NobodyWaits, waiting_at, number_in, left_at, is_late, is_order, is_over_at, waiting_of, earlier};
+ghost use Rattle.chpw_control.specs.Seats.{Happens, HappensToHear, IsNew, IsFirst, NobodyWaits, waiting_at};
+ghost use Rattle.chpw_control.specs.Seats.{number_in, left_at, is_late, is_order, is_over_at, waiting_of, earlier};
 
 use crate::caller::Caller;
 use crate::command::Command;

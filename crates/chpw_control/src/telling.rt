@@ -6,7 +6,8 @@ ghost use Rattle.chpw_printing.specs.Quoting.{words_text};
 ghost use Rattle.chpw_control.specs.Answers.{lines_text, ok_line};
 ghost use Rattle.chpw_control.specs.Dialogs.{is_whole};
 ghost use Rattle.chpw_control.specs.Endings.{are_lines};
-ghost use Rattle.chpw_control.specs.Statuses.{AreTold, IsTold, connection_lines, history_lines, keeping_lines, row, service_lines, status_lines, text_of, worker_lines};
+ghost use Rattle.chpw_control.specs.Statuses.{AreTold, IsTold, connection_lines, history_lines, keeping_lines};
+ghost use Rattle.chpw_control.specs.Statuses.{row, service_lines, status_lines, text_of, worker_lines};
 
 use crate::answer::put_ok;
 use crate::status::Status;

@@ -1,5 +1,6 @@
 //! A table with the sink of its journal.
-ghost use Rattle.std.specs.Prelude.{◌≡◌, ◌≤◌, ◌+◌, ◌-◌, ◌^◌, ◌<◌, ◌++◌, ◌&&◌, ◌||◌, if◌then◌else◌, true, false, All, IfOk, IfErr, IfSome, OnOk, OnErr, option_map};
+ghost use Rattle.std.specs.Prelude.{◌≡◌, ◌≤◌, ◌+◌, ◌-◌, ◌^◌, ◌<◌, ◌++◌, ◌&&◌, ◌||◌, if◌then◌else◌};
+ghost use Rattle.std.specs.Prelude.{true, false, All, IfOk, IfErr, IfSome, OnOk, OnErr, option_map};
 ghost use Rattle.chpw_rules.specs.Limits.{is_in, entry_counts, iteration_counts};
 ghost use Rattle.chpw_table.specs.declared.verdict.Verdict.TheVariants.{Broken};
 ghost use Rattle.chpw_table.specs.Verdicts.{is_done};

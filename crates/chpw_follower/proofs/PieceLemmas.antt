@@ -63,7 +63,9 @@ still_wrong s a more h =
 -- behind what was said, more is said
 after_more : (s : State) (a : Asked) (more : List ℕ) (whole begun : Bool) → is_answer a ≡ whole → is_begun a ≡ begun
     → after_answer s (with_more a more) ≡ option_and_then (λ (t : State). after_bytes t more) (after_answer s a)
-after_more s a more whole begun e f = by_answer whole begun e f more ∙ ap (λ (o : Option State). option_and_then (λ (t : State). after_bytes t more) o) (sym (decided s a whole begun e f))
+after_more s a more whole begun e f =
+    by_answer whole begun e f more ∙ ap (λ (o : Option State). option_and_then (λ (t : State). after_bytes t more) o)
+    (sym (decided s a whole begun e f))
   where
     after : Bool → Bool → Option State
     after w b =

@@ -1,5 +1,6 @@
 -- What is kept whatever happens.
-use Rattle.std.proofs.Common.{◌≡◌, ℕ, ◌<◌, ◌≤◌, List, [], ◌∷◌, ◌++◌, Bool, true, false, ◌&&◌, cond, Option, Some, None, max, inl, inr, ◌⊎◌, refl, sym, ◌∙◌, ap, subst, append_assoc, arith, nat_lt}
+use Rattle.std.proofs.Common.{◌≡◌, ℕ, ◌<◌, ◌≤◌, List, [], ◌∷◌, ◌++◌, Bool, true, false, ◌&&◌, cond, Option, Some}
+use Rattle.std.proofs.Common.{None, max, inl, inr, ◌⊎◌, refl, sym, ◌∙◌, ap, subst, append_assoc, arith, nat_lt}
 use borrow.Author.Tests.{ltb-true, ltb-false}
 use Rattle.std.specs.Option.{unwrap_or, IfSome, is_none}
 use Rattle.std.proofs.lemmas.List.{append-nil}
@@ -43,7 +44,8 @@ pub by_bytes : (P : State → Type 0) (wanted confirmed : ℕ) (asked : Option A
     → P (record { wanted = wanted; confirmed = confirmed; asked = None })
     → ((a : Asked) → asked ≡ Some a → is_answer (with_more a bytes) ≡ true → P (record { wanted = wanted; confirmed = a.mark; asked = None }))
     → ((a : Asked) → asked ≡ Some a → P (record { wanted = wanted; confirmed = confirmed; asked = Some (with_more a bytes) }))
-    → P (unwrap_or (after_bytes (record { wanted = wanted; confirmed = confirmed; asked = asked }) bytes) (record { wanted = 0; confirmed = confirmed; asked = None }))
+    → P (unwrap_or (after_bytes (record { wanted = wanted; confirmed = confirmed; asked = asked }) bytes)
+    (record { wanted = 0; confirmed = confirmed; asked = None }))
 by_bytes P wanted confirmed None [] lost idle whole begun = idle
 by_bytes P wanted confirmed None (b ∷ bs) lost idle whole begun = lost
 by_bytes P wanted confirmed (Some a) bytes lost idle whole begun =
@@ -56,7 +58,8 @@ by_bytes P wanted confirmed (Some a) bytes lost idle whole begun =
         → P (record { wanted = wanted; confirmed = confirmed; asked = Some (with_more a bytes) })
         → P (record { wanted = 0; confirmed = confirmed; asked = None })
         → P (unwrap_or (cond w (Some (record { wanted = wanted; confirmed = a.mark; asked = None }))
-        (cond b (Some (record { wanted = wanted; confirmed = confirmed; asked = Some (with_more a bytes) })) None)) (record { wanted = 0; confirmed = confirmed; asked = None }))
+        (cond b (Some (record { wanted = wanted; confirmed = confirmed; asked = Some (with_more a bytes) })) None))
+        (record { wanted = 0; confirmed = confirmed; asked = None }))
     by_tests true b h g l = h refl
     by_tests false true h g l = g
     by_tests false false h g l = l
@@ -85,7 +88,11 @@ grows_after least s (says bytes) g =
     by_bytes (λ (t : State). Grows least t) s.wanted s.confirmed s.asked bytes
     (record { asked = tt; grows = g.grows })
     (record { asked = tt; grows = g.grows })
-    (λ a is h. record { asked = tt; grows = (let more : s.confirmed ≤ a.mark = subst (λ (o : Option Asked). IfSome o (λ (b : Asked). s.confirmed ≤ b.mark)) is g.asked in omega (arith, g.grows)) })
+    (λ a is h. record {
+      asked = tt;
+      grows = (let more : s.confirmed ≤ a.mark = subst (λ (o : Option Asked). IfSome o
+          (λ (b : Asked). s.confirmed ≤ b.mark)) is g.asked in omega (arith, g.grows));
+    })
     (λ a is. record { asked = subst (λ (o : Option Asked). IfSome o (λ (b : Asked). s.confirmed ≤ b.mark)) is g.asked; grows = g.grows })
 grows_after least s loses g = record { asked = tt; grows = g.grows }
 

@@ -66,7 +66,8 @@ heard_whole : (events : List Event) (a : Asked) (bytes : List ℕ) → is_answer
     → IsConfirmed (events ++ says bytes ∷ []) a.mark
 heard_whole events a bytes whole i =
     let b = with_more a bytes in
-    let n : IsAskedIn (events ++ says bytes ∷ []) b = asked_on events a b (says bytes) tt refl (ap (λ (xs : List ℕ). a.said ++ xs) (sym (append-nil bytes))) i in
+    let n : IsAskedIn (events ++ says bytes ∷ []) b =
+    asked_on events a b (says bytes) tt refl (ap (λ (xs : List ℕ). a.said ++ xs) (sym (append-nil bytes))) i in
     record {
       before = n.before;
       between = n.between;
@@ -99,7 +100,8 @@ holds_after done s asks is h =
     (record { confirmed = stays; asked = quietly done s.asked asks tt refl h.asked })
 holds_after done s (says bytes) is h =
     let stays = confirmed_on done s.confirmed (says bytes) h.confirmed in
-    let asked_so : (a : Asked) → s.asked ≡ Some a → IsAskedIn done a = λ a e. subst (λ (o : Option Asked). IfSome o (λ (b : Asked). IsAskedIn done b)) e h.asked in
+    let asked_so : (a : Asked) → s.asked ≡ Some a → IsAskedIn done a =
+    λ a e. subst (λ (o : Option Asked). IfSome o (λ (b : Asked). IsAskedIn done b)) e h.asked in
     by_bytes (λ (t : State). Holds (done ++ says bytes ∷ []) t) s.wanted s.confirmed s.asked bytes
     (record { confirmed = stays; asked = tt })
     (record { confirmed = stays; asked = tt })

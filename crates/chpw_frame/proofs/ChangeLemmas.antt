@@ -54,9 +54,12 @@ complete_of password own (Some name) realm (Some target) h =
     (ap (change_of own target.name) realm_is))
 complete_of password own None None None h =
     ap (λ (w : List ℕ). record { password = w; target = None }) (ap (λ (v : Value change_passwd_data). v.0) (sym h))
-complete_of password own (Some name) realm None h = let no : Some (principal_name_value name) ≡ None = ap (λ (v : Value change_passwd_data). v.1.0) (sym h) in cc
-complete_of password own None None (Some target) h = let no : Some (principal_name_value target.name) ≡ None = ap (λ (v : Value change_passwd_data). v.1.0) h in cc
-complete_of password own None (Some realm) (Some target) h = let no : Some (principal_name_value target.name) ≡ None = ap (λ (v : Value change_passwd_data). v.1.0) h in cc
+complete_of password own (Some name) realm None h =
+    let no : Some (principal_name_value name) ≡ None = ap (λ (v : Value change_passwd_data). v.1.0) (sym h) in cc
+complete_of password own None None (Some target) h =
+    let no : Some (principal_name_value target.name) ≡ None = ap (λ (v : Value change_passwd_data). v.1.0) h in cc
+complete_of password own None (Some realm) (Some target) h =
+    let no : Some (principal_name_value target.name) ≡ None = ap (λ (v : Value change_passwd_data). v.1.0) h in cc
 complete_of password own None (Some realm) None h = let no : Some realm ≡ None = ap (λ (v : Value change_passwd_data). v.1.1.0) (sym h) in cc
 
 pub asks_complete : (fields : ChangePasswdData) (change : ChangeData) → change_value change ≡ change_passwd_data_value fields → Finds (asked fields) change

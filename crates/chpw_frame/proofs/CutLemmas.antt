@@ -1,5 +1,6 @@
 -- A stream has one cut.
-use Rattle.std.proofs.Common.{◌≡◌, ℕ, zero, suc, ◌+◌, ◌≤◌, ◌<◌, List, [], ◌∷◌, ◌++◌, length, take, drop, refl, sym, ◌∙◌, ap, subst, arith, length-drop, append_assoc, inl, inr}
+use Rattle.std.proofs.Common.{◌≡◌, ℕ, zero, suc, ◌+◌, ◌≤◌, ◌<◌, List, [], ◌∷◌, ◌++◌, length, take, drop}
+use Rattle.std.proofs.Common.{refl, sym, ◌∙◌, ap, subst, arith, length-drop, append_assoc, inl, inr}
 use Rattle.std.specs.Prelude.{All}
 use Rattle.std.specs.Int.{to_be_bytes, w32}
 use Rattle.std.proofs.lemmas.Nat.{be_bytes_4}
@@ -72,8 +73,11 @@ begins stream small some fits there =
     let rest : List ℕ = drop 4 stream in
     let four : length (take 4 stream) ≡ 4 = length-take-le 4 stream some in
     let size : length (take n rest) ≡ n = length-take-le n rest (omega (arith, length-drop 4 stream)) in
-    let head : to_be_bytes w32 (length (take n rest)) ≡ take 4 stream = be_bytes_4 (take 4 stream) (length (take n rest)) four (bytes_at (take 4 stream) (All-take (λ b. b < 256) 4 stream small)) size in
-    sym (ap (λ (zs : List ℕ). (zs ++ take n rest) ++ drop n rest) head ∙ (append_assoc (take 4 stream) (take n rest) (drop n rest) ∙ (ap (λ (zs : List ℕ). take 4 stream ++ zs) (take-append-drop n rest) ∙ take-append-drop 4 stream)))
+    let head : to_be_bytes w32 (length (take n rest)) ≡ take 4 stream = be_bytes_4 (take 4 stream)
+    (length (take n rest)) four (bytes_at (take 4 stream) (All-take (λ b. b < 256) 4 stream small)) size in
+    sym (ap (λ (zs : List ℕ). (zs ++ take n rest) ++ drop n rest) head
+    ∙ (append_assoc (take 4 stream) (take n rest) (drop n rest)
+    ∙ (ap (λ (zs : List ℕ). take 4 stream ++ zs) (take-append-drop n rest) ∙ take-append-drop 4 stream)))
 
 -- a stream is cut where shorter ones are
 cut_on : (stream : List ℕ) → All (λ b. b < 256) stream → ((rest : List ℕ) → All (λ b. b < 256) rest → length rest < length stream → IsCut rest) → IsCut stream

@@ -1,6 +1,7 @@
 //! A request: an AP-REQ and a KRB-PRIV.
 ghost use Rattle.std.specs.Prelude.{◌≡◌, ◌+◌, ◌≤◌, ◌<◌, length, IfOk, IfErr, OnOk, Some, None, false};
-ghost use Rattle.chpw_frame.specs.Framing.{request_versions, request_version, old_request_version, first_fault, version_of, ap_of, tail_of, framed, header_length};
+ghost use Rattle.chpw_frame.specs.Framing.{request_versions, request_version, old_request_version};
+ghost use Rattle.chpw_frame.specs.Framing.{first_fault, version_of, ap_of, tail_of, framed, header_length};
 ghost use Rattle.chpw_frame.specs.Stream.{longest};
 
 use crate::fault::FrameFault;

@@ -17,8 +17,10 @@ use Rattle.chpw_invocation.specs.declared.invocation.KeyOptions.{KeyOptions}
 use Rattle.chpw_rules.specs.declared.name.Name.{Name}
 use Rattle.chpw_import.specs.Stanzas.{Imports, WritesKey, key_row, note_of}
 
-pub imported : (o : ImportOptions) (bytes : List ℕ) (b : KeytabImport) (before behind untold told : Option (List ℕ)) (text t lines l : List ℕ) (s : List ServiceRow) (p : List PrincipalRow)
-    → IsBrought bytes o.realm.now o.iterations b → (service_fits b.service.items ≡ true) × (principals_fit b.principals.items ≡ true) → s ≡ b.service.items → p ≡ b.principals.items
+pub imported : (o : ImportOptions) (bytes : List ℕ) (b : KeytabImport) (before behind untold told : Option (List ℕ))
+    (text t lines l : List ℕ) (s : List ServiceRow) (p : List PrincipalRow)
+    → IsBrought bytes o.realm.now o.iterations b → (service_fits b.service.items ≡ true)
+    × (principals_fit b.principals.items ≡ true) → s ≡ b.service.items → p ≡ b.principals.items
     → IsDocumentText false (stanzas_of s p) text → parse_document text ≡ Some (stanzas_of s p) → t ≡ text → Appends before behind t
     → lines ≡ left_lines o.keytab.now b.entries.items b.left.items → l ≡ lines → Appends untold told l
     → Imports o bytes before behind untold told
@@ -32,7 +34,8 @@ imported o bytes b before behind untold told text t lines l s p is fits e f line
     subst (λ (x : List ℕ). IsDocumentText false (stanzas_of b.service.items b.principals.items) x) (sym g)
         (subst (λ (x : List PrincipalRow). IsDocumentText false (stanzas_of b.service.items x) text) f
         (subst (λ (x : List ServiceRow). IsDocumentText false (stanzas_of x p) text) e lines_of)),
-    ap parse_document g ∙ (reads ∙ (ap (λ (x : List ServiceRow). Some (stanzas_of x p)) e ∙ ap (λ (x : List PrincipalRow). Some (stanzas_of b.service.items x)) f)),
+    ap parse_document g ∙ (reads ∙ (ap (λ (x : List ServiceRow). Some (stanzas_of x p)) e
+        ∙ ap (λ (x : List PrincipalRow). Some (stanzas_of b.service.items x)) f)),
   );
   left = subst (λ (x : List ℕ). Appends untold told x) (i ∙ h) left;
 }

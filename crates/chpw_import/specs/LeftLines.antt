@@ -6,7 +6,9 @@ use Rattle.krb_keytab.specs.declared.entry.KeytabEntry.{KeytabEntry}
 use Rattle.chpw_printing.specs.Quoting.{principal_text}
 use Rattle.chpw_import.specs.declared.left.SkippedEntry.{SkippedEntry}
 use Rattle.chpw_import.specs.declared.left.Reason.{Reason}
-use Rattle.chpw_import.specs.declared.left.Reason.TheVariants.{OtherRealm, BadName, NoVersion, OtherType, KeyLength, Repeated, Unpaired, BehindGap, TooManyKeys, TooManyPrincipals}
+use Rattle.chpw_import.specs.declared.left.Reason.TheVariants.{OtherRealm, BadName, NoVersion, OtherType}
+use Rattle.chpw_import.specs.declared.left.Reason.TheVariants.{KeyLength, Repeated, Unpaired, BehindGap}
+use Rattle.chpw_import.specs.declared.left.Reason.TheVariants.{TooManyKeys, TooManyPrincipals}
 use Rattle.chpw_import.specs.Entries.{name_in}
 
 -- a reason whose words are the same for each entry

@@ -1,6 +1,7 @@
 -- What a user asks for, by what clap matched: the command's name, and each option's value by its name. The words are
 -- matched by clap's own rules.
-use Rattle.std.specs.Prelude.{◌≡◌, ◌≢◌, ◌⊎◌, ◌≤◌, ℕ, Bool, true, false, List, [], Option, Some, None, option_map, codes, bytes_eq, if◌then◌else◌, length, pos, ◌<◌}
+use Rattle.std.specs.Prelude.{◌≡◌, ◌≢◌, ◌⊎◌, ◌≤◌, ℕ, Bool, true, false, List, [], Option, Some}
+use Rattle.std.specs.Prelude.{None, option_map, codes, bytes_eq, if◌then◌else◌, length, pos, ◌<◌}
 use Rattle.std.specs.Fmt.{decimal}
 use Rattle.std.specs.Option.{option_map_or}
 use Rattle.std.specs.Str.Parse.{digits_value, without_leading_plus}

@@ -4,7 +4,8 @@ use Rattle.clap.specs.Walk.{Rule, Text}
 use Rattle.clap.specs.Simple.{App, Shape, app_of, new_shape}
 use Rattle.clap.specs.declared.builder.command.Command.{Command}
 use Rattle.clap.specs.declared.builder.command.Command.TheViews.{out-Command}
-use Rattle.chpw_invocation.specs.Options.{required, optional, flag, required_word, optional_word, port, workers, connections, idle, clients, buffers, raise, follower_wait, iterations, kvno}
+use Rattle.chpw_invocation.specs.Options.{required, optional, flag, required_word, optional_word, port, workers}
+use Rattle.chpw_invocation.specs.Options.{connections, idle, clients, buffers, raise, follower_wait, iterations, kvno}
 
 abbrev pub command : Text → List Rule → Shape
 command name options = record (new_shape name) { rules = options }

@@ -8,7 +8,11 @@ ghost use Rattle.chpw_invocation.specs.Options as options_of;
 ghost use Rattle.chpw_invocation.specs.Options.{may_be_numbered, required, required_word};
 ghost use Rattle.chpw_invocation.specs.Program as specs_of;
 ghost use Rattle.chpw_invocation.specs.Program.{program};
-ghost use Rattle.chpw_invocation.specs.Invocations.{AsksFor, HasNoPassword, HasNumber, HasNumberOr, HasPassword, HasRealm, HasTakenNumber, HasText, HasTwoPasswords, IsGiven, IsInFile, IsOwnReason, IsRefusal, LacksGiven, LacksNumber, LacksRealm, MayHaveNumber, RefusesClient, RefusesControl, form_asked, form_of_name};
+ghost use Rattle.chpw_invocation.specs.Invocations.{AsksFor, HasNoPassword, HasNumber, HasNumberOr};
+ghost use Rattle.chpw_invocation.specs.Invocations.{HasPassword, HasRealm, HasTakenNumber, HasText};
+ghost use Rattle.chpw_invocation.specs.Invocations.{HasTwoPasswords, IsGiven, IsInFile, IsOwnReason, IsRefusal};
+ghost use Rattle.chpw_invocation.specs.Invocations.{LacksGiven, LacksNumber, LacksRealm, MayHaveNumber};
+ghost use Rattle.chpw_invocation.specs.Invocations.{RefusesClient, RefusesControl, form_asked, form_of_name};
 ghost use Rattle.chpw_invocation.specs.Controls as controls;
 ghost use Rattle.chpw_invocation.specs.Controls.{file_of, word_of};
 

@@ -31,7 +31,9 @@ pub whole_joined : (xs ys : List Record) → AreWholeRecords xs → AreWholeReco
 whole_joined [] ys v w = w
 whole_joined (x ∷ xs) ys v w = (v.0, whole_joined xs ys v.1 w)
 
-pub change_whole : (name : Name) (keys : List KeyRow) (key : KeyRow) (older : List KeyRow) → keys ≡ key ∷ older → 1 ≤ length older → AreWholeRecords (key_records name older) → IsWholeKey key → AreWholeRecords (key_records name keys)
+pub change_whole : (name : Name) (keys : List KeyRow) (key : KeyRow) (older : List KeyRow)
+    → keys ≡ key ∷ older → 1 ≤ length older
+    → AreWholeRecords (key_records name older) → IsWholeKey key → AreWholeRecords (key_records name keys)
 change_whole name keys key [] e h v w = absurd (omega (arith, h))
 change_whole name keys key (k ∷ ks) e h v w =
     subst (λ (rows : List KeyRow). AreWholeRecords (key_records name rows)) (sym e)

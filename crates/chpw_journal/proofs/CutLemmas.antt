@@ -27,7 +27,8 @@ cut_off_body header n rest h l =
     let st : stated_length (header ++ rest) ≡ n = header_states header n rest h in
     let sz : length (header ++ rest) ≡ 2 + length rest = length-append header rest ∙ ap (λ (k : ℕ). k + length rest) (header_length header n h) in
     let inside : is_record_length (stated_length (header ++ rest)) ≡ true = ap is_record_length st ∙ h.1 in
-    rw (both inside (below (length (header ++ rest)) (2 + stated_length (header ++ rest)) (omega (arith, st, sz, l)))) (or-true (nat_lt (length (header ++ rest)) 2))
+    rw (both inside (below (length (header ++ rest)) (2 + stated_length (header ++ rest)) (omega (arith, st, sz, l))))
+    (or-true (nat_lt (length (header ++ rest)) 2))
 
 pub cut_off_header : (header : List ℕ) → length header < 2 → is_cut_off header ≡ true
 cut_off_header header h = rw (below (length header) 2 h) refl

@@ -1,5 +1,7 @@
 -- Where the records of a journal stop: a text comes to one thing.
-use Rattle.std.proofs.Common.{◌≡◌, ◌≢◌, ℕ, zero, suc, ◌+◌, ◌≤◌, ◌<◌, List, [], ◌∷◌, ◌++◌, length, take, Bool, true, false, ⊎_elim, Option, Some, None, refl, sym, ◌∙◌, ap, subst, arith, lit<, length-append, length-take, append_assoc}
+use Rattle.std.proofs.Common.{◌≡◌, ◌≢◌, ℕ, zero, suc, ◌+◌, ◌≤◌, ◌<◌, List, [], ◌∷◌, ◌++◌, length}
+use Rattle.std.proofs.Common.{take, Bool, true, false, ⊎_elim, Option, Some, None, refl, sym, ◌∙◌}
+use Rattle.std.proofs.Common.{ap, subst, arith, lit<, length-append, length-take, append_assoc}
 use Rattle.std.specs.Prelude.{◌⊎◌, nat_lt, IsSome}
 use Rattle.std.specs.Int.{to_be_bytes, w16}
 use Rattle.std.proofs.Math.Bool.{and-false}
@@ -15,7 +17,9 @@ use Rattle.chpw_record.proofs.RecordLemmas.{framed_is, same_record}
 use Rattle.chpw_table.specs.State.{State, keys_held}
 use Rattle.chpw_table.specs.Decision.{newest_kvno}
 use Rattle.chpw_table.specs.Restoring.{IsNextKey}
-use Rattle.chpw_journal.specs.JournalText.{restored, AreNext, IsNextRecord, IsOfUnknown, with_record, is_cut_off, HasBadLength, HasBadBody, Begins, Reading, whole, bad_record, unknown_principal, wrong_version, IsReading}
+use Rattle.chpw_journal.specs.JournalText.{restored, AreNext, IsNextRecord, IsOfUnknown, with_record}
+use Rattle.chpw_journal.specs.JournalText.{is_cut_off, HasBadLength, HasBadBody, Begins, Reading, whole}
+use Rattle.chpw_journal.specs.JournalText.{bad_record, unknown_principal, wrong_version, IsReading}
 use Rattle.chpw_journal.specs.Laws.{FrontsAreCutOff}
 use Rattle.chpw_journal.proofs.CutLemmas.{header_states, cut_off_body, cut_off_header}
 
@@ -30,13 +34,15 @@ not_below : (m n : ℕ) → n ≤ m → nat_lt m n ≡ false
 not_below m n h = grind (arith, nat_tests)
 
 there : (rest : List ℕ) → 2 + stated_length rest ≤ length rest → is_cut_off rest ≡ false
-there rest h = rw (not_below (length rest) 2 (omega (arith, h)), not_below (length rest) (2 + stated_length rest) h) (and-false (is_record_length (stated_length rest)))
+there rest h = rw (not_below (length rest) 2 (omega (arith, h)), not_below (length rest) (2 + stated_length rest) h)
+    (and-false (is_record_length (stated_length rest)))
 
 not_cut : (c : Record) (left : List ℕ) → RecordFits c → is_cut_off (record_text c ++ left) ≡ false
 not_cut c left f =
     let st = states c left f in
     let size : length (record_text c ++ left) ≡ (2 + length (body_text c)) + length left =
-    length-append (record_text c) left ∙ ap (λ n. n + length left) (ap length (sym (framed_is c)) ∙ length-append (to_be_bytes w16 (length (body_text c))) (body_text c)) in
+    length-append (record_text c) left ∙ ap (λ n. n + length left)
+    (ap length (sym (framed_is c)) ∙ length-append (to_be_bytes w16 (length (body_text c))) (body_text c)) in
     there (record_text c ++ left) (omega (arith, st, size))
 
 apart : (b : Bool) → b ≡ true → b ≡ false → ⊥
@@ -54,7 +60,8 @@ fronts_framed c zero f h = refl
 fronts_framed c (suc zero) f h = cut_off_header (take 1 (framed (body_text c))) (lit< tt)
 fronts_framed c (suc (suc m)) f h =
     let size : length (framed (body_text c)) ≡ 2 + length (body_text c) = length-append (to_be_bytes w16 (length (body_text c))) (body_text c) in
-    cut_off_body (to_be_bytes w16 (length (body_text c))) (length (body_text c)) (take m (body_text c)) (refl, text_range c f) (simp length-take (omega (arith, size, h)))
+    cut_off_body (to_be_bytes w16 (length (body_text c)))
+    (length (body_text c)) (take m (body_text c)) (refl, text_range c f) (simp length-take (omega (arith, size, h)))
 
 pub fronts_are_cut_off : FrontsAreCutOff
 fronts_are_cut_off c n f h =
@@ -73,7 +80,8 @@ stops_cut s rest cut c left f k e = apart (is_cut_off rest) cut (ap is_cut_off e
 stops_bad : (s : State) (rest : List ℕ) → HasBadLength rest ⊎ HasBadBody rest → Stops s rest
 stops_bad s rest bad c left f k e =
     ⊎_elim
-    (λ (h : HasBadLength rest). apart (is_record_length (stated_length rest)) (ap (λ (xs : List ℕ). is_record_length (stated_length xs)) e ∙ (ap is_record_length (states c left f) ∙ text_range c f)) h.1)
+    (λ (h : HasBadLength rest). apart (is_record_length (stated_length rest)) (ap (λ (xs : List ℕ).
+    is_record_length (stated_length xs)) e ∙ (ap is_record_length (states c left f) ∙ text_range c f)) h.1)
     (λ (h : HasBadBody rest). h.1 c left f e)
     bad
 
@@ -91,14 +99,17 @@ stops_unknown : (s : State) (q : Record) (more : List ℕ) → RecordFits q → 
 stops_unknown s q more g none r left f k e =
     unknown_next s q none (subst (IsNextRecord s) (sym (same_record q r more left g f e).0) k)
 
-stops_version : (s : State) (d : Change) (more : List ℕ) (keys : List KeyRow) → ChangeFits d → keys_held s d.name ≡ Some keys → d.key.kvno ≢ newest_kvno keys + 1 → Stops s (record_text (record_of.Change d) ++ more)
+stops_version : (s : State) (d : Change) (more : List ℕ) (keys : List KeyRow)
+    → ChangeFits d → keys_held s d.name ≡ Some keys
+    → d.key.kvno ≢ newest_kvno keys + 1 → Stops s (record_text (record_of.Change d) ++ more)
 stops_version s d more keys g held wrong r left f k e =
     let n : IsNextKey s d.name d.key = subst (IsNextRecord s) (sym (same_record (record_of.Change d) r more left g f e).0) k in
     let both : Some keys ≡ Some n.keys = sym held ∙ n.held in
     let others : keys ≡ n.keys = cc in
     wrong (n.next ∙ ap (λ (ks : List KeyRow). newest_kvno ks + 1) (sym others))
 
-same_stop : (s : State) (cs ds : List Record) (x y : List ℕ) → AreNext s cs → AreNext s ds → Stops (restored s cs) x → Stops (restored s ds) y → records_text cs ++ x ≡ records_text ds ++ y → (cs ≡ ds) × (x ≡ y)
+same_stop : (s : State) (cs ds : List Record) (x y : List ℕ) → AreNext s cs → AreNext s ds → Stops (restored s cs) x
+    → Stops (restored s ds) y → records_text cs ++ x ≡ records_text ds ++ y → (cs ≡ ds) × (x ≡ y)
 same_stop s [] [] x y h g p q e = (refl, e)
 same_stop s [] (d ∷ ds) x y h g p q e = absurd (p d (records_text ds ++ y) g.0 g.1 (e ∙ append_assoc (record_text d) (records_text ds) y))
 same_stop s (c ∷ cs) [] x y h g p q e = absurd (q c (records_text cs ++ x) h.0 h.1 (sym e ∙ append_assoc (record_text c) (records_text cs) x))
@@ -112,7 +123,8 @@ same_stop s (c ∷ cs) (d ∷ ds) x y h g p q e =
     (cc (r.0, m.0), m.1)
 
 -- a text that comes to whole records and one that is cut off comes to nothing else
-pub reads_one : (s : State) (text : List ℕ) (cs : List Record) (cut : List ℕ) → Begins s text cs cut → is_cut_off cut ≡ true → (reading : Reading) → IsReading s text reading → reading ≡ whole cs cut
+pub reads_one : (s : State) (text : List ℕ) (cs : List Record) (cut : List ℕ) → Begins s text cs cut
+    → is_cut_off cut ≡ true → (reading : Reading) → IsReading s text reading → reading ≡ whole cs cut
 reads_one s text cs cut b c (whole ds rest) h =
     let m = same_stop s ds cs rest cut h.0.next b.next (stops_cut (restored s ds) rest h.1) (stops_cut (restored s cs) cut c) (sym h.0.text_is ∙ b.text_is) in
     cc (m.0, m.1)
@@ -121,9 +133,13 @@ reads_one s text cs cut b c (bad_record n) h =
     absurd (not_bad h.1 (ap is_cut_off m.1 ∙ c) h.3)
 reads_one s text cs cut b c (unknown_principal n) h =
     let rest = record_text h.1 ++ h.2.left in
-    let m = same_stop s h.0 cs rest cut h.2.begins.next b.next (stops_unknown (restored s h.0) h.1 h.2.left h.2.fits h.3) (stops_cut (restored s cs) cut c) (sym h.2.begins.text_is ∙ b.text_is) in
+    let m =
+    same_stop s h.0 cs rest cut h.2.begins.next b.next (stops_unknown (restored s h.0) h.1 h.2.left h.2.fits h.3)
+    (stops_cut (restored s cs) cut c) (sym h.2.begins.text_is ∙ b.text_is) in
     absurd (apart (is_cut_off rest) (ap is_cut_off m.1 ∙ c) (not_cut h.1 h.2.left h.2.fits))
 reads_one s text cs cut b c (wrong_version n) h =
     let rest = record_text (record_of.Change h.1) ++ h.3.left in
-    let m = same_stop s h.0 cs rest cut h.3.begins.next b.next (stops_version (restored s h.0) h.1 h.3.left h.2 h.3.fits h.4 h.5) (stops_cut (restored s cs) cut c) (sym h.3.begins.text_is ∙ b.text_is) in
+    let m = same_stop s h.0 cs rest cut h.3.begins.next b.next
+    (stops_version (restored s h.0) h.1 h.3.left h.2 h.3.fits h.4 h.5)
+    (stops_cut (restored s cs) cut c) (sym h.3.begins.text_is ∙ b.text_is) in
     absurd (apart (is_cut_off rest) (ap is_cut_off m.1 ∙ c) (not_cut (record_of.Change h.1) h.3.left h.3.fits))

@@ -1,6 +1,7 @@
 -- A compact journal: the few records that lead from an opening, the state that a configuration opens with, to
 -- the keys and the count of another state, in place of all that led there.
-use Rattle.std.specs.Prelude.{◌≡◌, ℕ, ◌+◌, ◌≤◌, List, [], ◌∷◌, ◌++◌, length, map, Bool, true, ◌&&◌, ◌==◌, nat_lt, bytes_eq, if◌then◌else◌, Option, Some, IsSome, IfSome}
+use Rattle.std.specs.Prelude.{◌≡◌, ℕ, ◌+◌, ◌≤◌, List, [], ◌∷◌, ◌++◌, length, map, Bool, true, ◌&&◌}
+use Rattle.std.specs.Prelude.{◌==◌, nat_lt, bytes_eq, if◌then◌else◌, Option, Some, IsSome, IfSome}
 use Rattle.std.specs.List.{flat_map}
 use Rattle.std.specs.Cmp.Lexicographic.{pointwise}
 use Rattle.chpw_rules.specs.declared.name.Name.{Name}

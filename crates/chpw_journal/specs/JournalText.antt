@@ -73,7 +73,8 @@ pub data Reading : Type 0 where
 
 abbrev pub IsReading : State → List ℕ → Reading → Type 0
 IsReading s text (whole records rest) = Begins s text records rest × (is_cut_off rest ≡ true)
-IsReading s text (bad_record n) = (records : List Record) × (rest : List ℕ) × Begins s text records rest × (HasBadLength rest ⊎ HasBadBody rest) × (n ≡ length records + 1)
+IsReading s text (bad_record n) = (records : List Record)
+    × (rest : List ℕ) × Begins s text records rest × (HasBadLength rest ⊎ HasBadBody rest) × (n ≡ length records + 1)
 IsReading s text (unknown_principal n) = (records : List Record) × (r : Record) × BeginsWith s text records r
     × IsOfUnknown (restored s records) r × (n ≡ length records + 1)
 IsReading s text (wrong_version n) = (records : List Record) × (c : Change) × (keys : List KeyRow) × BeginsWith s text records (record_of.Change c)

@@ -21,7 +21,8 @@ RecordsAreJournals = (runs : List Run) → records_text (records_in runs) ≡ jo
 
 -- they give the keys that the last run left
 abbrev pub RestoresKeys : Type 0
-RestoresKeys = (s : State) (runs : List Run) → AreRuns s runs → (name : Name) → keys_held (restored s (records_in runs)) name ≡ keys_held (last_state s runs) name
+RestoresKeys = (s : State) (runs : List Run) → AreRuns s runs
+    → (name : Name) → keys_held (restored s (records_in runs)) name ≡ keys_held (last_state s runs) name
 
 -- if the runs keep the count, they give the count that the last run left
 abbrev pub RestoresCount : Type 0

@@ -63,7 +63,8 @@ pub record Run : Type 0 where
 -- history
 abbrev pub AreRuns : State → List Run → Type 0
 AreRuns s [] = Unit {0}
-AreRuns s (r ∷ rs) = SameKeys s r.opening × IsSound r.opening × IsLegal r.opening r.history × AreWhole r.opening r.history × AreRuns (outcome r.opening r.history) rs
+AreRuns s (r ∷ rs) = SameKeys s r.opening × IsSound r.opening
+    × IsLegal r.opening r.history × AreWhole r.opening r.history × AreRuns (outcome r.opening r.history) rs
 
 -- each also opens with the iteration count of new keys that the one before it left, the first with that of a state
 abbrev pub KeepCount : State → List Run → Type 0

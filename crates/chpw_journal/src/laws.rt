@@ -1,7 +1,10 @@
 //! Laws of restoring, over its definitions alone.
 ghost use Rattle.chpw_journal.specs.Laws.{ReadsJournals, RecordsAreJournals, RestoresKeys, RestoresCount, FrontsAreCutOff, OpeningsAreSound};
-ghost use Rattle.chpw_journal.specs.CompactLaws.{CompactGives, CompactIsNext, CompactReads, CompactIsFoundAgain, CompactMayOpen, OpeningsHoldInRow, RestoredHoldInRow, RunsHoldInRow, AgreeHoldInRow, RunsMayCompact};
-ghost use Rattle.chpw_journal.specs.JoinedLaws.{EventsStaySound, HistoriesStaySound, RunsGoOn, RunsAreLast, TablesMayOpen, RestoredMayOpen, ReadMayOpen, TwoRunsFollowOn};
+ghost use Rattle.chpw_journal.specs.CompactLaws.{CompactGives, CompactIsNext, CompactReads, CompactIsFoundAgain};
+ghost use Rattle.chpw_journal.specs.CompactLaws.{CompactMayOpen, OpeningsHoldInRow, RestoredHoldInRow};
+ghost use Rattle.chpw_journal.specs.CompactLaws.{RunsHoldInRow, AgreeHoldInRow, RunsMayCompact};
+ghost use Rattle.chpw_journal.specs.JoinedLaws.{EventsStaySound, HistoriesStaySound, RunsGoOn, RunsAreLast};
+ghost use Rattle.chpw_journal.specs.JoinedLaws.{TablesMayOpen, RestoredMayOpen, ReadMayOpen, TwoRunsFollowOn};
 
 /// The journals of runs of the service, each opened with the principals that the one before it left, are read as their
 /// accepted changes and raises and in no other way, whether nothing or a torn record follows them; these records are

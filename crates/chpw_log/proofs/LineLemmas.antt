@@ -1,5 +1,6 @@
 -- Fields, and the line that they make.
-use Rattle.std.proofs.Common.{◌≡◌, ◌∙◌, ℕ, ◌<◌, true, List, [], ◌∷◌, ◌++◌, length, length-append, append_assoc, codes, ap, map, Bool, cond, Result, Ok, Err, is_ok, OnOk, ◌^◌, refl, arith}
+use Rattle.std.proofs.Common.{◌≡◌, ◌∙◌, ℕ, ◌<◌, true, List, [], ◌∷◌, ◌++◌, length, length-append, append_assoc}
+use Rattle.std.proofs.Common.{codes, ap, map, Bool, cond, Result, Ok, Err, is_ok, OnOk, ◌^◌, refl, arith}
 use Rattle.std.specs.List.{join_with_byte}
 use Rattle.std.specs.Fmt.{decimal}
 use Rattle.std.proofs.lemmas.Bool.{and_from, and_parts}

@@ -1,6 +1,7 @@
 //! Which messages that didn't open have a line of their own: so few that no flood of them fills a disk.
 ghost use Rattle.std.specs.Prelude.{◌≡◌, ◌+◌, ◌<◌, ◌≤◌, IfSome};
-ghost use Rattle.chpw_log.specs.Limits.{held_after, is_apart, is_due, is_free, is_gone, is_none_held, left_at, lines_after, no_lines, none_held, one_more, rest_of, told_at};
+ghost use Rattle.chpw_log.specs.Limits.{held_after, is_apart, is_due, is_free, is_gone, is_none_held, left_at};
+ghost use Rattle.chpw_log.specs.Limits.{lines_after, no_lines, none_held, one_more, rest_of, told_at};
 
 use crate::held::Held;
 

@@ -1,5 +1,6 @@
 -- A message that is cut short.
-use Rattle.std.proofs.Common.{◌≡◌, ℕ, suc, ◌+◌, ◌-◌, ◌<◌, ◌≤◌, List, ◌∷◌, ◌++◌, true, false, ◌&&◌, length, take, drop, Option, Some, None, Result, Ok, Err, refl, sym, ◌∙◌, ap, subst, arith, inl, inr}
+use Rattle.std.proofs.Common.{◌≡◌, ℕ, suc, ◌+◌, ◌-◌, ◌<◌, ◌≤◌, List, ◌∷◌, ◌++◌, true, false, ◌&&◌, length, take}
+use Rattle.std.proofs.Common.{drop, Option, Some, None, Result, Ok, Err, refl, sym, ◌∙◌, ap, subst, arith, inl, inr}
 use Rattle.std.specs.Prelude.{◌||◌, ◌==◌, nat_lt, if◌then◌else◌}
 use Rattle.std.specs.Int.{to_be_bytes, w16}
 use Rattle.std.specs.List.{list_any}
@@ -43,7 +44,8 @@ unfolding OpensPriv
 none_left subkey seq_number tail k m h lt =
     stops priv.Malformed
     (of_none (λ (x : KrbPriv) spelled.
-    let whole : Spells krb_priv (take k tail ++ drop k tail) (krb_priv_value m) = subst (λ (t : List ℕ). Spells krb_priv t (krb_priv_value m)) (sym (take-append-drop k tail)) h in
+    let whole : Spells krb_priv (take k tail ++ drop k tail) (krb_priv_value m) =
+    subst (λ (t : List ℕ). Spells krb_priv t (krb_priv_value m)) (sym (take-append-drop k tail)) h in
     let none = ap length (no_prefix krb_priv refl (take k tail) (drop k tail) (krb_priv_value x) (krb_priv_value m) spelled whole) in
     let left = length-drop k tail in
     absurd (omega (arith, none, left, lt))) refl) refl
@@ -159,7 +161,8 @@ module _ (hi lo c d e f : ℕ) (rest : List ℕ) (m : ℕ) (le : m ≤ length re
             let ap_le : ap_length_of whole ≤ m = (let n = not_below_is _ _ enough in omega (arith, n)) in
             let behind = length-drop (ap_length_of whole) rest in
             let parts = is.1 in
-            let less = less_opens realm (version_of whole) (tail_of whole) (m - ap_length_of whole) k parts.0 q spelled (omega (arith, behind, ap_le, lt)) parts.2 in
+            let less = less_opens realm (version_of whole) (tail_of whole)
+            (m - ap_length_of whole) k parts.0 q spelled (omega (arith, behind, ap_le, lt)) parts.2 in
             let opens : OpensParts realm keys peer (version_of whole) (ap_of left) (tail_of left) (opened (without_content q)) = (
               parts.0,
               subst (λ (b : List ℕ). OpensAp realm keys b peer parts.0) (sym (same_ap ap_le)) parts.1,

@@ -55,7 +55,8 @@ insert_front Equal q x k xs ys us vs e = refl
 insert_front Greater q x k xs ys us vs e = ap (λ ws. x ∷ ws) e
 
 -- to the left of a greater one
-pub insert_left : {K : Type 0} (R : K → K → Ordering) (q : K) (xs : List K) (k : K) (ys : List K) → R q k ≡ Less → insert_key R (xs ++ k ∷ ys) q ≡ insert_key R xs q ++ k ∷ ys
+pub insert_left : {K : Type 0} (R : K → K → Ordering) (q : K) (xs : List K) (k : K) (ys : List K)
+    → R q k ≡ Less → insert_key R (xs ++ k ∷ ys) q ≡ insert_key R xs q ++ k ∷ ys
 insert_left R q [] k ys h = ap (λ c. match_ordering c (q ∷ k ∷ ys) (k ∷ ys) (k ∷ insert_key R ys q)) h
 insert_left R q (x ∷ xs) k ys h = insert_front (R q x) q x k xs ys (insert_key R (xs ++ k ∷ ys) q) (insert_key R xs q) (insert_left R q xs k ys h)
 
@@ -77,11 +78,13 @@ module _ {K : Type 0} (R : K → K → Ordering) (o : IsTotalOrder R) where
   same_front q x k h g = o.congr q k x g ∙ turned x k h
 
   -- to the right of a smaller one
-  right_from : (q : K) (xs : List K) (k : K) (ys : List K) → AllByRecursion (λ x. R x k ≡ Less) xs → R q k ≡ Greater → insert_key R (xs ++ k ∷ ys) q ≡ xs ++ k ∷ insert_key R ys q
+  right_from : (q : K) (xs : List K) (k : K) (ys : List K) → AllByRecursion (λ x. R x k ≡ Less) xs
+      → R q k ≡ Greater → insert_key R (xs ++ k ∷ ys) q ≡ xs ++ k ∷ insert_key R ys q
   right_from q [] k ys a h = insert_later R q k ys h
   right_from q (x ∷ xs) k ys a h = insert_later R q x (xs ++ k ∷ ys) (after_front q x k a.0 h) ∙ ap (λ zs. x ∷ zs) (right_from q xs k ys a.1 h)
 
-  pub insert_right : (q : K) (xs : List K) (k : K) (ys : List K) → IsStrictlySortedBy R (xs ++ k ∷ ys) → R q k ≡ Greater → insert_key R (xs ++ k ∷ ys) q ≡ xs ++ k ∷ insert_key R ys q
+  pub insert_right : (q : K) (xs : List K) (k : K) (ys : List K) → IsStrictlySortedBy R (xs ++ k ∷ ys)
+      → R q k ≡ Greater → insert_key R (xs ++ k ∷ ys) q ≡ xs ++ k ∷ insert_key R ys q
   insert_right q xs k ys s h = right_from q xs k ys (below R xs k ys s) h
 
   here_from : (q : K) (xs : List K) (k : K) (ys : List K) → AllByRecursion (λ x. R x k ≡ Less) xs → R q k ≡ Equal → insert_key R (xs ++ k ∷ ys) q ≡ xs ++ k ∷ ys
@@ -89,7 +92,8 @@ module _ {K : Type 0} (R : K → K → Ordering) (o : IsTotalOrder R) where
   here_from q (x ∷ xs) k ys a h = insert_later R q x (xs ++ k ∷ ys) (same_front q x k a.0 h) ∙ ap (λ zs. x ∷ zs) (here_from q xs k ys a.1 h)
 
   -- where it stands already
-  pub insert_here : (q : K) (xs : List K) (k : K) (ys : List K) → IsStrictlySortedBy R (xs ++ k ∷ ys) → R q k ≡ Equal → insert_key R (xs ++ k ∷ ys) q ≡ xs ++ k ∷ ys
+  pub insert_here : (q : K) (xs : List K) (k : K) (ys : List K)
+      → IsStrictlySortedBy R (xs ++ k ∷ ys) → R q k ≡ Equal → insert_key R (xs ++ k ∷ ys) q ≡ xs ++ k ∷ ys
   insert_here q xs k ys s h = here_from q xs k ys (below R xs k ys s) h
 
   all_insert : (P : K → Type 0) (q : K) (xs : List K) → P q → AllByRecursion P xs → AllByRecursion P (insert_key R xs q)
@@ -107,7 +111,8 @@ module _ {K : Type 0} (R : K → K → Ordering) (o : IsTotalOrder R) where
   sorted_insert q [] s = (tt, tt)
   sorted_insert q (x ∷ xs) s = at (sorted_insert q xs s.1) (R q x) refl
     where
-      at : IsStrictlySortedBy R (insert_key R xs q) → (c : Ordering) → R q x ≡ c → IsStrictlySortedBy R (match_ordering c (q ∷ x ∷ xs) (x ∷ xs) (x ∷ insert_key R xs q))
+      at : IsStrictlySortedBy R (insert_key R xs q) → (c : Ordering)
+          → R q x ≡ c → IsStrictlySortedBy R (match_ordering c (q ∷ x ∷ xs) (x ∷ xs) (x ∷ insert_key R xs q))
       at ih Less e = ((e, all_map (λ y. R x y ≡ Less) (λ y. R q y ≡ Less) (λ y h. o.trans q x y e h) xs s.0), s)
       at ih Equal e = s
       at ih Greater e = (all_insert (λ y. R x y ≡ Less) q xs (turned_back q x e) s.0, ih)
@@ -120,7 +125,8 @@ module _ {K : Type 0} (R : K → K → Ordering) (o : IsTotalOrder R) where
   insert_length q [] = omega arith
   insert_length q (x ∷ xs) = at (insert_length q xs) (R q x)
     where
-      at : length (insert_key R xs q) ≤ length xs + 1 → (c : Ordering) → length (match_ordering c (q ∷ x ∷ xs) (x ∷ xs) (x ∷ insert_key R xs q)) ≤ length (x ∷ xs) + 1
+      at : length (insert_key R xs q) ≤ length xs + 1 → (c : Ordering)
+          → length (match_ordering c (q ∷ x ∷ xs) (x ∷ xs) (x ∷ insert_key R xs q)) ≤ length (x ∷ xs) + 1
       at ih Less = omega arith
       at ih Equal = omega arith
       at ih Greater = omega (arith, ih)
@@ -162,19 +168,25 @@ module _ {K : Type 0} (R : K → K → Ordering) (o : IsTotalOrder R) where
   or_some true = refl
   or_some false = refl
 
-  any_at : (q : K) (xs : List K) (k : K) (ys : List K) (c : Ordering) → R q k ≡ c → list_any (eq_by_cmp R q) (xs ++ k ∷ ys) ≡ (list_any (eq_by_cmp R q) xs || (is_eq c || list_any (eq_by_cmp R q) ys))
+  any_at : (q : K) (xs : List K) (k : K) (ys : List K) (c : Ordering)
+      → R q k ≡ c → list_any (eq_by_cmp R q) (xs ++ k ∷ ys)
+      ≡ (list_any (eq_by_cmp R q) xs || (is_eq c || list_any (eq_by_cmp R q) ys))
   any_at q xs k ys c h = list_any-append (eq_by_cmp R q) xs (k ∷ ys) ∙ ap (λ d. list_any (eq_by_cmp R q) xs || (is_eq d || list_any (eq_by_cmp R q) ys)) h
 
-  pub any_left : (q : K) (xs : List K) (k : K) (ys : List K) → IsStrictlySortedBy R (xs ++ k ∷ ys) → R q k ≡ Less → list_any (eq_by_cmp R q) (xs ++ k ∷ ys) ≡ list_any (eq_by_cmp R q) xs
+  pub any_left : (q : K) (xs : List K) (k : K) (ys : List K) → IsStrictlySortedBy R (xs ++ k ∷ ys)
+      → R q k ≡ Less → list_any (eq_by_cmp R q) (xs ++ k ∷ ys) ≡ list_any (eq_by_cmp R q) xs
   any_left q xs k ys s h =
       any_at q xs k ys Less h
-      ∙ (ap (λ b. list_any (eq_by_cmp R q) xs || b) (none_above q ys (all_map (λ y. R k y ≡ Less) (λ y. R q y ≡ Less) (λ y g. o.trans q k y h g) ys (above R xs k ys s)))
+      ∙ (ap (λ b. list_any (eq_by_cmp R q) xs || b) (none_above q ys
+      (all_map (λ y. R k y ≡ Less) (λ y. R q y ≡ Less) (λ y g. o.trans q k y h g) ys (above R xs k ys s)))
       ∙ or_none (list_any (eq_by_cmp R q) xs))
 
-  pub any_right : (q : K) (xs : List K) (k : K) (ys : List K) → IsStrictlySortedBy R (xs ++ k ∷ ys) → R q k ≡ Greater → list_any (eq_by_cmp R q) (xs ++ k ∷ ys) ≡ list_any (eq_by_cmp R q) ys
+  pub any_right : (q : K) (xs : List K) (k : K) (ys : List K) → IsStrictlySortedBy R (xs ++ k ∷ ys)
+      → R q k ≡ Greater → list_any (eq_by_cmp R q) (xs ++ k ∷ ys) ≡ list_any (eq_by_cmp R q) ys
   any_right q xs k ys s h =
       any_at q xs k ys Greater h
-      ∙ ap (λ b. b || list_any (eq_by_cmp R q) ys) (none_below q xs (all_map (λ x. R x k ≡ Less) (λ x. R q x ≡ Greater) (λ x g. after_front q x k g h) xs (below R xs k ys s)))
+      ∙ ap (λ b. b || list_any (eq_by_cmp R q) ys) (none_below q xs
+      (all_map (λ x. R x k ≡ Less) (λ x. R q x ≡ Greater) (λ x g. after_front q x k g h) xs (below R xs k ys s)))
 
   pub any_here : (q : K) (xs : List K) (k : K) (ys : List K) → R q k ≡ Equal → list_any (eq_by_cmp R q) (xs ++ k ∷ ys) ≡ true
   any_here q xs k ys h = any_at q xs k ys Equal h ∙ or_some (list_any (eq_by_cmp R q) xs)
@@ -193,7 +205,9 @@ module _ {K : Type 0} (R : K → K → Ordering) (o : IsTotalOrder R) where
       swapped true false c = refl
       swapped false b c = refl
 
-      at : list_any t (insert_key R xs q) ≡ (t q || list_any t xs) → (c : Ordering) → R q x ≡ c → list_any t (match_ordering c (q ∷ x ∷ xs) (x ∷ xs) (x ∷ insert_key R xs q)) ≡ (t q || (t x || list_any t xs))
+      at : list_any t (insert_key R xs q) ≡ (t q || list_any t xs)
+          → (c : Ordering) → R q x ≡ c → list_any t (match_ordering c (q ∷ x ∷ xs) (x ∷ xs) (x ∷ insert_key R xs q))
+          ≡ (t q || (t x || list_any t xs))
       at ih Less e = refl
       at ih Equal e = ap (λ a. a || list_any t xs) (sym (alike x e)) ∙ (absorbed (t q) (list_any t xs) ∙ ap (λ a. t q || (a || list_any t xs)) (alike x e))
       at ih Greater e = ap (λ b. t x || b) ih ∙ swapped (t q) (t x) (list_any t xs)

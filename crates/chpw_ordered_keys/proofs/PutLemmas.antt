@@ -33,7 +33,8 @@ alone ks [] [] k e h = e
 alone ks [] (x ∷ r) k e h = let n : length ks ≡ length (k ∷ x ∷ r) = ap length e in absurd (omega (arith, n, h))
 alone ks (x ∷ l) r k e h = let n : length ks ≡ length ((x ∷ l) ++ k ∷ r) = ap length e in absurd (omega (arith, n, h, length-append l (k ∷ r)))
 
-module _ {K : Type 0} (R : K → K → Ordering) (o : IsTotalOrder R) (all l r other : List K) (at k : K) (is : all ≡ l ++ at ∷ r) (sorted : IsStrictlySortedBy R all) (one : other ≡ k ∷ []) where
+module _ {K : Type 0} (R : K → K → Ordering) (o : IsTotalOrder R) (all l r other : List K)
+    (at k : K) (is : all ≡ l ++ at ∷ r) (sorted : IsStrictlySortedBy R all) (one : other ≡ k ∷ []) where
   within : IsStrictlySortedBy R (l ++ at ∷ r)
   within = subst (IsStrictlySortedBy R) is sorted
 

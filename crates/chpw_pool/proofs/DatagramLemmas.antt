@@ -1,5 +1,7 @@
 -- A datagram as a connection of one message.
-use Rattle.std.proofs.Common.{◌≡◌, ◌≢◌, ℕ, ◌<◌, ◌≤◌, ◌^◌, ◌%◌, ◌==◌, refl, sym, ◌∙◌, ap, subst, arith, Bool, true, false, ◌&&◌, not, nat_lt, cond, List, [], ◌++◌, length, take, Option, Some, None, is_some, option_map, inl, inr, IsSomeAnd}
+use Rattle.std.proofs.Common.{◌≡◌, ◌≢◌, ℕ, ◌<◌, ◌≤◌, ◌^◌, ◌%◌, ◌==◌, refl, sym, ◌∙◌, ap, subst, arith}
+use Rattle.std.proofs.Common.{Bool, true, false, ◌&&◌, not, nat_lt, cond, List, [], ◌++◌, length}
+use Rattle.std.proofs.Common.{take, Option, Some, None, is_some, option_map, inl, inr, IsSomeAnd}
 use Rattle.std.proofs.Math.Logic.{⊎_elim}
 use Rattle.std.proofs.lemmas.Bool.{cases_lt, cases_eq}
 use Rattle.std.proofs.lemmas.List.{take_all}
@@ -12,18 +14,21 @@ use Rattle.chpw_connections.specs.Holding.{held_by}
 use Rattle.chpw_connections.specs.Messages.{wanted_after}
 use Rattle.chpw_connections.specs.Room.{PutsOut, HappensWithRoom, for_message, gives_way_at, is_held_back, is_among}
 use Rattle.chpw_connections.specs.Sets.{Comes, Happens, IsNew, wanted_at, is_ended, is_ended_in, queued_at, queued_by, stage_at, waits}
-use Rattle.chpw_connections.specs.Stages.{Stage, reading, queued, answering, confirming, writing, lingering, abandoned, ended, came, failed, after, stage, read_to, received, wanted_by}
+use Rattle.chpw_connections.specs.Stages.{Stage, reading, queued, answering, confirming, writing, lingering}
+use Rattle.chpw_connections.specs.Stages.{abandoned, ended, came, failed, after, stage, read_to, received, wanted_by}
 use Rattle.chpw_connections.specs.Waiting.{waits_for}
 use Rattle.chpw_connections.specs.declared.connection.Connection.{Connection}
 use Rattle.chpw_connections.specs.declared.limits.ConnectionLimits.{ConnectionLimits}
 use Rattle.chpw_pool.specs.Datagrams.{TakesDatagram, length_before, StaysOrEnds, DropsDatagram, CameOrFailed, CameIfRead}
 
 -- who gives way to a message has ended
-out_ends : (b : ConnectionLimits) (now : ℕ) (o : Option Connection) (old new : Option Connection) → gives_way_at (for_message b now o) old ≡ true → Comes 0 failed old new → stage_at new ≡ Some ended
+out_ends : (b : ConnectionLimits) (now : ℕ) (o : Option Connection) (old new : Option Connection)
+    → gives_way_at (for_message b now o) old ≡ true → Comes 0 failed old new → stage_at new ≡ Some ended
 out_ends b now o None new is comes = absurd cc
 out_ends b now o (Some c) None is comes = absurd comes
 out_ends b now o (Some c) (Some d) is comes =
-    let waited : waits (stage c) ≡ true = and_left (waits (stage c)) (nat_lt 0 (held_by c.phase) && (not (is_held_back c) && is_among (for_message b now o) c)) is in
+    let waited : waits (stage c) ≡ true = and_left (waits (stage c))
+    (nat_lt 0 (held_by c.phase) && (not (is_held_back c) && is_among (for_message b now o) c)) is in
     ap Some (comes.stage_is ∙ ends_waiting c.answered (stage c) waited)
 
 stays : (b : ConnectionLimits) (now : ℕ) (o : Option Connection) (old new : Option Connection) → PutsOut (for_message b now o) old new → StaysOrEnds old new
@@ -72,7 +77,8 @@ failed_is_ended now (Some c) (Some d) is comes = ap is_ended (comes.stage_is ∙
 new_ends : (peer : List ℕ) (now number : ℕ) (old new : Slab Connection) (slot : ℕ) → IsNew peer now number old new slot → EndsAtOnce (get new slot)
 new_ends peer now number old new slot is = by_place (get new slot) is.here
   where
-    by_place : (o : Option Connection) → IsSomeAnd o (λ c. (stage c ≡ reading []) × (c.peer ≡ peer) × (c.number ≡ number) × (c.since ≡ now) × (c.answered ≡ 0)) → EndsAtOnce o
+    by_place : (o : Option Connection) → IsSomeAnd o (λ c. (stage c ≡ reading [])
+        × (c.peer ≡ peer) × (c.number ≡ number) × (c.since ≡ now) × (c.answered ≡ 0)) → EndsAtOnce o
     by_place None here = absurd here
     by_place (Some c) here = subst (λ (s : Stage). after c.answered s failed ≡ ended) (sym here.0) refl
 
@@ -155,7 +161,8 @@ waits_whole message k l s t fits s_is some t_is waits =
     let on = read_on message (wanted_after (length_before message) == 0) (subst (λ (x : Stage). wanted_by x ≢ 0) s_is some) in
     let s_reads : s ≡ reading (length_before message) = s_is ∙ on.0 in
     let t_of : t ≡ read_to (length_before message ++ received (length_before message) message) = t_is ∙ ap (λ (x : Stage). after l x (came message)) s_reads in
-    let same : sent message ≡ length_before message ++ received (length_before message) message = ap (λ (x : List ℕ). length_before message ++ x) (sym (comes_whole message fits on.1)) in
+    let same : sent message ≡ length_before message ++ received (length_before message) message =
+    ap (λ (x : List ℕ). length_before message ++ x) (sym (comes_whole message fits on.1)) in
     ap queued_by t_of ∙ queued_of (length_before message ++ received (length_before message) message) (sent message)
     (wanted_after (length_before message ++ received (length_before message) message) == 0) same (ap is_some (sym (ap queued_by t_of)) ∙ waits)
 
@@ -181,7 +188,8 @@ waits_here message peer now number workers worker (Some c) (Some d) (Some e) fit
     (first.stage_is ∙ ap (λ (s : Stage). after c.answered s (came (length_before message))) here.0) some second.stage_is
     (mapped (queued_by (stage e)) (e.number % workers) worker waits)
 
-module _ (b c d : ConnectionLimits) (now number slot worker workers : ℕ) (peer message : List ℕ) (old accepted begun new : Slab Connection) (fits : length message < 2 ^ 32)
+module _ (b c d : ConnectionLimits) (now number slot worker workers : ℕ)
+    (peer message : List ℕ) (old accepted begun new : Slab Connection) (fits : length message < 2 ^ 32)
     (bounds : b ≡ d) (same : d ≡ c)
     (is_new : IsNew peer now number old accepted slot) (length_came : CameOrFailed c now accepted begun slot (length_before message))
     (some : wanted_at (get begun slot) ≢ 0)
@@ -199,8 +207,13 @@ module _ (b c d : ConnectionLimits) (now number slot worker workers : ℕ) (peer
     accepted = accepted;
     begun = begun;
     is_new = is_new;
-    length_came = subst (λ (x : ConnectionLimits). HappensWithRoom (for_message x now (get accepted slot)) now accepted begun slot (came (length_before message))) (sym (bounds ∙ same)) length_is;
-    message_came = subst (λ (x : ConnectionLimits). HappensWithRoom (for_message x now (get begun slot)) now begun new slot (came message)) (sym bounds) message_came;
-    waits = waits_here message peer now number workers worker (get accepted slot) (get begun slot) (get new slot) fits is_new.here length_is.here some message_came.here is_for;
+    length_came =
+        subst (λ (x : ConnectionLimits). HappensWithRoom (for_message x now (get accepted slot)) now accepted begun slot
+        (came (length_before message))) (sym (bounds ∙ same)) length_is;
+    message_came =
+        subst (λ (x : ConnectionLimits). HappensWithRoom (for_message x now (get begun slot)) now begun new slot
+        (came message)) (sym bounds) message_came;
+    waits = waits_here message peer now number workers worker (get accepted slot)
+        (get begun slot) (get new slot) fits is_new.here length_is.here some message_came.here is_for;
     is_for = is_for;
   }

@@ -21,7 +21,8 @@ in_datagram reply = drop 4 reply
 
 -- A new connection of this peer, of which the length came and then the message, each as over TCP; with them it waits
 -- for this worker, as the very bytes that it would be over TCP.
-pub record TakesDatagram (b : ConnectionLimits) (now : ℕ) (peer : List ℕ) (number : ℕ) (message : List ℕ) (old new : Slab Connection) (slot worker workers : ℕ) : Type 0 where
+pub record TakesDatagram (b : ConnectionLimits) (now : ℕ)
+    (peer : List ℕ) (number : ℕ) (message : List ℕ) (old new : Slab Connection) (slot worker workers : ℕ) : Type 0 where
   pub accepted : Slab Connection
   pub begun : Slab Connection
   pub is_new : IsNew peer now number old accepted slot

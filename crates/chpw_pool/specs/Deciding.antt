@@ -49,7 +49,8 @@ pub record IsQueued (sender : Sender) (message : List ℕ) (before after : List 
   pub others : (other : ℕ) → (other ≡ slot → ⊥) → slice_get after other ≡ slice_get before other
 
 -- a datagram that is to be decided waits for this worker
-pub record Queues (d : Datagrams) (before after : List (Option Transport)) (b : ConnectionLimits) (now number : ℕ) (old new : Slab Connection) (worker workers : ℕ) : Type 0 where
+pub record Queues (d : Datagrams) (before after : List (Option Transport))
+    (b : ConnectionLimits) (now number : ℕ) (old new : Slab Connection) (worker workers : ℕ) : Type 0 where
   pub sender : Sender
   pub message : List ℕ
   pub decided : is_decided d before sender message now ≡ true

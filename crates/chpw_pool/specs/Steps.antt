@@ -48,7 +48,8 @@ pub record GivesNone (old new : Slab Connection) (slot : ℕ) (before after : Op
 -- What one call of its socket does for a connection: what is to be done for it, or nothing. To a message that came in a
 -- datagram no more bytes come: its other side has ended as soon as its reply is sent.
 abbrev pub Reads : ConnectionLimits → ℕ → Slab Connection → Slab Connection → ℕ → Type 0
-Reads b now old new slot = (before : Option (List ℕ)) × ((after : Option (List ℕ)) × (Takes b now old new slot before after ⊎ TakesNone old new slot before after))
+Reads b now old new slot = (before : Option (List ℕ))
+    × ((after : Option (List ℕ)) × (Takes b now old new slot before after ⊎ TakesNone old new slot before after))
 
 abbrev pub Writes : ℕ → Slab Connection → Slab Connection → ℕ → Type 0
 Writes now old new slot = (before : Option (List ℕ)) × ((after : Option (List ℕ)) × (Gives now old new slot before after ⊎ GivesNone old new slot before after))

@@ -59,7 +59,8 @@ impl Control {
         connections: usize,
         now: u64,
     )
-        ensures admitted { Admits now (accepted_of self.old.callers) (seats_of self.old.callers) (seats_of self.new.callers) self.old.streams.items self.new.streams.items
+        ensures admitted { Admits now (accepted_of self.old.callers)
+            (seats_of self.old.callers) (seats_of self.new.callers) self.old.streams.items self.new.streams.items
             ⊎ (SameValues (seats_of self.old.callers) (seats_of self.new.callers) × (self.new.streams ≡ self.old.streams)) }
         ensures ordering { ordering_of self.new.callers ≡ ordering_of self.old.callers }
         ensures same { (self.new.is_stopping ≡ self.old.is_stopping) × (self.new.is_paused ≡ self.old.is_paused) × (self.new.is_over ≡ self.old.is_over) }
@@ -128,7 +129,8 @@ impl Control {
     /// Answers a caller `ok`, if a stop was asked for and what was under way could be finished, and writes what is left
     /// of its answer.
     pub fn tell_last(&mut self, alloc: Global, slot: usize, is_deserted: bool, buffer: &mut [u8])
-        ensures told { TellsLast (self.old.is_stopping && not is_deserted) (slice_get self.old.streams.items slot) (seats_of self.old.callers) (seats_of self.new.callers) slot }
+        ensures told { TellsLast (self.old.is_stopping && not is_deserted)
+            (slice_get self.old.streams.items slot) (seats_of self.old.callers) (seats_of self.new.callers) slot }
     {
         let is_told = self.is_stopping && !is_deserted;
         self.tell_done(alloc, slot, is_told);

@@ -31,7 +31,9 @@ pub(crate) struct Hub {
 impl Hub {
     /// Does what is to be done for a connection, in one call of its socket.
     pub fn step(&mut self, slot: usize, now: u64) -> Progress
-        ensures steps { Steps (bounds_of self.old.state.connections) now (todo_in (get (slots_of self.old.state.connections) slot)) (slots_of self.old.state.connections) (slots_of self.new.state.connections) slot }
+        ensures steps { Steps (bounds_of self.old.state.connections) now
+            (todo_in (get (slots_of self.old.state.connections) slot))
+            (slots_of self.old.state.connections) (slots_of self.new.state.connections) slot }
         ensures bounds { bounds_of self.new.state.connections ≡ bounds_of self.old.state.connections }
     {
         self.sockets.step(&mut self.state, slot, now)
@@ -50,7 +52,8 @@ impl Hub {
     /// Reads the next datagram, if one has come.
     pub fn take_datagram(&mut self, now: u64) -> Progress
         ensures queued { IfSome self.old.sockets.datagrams (λ d. (worker : ℕ) → result ≡ progress.Queued worker
-            → Queues d self.old.sockets.by_slot.items self.new.sockets.by_slot.items (bounds_of self.old.state.connections) now (accepted_by self.old.state.connections)
+            → Queues d self.old.sockets.by_slot.items self.new.sockets.by_slot.items
+            (bounds_of self.old.state.connections) now (accepted_by self.old.state.connections)
             (slots_of self.old.state.connections) (slots_of self.new.state.connections) worker (workers_of self.old.state.connections)) }
         ensures idle { result ≡ progress.None → self.new.state ≡ self.old.state }
         ensures bounds { bounds_of self.new.state.connections ≡ bounds_of self.old.state.connections }
@@ -73,7 +76,8 @@ impl Hub {
     /// much of the reply is written as the socket takes, and after it as much of the next message is read as has come:
     /// it waits for the same worker, which checks its queue next.
     pub fn answer(&mut self, slot: usize, reply: Option<Reply>, change: Option<u64>, now: u64)
-        ensures answers { Answers (bounds_of self.old.state.connections) now (awaited self.old.state.asking change) reply (slots_of self.old.state.connections) (slots_of self.new.state.connections) slot }
+        ensures answers { Answers (bounds_of self.old.state.connections) now (awaited self.old.state.asking change)
+            reply (slots_of self.old.state.connections) (slots_of self.new.state.connections) slot }
     {
         self.state.answer(slot, reply, change, now);
         self.run(slot, now);

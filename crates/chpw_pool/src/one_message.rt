@@ -76,7 +76,8 @@ impl State {
             (slots_of self.old.connections) (slots_of self.new.connections) slot (came message.now)) }
         ensures waits { IfSome result (λ worker. waits_for (workers_of self.old.connections) (get (slots_of self.new.connections) slot) ≡ Some worker) }
         ensures wanted { IfSome result (λ _. wanted_at (get (slots_of self.old.connections) slot) ≢ 0) }
-        ensures none { IfNone result (CameIfRead (bounds_of self.old.connections) now (slots_of self.old.connections) (slots_of self.new.connections) slot message.now) }
+        ensures none { IfNone result (CameIfRead (bounds_of self.old.connections) now
+            (slots_of self.old.connections) (slots_of self.new.connections) slot message.now) }
         ensures bounds { bounds_of self.new.connections ≡ bounds_of self.old.connections }
     {
         if self.connections.wanted(slot) == 0 || !self.connections.has_room_to_read(slot, now) {

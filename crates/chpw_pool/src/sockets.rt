@@ -169,7 +169,9 @@ impl Sockets {
 
     /// Does what is to be done for a connection, in one call of its socket.
     pub fn step(&mut self, state: &mut State, slot: usize, now: u64) -> Progress
-        ensures steps { Steps (bounds_of state.old.connections) now (todo_in (get (slots_of state.old.connections) slot)) (slots_of state.old.connections) (slots_of state.new.connections) slot }
+        ensures steps { Steps (bounds_of state.old.connections) now
+            (todo_in (get (slots_of state.old.connections) slot))
+            (slots_of state.old.connections) (slots_of state.new.connections) slot }
         ensures bounds { bounds_of state.new.connections ≡ bounds_of state.old.connections }
     {
         let Sockets {

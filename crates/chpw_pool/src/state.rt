@@ -105,7 +105,16 @@ pub(crate) enum Progress {
 impl State {
     /// These connections, which workers may serve.
     pub fn new(connections: Connections) -> State
-        ensures value { result ≡ record { connections = connections; is_stopped = false; is_over = false; is_deserted = false; has_newcomer = false; shortage = record { of_large = false; of_small = false }; asking = at_start; is_of_former = false } }
+        ensures value { result ≡ record {
+          connections = connections;
+          is_stopped = false;
+          is_over = false;
+          is_deserted = false;
+          has_newcomer = false;
+          shortage = record { of_large = false; of_small = false };
+          asking = at_start;
+          is_of_former = false;
+        } }
     {
         State {
             connections,
@@ -145,7 +154,8 @@ impl State {
     /// the reply to a change, after which the journal has `change` bytes, it waits until the follower has confirmed
     /// that the KDC has as many, unless it has already.
     pub fn answer(&mut self, slot: usize, reply: Option<Reply>, change: Option<u64>, now: u64)
-        ensures answered { IsAnswered (bounds_of self.old.connections) now (awaited self.old.asking change) reply (slots_of self.old.connections) (slots_of self.new.connections) slot }
+        ensures answered { IsAnswered (bounds_of self.old.connections) now (awaited self.old.asking change) reply
+            (slots_of self.old.connections) (slots_of self.new.connections) slot }
         ensures asking { self.new.asking ≡ asking_after (awaited self.old.asking change) reply self.old.asking }
         ensures bounds { bounds_of self.new.connections ≡ bounds_of self.old.connections }
     {
@@ -194,7 +204,8 @@ impl State {
         ensures former { self.old.is_of_former ≡ true → (result ≡ Ok None) × (self.new ≡ self.old) }
         ensures asking { self.old.is_of_former ≡ false → OnOk result (after_bytes self.old.asking bytes.now ≡ Some self.new.asking) }
         ensures confirmed { self.old.is_of_former ≡ false → IfOk result (λ mark. mark ≡ confirmed_by self.old.asking.asked bytes.now) }
-        ensures released { self.old.is_of_former ≡ false → IfOk result (λ mark. Releases mark now (slots_of self.old.connections) (slots_of self.new.connections)) }
+        ensures released { self.old.is_of_former ≡ false
+            → IfOk result (λ mark. Releases mark now (slots_of self.old.connections) (slots_of self.new.connections)) }
         ensures misspoken { OnErr result (after_bytes self.old.asking bytes.now ≡ None) }
         ensures lost { OnErr result (self.new.asking ≡ after_loss self.old.asking) }
         ensures same { OnErr result (self.new.connections ≡ self.old.connections) }
@@ -301,7 +312,8 @@ impl State {
     fn may_read(&mut self, slot: usize, now: u64) -> bool
         ensures value { result ≡ (not (is_short_for (is_large_in (get (slots_of self.old.connections) slot)) self.old.shortage)
             && has_room_to_read (bounds_of self.old.connections) now (slots_of self.old.connections) slot) }
-        ensures shortage { self.new.shortage ≡ (if result then self.old.shortage else short_of (is_large_in (get (slots_of self.old.connections) slot)) self.old.shortage) }
+        ensures shortage { self.new.shortage ≡ (if result then self.old.shortage
+            else short_of (is_large_in (get (slots_of self.old.connections) slot)) self.old.shortage) }
         ensures same { self.new.connections ≡ self.old.connections }
     {
         let is_large = self.connections.is_large(slot);
@@ -315,8 +327,11 @@ impl State {
 
     // These bytes came.
     fn receive(&mut self, slot: usize, bytes: &[u8], now: u64) -> Progress
-        ensures happens { HappensWithRoom (for_message (bounds_of self.old.connections) now (get (slots_of self.old.connections) slot)) now (slots_of self.old.connections) (slots_of self.new.connections) slot (came bytes.now)
-            ⊎ HappensWithRoom (for_message (bounds_of self.old.connections) now (get (slots_of self.old.connections) slot)) 0 (slots_of self.old.connections) (slots_of self.new.connections) slot failed }
+        ensures happens { HappensWithRoom (for_message (bounds_of self.old.connections) now
+            (get (slots_of self.old.connections) slot)) now
+            (slots_of self.old.connections) (slots_of self.new.connections) slot (came bytes.now)
+            ⊎ HappensWithRoom (for_message (bounds_of self.old.connections) now (get (slots_of self.old.connections)
+            slot)) 0 (slots_of self.old.connections) (slots_of self.new.connections) slot failed }
         ensures bounds { bounds_of self.new.connections ≡ bounds_of self.old.connections }
     {
         match self.connections.receive(slot, bytes, now) {
@@ -432,7 +447,8 @@ impl State {
 
     /// Ends a connection that waits for its client's next bytes.
     pub fn end_if_reading(&mut self, slot: usize)
-        ensures reading { is_reading (todo_in (get (slots_of self.old.connections) slot)) ≡ true → Happens 0 (slots_of self.old.connections) (slots_of self.new.connections) slot failed }
+        ensures reading { is_reading (todo_in (get (slots_of self.old.connections) slot)) ≡ true
+            → Happens 0 (slots_of self.old.connections) (slots_of self.new.connections) slot failed }
         ensures others { is_reading (todo_in (get (slots_of self.old.connections) slot)) ≡ false → self.new ≡ self.old }
     {
         if matches!(self.todo(slot), Todo::Read(_)) {

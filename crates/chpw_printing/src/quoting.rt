@@ -1,7 +1,9 @@
 //! Names, texts and bytes as they are printed.
 ghost use Rattle.std.specs.Prelude.{◌≡◌, ◌++◌, true, OnOk};
 ghost use Rattle.hex.specs.Hex.{encode_lower};
-ghost use Rattle.chpw_printing.specs.Quoting.{are_graphic, are_printed, is_field, is_plain as is_plain_byte, is_plain_in_words as is_plain_byte_in_words, byte_text, escaped, quoted, name_text, principal_text, words_byte, words_text};
+ghost use Rattle.chpw_printing.specs.Quoting.{are_graphic, are_printed, is_field, is_plain as is_plain_byte};
+ghost use Rattle.chpw_printing.specs.Quoting.{is_plain_in_words as is_plain_byte_in_words, byte_text, escaped};
+ghost use Rattle.chpw_printing.specs.Quoting.{quoted, name_text, principal_text, words_byte, words_text};
 
 use chpw_rules::Name;
 use std::alloc::AllocError;

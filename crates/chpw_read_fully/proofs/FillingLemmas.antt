@@ -19,12 +19,15 @@ consumes_more (Some ws) (Some bs) (Some cs) xs ys h g = h ∙ (ap (λ (zs : List
 pub put_front : (a k : ℕ) (xs ys : List ℕ) (n : ℕ) → a ≤ length xs → n ≤ length ys → take (a + n) (put_mid a k xs ys) ≡ take a xs ++ take n ys
 put_front a k xs ys n h g =
     let e : length (take a xs) ≡ a = length-take-le a xs h in
-    let t : take (length (take a xs) + n) (take a xs ++ (ys ++ post_of a k xs)) ≡ take a xs ++ take n (ys ++ post_of a k xs) = take-append-add (take a xs) (ys ++ post_of a k xs) n in
+    let t : take (length (take a xs) + n) (take a xs ++ (ys ++ post_of a k xs))
+    ≡ take a xs ++ take n (ys ++ post_of a k xs) = take-append-add (take a xs) (ys ++ post_of a k xs) n in
     let u : take n (ys ++ post_of a k xs) ≡ take n ys = take-append-le n ys (post_of a k xs) g in
     ap (λ (m : ℕ). take (m + n) (put_mid a k xs ys)) (sym e) ∙ (t ∙ ap (λ (zs : List ℕ). take a xs ++ zs) u)
 
 pub put_room : (a k : ℕ) (xs ys : List ℕ) (n : ℕ) → a ≤ length xs → n ≤ length ys → a + n ≤ length (put_mid a k xs ys)
 put_room a k xs ys n h g =
     let e : length (put_mid a k xs ys) ≡ a + (length ys + length (post_of a k xs)) =
-    length-append (take a xs) (ys ++ post_of a k xs) ∙ (ap (λ (m : ℕ). m + length (ys ++ post_of a k xs)) (length-take-le a xs h) ∙ ap (λ (m : ℕ). a + m) (length-append ys (post_of a k xs))) in
+    length-append (take a xs) (ys ++ post_of a k xs)
+    ∙ (ap (λ (m : ℕ). m + length (ys ++ post_of a k xs)) (length-take-le a xs h)
+    ∙ ap (λ (m : ℕ). a + m) (length-append ys (post_of a k xs))) in
     omega (arith, e, g)

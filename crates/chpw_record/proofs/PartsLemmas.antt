@@ -1,5 +1,6 @@
 -- The components of a name, each behind its length.
-use Rattle.std.proofs.Common.{◌≡◌, ℕ, suc, ◌+◌, ◌-◌, ◌≤◌, get_or, take, drop, List, [], ◌∷◌, ◌++◌, length, append_assoc, append-nil, refl, sym, ◌∙◌, ap, arith, length-append}
+use Rattle.std.proofs.Common.{◌≡◌, ℕ, suc, ◌+◌, ◌-◌, ◌≤◌, get_or, take, drop, List, [], ◌∷◌, ◌++◌}
+use Rattle.std.proofs.Common.{length, append_assoc, append-nil, refl, sym, ◌∙◌, ap, arith, length-append}
 use Rattle.std.specs.List.{flat_map}
 use Rattle.chpw_rules.specs.declared.name.Name.{Name}
 use Rattle.chpw_record.specs.Records.{part_bytes, name_bytes}
@@ -24,7 +25,8 @@ pub cut_short : (rest : List ℕ) (n : ℕ) (qs : List (List ℕ)) → 1 ≤ len
 cut_short rest n [] h l s e = let z : length rest ≡ 0 = ap length e in omega (arith, h, z)
 cut_short rest n (q ∷ qs) h l s e =
     let m : n ≡ length q = l ∙ ap (λ (xs : List ℕ). get_or xs 0 0) e in
-    let t : length rest ≡ 1 + (length q + length (joined qs)) = ap length e ∙ (length-append (length q ∷ q) (joined qs) ∙ one (length q) (length (joined qs))) in
+    let t : length rest ≡ 1 + (length q + length (joined qs)) =
+    ap length e ∙ (length-append (length q ∷ q) (joined qs) ∙ one (length q) (length (joined qs))) in
     omega (arith, s, m, t)
   where
     one : (a b : ℕ) → suc a + b ≡ 1 + (a + b)
@@ -41,7 +43,8 @@ same_parts ps qs h =
     none (x ∷ xs) e f = cc
 
 -- bytes with these components are those of no other name
-pub other_name : (bytes : List ℕ) (parts : List (List ℕ)) (n : Name) → 1 ≤ length bytes → take (length bytes - 1) (drop 1 bytes) ≡ joined parts → bytes ≡ name_bytes n
+pub other_name : (bytes : List ℕ) (parts : List (List ℕ)) (n : Name)
+    → 1 ≤ length bytes → take (length bytes - 1) (drop 1 bytes) ≡ joined parts → bytes ≡ name_bytes n
     → (length parts ≡ get_or bytes 0 0) × (parts ≡ n.parts)
 other_name bytes parts n l h e = both (get_or bytes 0 0) (take (length bytes - 1) (drop 1 bytes)) h (sym (split_head bytes l) ∙ e)
   where

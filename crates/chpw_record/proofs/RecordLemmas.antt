@@ -1,5 +1,6 @@
 -- A record's text is that of no other, and reading gives it back.
-use Rattle.std.proofs.Common.{◌≡◌, ℕ, ◌^◌, ◌<◌, List, [], ◌∷◌, ◌++◌, length, true, false, Option, Some, None, refl, sym, ◌∙◌, ap, arith, append_assoc, append-nil}
+use Rattle.std.proofs.Common.{◌≡◌, ℕ, ◌^◌, ◌<◌, List, [], ◌∷◌, ◌++◌, length, true, false, Option}
+use Rattle.std.proofs.Common.{Some, None, refl, sym, ◌∙◌, ap, arith, append_assoc, append-nil}
 use Rattle.std.specs.Prelude.{nat_eq}
 use Rattle.std.specs.Int.{from_be_bytes, to_be_bytes, w16, w32}
 use Rattle.std.proofs.lemmas.Bool.Decides.{nat_tests}
@@ -24,7 +25,8 @@ records_more (d ∷ cs) c = ap (λ (xs : List ℕ). record_text d ++ xs) (record
 
 pub records_joined : (cs ds : List Record) → records_text (cs ++ ds) ≡ records_text cs ++ records_text ds
 records_joined [] ds = refl
-records_joined (c ∷ cs) ds = ap (λ (xs : List ℕ). record_text c ++ xs) (records_joined cs ds) ∙ sym (append_assoc (record_text c) (records_text cs) (records_text ds))
+records_joined (c ∷ cs) ds = ap (λ (xs : List ℕ). record_text c ++ xs) (records_joined cs ds)
+    ∙ sym (append_assoc (record_text c) (records_text cs) (records_text ds))
 
 -- a record is its text behind the text's length
 pub framed_is : (r : Record) → framed (body_text r) ≡ record_text r
@@ -39,7 +41,8 @@ tails m n xs ys h = cc
 
 same_change : (kind : ℕ) (c d : Change) → ChangeFits c → ChangeFits d → key_text kind c.name c.key ≡ key_text kind d.name d.key → c ≡ d
 same_change kind c d f g e =
-    let l : length (version_bytes kind c.key) ≡ length (version_bytes kind d.key) = version_length kind c.key f.aes128 f.aes256 ∙ sym (version_length kind d.key g.aes128 g.aes256) in
+    let l : length (version_bytes kind c.key) ≡ length (version_bytes kind d.key) =
+    version_length kind c.key f.aes128 f.aes256 ∙ sym (version_length kind d.key g.aes128 g.aes256) in
     let r = front_same (version_bytes kind c.key) (name_bytes c.name) (version_bytes kind d.key) (name_bytes d.name) l e in
     let k : c.key ≡ d.key =
     sym (key_back kind c.key (kvno_short c.key.kvno f.kvno) (count_short c.key.count f.count) f.aes128 f.aes256)
@@ -82,7 +85,8 @@ small r f = omega (arith, text_short r f)
 
 pub same_record : IsOnlyRecord
 same_record r q x y f g e =
-    let t = framed_same (body_text r) x (body_text q) y (small r f) (small q g) (ap (λ (xs : List ℕ). xs ++ x) (framed_is r) ∙ (e ∙ ap (λ (xs : List ℕ). xs ++ y) (sym (framed_is q)))) in
+    let t = framed_same (body_text r) x (body_text q) y (small r f) (small q g)
+    (ap (λ (xs : List ℕ). xs ++ x) (framed_is r) ∙ (e ∙ ap (λ (xs : List ℕ). xs ++ y) (sym (framed_is q)))) in
     (same_body r q f g t.0, t.1)
 
 -- ---- reading

@@ -1,5 +1,6 @@
 -- The version of a record: kind, kvno, iteration count and keys.
-use Rattle.std.proofs.Common.{◌≡◌, ℕ, suc, ◌+◌, ◌<◌, ◌≤◌, ◌^◌, List, [], ◌∷◌, ◌++◌, length, take, drop, get_or, true, refl, sym, ◌∙◌, ap, subst, arith, length-append, length-drop}
+use Rattle.std.proofs.Common.{◌≡◌, ℕ, suc, ◌+◌, ◌<◌, ◌≤◌, ◌^◌, List, [], ◌∷◌, ◌++◌, length, take, drop}
+use Rattle.std.proofs.Common.{get_or, true, refl, sym, ◌∙◌, ap, subst, arith, length-append, length-drop}
 use Rattle.std.proofs.lemmas.List.{take_all, length-take-le}
 use Rattle.std.proofs.Math.Seq.{take-append_seam, drop-append_seam}
 use Rattle.std.proofs.lemmas.Nat.{be_bytes_4, from_be_bytes-to_be_bytes_4}
@@ -26,7 +27,8 @@ pieces v l =
     ∙ ap (λ (zs : List ℕ). take 1 v ++ (take 4 (drop 1 v) ++ (take 4 (drop 5 v) ++ (take 16 (drop 9 v) ++ zs)))) (sym e))))
 
 number : (n : ℕ) (v : List ℕ) → length v ≡ 57 → n + 4 ≤ 57 → AreBytes v → to_be_bytes w32 (from_be_bytes w32 (take 4 (drop n v))) ≡ take 4 (drop n v)
-number n v l h b = be_bytes_4 (take 4 (drop n v)) (from_be_bytes w32 (take 4 (drop n v))) (length-take-le 4 (drop n v) (simp length-drop (omega (arith, l, h)))) (bytes_taken 4 (drop n v) (bytes_dropped n v b)) refl
+number n v l h b = be_bytes_4 (take 4 (drop n v)) (from_be_bytes w32 (take 4 (drop n v))) (length-take-le 4
+    (drop n v) (simp length-drop (omega (arith, l, h)))) (bytes_taken 4 (drop n v) (bytes_dropped n v b)) refl
 
 -- a text is its kind, and behind it that of the key read in it
 pub version_whole : (kind : ℕ) (v : List ℕ) → length v ≡ 57 → AreBytes v → get_or v 0 0 ≡ kind → v ≡ version_bytes kind (key_at v)
@@ -57,7 +59,8 @@ pub count_short : (n : ℕ) → is_in iteration_counts n ≡ true → n < 2 ^ 32
 count_short n h = grind (arith, nat_tests)
 
 -- a text that is a key's version of some kind and more, cut behind the version
-pub version_read : (kind : ℕ) (v left more : List ℕ) (k : KeyRow) → length v ≡ 57 → is_in kvnos k.kvno ≡ true → is_in iteration_counts k.count ≡ true → length k.aes128 ≡ 16 → length k.aes256 ≡ 32
+pub version_read : (kind : ℕ) (v left more : List ℕ) (k : KeyRow) → length v ≡ 57
+    → is_in kvnos k.kvno ≡ true → is_in iteration_counts k.count ≡ true → length k.aes128 ≡ 16 → length k.aes256 ≡ 32
     → v ++ left ≡ version_bytes kind k ++ more → (key_at v ≡ k) × (get_or v 0 0 ≡ kind) × (left ≡ more)
 version_read kind v left more k l n c a b e =
     let r = front_same v left (version_bytes kind k) more (l ∙ sym (version_length kind k a b)) e in

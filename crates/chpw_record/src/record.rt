@@ -6,7 +6,9 @@ ghost use Rattle.chpw_rules.specs.declared.name.Name.{Name};
 ghost use Rattle.chpw_rules.specs.Limits.{is_in, iteration_counts};
 ghost use Rattle.chpw_rules.specs.Names.{is_component, is_name};
 ghost use Rattle.chpw_record.specs.RecordKeys.{key_at, key_fits};
-ghost use Rattle.chpw_record.specs.Records.{base_bytes as base_bytes_spec, framed, is_record_length as is_length_spec, key_text, name_bytes, part_bytes, raise_bytes as raise_bytes_spec, record_bytes as record_bytes_spec, version_bytes};
+ghost use Rattle.chpw_record.specs.Records.{base_bytes as base_bytes_spec, framed, is_record_length as is_length_spec};
+ghost use Rattle.chpw_record.specs.Records.{key_text, name_bytes, part_bytes, raise_bytes as raise_bytes_spec};
+ghost use Rattle.chpw_record.specs.Records.{record_bytes as record_bytes_spec, version_bytes};
 
 use crate::key::KeyRow;
 use chpw_rules::{ITERATION_COUNTS, Items, KVNOS, Limits, Name};

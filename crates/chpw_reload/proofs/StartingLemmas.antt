@@ -59,7 +59,8 @@ taken_over settings closed renewed t a = record {
 }
 
 -- the table that was started, once it goes on from the closed one
-pub reloaded_from : (r : PreparedReload) (rest : Option (List ℕ)) (closed : Held) (started : Reloaded) (table : Held) → IsStartedFrom r rest closed.state started
+pub reloaded_from : (r : PreparedReload) (rest : Option (List ℕ)) (closed : Held) (started : Reloaded) (table : Held)
+    → IsStartedFrom r rest closed.state started
     → table ≡ record started.table {
       state = record started.table.state { used = closed.state.used; clock = closed.state.clock; broken = closed.state.broken };
       events = 0;
@@ -69,7 +70,8 @@ reloaded_from r rest closed started table h e = record {
   renewed = h.renewed;
   read = h.read;
   may = record { realm = h.realm; keys = h.started.keys; fits = h.started.fits };
-  table = subst (λ (t : Held). Agrees t.state (next_state r.settings closed.state h.renewed.table.state)) (sym e) (taken_over r.settings closed.state h.renewed.table.state started.table.state h.started.table);
+  table = subst (λ (t : Held). Agrees t.state (next_state r.settings closed.state h.renewed.table.state))
+      (sym e) (taken_over r.settings closed.state h.renewed.table.state started.table.state h.started.table);
   counts = (ap (λ (t : Held). t.events) e, ap (λ (t : Held). t.seen) e, ap (λ (t : Held). t.max_entries) e ∙ h.started.counts.2);
   lacked = h.started.lacked;
 }

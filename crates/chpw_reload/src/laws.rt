@@ -1,6 +1,9 @@
 //! Laws of a reload, over its definitions alone.
-ghost use Rattle.chpw_reload.specs.Laws.{IdsStay, KeysStay, KeysAreGiven, CountStays, TimesStay, ReloadsAreSound, LaterStartsFind, LaterStartsRead, StartsKnowAll, StartsFindAgain, FilesGoOn, TwoPartsAreOne, ReloadedIsReload, ReloadsMayCompact, StartsMayCompact};
-ghost use Rattle.chpw_reload.specs.RunLaws.{RunsStaySound, UsedOverReloads, NamesOverReloads, CountOverReloads, QuietOverReloads, RunsBegin, RunsGoOn, RunsReload, InARowFollowOn};
+ghost use Rattle.chpw_reload.specs.Laws.{IdsStay, KeysStay, KeysAreGiven, CountStays, TimesStay, ReloadsAreSound};
+ghost use Rattle.chpw_reload.specs.Laws.{LaterStartsFind, LaterStartsRead, StartsKnowAll, StartsFindAgain, FilesGoOn};
+ghost use Rattle.chpw_reload.specs.Laws.{TwoPartsAreOne, ReloadedIsReload, ReloadsMayCompact, StartsMayCompact};
+ghost use Rattle.chpw_reload.specs.RunLaws.{RunsStaySound, UsedOverReloads, NamesOverReloads, CountOverReloads};
+ghost use Rattle.chpw_reload.specs.RunLaws.{QuietOverReloads, RunsBegin, RunsGoOn, RunsReload, InARowFollowOn};
 
 /// What a reload keeps of what the history before it left: an id that was used is used; each name that was held is
 /// held, with the same newest keys, as many as both depths keep; the count of new keys never falls; the clock and the

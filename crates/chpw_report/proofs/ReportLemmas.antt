@@ -25,8 +25,11 @@ texts_more f (b ∷ xs) zero a h =
 texts_more f (b ∷ xs) (suc n) a h =
     let rest = texts_more f xs n a h in
     let few = rest.0 in
-    let more : suc n + 1 ≡ suc (n + 1) = omega arith in
-    (omega (arith, few), ap (λ (k : ℕ). flat_map f (take k (b ∷ xs))) more ∙ (ap (λ (ys : List ℕ). f b ++ ys) rest.1 ∙ sym (append_assoc (f b) (flat_map f (take n xs)) (f a))))
+    let more : suc n + 1 ≡ suc (n + 1) = omega arith in (
+      omega (arith, few),
+      ap (λ (k : ℕ). flat_map f (take k (b ∷ xs))) more
+          ∙ (ap (λ (ys : List ℕ). f b ++ ys) rest.1 ∙ sym (append_assoc (f b) (flat_map f (take n xs)) (f a))),
+    )
 
 -- no text more
 pub texts_all : {A : Type 0} (f : A → List ℕ) (xs : List A) (n : ℕ) → slice_get xs n ≡ None

@@ -8,7 +8,9 @@ use Rattle.chpw_rules.specs.declared.config.Config.{Config}
 use Rattle.chpw_rules.specs.declared.config.KeyBytes.{KeyBytes}
 use Rattle.chpw_rules.specs.declared.config.PrincipalRow.{PrincipalRow}
 use Rattle.chpw_rules.specs.declared.config.ServiceRow.{ServiceRow}
-use Rattle.chpw_rules.specs.Limits.{is_in, realm_lengths, entry_counts, kvnos, iteration_counts, min_lengths, min_class_counts, depths, etypes, key_length, service_key_counts, key_counts, rule_counts, principal_counts}
+use Rattle.chpw_rules.specs.Limits.{is_in, realm_lengths, entry_counts, kvnos, iteration_counts}
+use Rattle.chpw_rules.specs.Limits.{min_lengths, min_class_counts, depths, etypes, key_length}
+use Rattle.chpw_rules.specs.Limits.{service_key_counts, key_counts, rule_counts, principal_counts}
 use Rattle.chpw_rules.specs.Names.{is_same_name, is_name}
 
 -- no element is the same as an earlier one

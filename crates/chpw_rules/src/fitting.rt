@@ -1,7 +1,10 @@
 //! Whether a configuration is within the limits.
 ghost use Rattle.std.specs.Prelude.{Bool, ◌≡◌};
 ghost use Rattle.std.specs.List.{list_any};
-ghost use Rattle.chpw_rules.specs.Fitting.{are_distinct, config_fits, descend_from, is_aes_key, is_same_principal, is_same_service_key, key_fits, kvnos_descend, policy_fits, principal_fits, principals_fit, rule_fits, rules_fit, service_fits, service_key_fits, target_fits};
+ghost use Rattle.chpw_rules.specs.Fitting.{are_distinct, config_fits, descend_from, is_aes_key};
+ghost use Rattle.chpw_rules.specs.Fitting.{is_same_principal, is_same_service_key, key_fits, kvnos_descend};
+ghost use Rattle.chpw_rules.specs.Fitting.{policy_fits, principal_fits, principals_fit, rule_fits};
+ghost use Rattle.chpw_rules.specs.Fitting.{rules_fit, service_fits, service_key_fits, target_fits};
 
 use crate::config::{Config, KeyBytes, PrincipalRow, ServiceRow};
 use crate::limits::{

@@ -18,23 +18,30 @@ use Rattle.chpw_serve.specs.Answers.{history_full, reply, AnswersRequest, IsAnsw
 use Rattle.chpw_serve.specs.Trying.{IsVerdict}
 use Rattle.chpw_serve.proofs.CompletingLemmas.{completed_on, under}
 
-module _ (error_frame : Answer → Moment → List ℕ) (private_frame : Seal → Answer → List ℕ → List ℕ) (full : Type 0) (words : List ℕ) (now : Moment) (old new : List Receipt) where
+module _ (error_frame : Answer → Moment → List ℕ) (private_frame : Seal → Answer → List ℕ → List ℕ)
+    (full : Type 0) (words : List ℕ) (now : Moment) (old new : List Receipt) where
   -- a full history
-  pub answers_full : (password : List ℕ) (ready : Opened) (mid : List Receipt) (d : Option Verdict) (r : Refusal) (q : Request) (bytes : List ℕ) → mid ≡ old → d ≡ None → IsVerdict full d password ready now mid new
+  pub answers_full : (password : List ℕ) (ready : Opened) (mid : List Receipt) (d : Option Verdict)
+      (r : Refusal) (q : Request) (bytes : List ℕ) → mid ≡ old → d ≡ None → IsVerdict full d password ready now mid new
       → answer_in r ≡ history_full → bytes ≡ error_frame (answer_in r) now → AnswersRequest error_frame private_frame full q words now old new bytes
   answers_full password ready mid d r q bytes same e h said is =
       let t = subst (λ (d : Option Verdict). IsVerdict full d password ready now mid new) e h in
       inl (t.0 ∙ same, t.1, is ∙ ap (λ (a : Answer). error_frame a now) said)
 
   -- a verdict
-  pub answers_verdict : (i : Incoming) (password : List ℕ) (ready : Opened) (mid : List Receipt) (d : Option Verdict) (v : Verdict) (q : Request) (bytes : List ℕ) → IsIncoming q i → password ≡ i.password → IsCompletedFrom password i.opened ready
-      → mid ≡ old → d ≡ Some v → IsVerdict full d password ready now mid new → bytes ≡ reply error_frame private_frame i.seal v words now → AnswersRequest error_frame private_frame full q words now old new bytes
+  pub answers_verdict : (i : Incoming) (password : List ℕ)
+      (ready : Opened) (mid : List Receipt) (d : Option Verdict) (v : Verdict) (q : Request) (bytes : List ℕ)
+      → IsIncoming q i → password ≡ i.password → IsCompletedFrom password i.opened ready
+      → mid ≡ old → d ≡ Some v
+      → IsVerdict full d password ready now mid new → bytes ≡ reply error_frame private_frame i.seal v words now
+      → AnswersRequest error_frame private_frame full q words now old new bytes
   answers_verdict i password ready mid d v q bytes holds is_password first same e h is =
       let t = subst (λ (d : Option Verdict). IsVerdict full d password ready now mid new) e h in
       let whole = completed_on password i.opened ready (completed password t.0 ready) first (t.0, refl) in
       let counts : List ℕ = whole.0 in
       let made : completed password t.0 ready ≡ opened_under counts q =
-      whole.1 ∙ (ap (λ (p : List ℕ). completed p counts i.opened) (is_password ∙ holds.1) ∙ (ap (completed (password_in q.content) counts) holds.0 ∙ under counts q)) in
+      whole.1 ∙ (ap (λ (p : List ℕ). completed p counts i.opened) (is_password ∙ holds.1)
+      ∙ (ap (completed (password_in q.content) counts) holds.0 ∙ under counts q)) in
       inr (
         v,
         counts,

@@ -15,7 +15,8 @@ use Rattle.chpw_serve.specs.Requests.{Request, Content, new_password, opened_und
 with_none : (p s : List ℕ) (d : Derivation) → with_counts p s d [] ≡ d
 with_none p s d = append-nil d
 
-twice_at : (p s : List ℕ) (d : Derivation) (b : Bool) (x : ℕ) (xs ys : List ℕ) → ((k : Derivation) → with_counts p s (with_counts p s k xs) ys ≡ with_counts p s k (xs ++ ys)) → has_count d x ≡ b
+twice_at : (p s : List ℕ) (d : Derivation) (b : Bool) (x : ℕ) (xs ys : List ℕ)
+    → ((k : Derivation) → with_counts p s (with_counts p s k xs) ys ≡ with_counts p s k (xs ++ ys)) → has_count d x ≡ b
     → with_counts p s (with_counts p s d (x ∷ xs)) ys ≡ with_counts p s d (x ∷ (xs ++ ys))
 twice_at p s d true x xs ys ih e =
     ap (λ (k : Derivation). with_counts p s k ys) (with_counts_there p s d x xs e) ∙ (ih d ∙ sym (with_counts_there p s d x (xs ++ ys) e))
@@ -27,9 +28,11 @@ twice : (p s : List ℕ) (xs ys : List ℕ) (d : Derivation) → with_counts p s
 twice p s [] ys d = ap (λ (k : Derivation). with_counts p s k ys) (with_none p s d)
 twice p s (x ∷ xs) ys d = twice_at p s d (has_count d x) x xs ys (twice p s xs ys) refl
 
-completed_twice_at : (p xs ys : List ℕ) (o : Opened) (b : Body) → completed p ys (completed p xs (record o { body = b })) ≡ completed p (xs ++ ys) (record o { body = b })
+completed_twice_at : (p xs ys : List ℕ) (o : Opened) (b : Body)
+    → completed p ys (completed p xs (record o { body = b })) ≡ completed p (xs ++ ys) (record o { body = b })
 completed_twice_at p xs ys o (Ask target digest) =
-    ap (λ (d : Derivation). record o { body = Ask target (record digest { derived = d }) }) (twice p (salt_of (target_of (record o { body = Ask target digest }))) xs ys digest.derived)
+    ap (λ (d : Derivation). record o { body = Ask target (record digest { derived = d }) })
+    (twice p (salt_of (target_of (record o { body = Ask target digest }))) xs ys digest.derived)
 completed_twice_at p xs ys o body = refl
 
 pub completed_twice : (p xs ys : List ℕ) (o : Opened) → completed p ys (completed p xs o) ≡ completed p (xs ++ ys) o
@@ -40,13 +43,16 @@ completed_on p a b c h g = (h.0 ++ g.0, g.1 ∙ (ap (completed p g.0) h.1 ∙ co
 
 completed_none_at : (p : List ℕ) (o : Opened) (b : Body) → record o { body = b } ≡ completed p [] (record o { body = b })
 completed_none_at p o (Ask target digest) =
-    ap (λ (d : Derivation). record o { body = Ask target (record digest { derived = d }) }) (sym (with_none p (salt_of (target_of (record o { body = Ask target digest }))) digest.derived))
+    ap (λ (d : Derivation). record o { body = Ask target (record digest { derived = d }) })
+    (sym (with_none p (salt_of (target_of (record o { body = Ask target digest }))) digest.derived))
 completed_none_at p o body = refl
 
 pub completed_none : (p : List ℕ) (o : Opened) → IsCompletedFrom p o o
 completed_none p o = ([], completed_none_at p o o.body)
 
-under_at : (counts : List ℕ) (q : Request) (a : Content) → completed (password_in a) counts (opened_under [] (record q { content = a })) ≡ opened_under counts (record q { content = a })
+under_at : (counts : List ℕ) (q : Request) (a : Content)
+    → completed (password_in a) counts (opened_under [] (record q { content = a }))
+    ≡ opened_under counts (record q { content = a })
 under_at counts q (new_password target password) = refl
 under_at counts q content = refl
 

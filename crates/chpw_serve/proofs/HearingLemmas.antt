@@ -1,5 +1,6 @@
 -- What observer and gate are called for with a message.
-use Rattle.std.proofs.Common.{◌≡◌, ℕ, ◌+◌, ◌-◌, ◌<◌, List, [], ◌∷◌, ◌++◌, Bool, true, false, Option, Some, None, refl, sym, ◌∙◌, ap, subst, inl, inr, length, arith, length-append}
+use Rattle.std.proofs.Common.{◌≡◌, ℕ, ◌+◌, ◌-◌, ◌<◌, List, [], ◌∷◌, ◌++◌, Bool, true, false, Option, Some}
+use Rattle.std.proofs.Common.{None, refl, sym, ◌∙◌, ap, subst, inl, inr, length, arith, length-append}
 use Rattle.std.specs.Prelude.{Result, Ok, Err, OnErr, slice_get}
 use Rattle.std.proofs.lemmas.Option.{slice_get-get_or}
 use Rattle.std.proofs.Math.ListN.{get_or}
@@ -42,21 +43,31 @@ last_is {A} xs ys x r e h =
     some_is : (a b : A) → Some a ≡ Some b → a ≡ b
     some_is a b k = cc
 
-module _ {G : Type 0} (passes : G → Spot → G → Type 0) (hears : G → Heard → G → Type 0) (peer : List ℕ) (now : Moment) (made : Option ℕ → Type 0) (old new : List Receipt) (gate later : G) where
+module _ {G : Type 0} (passes : G → Spot → G → Type 0) (hears : G → Heard → G → Type 0)
+    (peer : List ℕ) (now : Moment) (made : Option ℕ → Type 0) (old new : List Receipt) (gate later : G) where
   -- of what was opened
   abbrev pub CallsFor : Opens → Type 0
   CallsFor o = (calls : List Call) × AreCallsFor peer now made old new o calls × InTurn (Does passes hears) gate calls later
 
   -- of a request that was opened
   abbrev pub CallsForRequest : Request → Type 0
-  CallsForRequest q = (calls : List Call) × AreCallsForRequest peer now made old new (λ counts. opened_under counts q) calls × InTurn (Does passes hears) gate calls later
+  CallsForRequest q =
+      (calls : List Call) × AreCallsForRequest peer now made old new (λ counts. opened_under counts q) calls
+      × InTurn (Does passes hears) gate calls later
 
   -- a message that didn't open
   pub calls_refused : (opens : Opens → Type 0) (found : OpenResult) (r : Refusal) → found ≡ program.Refused r → ((o : Opens) × opens o × IsOpenResult o found)
       → new ≡ old → hears gate (refusal peer now None (answer_in r)) later → (o : Opens) × opens o × CallsFor o
   calls_refused opens found r e (refused a, is, h) unchanged k =
-      let same : a ≡ answer_in r = subst (λ (x : OpenResult). IsOpenResult (refused a) x) e h in
-      (refused a, is, (heard (refusal peer now None a) ∷ [], (unchanged, refl), (later, subst (λ (b : Answer). hears gate (refusal peer now None b) later) (sym same) k, refl)))
+      let same : a ≡ answer_in r = subst (λ (x : OpenResult). IsOpenResult (refused a) x) e h in (
+        refused a,
+        is,
+        (
+          heard (refusal peer now None a) ∷ [],
+          (unchanged, refl),
+          (later, subst (λ (b : Answer). hears gate (refusal peer now None b) later) (sym same) k, refl),
+        ),
+      )
   calls_refused opens found r e (opened q, is, h) unchanged k = absurd (subst (λ (x : OpenResult). IsOpenResult (opened q) x) e h)
 
   -- one that did
@@ -66,13 +77,17 @@ module _ {G : Type 0} (passes : G → Spot → G → Type 0) (hears : G → Hear
   calls_opened opens found i e (opened q, is, h) f = (opened q, is, f q (subst (λ (x : OpenResult). IsOpenResult (opened q) x) e h))
 
   -- what came of its request
-  pub calls_request : (full : Type 0) (i : Incoming) (password : List ℕ) (ready : Opened) (mid : List Receipt) (d : Option Verdict) (q : Request) (between : G) → IsIncoming q i → password ≡ i.password → IsCompletedFrom password i.opened ready
-      → mid ≡ old → IsVerdict full d password ready now mid new → passes gate spot.Opened between → HearsVerdict hears peer now made new password ready d between later → CallsForRequest q
+  pub calls_request : (full : Type 0) (i : Incoming)
+      (password : List ℕ) (ready : Opened) (mid : List Receipt) (d : Option Verdict) (q : Request) (between : G)
+      → IsIncoming q i → password ≡ i.password → IsCompletedFrom password i.opened ready
+      → mid ≡ old → IsVerdict full d password ready now mid new → passes gate spot.Opened between
+      → HearsVerdict hears peer now made new password ready d between later → CallsForRequest q
   calls_request full i password ready mid None q between holds is_password first same v by h =
       let whole = completed_on password i.opened ready h.0 first h.1 in
       let counts : List ℕ = whole.0 in
       let is_made : h.0 ≡ opened_under counts q =
-      whole.1 ∙ (ap (λ (p : List ℕ). completed p counts i.opened) (is_password ∙ holds.1) ∙ (ap (completed (password_in q.content) counts) holds.0 ∙ under counts q)) in (
+      whole.1 ∙ (ap (λ (p : List ℕ). completed p counts i.opened) (is_password ∙ holds.1)
+      ∙ (ap (completed (password_in q.content) counts) holds.0 ∙ under counts q)) in (
         passed spot.Opened ∷ heard (refusal peer now (Some (opened_under counts q)) history_full) ∷ [],
         inl (v.0 ∙ same, counts, refl),
         (between, by, (later, subst (λ (o : Opened). hears between (refusal peer now (Some o) history_full) later) is_made h.2, refl)),
@@ -83,25 +98,33 @@ module _ {G : Type 0} (passes : G → Spot → G → Type 0) (hears : G → Hear
       (passed spot.Opened ∷ heard (decision peer now r kvno) ∷ [], inr (r, kvno, added, version, refl), (between, by, (later, noted, refl)))
 
   -- a message answered, and the calls for it
-  pub record AnsweredWith (error_frame : Answer → Moment → List ℕ) (private_frame : Seal → Answer → List ℕ → List ℕ) (full : Type 0) (opens : Opens → Type 0) (words bytes : List ℕ) (is_open : Bool) : Type 0 where
+  pub record AnsweredWith (error_frame : Answer → Moment → List ℕ) (private_frame : Seal → Answer → List ℕ → List ℕ)
+      (full : Type 0) (opens : Opens → Type 0) (words bytes : List ℕ) (is_open : Bool) : Type 0 where
     pub reply : IsAnswer error_frame private_frame full opens words now old new bytes
     pub opened_is : is_open ≡ is_opened reply.0
     pub calls_for : CallsFor reply.0
 
-  module _ (error_frame : Answer → Moment → List ℕ) (private_frame : Seal → Answer → List ℕ → List ℕ) (full : Type 0) (opens : Opens → Type 0) (words bytes : List ℕ) where
+  module _ (error_frame : Answer → Moment → List ℕ) (private_frame : Seal → Answer → List ℕ → List ℕ)
+      (full : Type 0) (opens : Opens → Type 0) (words bytes : List ℕ) where
     pub answered_refused : (found : OpenResult) (r : Refusal) → found ≡ program.Refused r → ((o : Opens) × opens o × IsOpenResult o found)
-        → new ≡ old → bytes ≡ error_frame (answer_in r) now → hears gate (refusal peer now None (answer_in r)) later → AnsweredWith error_frame private_frame full opens words bytes false
+        → new ≡ old → bytes ≡ error_frame (answer_in r) now → hears gate (refusal peer now None (answer_in r)) later
+        → AnsweredWith error_frame private_frame full opens words bytes false
     answered_refused found r e (refused a, is, h) same is_reply k =
         let answer : a ≡ answer_in r = subst (λ (x : OpenResult). IsOpenResult (refused a) x) e h in
         record {
           reply = (refused a, is, (same, is_reply ∙ ap (λ (b : Answer). error_frame b now) (sym answer)));
           opened_is = refl;
-          calls_for = (heard (refusal peer now None a) ∷ [], (same, refl), (later, subst (λ (b : Answer). hears gate (refusal peer now None b) later) (sym answer) k, refl));
+          calls_for = (
+            heard (refusal peer now None a) ∷ [],
+            (same, refl),
+            (later, subst (λ (b : Answer). hears gate (refusal peer now None b) later) (sym answer) k, refl),
+          );
         }
     answered_refused found r e (opened q, is, h) same is_reply k = absurd (subst (λ (x : OpenResult). IsOpenResult (opened q) x) e h)
 
     pub answered_opened : (found : OpenResult) (i : Incoming) → found ≡ program.Opened i → ((o : Opens) × opens o × IsOpenResult o found)
-        → ((q : Request) → IsIncoming q i → AnswersRequest error_frame private_frame full q words now old new bytes × CallsForRequest q) → AnsweredWith error_frame private_frame full opens words bytes true
+        → ((q : Request) → IsIncoming q i → AnswersRequest error_frame private_frame full q words now old new bytes
+        × CallsForRequest q) → AnsweredWith error_frame private_frame full opens words bytes true
     answered_opened found i e (refused a, is, h) f = absurd (subst (λ (x : OpenResult). IsOpenResult (refused a) x) e h)
     answered_opened found i e (opened q, is, h) f =
         let t = f q (subst (λ (x : OpenResult). IsOpenResult (opened q) x) e h) in

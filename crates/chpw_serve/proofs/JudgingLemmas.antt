@@ -12,7 +12,9 @@ use Rattle.chpw_table.specs.declared.request.Opened.{Opened}
 use Rattle.chpw_record.specs.declared.key.KeyRow.{KeyRow}
 use Rattle.chpw_table.specs.declared.table.Principal.{Principal}
 use Rattle.chpw_table.specs.declared.verdict.Verdict.{Verdict}
-use Rattle.chpw_table.specs.declared.verdict.Verdict.TheVariants.{Skew, Replay, NotYet, Expired, BadPrivate, Denied, NeedInitial, Unknown, Short, Classes, Reused, LastVersion, Broken, Done}
+use Rattle.chpw_table.specs.declared.verdict.Verdict.TheVariants.{Skew, Replay, NotYet, Expired, BadPrivate}
+use Rattle.chpw_table.specs.declared.verdict.Verdict.TheVariants.{Denied, NeedInitial, Unknown, Short}
+use Rattle.chpw_table.specs.declared.verdict.Verdict.TheVariants.{Classes, Reused, LastVersion, Broken, Done}
 use Rattle.chpw_table.specs.Digests.{Derivation, has_count, aes128_under, aes256_under}
 use Rattle.chpw_table.specs.Derivations.{with_counts, keys_from, new_counts}
 use Rattle.chpw_table.specs.Requests.{target_of}
@@ -32,21 +34,30 @@ itself n = grind (arith, nat_tests)
 
 -- the keys that are derived under a count
 key_at : (p s : List ℕ) (ms : List ℕ) (n : ℕ) → has_count (map (keys_from p s) ms) n ≡ true
-    → (aes128_under (map (keys_from p s) ms) n ≡ bytes_of (s2k etype.Aes128 p s n)) × (aes256_under (map (keys_from p s) ms) n ≡ bytes_of (s2k etype.Aes256 p s n))
+    → (aes128_under (map (keys_from p s) ms) n ≡ bytes_of (s2k etype.Aes128 p s n))
+    × (aes256_under (map (keys_from p s) ms) n ≡ bytes_of (s2k etype.Aes256 p s n))
 key_at p s [] n h = cc
 key_at p s (m ∷ ms) n h = at (m == n) refl (key_at p s ms n)
   where
     at : (b : Bool) → (m == n) ≡ b
-        → (has_count (map (keys_from p s) ms) n ≡ true → (aes128_under (map (keys_from p s) ms) n ≡ bytes_of (s2k etype.Aes128 p s n)) × (aes256_under (map (keys_from p s) ms) n ≡ bytes_of (s2k etype.Aes256 p s n)))
-        → (aes128_under (map (keys_from p s) (m ∷ ms)) n ≡ bytes_of (s2k etype.Aes128 p s n)) × (aes256_under (map (keys_from p s) (m ∷ ms)) n ≡ bytes_of (s2k etype.Aes256 p s n))
-    at true e ih = let same : m ≡ n = grind (arith, nat_tests) in (rw e (ap (λ k. bytes_of (s2k etype.Aes128 p s k)) same), rw e (ap (λ k. bytes_of (s2k etype.Aes256 p s k)) same))
+        → (has_count (map (keys_from p s) ms) n ≡ true
+        → (aes128_under (map (keys_from p s) ms) n ≡ bytes_of (s2k etype.Aes128 p s n))
+        × (aes256_under (map (keys_from p s) ms) n ≡ bytes_of (s2k etype.Aes256 p s n)))
+        → (aes128_under (map (keys_from p s) (m ∷ ms)) n ≡ bytes_of (s2k etype.Aes128 p s n))
+        × (aes256_under (map (keys_from p s) (m ∷ ms)) n ≡ bytes_of (s2k etype.Aes256 p s n))
+    at true e ih =
+        let same : m ≡ n = grind (arith, nat_tests) in (
+          rw e (ap (λ k. bytes_of (s2k etype.Aes128 p s k)) same),
+          rw e (ap (λ k. bytes_of (s2k etype.Aes256 p s k)) same),
+        )
     at false e ih =
         let rest : has_count (map (keys_from p s) ms) n ≡ true = sym (ap (λ (b : Bool). b || has_count (map (keys_from p s) ms) n) e) ∙ h in
         (rw e ((ih rest).0), rw e ((ih rest).1))
 
 -- two lists of counts that both have one give its keys alike
 alike_at : (p s xs ys : List ℕ) (n : ℕ) → has_count (with_counts p s [] xs) n ≡ true → has_count (with_counts p s [] ys) n ≡ true
-    → (aes128_under (with_counts p s [] xs) n ≡ aes128_under (with_counts p s [] ys) n) × (aes256_under (with_counts p s [] xs) n ≡ aes256_under (with_counts p s [] ys) n)
+    → (aes128_under (with_counts p s [] xs) n ≡ aes128_under (with_counts p s [] ys) n)
+    × (aes256_under (with_counts p s [] xs) n ≡ aes256_under (with_counts p s [] ys) n)
 alike_at p s xs ys n h g =
     let one = key_at p s (new_counts [] xs) n h in
     let other = key_at p s (new_counts [] ys) n g in
@@ -77,7 +88,8 @@ last_reads : (r l x : Bool) → reads_keys (if r then Reused else if l then Last
 last_reads false false true = refl
 last_reads r l x = refl
 
-rows_alike : (a b c d e f g h i j r r' l x y : Bool) → (reads_keys (rows a b c d e f g h i j r l y) ≡ true → r ≡ r') → rows a b c d e f g h i j r l x ≡ rows a b c d e f g h i j r' l x
+rows_alike : (a b c d e f g h i j r r' l x y : Bool) → (reads_keys (rows a b c d e f g h i j r l y) ≡ true → r ≡ r')
+    → rows a b c d e f g h i j r l x ≡ rows a b c d e f g h i j r' l x
 rows_alike false false false false false false false false false false r r' l x y k =
     ap (λ (z : Bool). rows false false false false false false false false false false z l x) (k (last_reads r l y))
 rows_alike a b c d e f g h i j r r' l x y k = refl
@@ -115,10 +127,12 @@ module _ (s : State) (now : Moment) (base : Opened) (target : Option Target) (si
   AreAlike : Derivation → Derivation → Type 0
   AreAlike d d' = (n : ℕ) → is_one_of n (wanted s who) ≡ true → (aes128_under d n ≡ aes128_under d' n) × (aes256_under d n ≡ aes256_under d' n)
 
-  same_row : (d d' : Derivation) (io : Bool) → (reads_keys (verdict s now (asking d) false) ≡ true → AreAlike d d') → verdict s now (asking d) io ≡ verdict s now (asking d') io
+  same_row : (d d' : Derivation) (io : Bool) → (reads_keys (verdict s now (asking d) false) ≡ true → AreAlike d d')
+      → verdict s now (asking d) io ≡ verdict s now (asking d') io
   unfolding AreAlike
   same_row d d' io h = rows_alike _ _ _ _ _ _ _ _ _ _ _ _ _ _ (s.broken || false) (λ reads. reused_alike d d' (compared_keys s who)
-      (λ n k. (h reads n ((ascends_once (new_count s ∷ counts_of (compared_keys s who))).1 n ∙ behind (new_count s == n) (is_one_of n (counts_of (compared_keys s who))) k)).1))
+      (λ n k. (h reads n ((ascends_once (new_count s ∷ counts_of (compared_keys s who))).1 n
+      ∙ behind (new_count s == n) (is_one_of n (counts_of (compared_keys s who))) k)).1))
     where
       behind : (a b : Bool) → b ≡ true → (a || b) ≡ true
       behind true b e = refl
@@ -132,11 +146,13 @@ module _ (s : State) (now : Moment) (base : Opened) (target : Option Target) (si
   same_key : (d d' : Derivation) → AreAlike d d' → new_key s (asking d) ≡ new_key s (asking d')
   unfolding AreAlike
   same_key d d' h =
-      let mine = h (new_count s) ((ascends_once (new_count s ∷ counts_of (compared_keys s who))).1 (new_count s) ∙ ap (λ (b : Bool). b || is_one_of (new_count s) (counts_of (compared_keys s who))) (itself (new_count s))) in
+      let mine = h (new_count s) ((ascends_once (new_count s ∷ counts_of (compared_keys s who))).1 (new_count s)
+      ∙ ap (λ (b : Bool). b || is_one_of (new_count s) (counts_of (compared_keys s who))) (itself (new_count s))) in
       ap (λ (key : List ℕ). record (new_key s (asking d)) { aes128 = key }) mine.0
       ∙ ap (λ (key : List ℕ). record (new_key s (asking d')) { aes256 = key }) mine.1
 
-  same_step : (d d' : Derivation) (io : Bool) → (reads_keys (verdict s now (asking d) false) ≡ true → AreAlike d d') → step s now (asking d) io ≡ step s now (asking d') io
+  same_step : (d d' : Derivation) (io : Bool) → (reads_keys (verdict s now (asking d) false) ≡ true → AreAlike d d')
+      → step s now (asking d) io ≡ step s now (asking d') io
   same_step d d' io h =
       let row = same_row d d' io h in
       let keys = put_alike (is_done (verdict s now (asking d) io)) (new_key s (asking d)) (new_key s (asking d')) s.principals
@@ -151,9 +167,11 @@ module _ (s : State) (now : Moment) (base : Opened) (target : Option Target) (si
   judged_at p salt counts io none =
       let d : Derivation = with_counts p salt [] counts in
       let all : (n : ℕ) → is_one_of n (wanted s who) ≡ true → has_count (with_counts p salt [] (wanted s who)) n ≡ true =
-      λ n k. subst (λ (w : List ℕ). has_count (with_counts p salt [] w) n ≡ true) (lacking_all (wanted s who)) (has_all p salt [] (wanted s who) n k false refl) in
+      λ n k. subst (λ (w : List ℕ). has_count (with_counts p salt [] w) n ≡ true)
+      (lacking_all (wanted s who)) (has_all p salt [] (wanted s who) n k false refl) in
       let alike : reads_keys (verdict s now (asking d) false) ≡ true → AreAlike d (with_counts p salt [] (wanted s who)) =
-      λ reads n k. alike_at p salt counts (wanted s who) n (there d (wanted s who) n (read_of (reads_keys (verdict s now (asking d) false)) reads none) k) (all n k) in
+      λ reads n k. alike_at p salt counts (wanted s who) n
+      (there d (wanted s who) n (read_of (reads_keys (verdict s now (asking d) false)) reads none) k) (all n k) in
       (same_row d (with_counts p salt [] (wanted s who)) io alike, same_step d (with_counts p salt [] (wanted s who)) io alike)
     where
       read_of : (b : Bool) {xs : List ℕ} → b ≡ true → (if b then xs else []) ≡ [] → xs ≡ []
@@ -164,7 +182,8 @@ judged_content : (s : State) (now : Moment) (q : Request) (content : Content) (c
     → missing s now (opened_under counts (record q { content = content })) ≡ []
     → (verdict s now (opened_under counts (record q { content = content })) io ≡ verdict s now (judged s (record q { content = content })) io)
     × (step s now (opened_under counts (record q { content = content })) io ≡ step s now (judged s (record q { content = content })) io)
-judged_content s now q (new_password target password) counts io none = judged_at s now (opened_under [] (record q { content = bad_data })) target _ _ password _ counts io none
+judged_content s now q (new_password target password) counts io none =
+    judged_at s now (opened_under [] (record q { content = bad_data })) target _ _ password _ counts io none
 judged_content s now q content counts io none = (refl, refl)
 
 pub judged_alike : JudgedAlike

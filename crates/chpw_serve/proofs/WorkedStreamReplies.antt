@@ -9,7 +9,8 @@ use Rattle.chpw_serve.specs.Requests.{refused}
 use Rattle.chpw_serve.specs.Serving.{message_too_long}
 use Rattle.chpw_serve.specs.StreamReplies.{Draw, Run, replies}
 
-module _ (limit : ℕ) (error_frame : Answer → Moment → List ℕ) (private_frame : Seal → Answer → List ℕ → List ℕ) (run : Run) (malformed : Answer) (first second : Moment) (words : List ℕ) where
+module _ (limit : ℕ) (error_frame : Answer → Moment → List ℕ) (private_frame : Seal → Answer → List ℕ → List ℕ)
+    (run : Run) (malformed : Answer) (first second : Moment) (words : List ℕ) where
   drawn : Answer → Moment → Draw
   drawn a now = record { moment = now; words = words; io = false; opens = refused a }
 

@@ -24,13 +24,16 @@ use Rattle.chpw_serve.specs.Serving.{StreamState, TakesAtMostOne, message_too_lo
 use Rattle.chpw_serve.specs.StreamReplies.{Draw, Run, verdict_of, is_full, run_after, replies}
 
 -- what a message is answered by a table that one thread has alone
-abbrev pub AnsweringAlone : {G : Type 0} → (G → Spot → G → Type 0) → (G → Heard → G → Type 0) → (Answer → Moment → List ℕ) → (Seal → Answer → List ℕ → List ℕ) → (List ℕ → Opens → Type 0) → List ℕ
+abbrev pub AnsweringAlone : {G : Type 0} → (G → Spot → G → Type 0) → (G → Heard → G → Type 0)
+    → (Answer → Moment → List ℕ) → (Seal → Answer → List ℕ → List ℕ) → (List ℕ → Opens → Type 0) → List ℕ
     → List ℕ → List ℕ → Moment → Kept → Kept → G → G → List ℕ → Bool → Type 0
 AnsweringAlone passes hears error_frame private_frame opens peer text words now before after gate later bytes is_open =
-    Answering error_frame private_frame IsFullAt (λ (k : Kept). k.receipts) IsOpenedLike Makes passes hears opens peer text words now before after gate later bytes is_open
+    Answering error_frame private_frame IsFullAt (λ (k : Kept).
+    k.receipts) IsOpenedLike Makes passes hears opens peer text words now before after gate later bytes is_open
 
 -- a receipt was added, or none
-abbrev pub AddsOneAlone : {G : Type 0} → (G → Spot → G → Type 0) → (G → Heard → G → Type 0) → (List ℕ → Opens → Type 0) → List ℕ → List ℕ → Moment → Kept → Kept → G → G → Type 0
+abbrev pub AddsOneAlone : {G : Type 0} → (G → Spot → G → Type 0)
+    → (G → Heard → G → Type 0) → (List ℕ → Opens → Type 0) → List ℕ → List ℕ → Moment → Kept → Kept → G → G → Type 0
 AddsOneAlone passes hears opens peer text now before after gate later =
     Unanswered (λ (k : Kept). k.receipts) IsOpenedLike Makes passes hears opens peer text now before after gate later
 
@@ -128,7 +131,10 @@ AddsReceipts e limit run draws old new =
     × AreReceipts limit run draws added × AreMore e more
 
 -- the whole: with these frames, for messages that open so, and such clock and words
-pub record IsServedAlone {C X G : Type 0} (error_frame : Answer → Moment → List ℕ) (private_frame : Seal → Answer → List ℕ → List ℕ) (opens : List ℕ → Opens → Type 0) (moments : C → Moment → C → Type 0) (random : X → ℕ → X → Type 0) (e : Ended) (stream : List ℕ) (start final : StreamState C X Kept G) : Type 0 where
+pub record IsServedAlone
+    {C X G : Type 0} (error_frame : Answer → Moment → List ℕ) (private_frame : Seal → Answer → List ℕ → List ℕ)
+    (opens : List ℕ → Opens → Type 0) (moments : C → Moment → C → Type 0)
+    (random : X → ℕ → X → Type 0) (e : Ended) (stream : List ℕ) (start final : StreamState C X Kept G) : Type 0 where
   pub draws : List Draw
   pub drawn_for : AreDrawnFor opens stream draws
   pub few : length draws ≤ 65536

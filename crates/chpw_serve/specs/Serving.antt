@@ -31,7 +31,8 @@ pub record StreamState (C X D G : Type 0) : Type 0 where
   pub around : Around C X G
 
 abbrev pub stream_state : {C X D G : Type 0} → Option (List ℕ) → D → Option (List ℕ) → C → X → G → StreamState C X D G
-stream_state left decider out clock words gate = record { left = left; decider = decider; around = record { out = out; clock = clock; words = words; gate = gate } }
+stream_state left decider out clock words gate =
+    record { left = left; decider = decider; around = record { out = out; clock = clock; words = words; gate = gate } }
 
 -- a message with the moment and words drawn for it, whether it opened, and its reply
 pub record Turn : Type 0 where
@@ -50,7 +51,8 @@ abbrev pub Passes : {G : Type 0} → (G → Spot → G → Type 0) → Bool → 
 Passes passes true gate later = passes gate spot.Answered later
 Passes passes false gate later = later ≡ gate
 
-module _ {C X G : Type 0} (refusal : Moment → List ℕ) (moments : C → Moment → C → Type 0) (random : X → ℕ → X → Type 0) (hears : G → Heard → G → Type 0) (peer : List ℕ) where
+module _ {C X G : Type 0} (refusal : Moment → List ℕ) (moments : C → Moment → C → Type 0)
+    (random : X → ℕ → X → Type 0) (hears : G → Heard → G → Type 0) (peer : List ℕ) where
   -- the refusal of a too long message, which the observer hears
   pub record Refuses (before after : Around C X G) (bytes : List ℕ) : Type 0 where
     pub moment : Moment
@@ -67,7 +69,10 @@ module _ {C X G : Type 0} (refusal : Moment → List ℕ) (moments : C → Momen
   IsRefused end.Memory before after = (bytes : List ℕ) × Refuses before after bytes × (after.out ≡ before.out)
   IsRefused _ before after = ⊥
 
-module _ {C X D G : Type 0} (answers : List ℕ → List ℕ → Moment → D → D → G → G → List ℕ → Bool → Type 0) (adds : List ℕ → Moment → D → D → G → G → Type 0) (refusal : Moment → List ℕ) (moments : C → Moment → C → Type 0) (random : X → ℕ → X → Type 0) (passes : G → Spot → G → Type 0) (hears : G → Heard → G → Type 0) (peer : List ℕ) where
+module _ {C X D G : Type 0} (answers : List ℕ → List ℕ → Moment → D → D → G → G → List ℕ → Bool → Type 0)
+    (adds : List ℕ → Moment → D → D → G → G → Type 0)
+    (refusal : Moment → List ℕ) (moments : C → Moment → C → Type 0) (random : X → ℕ → X → Type 0)
+    (passes : G → Spot → G → Type 0) (hears : G → Heard → G → Type 0) (peer : List ℕ) where
   -- the turn's reply answers its message; after one that was written the gate is passed once more
   pub record Answers (is_written : Bool) (before : StreamState C X D G) (t : Turn) (after : StreamState C X D G) : Type 0 where
     pub moment : moments before.around.clock t.moment after.around.clock

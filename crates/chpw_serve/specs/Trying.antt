@@ -32,7 +32,8 @@ HearsLast hears peer now made receipts observer later =
     (r : Receipt) × (kvno : Option ℕ) × (slice_get receipts (length receipts - 1) ≡ Some r) × IsKvnoOf made r.entry.event kvno
     × hears observer (decided peer now r kvno) later
 
-abbrev pub HearsVerdict : {G : Type 0} → (G → Heard → G → Type 0) → List ℕ → Moment → (Option ℕ → Type 0) → List Receipt → List ℕ → Opened → Option Verdict → G → G → Type 0
+abbrev pub HearsVerdict : {G : Type 0} → (G → Heard → G → Type 0)
+    → List ℕ → Moment → (Option ℕ → Type 0) → List Receipt → List ℕ → Opened → Option Verdict → G → G → Type 0
 HearsVerdict hears peer now made receipts password before (Some v) observer later = HearsLast hears peer now made receipts observer later
 HearsVerdict hears peer now made receipts password before None observer later =
     (o : Opened) × IsCompletedFrom password before o × hears observer (refusal peer now (Some o) history_full) later

@@ -17,7 +17,9 @@ use Rattle.chpw_pool.specs.declared.pool.PoolFault.{PoolFault}
 use Rattle.chpw_pool.specs.declared.pool.PoolFault.TheVariants as pool
 use Rattle.chpw_invocation.specs.declared.invocation.ServeOptions.{ServeOptions}
 use Rattle.chpw_service.specs.declared.fault.ServeFault.{ServeFault}
-use Rattle.chpw_service.specs.declared.fault.ServeFault.TheVariants.{CannotRead, Config, CannotWrite, Journal, CannotListen, CannotListenAt, CannotPrint, Memory, CannotClose}
+use Rattle.chpw_service.specs.declared.fault.ServeFault.TheVariants.{CannotRead, Config, CannotWrite}
+use Rattle.chpw_service.specs.declared.fault.ServeFault.TheVariants.{Journal, CannotListen, CannotListenAt}
+use Rattle.chpw_service.specs.declared.fault.ServeFault.TheVariants.{CannotPrint, Memory, CannotClose}
 use Rattle.chpw_service.specs.declared.fault.LateFault.{LateFault}
 use Rattle.chpw_service.specs.declared.fault.LateFault.TheVariants as late
 

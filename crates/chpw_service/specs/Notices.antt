@@ -13,5 +13,6 @@ notice_line (Expired count) = codes "messages dropped after waiting 5 seconds fo
 notice_line (Unconfirmed socket) =
     socket.now ++ codes ": a change was answered before the follower confirmed it; more are not reported until it confirms one"
 notice_line (Shared file) = file.now ++ codes ": other users may read or write it"
-notice_line (Lacked count) = codes "principals missing from the configuration: " ++ (decimal count ++ codes "; the service cannot start once one of them changes its password")
+notice_line (Lacked count) = codes "principals missing from the configuration: "
+    ++ (decimal count ++ codes "; the service cannot start once one of them changes its password")
 notice_line (TailCut journal kept) = journal.now ++ (codes ": a torn tail was cut off after " ++ (decimal kept ++ codes " bytes"))

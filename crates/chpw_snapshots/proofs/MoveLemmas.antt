@@ -1,5 +1,7 @@
 -- What each step on the versions keeps.
-use Rattle.std.proofs.Common.{◌≡◌, ◌≢◌, ℕ, ◌+◌, ◌<◌, ◌≤◌, ◌%◌, List, [], ◌∷◌, ◌++◌, length, true, refl, sym, ◌∙◌, ap, subst, ⊎_elim, arith, length-append, set, Option, Some, IsSomeAnd, Result, Ok, Err, IsOk, MatchResult, if◌then◌else◌}
+use Rattle.std.proofs.Common.{◌≡◌, ◌≢◌, ℕ, ◌+◌, ◌<◌, ◌≤◌, ◌%◌, List, [], ◌∷◌, ◌++◌, length, true}
+use Rattle.std.proofs.Common.{refl, sym, ◌∙◌, ap, subst, ⊎_elim, arith, length-append, set, Option}
+use Rattle.std.proofs.Common.{Some, IsSomeAnd, Result, Ok, Err, IsOk, MatchResult, if◌then◌else◌}
 use Rattle.std.specs.Prelude.{option_map}
 use mathlib.Core.Option.{some}
 use mathlib.Core.List.{IsPrefix}
@@ -24,7 +26,8 @@ use Rattle.chpw_snapshots.specs.declared.snapshot.Operation.{Operation}
 use Rattle.chpw_snapshots.specs.declared.view.View.{View}
 use Rattle.chpw_snapshots.specs.Rows.{Rowed, names_of_rows, names_of, rows_after, shown_in, IsPositive, ShowsOpening, lookup_with, lookup_after}
 use Rattle.chpw_snapshots.specs.Rising.{IsNextVersion}
-use Rattle.chpw_snapshots.specs.Following.{applied, IsNumberOf, HasNumber, CanBeShown, list_by, list_shown, ShowsList, IsRuled, IsShelved, IsTied, Looked, Published, Settled, unknown, log_of}
+use Rattle.chpw_snapshots.specs.Following.{applied, IsNumberOf, HasNumber, CanBeShown, list_by, list_shown, ShowsList}
+use Rattle.chpw_snapshots.specs.Following.{IsRuled, IsShelved, IsTied, Looked, Published, Settled, unknown, log_of}
 use Rattle.chpw_snapshots.proofs.RiseLemmas.{next_on}
 use Rattle.chpw_snapshots.proofs.RowLemmas.{names_changed, changed_shows, changed_positive, shown_more, count_more}
 
@@ -37,7 +40,8 @@ unknown_tied x list t = absurd (cc)
 moved : (x y : Snapshot) (list n : List Accepted) (v : View) → y.root ≡ x.root → IsTied x list v → IsTied y (list ++ n) v
 moved x y list n v e h k = let t = h k in (t.0 ∙ sym (ap (λ m. m.book) e), t.1 ∙ sym (ap (λ m. m.log) e), prefix_trans v.front list (list ++ n) t.2 (n, refl))
 
-same : (x : Snapshot) (list : List Accepted) (views : List View) (seat : ℕ) (w : View) → AllTied x list views → IsTied x list w → AllTied x list (set views seat w)
+same : (x : Snapshot) (list : List Accepted) (views : List View) (seat : ℕ) (w : View)
+    → AllTied x list views → IsTied x list w → AllTied x list (set views seat w)
 same x list views seat w each own j u at =
     ⊎_elim (λ (t : (j ≡ seat) × (w ≡ u)). subst (λ z. IsTied x list z) t.1 own)
     (λ (t : (j ≢ seat) × (get_elem? views j ≡ some u)). each j u t.1)
@@ -52,7 +56,8 @@ admits x views (list, is, each) = (list, is, snoc x list views unknown each (unk
 pub opens : (x : Snapshot) (list : List Accepted) → ShowsList x.root.book x.root.log list x → IsRuled x (unknown ∷ [])
 opens x list is = (list, is, snoc x list [] unknown (λ j u at. absurd (cc)) (unknown_tied x list))
 
-pub renamed : (b b' : LogbookName) (r r' : List LogEntry) (list : List Accepted) (x : Snapshot) → b ≡ b' → r ≡ r' → ShowsList b r list x → ShowsList b' r' list x
+pub renamed : (b b' : LogbookName) (r r' : List LogEntry) (list : List Accepted) (x : Snapshot)
+    → b ≡ b' → r ≡ r' → ShowsList b r list x → ShowsList b' r' list x
 renamed b b' r r' list x e f is = subst (λ c. ShowsList c r' list x) e (subst (λ l. ShowsList b l list x) f is)
 
 pub looks : (seat : ℕ) (v : View) (x : Snapshot) → TurnsAt IsRuled seat v x x Looked
@@ -78,11 +83,13 @@ seen_after : (c : NumberedChange) (r : Rowed) → (rows_after c r).seen ≡ (r.s
 seen_after (Key c) r = refl
 seen_after (Count n) r = refl
 
-policy_after : (opening : State) (list : List Accepted) (c : NumberedChange) (r : Rowed) → r.policy ≡ shown_count opening list → (rows_after c r).policy ≡ shown_count opening (list ++ named opening c ∷ [])
+policy_after : (opening : State) (list : List Accepted) (c : NumberedChange) (r : Rowed)
+    → r.policy ≡ shown_count opening list → (rows_after c r).policy ≡ shown_count opening (list ++ named opening c ∷ [])
 policy_after opening list (Key c) r e = e ∙ sym (count_more opening list (named opening (Key c)))
 policy_after opening list (Count n) r e = sym (count_more opening list (named opening (Count n)))
 
-shows_after : (opening : State) (list : List Accepted) (c : NumberedChange) (r : Rowed) → names_of_rows r.rows ≡ names_of opening → r.kept ≡ kept_count opening → HasNumber opening c
+shows_after : (opening : State) (list : List Accepted) (c : NumberedChange) (r : Rowed)
+    → names_of_rows r.rows ≡ names_of opening → r.kept ≡ kept_count opening → HasNumber opening c
     → (name : Name) → shown_in r.rows name ≡ shown opening list name → shown_in (rows_after c r).rows name ≡ shown opening (list ++ named opening c ∷ []) name
 shows_after opening list (Key c) r names kept num name is =
     let k : KeyChange = named_key opening c in
@@ -93,7 +100,9 @@ shows_after opening list (Key c) r names kept num name is =
     ∙ sym (shown_more opening list (named opening (Key c)) name)))
 shows_after opening list (Count n) r names kept num name is = is ∙ sym (shown_more opening list (named opening (Count n)) name)
 
-positive_after : (opening : State) (list : List Accepted) (c : NumberedChange) (r : Rowed) → r.policy ≡ shown_count opening list → IsNextVersion opening list (named opening c) → IsPositive r → IsPositive (rows_after c r)
+positive_after : (opening : State) (list : List Accepted) (c : NumberedChange) (r : Rowed)
+    → r.policy ≡ shown_count opening list
+    → IsNextVersion opening list (named opening c) → IsPositive r → IsPositive (rows_after c r)
 positive_after opening list (Key c) r policy next is =
     let count : 1 ≤ c.count = subst (λ m. 1 ≤ m) (policy ∙ sym next.3) is.0 in
     (is.0, changed_positive r.kept c c.number r.rows count is.1)
@@ -103,7 +112,9 @@ positive_after opening list (Count n) r policy next is =
     (count, is.1)
 
 -- the version with one operation more shows the list with one change more
-pub goes_on : (b : LogbookName) (r : List LogEntry) (list : List Accepted) (x : Snapshot) (o : Operation) → ShowsList b r list x → o.seen.book ≡ b → changes_in r o.seen.log ≡ list → CanBeShown (opening_state r) list o.change
+pub goes_on : (b : LogbookName) (r : List LogEntry) (list : List Accepted) (x : Snapshot) (o : Operation)
+    → ShowsList b r list x
+    → o.seen.book ≡ b → changes_in r o.seen.log ≡ list → CanBeShown (opening_state r) list o.change
     → length list + 1 < 2147483648 → ShowsList b r (list ++ named (opening_state r) o.change ∷ []) (applied x o)
 goes_on b r list x o is ob ol can room =
     let c : Accepted = named (opening_state r) o.change in
@@ -129,7 +140,8 @@ goes_on b r list x o is ob ol can room =
     }
 
 -- the writer, which knows the whole list, makes the change of one operation
-pub published_at : (seat : ℕ) (b : LogbookName) (r : List LogEntry) (v : View) (x : Snapshot) (list : List Accepted) (o : Operation) → IsShelved b r v x list → o.seen.book ≡ b → changes_in r o.seen.log ≡ list
+pub published_at : (seat : ℕ) (b : LogbookName) (r : List LogEntry) (v : View) (x : Snapshot)
+    (list : List Accepted) (o : Operation) → IsShelved b r v x list → o.seen.book ≡ b → changes_in r o.seen.log ≡ list
     → CanBeShown (opening_state r) list o.change → length list + 1 < 2147483648 → TurnsAt IsRuled seat v x (applied x o) Published
 published_at seat b r v x list o sh ob ol can room views (all, is, each) at =
     let mine = each seat v at sh.0.0 in
@@ -139,14 +151,28 @@ published_at seat b r v x list o sh ob ol can room views (all, is, each) at =
     let y : Snapshot = applied x o in
     let c : Accepted = named (opening_state r) o.change in
     let w : View = record v { front = v.front ++ named (opening_state v.root) o.change ∷ [] } in
-    let next : ShowsList y.root.book y.root.log (list ++ c ∷ []) y = renamed b y.root.book r y.root.log (list ++ c ∷ []) y (sym sh.2.root_book) (sym sh.2.root_log) (goes_on b r list x o sh.2 ob ol can room) in
-    let told : w.front ≡ list ++ c ∷ [] = ap (λ (l : List Accepted). l ++ named (opening_state v.root) o.change ∷ []) sh.1 ∙ ap (λ l. list ++ named (opening_state l) o.change ∷ []) sh.0.2 in
+    let next : ShowsList y.root.book y.root.log (list ++ c ∷ []) y =
+    renamed b y.root.book r y.root.log (list ++ c ∷ []) y
+    (sym sh.2.root_book) (sym sh.2.root_log) (goes_on b r list x o sh.2 ob ol can room) in
+    let told : w.front ≡ list ++ c ∷ [] =
+    ap (λ (l : List Accepted). l ++ named (opening_state v.root) o.change ∷ []) sh.1
+    ∙ ap (λ l. list ++ named (opening_state l) o.change ∷ []) sh.0.2 in
     let own : IsPrefix w.front (list ++ c ∷ []) = subst (λ (l : List Accepted). IsPrefix l (list ++ c ∷ [])) (sym told) (prefix_self (list ++ c ∷ [])) in
-    let before : AllTied x list views = subst (λ (l : List Accepted). AllTied x l views) (sym whole) each in
-    (w, (list ++ c ∷ [], next, same y (list ++ c ∷ []) views seat w (λ j u t. moved x y list (c ∷ []) u refl (before j u t)) (λ k. (mine.0, mine.1, own))), refl)
+    let before : AllTied x list views = subst (λ (l : List Accepted). AllTied x l views) (sym whole) each in (
+      w,
+      (
+        list ++ c ∷ [],
+        next,
+        same y (list ++ c ∷ []) views seat w
+            (λ j u t. moved x y list (c ∷ []) u refl (before j u t)) (λ k. (mine.0, mine.1, own)),
+      ),
+      refl,
+    )
 
-pub shelved_after : (b : LogbookName) (r : List LogEntry) (v w : View) (x y : Snapshot) (list : List Accepted) (o : Operation) → IsShelved b r v x list → o.seen.book ≡ b → changes_in r o.seen.log ≡ list
-    → CanBeShown (opening_state r) list o.change → length list + 1 < 2147483648 → y ≡ applied x o → Published v x y w → IsShelved b r w y (list ++ named (opening_state r) o.change ∷ [])
+pub shelved_after : (b : LogbookName) (r : List LogEntry) (v w : View) (x y : Snapshot)
+    (list : List Accepted) (o : Operation) → IsShelved b r v x list → o.seen.book ≡ b → changes_in r o.seen.log ≡ list
+    → CanBeShown (opening_state r) list o.change → length list + 1 < 2147483648
+    → y ≡ applied x o → Published v x y w → IsShelved b r w y (list ++ named (opening_state r) o.change ∷ [])
 shelved_after b r v w x y list o sh ob ol can room is told =
     let c : Accepted = named (opening_state r) o.change in (
       (ap (λ (z : View). z.known) told ∙ sh.0.0, ap log_of told ∙ sh.0.1, ap (λ (z : View). z.root) told ∙ sh.0.2),
@@ -162,11 +188,19 @@ settles seat v x y e = subst (λ (z : Snapshot). TurnsAt IsRuled seat v x z Sett
   where
     stays : (seat : ℕ) (v : View) (x : Snapshot) → TurnsAt IsRuled seat v x x Settled
     stays seat v x views (list, is, each) at =
-        let w : View = record { known = true; number = x.root.book.number; log_name = x.root.book.log_name; cells_name = x.root.book.cells_name; root = x.root.log; front = [] } in
+        let w : View = record {
+          known = true;
+          number = x.root.book.number;
+          log_name = x.root.book.log_name;
+          cells_name = x.root.book.cells_name;
+          root = x.root.log;
+          front = [];
+        } in
         (w, (list, is, same x list views seat w each (λ k. (refl, refl, (list, refl)))), ((refl, refl, refl), refl))
 
 -- the version at the opening shows no change
-pub opening_version : (r : List LogEntry) (rows : Rowed) (x : Snapshot) → x.len ≡ 0 → x.rows ≡ rows → x.root.log ≡ r → x.seen ≡ x.root → ShowsOpening (opening_table r) rows → ShowsList x.root.book x.root.log [] x
+pub opening_version : (r : List LogEntry) (rows : Rowed) (x : Snapshot) → x.len ≡ 0 → x.rows ≡ rows
+    → x.root.log ≡ r → x.seen ≡ x.root → ShowsOpening (opening_table r) rows → ShowsList x.root.book x.root.log [] x
 opening_version r rows x n same log seen shows =
     at (subst (λ l. ShowsOpening (opening_table l) x.rows) (sym log) (subst (λ (z : Rowed). ShowsOpening (opening_table r) z) (sym same) shows))
   where
@@ -187,7 +221,8 @@ opening_version r rows x n same log seen shows =
       last = λ h. absurd (omega arith);
     }
 
-pub shelved_first : (b : LogbookName) (r : List LogEntry) (v w : View) (x y : Snapshot) → y ≡ x → x.root.book ≡ b → x.root.log ≡ r → ShowsList x.root.book x.root.log [] x → Settled v x y w → IsShelved b r w y []
+pub shelved_first : (b : LogbookName) (r : List LogEntry) (v w : View) (x y : Snapshot) → y ≡ x
+    → x.root.book ≡ b → x.root.log ≡ r → ShowsList x.root.book x.root.log [] x → Settled v x y w → IsShelved b r w y []
 shelved_first b r v w x y e eb er is told = (
   (told.0.0, told.0.1 ∙ (ap (λ (z : Snapshot). z.root.book) e ∙ eb), told.0.2 ∙ (ap (λ (z : Snapshot). z.root.log) e ∙ er)),
   told.1,
@@ -201,7 +236,9 @@ forks seat v x views (list, is, each) at =
 
 pub merges : (seat : ℕ) (v : View) (other : ℕ) (w : View) → Merges IsRuled seat v other w w unknown
 merges seat v other w x views (list, is, each) at apart there =
-    let theirs : IsTied x list w = ⊎_elim (λ (t : (other ≡ seat) × (w ≡ w)). absurd (apart t.0)) (λ (t : (other ≢ seat) × (get_elem? views other ≡ some w)). each other w t.1) (at_set views seat other w w there) in
+    let theirs : IsTied x list w = ⊎_elim (λ (t : (other ≡ seat) × (w ≡ w)). absurd (apart t.0))
+    (λ (t : (other ≢ seat) × (get_elem? views other ≡ some w)). each other w t.1)
+    (at_set views seat other w w there) in
     (list, is, same x list (set views seat w) other unknown (same x list views seat w each theirs) (unknown_tied x list))
 
 pub of_some : {R : Type 0} (o : Option R) (r : R) (P : R → Type 0) → o ≡ Some r → IsSomeAnd o P → P r
@@ -231,7 +268,8 @@ shown_by b r list x name is =
 
 -- what is told begins it, where `Front::begins` says so
 pub begins_shown : (b : LogbookName) (r : List LogEntry) (list told : List Accepted) (x : Snapshot) → ShowsList b r list x
-    → (x.len ≡ length (changes_in r x.seen.log ++ named (opening_state r) x.last ∷ []) → IsPrefix told (changes_in r x.seen.log ++ named (opening_state r) x.last ∷ []))
+    → (x.len ≡ length (changes_in r x.seen.log ++ named (opening_state r) x.last ∷ [])
+    → IsPrefix told (changes_in r x.seen.log ++ named (opening_state r) x.last ∷ []))
     → (x.len ≡ 0 → told ≡ []) → IsPrefix told (list_shown r x)
 begins_shown b r [] told x is tells empty = subst (λ (l : List Accepted). IsPrefix l (list_shown r x)) (sym (empty is.len_is)) (list_shown r x, refl)
 begins_shown b r (c ∷ cs) told x is tells empty =

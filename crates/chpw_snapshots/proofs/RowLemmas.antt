@@ -1,5 +1,7 @@
 -- What a change does to the rows, and what they show.
-use Rattle.std.proofs.Common.{◌≡◌, ℕ, zero, suc, ◌<◌, ◌≤◌, List, [], ◌∷◌, ◌++◌, map, length, get_or, set, Bool, true, false, cond, if◌then◌else◌, Option, Some, None, find, nat_lt, refl, sym, ◌∙◌, ap, subst, arith}
+use Rattle.std.proofs.Common.{◌≡◌, ℕ, zero, suc, ◌<◌, ◌≤◌, List, [], ◌∷◌, ◌++◌, map, length}
+use Rattle.std.proofs.Common.{get_or, set, Bool, true, false, cond, if◌then◌else◌, Option}
+use Rattle.std.proofs.Common.{Some, None, find, nat_lt, refl, sym, ◌∙◌, ap, subst, arith}
 use Rattle.std.specs.Prelude.{option_map, position, slice_get, IfSome, All}
 use Rattle.std.specs.List.{position_or_len}
 use Rattle.std.proofs.lemmas.Bool.Decides.{nat_tests}
@@ -24,7 +26,8 @@ use Rattle.chpw_snapshots.specs.Rows.{names_of_rows, names_of, changed_row, chan
 use Rattle.chpw_snapshots.specs.Following.{IsNumberOf, HasNumber}
 
 -- a write of a changed row is the change at its place
-pub set-changed : (kept : ℕ) (c : NumberedKey) (n : ℕ) (rows : List Row) (d r : Row) → n < length rows → r ≡ changed_row kept c (get_or rows n d) → set rows n r ≡ changed_at kept c n rows
+pub set-changed : (kept : ℕ) (c : NumberedKey) (n : ℕ) (rows : List Row) (d r : Row)
+    → n < length rows → r ≡ changed_row kept c (get_or rows n d) → set rows n r ≡ changed_at kept c n rows
 set-changed kept c n [] d r h e = absurd (omega arith)
 set-changed kept c zero (x ∷ xs) d r h e = ap (λ w. w ∷ xs) e
 set-changed kept c (suc n) (x ∷ xs) d r h e = ap (λ ws. x ∷ ws) (set-changed kept c n xs d r (omega (arith, h)) e)
@@ -62,7 +65,8 @@ other_test : (r of name : Name) → is_same_name r of ≡ false → is_same_name
 other_test r of name e f true g = sym ((is_same_name-Decides r of).1 ((is_same_name-Decides r name).0 f ∙ sym ((is_same_name-Decides of name).0 g))) ∙ e
 other_test r of name e f false g = refl
 
-at_head : (kept : ℕ) (c : NumberedKey) (of : Name) (r : Row) (rs : List Row) (name : Name) → is_same_name r.name of ≡ true → (b : Bool) → is_same_name r.name name ≡ b
+at_head : (kept : ℕ) (c : NumberedKey) (of : Name) (r : Row) (rs : List Row) (name : Name)
+    → is_same_name r.name of ≡ true → (b : Bool) → is_same_name r.name name ≡ b
     → shown_in (changed_row kept c r ∷ rs) name ≡ after_change kept c of name (shown_in (r ∷ rs) name)
 at_head kept c of r rs name e true f = let g : is_same_name of name ≡ true = sym (same_test r.name of name e) ∙ f in rw (f, g) refl
 at_head kept c of r rs name e false f = let g : is_same_name of name ≡ false = sym (same_test r.name of name e) ∙ f in rw (f, g) refl
@@ -75,7 +79,8 @@ behind kept c n of r rs name e ih false f = rw f ih
 
 -- the change shows at its name, and at no other
 pub changed_shows : (kept : ℕ) (c : NumberedKey) (of : Name) (rows : List Row) (n : ℕ) (name : Name) → IsNumberOf (names_of_rows rows) of n
-    → shown_in (changed_at kept c n rows) name ≡ (if is_same_name of name then option_map (with_change kept (change_for of c)) (shown_in rows name) else shown_in rows name)
+    → shown_in (changed_at kept c n rows) name ≡ (if is_same_name of name
+    then option_map (with_change kept (change_for of c)) (shown_in rows name) else shown_in rows name)
 changed_shows kept c of [] n name h = absurd h
 changed_shows kept c of (r ∷ rs) zero name h = at_head kept c of r rs name h (is_same_name r.name name) refl
 changed_shows kept c of (r ∷ rs) (suc n) name h = behind kept c n of r rs name h.0 (changed_shows kept c of rs n name h.1) (is_same_name r.name name) refl
@@ -99,7 +104,9 @@ found_positive is_it (r ∷ rs) all = at (is_it r) refl (found_positive is_it rs
     at false e rest = rw e rest
 
 -- the first place of a name is its number
-place_number : (rows : List Row) (name : Name) (n : ℕ) (d : Row) → n < length rows → is_same_name (get_or rows n d).name name ≡ true → ((k : ℕ) → k < n → is_same_name (get_or rows k d).name name ≡ false)
+place_number : (rows : List Row) (name : Name) (n : ℕ) (d : Row)
+    → n < length rows → is_same_name (get_or rows n d).name name ≡ true
+    → ((k : ℕ) → k < n → is_same_name (get_or rows k d).name name ≡ false)
     → IsNumberOf (names_of_rows rows) name n
 place_number [] name n d h e f = absurd (omega arith)
 place_number (r ∷ rs) name zero d h e f = e
@@ -111,14 +118,16 @@ at_number (p ∷ ps) name zero h = (is_same_name-Decides p.name name).0 h
 at_number (p ∷ ps) name (suc n) h = at_number ps name n h.1
 
 -- the place that was found for a name is its number
-pub found_number : (opening : State) (rows : List Row) (name : Name) (n : ℕ) → names_of_rows rows ≡ names_of opening → position (λ (r : Row). is_same_name r.name name) rows ≡ Some n → IsNumberOf (names_of opening) name n
+pub found_number : (opening : State) (rows : List Row) (name : Name) (n : ℕ) → names_of_rows rows ≡ names_of opening
+    → position (λ (r : Row). is_same_name r.name name) rows ≡ Some n → IsNumberOf (names_of opening) name n
 found_number opening rows name n e found =
     let none : Row = record { name = name; kvno = 0; counts = [] } in
     let placed = position-Some (λ (r : Row). is_same_name r.name name) rows n none found in
     subst (λ ns. IsNumberOf ns name n) e (place_number rows name n none placed.0 placed.1 placed.2)
 
 -- a change with that number is one of that name
-pub named_change : (opening : State) (name : Name) (c : NumberedKey) → IsNumberOf (names_of opening) name c.number → HasNumber opening (Key c) × (named_key opening c ≡ change_for name c)
+pub named_change : (opening : State) (name : Name) (c : NumberedKey) → IsNumberOf (names_of opening) name c.number
+    → HasNumber opening (Key c) × (named_key opening c ≡ change_for name c)
 named_change opening name c number =
     let is : name_at opening.principals c.number ≡ name = at_number opening.principals name c.number number in
     (subst (λ m. IsNumberOf (names_of opening) m c.number) (sym is) number, ap (λ m. change_for m c) is)
@@ -141,13 +150,15 @@ find_unplaced is_it rows = at (nat_lt (position_or_len is_it rows) (length rows)
         find_at is_it rows ∙ slice_get_past rows (position_or_len is_it rows) past
 
 -- a name that the rows show has a number
-pub has_number : (rows : List Row) (name : Name) (row : Shown) → shown_in rows name ≡ Some row → position (λ (r : Row). is_same_name r.name name) rows ≡ None → ⊥
+pub has_number : (rows : List Row) (name : Name) (row : Shown)
+    → shown_in rows name ≡ Some row → position (λ (r : Row). is_same_name r.name name) rows ≡ None → ⊥
 has_number rows name row h none =
     let missing = find_unplaced (λ (r : Row). is_same_name r.name name) rows none in
     none-some row (sym (ap (λ (o : Option Row). option_map row_shown o) missing) ∙ h)
 
 -- one change more
-pub shown_more : (opening : State) (list : List Accepted) (c : Accepted) (name : Name) → shown opening (list ++ c ∷ []) name ≡ shown_after (kept_count opening) name (shown opening list name) c
+pub shown_more : (opening : State) (list : List Accepted) (c : Accepted) (name : Name)
+    → shown opening (list ++ c ∷ []) name ≡ shown_after (kept_count opening) name (shown opening list name) c
 shown_more opening list c name = fold-append _ _ list (c ∷ [])
 
 pub count_more : (opening : State) (list : List Accepted) (c : Accepted) → shown_count opening (list ++ c ∷ []) ≡ count_after (shown_count opening list) c

@@ -19,7 +19,8 @@ use Rattle.chpw_table.proofs.KeyLemmas.{keys_put}
 
 -- the keys of each name after a base of one
 pub keys_based : (s : State) (name : Name) (key : KeyRow) (other : Name)
-    → keys_held (with_base_key name key s) other ≡ (if is_same_name name other then option_map (λ (keys : List KeyRow). key ∷ []) (keys_held s other) else keys_held s other)
+    → keys_held (with_base_key name key s) other ≡ (if is_same_name name other
+    then option_map (λ (keys : List KeyRow). key ∷ []) (keys_held s other) else keys_held s other)
 keys_based s name key other = keys_put 1 name key s.principals other
 
 pub agrees_based : (t s : State) (name : Name) (key : KeyRow) → Agrees t s → Agrees (with_base_key name key t) (with_base_key name key s)

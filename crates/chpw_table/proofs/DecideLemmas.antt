@@ -33,14 +33,18 @@ stepped_for_all t u s now o io e a = agrees_onward u (step t now o io) (step s n
 
 -- what is appended
 pub same_appended : (t s : State) (o : Opened) (v : Verdict) → Agrees t s → appended t o v ≡ appended s o v
-same_appended t s o v a = ap (λ (k : KeyRow). if is_done v then record_bytes (target_of o).name k else []) (same_new_key t s o a.count (a.principals (target_of o).name))
+same_appended t s o v a = ap (λ (k : KeyRow). if is_done v then record_bytes (target_of o).name k else [])
+    (same_new_key t s o a.count (a.principals (target_of o).name))
 
 -- what the sink tells
-pub told_for_all : (t s : State) (o : Opened) (v : Verdict) (before after : Option (List ℕ)) → after ≡ option_map (λ xs. xs ++ appended t o v) before → Agrees t s → after ≡ option_map (λ xs. xs ++ appended s o v) before
+pub told_for_all : (t s : State) (o : Opened) (v : Verdict) (before after : Option (List ℕ))
+    → after ≡ option_map (λ xs. xs ++ appended t o v) before
+    → Agrees t s → after ≡ option_map (λ xs. xs ++ appended s o v) before
 told_for_all t s o v before after h a = h ∙ ap (λ (ys : List ℕ). option_map (λ (xs : List ℕ). xs ++ ys) before) (same_appended t s o v a)
 
 -- the first refusal
-pub refused_for_all : (t : Held) (now : Moment) (o : Opened) (r : Refused) → IsFirst t (missing t.state now o) r.fault → AsksPositive r.fault → r.opened ≡ o → IsRefused t now o r
+pub refused_for_all : (t : Held) (now : Moment) (o : Opened) (r : Refused)
+    → IsFirst t (missing t.state now o) r.fault → AsksPositive r.fault → r.opened ≡ o → IsRefused t now o r
 refused_for_all t now o r first positive same = record {
   first = λ s a. subst (λ (counts : List ℕ). IsFirst t counts r.fault) (same_missing t.state s now o a) first;
   positive = positive;
@@ -55,5 +59,6 @@ raise_for_all t s count io v r a = record {
 }
 
 -- the state after it
-pub raised_for_all : (t u s : State) (now : Moment) (count : ℕ) (io : Bool) → Agrees u (step_raise t now count io) → Agrees t s → Agrees u (step_raise s now count io)
+pub raised_for_all : (t u s : State) (now : Moment) (count : ℕ) (io : Bool)
+    → Agrees u (step_raise t now count io) → Agrees t s → Agrees u (step_raise s now count io)
 raised_for_all t u s now count io e a = agrees_onward u (step_raise t now count io) (step_raise s now count io) e (agrees_raise t s now count io a)

@@ -48,7 +48,13 @@ held_after clock used ids = young_ids clock (with_first id_cmp used ids)
 
 -- one more event, which uses these ids, and the clock moved on
 abbrev pub with_event : Moment → List RequestId → Held → Held
-with_event now ids t = record t { state = record t.state { used = held_after (clock_at t.state now) t.state.used ids; clock = clock_at t.state now }; events = t.events + 1 }
+with_event now ids t = record t {
+  state = record t.state {
+    used = held_after (clock_at t.state now) t.state.used ids;
+    clock = clock_at t.state now;
+  };
+  events = t.events + 1;
+}
 
 -- the count is raised, and that is one more change
 abbrev pub with_raise : ℕ → Held → Held

@@ -1,11 +1,18 @@
 -- The answer of each row: the result code (RFC 3244 section 2), the error code of its KRB-ERROR, if it is answered by
 -- one (RFC 4120 section 7.5.9), and the text.
 use Rattle.std.specs.Prelude.{ℕ, ℤ, List, Option, Some, None, codes}
-use Rattle.krb_protocol.specs.declared.codes.TheConstants.{KRB5_KPASSWD_SUCCESS, KRB5_KPASSWD_MALFORMED, KRB5_KPASSWD_HARDERROR, KRB5_KPASSWD_AUTHERROR, KRB5_KPASSWD_SOFTERROR, KRB5_KPASSWD_ACCESSDENIED, KRB5_KPASSWD_INITIAL_FLAG_NEEDED, KRB_AP_ERR_SKEW, KRB_AP_ERR_REPEAT, KRB_AP_ERR_TKT_NYV, KRB_AP_ERR_TKT_EXPIRED}
+use Rattle.krb_protocol.specs.declared.codes.TheConstants.{KRB5_KPASSWD_SUCCESS, KRB5_KPASSWD_MALFORMED}
+use Rattle.krb_protocol.specs.declared.codes.TheConstants.{KRB5_KPASSWD_HARDERROR, KRB5_KPASSWD_AUTHERROR}
+use Rattle.krb_protocol.specs.declared.codes.TheConstants.{KRB5_KPASSWD_SOFTERROR, KRB5_KPASSWD_ACCESSDENIED}
+use Rattle.krb_protocol.specs.declared.codes.TheConstants.{KRB5_KPASSWD_INITIAL_FLAG_NEEDED, KRB_AP_ERR_SKEW}
+use Rattle.krb_protocol.specs.declared.codes.TheConstants.{KRB_AP_ERR_REPEAT, KRB_AP_ERR_TKT_NYV}
+use Rattle.krb_protocol.specs.declared.codes.TheConstants.{KRB_AP_ERR_TKT_EXPIRED}
 use Rattle.chpw_table.specs.declared.raising.RaiseVerdict.{RaiseVerdict}
 use Rattle.chpw_table.specs.declared.raising.RaiseVerdict.TheVariants as raise
 use Rattle.chpw_table.specs.declared.verdict.Verdict.{Verdict}
-use Rattle.chpw_table.specs.declared.verdict.Verdict.TheVariants.{Skew, Replay, NotYet, Expired, BadPrivate, BadBody, Denied, NeedInitial, Unknown, Short, Classes, Reused, LastVersion, Broken, Done}
+use Rattle.chpw_table.specs.declared.verdict.Verdict.TheVariants.{Skew, Replay, NotYet, Expired, BadPrivate}
+use Rattle.chpw_table.specs.declared.verdict.Verdict.TheVariants.{BadBody, Denied, NeedInitial, Unknown, Short}
+use Rattle.chpw_table.specs.declared.verdict.Verdict.TheVariants.{Classes, Reused, LastVersion, Broken, Done}
 
 pub record Answer : Type 0 where
   pub code : ℕ

@@ -1,5 +1,6 @@
 //! The table: the principals with their keys, and the used ids.
-ghost use Rattle.std.specs.Prelude.{◌≡◌, ◌≤◌, ◌<◌, ◌&&◌, not, length, All, MatchBool, IfOk, IfSome, Some, true, find, max, map, position, option_copied, option_map, slice_get};
+ghost use Rattle.std.specs.Prelude.{◌≡◌, ◌≤◌, ◌<◌, ◌&&◌, not, length, All, MatchBool, IfOk, IfSome, Some};
+ghost use Rattle.std.specs.Prelude.{true, find, max, map, position, option_copied, option_map, slice_get};
 ghost use Rattle.std.specs.List.{IsDistinct};
 ghost use Rattle.std.specs.List.Sorted.{IsStrictlySortedBy};
 ghost use Rattle.chpw_rules.specs.Names.{is_name, is_same_name, name_cmp};

@@ -1,5 +1,6 @@
 -- Flags and the contents that spell them.
-use Rattle.std.proofs.Common.{◌≡◌, ℕ, ◌<◌, ◌^◌, ◌+◌, ◌*◌, ◌/◌, ◌%◌, false, List, [], ◌∷◌, Ok, refl, sym, ap, ◌∙◌, arith, zero, suc, ◌-◌, get_or, one-add, zero-add, inl, inr}
+use Rattle.std.proofs.Common.{◌≡◌, ℕ, ◌<◌, ◌^◌, ◌+◌, ◌*◌, ◌/◌, ◌%◌, false, List, [], ◌∷◌, Ok, refl}
+use Rattle.std.proofs.Common.{sym, ap, ◌∙◌, arith, zero, suc, ◌-◌, get_or, one-add, zero-add, inl, inr}
 use Rattle.std.specs.Int.{bit_at}
 use Rattle.std.proofs.lemmas.Bool.{eq-eqb, both_ways, cases_lt}
 use Rattle.std.proofs.lemmas.Nat.Bits.{bit_at_cat_low, bit_at_cat_high}
@@ -23,7 +24,8 @@ bits_spelled flags lt = (eq-eqb _ _ (omega arith), omega arith)
 
 -- ---- bits
 
-first_word_is : (bytes : List ℕ) → first_word bytes ≡ (((0 + get_or bytes 0 0) * 2 ^ 8 + get_or bytes 1 0) * 2 ^ 8 + get_or bytes 2 0) * 2 ^ 8 + get_or bytes 3 0
+first_word_is : (bytes : List ℕ) → first_word bytes
+    ≡ (((0 + get_or bytes 0 0) * 2 ^ 8 + get_or bytes 1 0) * 2 ^ 8 + get_or bytes 2 0) * 2 ^ 8 + get_or bytes 3 0
 first_word_is [] = refl
 first_word_is (a ∷ []) = refl
 first_word_is (a ∷ b ∷ []) = refl
@@ -49,12 +51,14 @@ word_bit a b c d i sb sc sd lt =
       | inl first ↦
           let q : i / 8 ≡ 0 = omega arith in
           let place : 31 - i ≡ 8 + (8 + (8 + k)) = omega arith in
-          ap (bit_at whole) place ∙ above_byte third d (8 + (8 + k)) sd ∙ above_byte (a * 2 ^ 8 + b) c (8 + k) sc ∙ above_byte a b k sb ∙ ap (λ j. bit_at (get_or bytes j 0) k) (sym q)
+          ap (bit_at whole) place ∙ above_byte third d (8 + (8 + k)) sd ∙ above_byte (a * 2 ^ 8 + b) c (8 + k) sc
+          ∙ above_byte a b k sb ∙ ap (λ j. bit_at (get_or bytes j 0) k) (sym q)
       | inr later ↦ elim (cases_lt i 16) [
         | inl second ↦
             let q : i / 8 ≡ 1 = omega arith in
             let place : 31 - i ≡ 8 + (8 + k) = omega arith in
-            ap (bit_at whole) place ∙ above_byte third d (8 + k) sd ∙ above_byte (a * 2 ^ 8 + b) c k sc ∙ low_byte a b k (omega arith) ∙ ap (λ j. bit_at (get_or bytes j 0) k) (sym q)
+            ap (bit_at whole) place ∙ above_byte third d (8 + k) sd ∙ above_byte (a * 2 ^ 8 + b) c k sc
+            ∙ low_byte a b k (omega arith) ∙ ap (λ j. bit_at (get_or bytes j 0) k) (sym q)
         | inr later ↦ elim (cases_lt i 24) [
           | inl third_byte ↦
               let q : i / 8 ≡ 2 = omega arith in

@@ -1,12 +1,16 @@
 -- Day numbers and dates, and seconds and times, are found from one another.
-use Rattle.std.proofs.Common.{◌≡◌, ℕ, zero, suc, ◌+◌, ◌-◌, ◌*◌, ◌/◌, ◌%◌, ◌<◌, ◌≤◌, Bool, true, false, refl, sym, ap, subst, ◌∙◌, arith, ℤ, pos, negsuc, ◌+ℤ◌, ◌-ℤ◌, ◌*ℤ◌, ◌<ℤ◌, ◌≤ℤ◌, unsigned_abs, ◌⊎◌, inl, inr}
+use Rattle.std.proofs.Common.{◌≡◌, ℕ, zero, suc, ◌+◌, ◌-◌, ◌*◌, ◌/◌, ◌%◌, ◌<◌, ◌≤◌, Bool}
+use Rattle.std.proofs.Common.{true, false, refl, sym, ap, subst, ◌∙◌, arith, ℤ, pos, negsuc}
+use Rattle.std.proofs.Common.{◌+ℤ◌, ◌-ℤ◌, ◌*ℤ◌, ◌<ℤ◌, ◌≤ℤ◌, unsigned_abs, ◌⊎◌, inl, inr}
 use Rattle.std.specs.Prelude.{int_lt}
 use Rattle.std.specs.Int.{int_div_euclid, int_rem_euclid, IsInRange}
 use Rattle.std.proofs.lemmas.Bool.{cases_Bool, both_ways, cases_order, not-true, not-false, not_from_true, not_from_false}
 use Rattle.std.proofs.lemmas.Int.{ints, by_lt_z}
 use Rattle.jiff_core.specs.Calendar.{days_from_civil, days_in_month, day_count, IsBetween, IsCivilDate}
 use Rattle.jiff_core.proofs.SignedLemmas.{signed_arith}
-use Rattle.jiff_core.proofs.CalendarLemmas.{days_from_civil-day_count, day_count-lt_year, day_count-lt_month, day_count-day, day_count-day_of_year, day_count-next_month, day_count-next_year, day_count-last_of_year, day_count-end}
+use Rattle.jiff_core.proofs.CalendarLemmas.{days_from_civil-day_count, day_count-lt_year, day_count-lt_month}
+use Rattle.jiff_core.proofs.CalendarLemmas.{day_count-day, day_count-day_of_year, day_count-next_month}
+use Rattle.jiff_core.proofs.CalendarLemmas.{day_count-next_year, day_count-last_of_year, day_count-end}
 use Rattle.jiff_core.proofs.MarchLemmas.{day_count-early}
 use Rattle.jiff_core.proofs.DateLemmas.{civil, days_from_civil-day}
 use Rattle.jiff_core.specs.Date.{epoch_day}
@@ -100,7 +104,8 @@ year_of-date y m d h =
     let today = days_from_civil (pos y) m d in
     let first : day_count (pos y) 1 1 ≤ day_count (pos y) m d = let e = day_count-day_of_year (pos y) m d h.2.0 in omega (arith, e, h.2) in
     greatest_is (λ j. has_come today (pos j) 1 1) 9999 y h.0 (inr (come today (pos y) 1 1 (no_later (pos y) 1 1 (pos y) m d first)))
-    (λ j lt le. not_come today (pos j) 1 1 (before (pos y) m d (pos j) 1 1 (day_count-lt_year (pos y) m d (pos j) 1 1 (civil_date y m d h) (omega arith) (omega (arith, ints, lt)))))
+    (λ j lt le. not_come today (pos j) 1 1 (before (pos y) m d (pos j) 1 1
+    (day_count-lt_year (pos y) m d (pos j) 1 1 (civil_date y m d h) (omega arith) (omega (arith, ints, lt)))))
 
 pub month_of-date : (y m d : ℕ) → IsDay y m d → month_of (days_from_civil (pos y) m d) ≡ m
 unfolding month_of
@@ -118,7 +123,8 @@ day_of-date y m d h =
     rw (year_of-date y m d h, month_of-date y m d h) (ap (λ z. 1 + unsigned_abs z) difference ∙ omega (arith, h.2.0))
 
 first_day : days_from_civil (pos 0) 1 1 ≡ negsuc 719527
-first_day = let a = days_from_civil-day_count (pos 0) 1 1 in let b = day_count-early (pos 0) 9999 1 1 refl (omega arith) (omega arith) (omega arith) in omega (arith, ints, a, b)
+first_day = let a = days_from_civil-day_count (pos 0) 1 1 in
+    let b = day_count-early (pos 0) 9999 1 1 refl (omega arith) (omega arith) (omega arith) in omega (arith, ints, a, b)
 
 day_after_last : days_from_civil (pos 10000) 1 1 ≡ pos 2932897
 day_after_last = let a = days_from_civil-day_count (pos 10000) 1 1 in omega (arith, ints, a, day_count-end)
@@ -193,7 +199,8 @@ whole (pos n) h = refl
 whole (negsuc n) h = absurd (omega (arith, ints, h))
 
 -- the date of a day is in the calendar, and has its number
-pub date_of_day : (today : ℤ) → IsDayNumber today → IsDay (year_of today) (month_of today) (day_of today) × (days_from_civil (pos (year_of today)) (month_of today) (day_of today) ≡ today)
+pub date_of_day : (today : ℤ) → IsDayNumber today → IsDay (year_of today) (month_of today) (day_of today)
+    × (days_from_civil (pos (year_of today)) (month_of today) (day_of today) ≡ today)
 unfolding day_of
 date_of_day today h =
     let y = year_of today in
@@ -209,7 +216,8 @@ date_of_day today h =
 
 year_not_negative : (d : Date) → IsDayNumber (epoch_day d) → pos 0 ≤ℤ d.year
 year_not_negative d h = by_lt_z d.year (pos 0)
-    (λ lt. let early = before d.year d.month d.day (pos 0) 1 1 (day_count-lt_year d.year d.month d.day (pos 0) 1 1 (civil d) (omega arith) lt) in absurd (omega (arith, ints, early, first_day, h)))
+    (λ lt. let early = before d.year d.month d.day (pos 0) 1 1 (day_count-lt_year d.year d.month d.day (pos 0) 1 1
+    (civil d) (omega arith) lt) in absurd (omega (arith, ints, early, first_day, h)))
     (λ le. le)
 
 pub date_found : (d : Date) (today : ℤ) → epoch_day d ≡ today → IsDayNumber today
@@ -221,24 +229,31 @@ date_found d today is h =
     let year : d.year ≡ pos y = whole d.year above in
     let low : y ≤ 9999 = let within = d.year_in in omega (arith, ints, year, within) in
     let days : IsInRange 1 (days_in_month (pos y) d.month) d.day = subst (λ z. IsInRange 1 (days_in_month z d.month) d.day) year d.day_in in
-    let same : days_from_civil (pos y) d.month d.day ≡ today = ap (λ z. days_from_civil z d.month d.day) (sym year) ∙ is in
-    (above, sym (year_of-date y d.month d.day (low, d.month_in, days)) ∙ ap year_of same, sym (month_of-date y d.month d.day (low, d.month_in, days)) ∙ ap month_of same, sym (day_of-date y d.month d.day (low, d.month_in, days)) ∙ ap day_of same)
+    let same : days_from_civil (pos y) d.month d.day ≡ today = ap (λ z. days_from_civil z d.month d.day) (sym year) ∙ is in (
+      above,
+      sym (year_of-date y d.month d.day (low, d.month_in, days)) ∙ ap year_of same,
+      sym (month_of-date y d.month d.day (low, d.month_in, days)) ∙ ap month_of same,
+      sym (day_of-date y d.month d.day (low, d.month_in, days)) ∙ ap day_of same,
+    )
 
 -- ---- seconds
 
 -- seconds are the whole days before them and the rest of a day
-pub seconds_parts : (seconds : ℤ) → (seconds ≡ int_div_euclid seconds (pos 86400) *ℤ pos 86400 +ℤ pos (unsigned_abs (int_rem_euclid seconds (pos 86400)))) × (unsigned_abs (int_rem_euclid seconds (pos 86400)) < 86400)
+pub seconds_parts : (seconds : ℤ) → (seconds ≡ int_div_euclid seconds (pos 86400) *ℤ pos 86400 +ℤ pos
+    (unsigned_abs (int_rem_euclid seconds (pos 86400)))) × (unsigned_abs (int_rem_euclid seconds (pos 86400)) < 86400)
 seconds_parts (pos n) = (omega (arith, ints), omega arith)
 seconds_parts (negsuc n) = (omega (arith, ints), omega arith)
 
 pub day_number_range : (seconds : ℤ) → IsBetween (negsuc 62167219199) (pos 253402300799) seconds → IsDayNumber (int_div_euclid seconds (pos 86400))
 day_number_range seconds h = let parts = seconds_parts seconds in omega (arith, ints, parts, h)
 
-parts_again : (day seconds : ℤ) (s : ℕ) → seconds ≡ day *ℤ pos 86400 +ℤ pos s → s < 86400 → (int_div_euclid seconds (pos 86400) ≡ day) × (unsigned_abs (int_rem_euclid seconds (pos 86400)) ≡ s)
+parts_again : (day seconds : ℤ) (s : ℕ) → seconds ≡ day *ℤ pos 86400 +ℤ pos s
+    → s < 86400 → (int_div_euclid seconds (pos 86400) ≡ day) × (unsigned_abs (int_rem_euclid seconds (pos 86400)) ≡ s)
 parts_again day seconds s is lt = let parts = seconds_parts seconds in (omega (arith, ints, is, lt, parts), omega (arith, ints, is, lt, parts))
 
 -- the time at some seconds is in the calendar, and has those seconds
-pub civil_at_is : (seconds : ℤ) → IsBetween (negsuc 62167219199) (pos 253402300799) seconds → IsCivilTime (civil_at seconds) × (seconds_at (civil_at seconds) ≡ seconds)
+pub civil_at_is : (seconds : ℤ) → IsBetween (negsuc 62167219199) (pos 253402300799) seconds
+    → IsCivilTime (civil_at seconds) × (seconds_at (civil_at seconds) ≡ seconds)
 civil_at_is seconds h =
     let today = int_div_euclid seconds (pos 86400) in
     let s = unsigned_abs (int_rem_euclid seconds (pos 86400)) in
@@ -271,9 +286,12 @@ day_number_of y m d h =
     let first : day_count (pos y) 1 1 ≤ day_count (pos y) m d = let e = day_count-day_of_year (pos y) m d h.2.0 in omega (arith, e, h.2) in
     let low : days_from_civil (pos 0) 1 1 ≤ℤ days_from_civil (pos y) m d = elim (cases_order 0 y) [
       | inl none ↦ no_later (pos 0) 1 1 (pos y) m d (subst (λ k. day_count (pos k) 1 1 ≤ day_count (pos y) m d) (sym none) first)
-      | inr apart ↦ no_later (pos 0) 1 1 (pos y) m d (let lt = day_count-lt_year (pos 0) 1 1 (pos y) m d (civil_date 0 1 1 (omega arith, (omega arith, omega arith), (omega arith, omega arith))) h.2.0 (omega (arith, ints, apart)) in omega (arith, lt))
+      | inr apart ↦ no_later (pos 0) 1 1 (pos y) m d (let lt = day_count-lt_year (pos 0) 1 1
+          (pos y) m d (civil_date 0 1 1 (omega arith, (omega arith, omega arith), (omega arith, omega arith))) h.2.0
+          (omega (arith, ints, apart)) in omega (arith, lt))
     ] in
-    let high = before (pos y) m d (pos 10000) 1 1 (day_count-lt_year (pos y) m d (pos 10000) 1 1 (civil_date y m d h) (omega arith) (omega (arith, ints, h.0))) in
+    let high = before (pos y) m d (pos 10000) 1 1
+    (day_count-lt_year (pos y) m d (pos 10000) 1 1 (civil_date y m d h) (omega arith) (omega (arith, ints, h.0))) in
     (omega (arith, ints, low, first_day), omega (arith, ints, high, day_after_last))
 
 -- a time's seconds lie in the years 0 to 9999

@@ -1,12 +1,16 @@
 -- What is spelled so is read, whatever follows it.
-use Rattle.std.proofs.Common.{◌≡◌, ℕ, zero, suc, ◌-◌, ◌+◌, ◌≤◌, ◌<◌, ◌&&◌, not, Bool, true, false, List, [], ◌∷◌, ◌++◌, Some, None, Result, Ok, refl, sym, ap, subst, ◌∙◌, append_assoc, add-zero, arith, length, take, drop, ltb, leb, eqb, ◌⊎◌, inl, inr}
+use Rattle.std.proofs.Common.{◌≡◌, ℕ, zero, suc, ◌-◌, ◌+◌, ◌≤◌, ◌<◌, ◌&&◌, not, Bool, true, false, List, []}
+use Rattle.std.proofs.Common.{◌∷◌, ◌++◌, Some, None, Result, Ok, refl, sym, ap, subst, ◌∙◌, append_assoc}
+use Rattle.std.proofs.Common.{add-zero, arith, length, take, drop, ltb, leb, eqb, ◌⊎◌, inl, inr}
 use Rattle.std.proofs.lemmas.Bool.{eq-eqb, le-ltb, lt-ltb, le-leb, ne_eqb, not-true}
 use Rattle.std.proofs.lemmas.List.{take_at, drop_at, length-append, append-nil}
 use Rattle.krb_codec.specs.declared.fault.DerFault.{DerFault}
-use Rattle.krb_codec.specs.Shapes.{Primitive, integer, sequence_number, octets, bits, time, Shape, primitive, tagged, many, further, nothing, field, option, Meaning, Value, tag_of}
+use Rattle.krb_codec.specs.Shapes.{Primitive, integer, sequence_number, octets, bits, time, Shape, primitive}
+use Rattle.krb_codec.specs.Shapes.{tagged, many, further, nothing, field, option, Meaning, Value, tag_of}
 use Rattle.krb_codec.specs.Faults.{◌>>=◌}
 use Rattle.krb_codec.specs.Integers.{number}
-use Rattle.krb_codec.specs.Reading.{Input, Piece, starts, first_of, starts_between, tag_at, length_at, element_at, piece_of, meaning_of, ended, reads_each, reads_further, reads, reads_all}
+use Rattle.krb_codec.specs.Reading.{Input, Piece, starts, first_of, starts_between, tag_at, length_at, element_at}
+use Rattle.krb_codec.specs.Reading.{piece_of, meaning_of, ended, reads_each, reads_further, reads, reads_all}
 use Rattle.krb_codec.specs.Grammar.{IsLength, IsElement, IsMeaning, AreInTurn, IsFurther, Spells, is_element, is_apart, is_clear, is_legal}
 use Rattle.krb_codec.proofs.IntegerLemmas.{integer_complete, sequence_number_complete}
 use Rattle.krb_codec.proofs.TimeLemmas.{time_complete}
@@ -46,7 +50,8 @@ length_again place (b ∷ c ∷ bytes) rest n h =
     rw (t0, t1, t2, count, t3, taken, t4, t5, dropped, ← h.4) refl
 
 pieces : (content rest : List ℕ) (start begin after : ℕ) → start ≡ begin → begin + length content ≡ after
-    → piece_of start (length content) (content ++ rest) ≡ record { content = record { place = begin; left = content }; after = record { place = after; left = rest } }
+    → piece_of start (length content) (content ++ rest)
+    ≡ record { content = record { place = begin; left = content }; after = record { place = after; left = rest } }
 pieces content rest start begin after e f = rw (take_at content rest (length content) refl, drop_at content rest (length content) refl, e, f) refl
 
 element_again : (tag : ℕ) (content text : List ℕ) (place : ℕ) (rest : List ℕ) → IsElement tag content text
@@ -65,9 +70,13 @@ element_again tag content text place rest h =
     let len3 : length (lead ++ behind) ≡ length lead + length behind = length-append lead behind in
     let enough : ltb (length behind) (length content) ≡ false = le-ltb _ _ (omega (arith, len2)) in
     let same : eqb tag tag ≡ true = eq-eqb tag tag refl in
-    let step : element_at tag (record { place = place; left = left }) ≡ Ok (piece_of (place + (suc (length (lead ++ behind)) - length behind)) (length content) behind) = rw (same, length_again place lead behind (length content) h.1, enough) refl in
+    let step : element_at tag (record { place = place; left = left })
+    ≡ Ok (piece_of (place + (suc (length (lead ++ behind)) - length behind)) (length content) behind) =
+    rw (same, length_again place lead behind (length content) h.1, enough) refl in
     ap (λ (t : List ℕ). element_at tag (record { place = place; left = t })) regrouped ∙ step
-    ∙ ap (λ (e : Piece). Ok e) (pieces content rest (place + (suc (length (lead ++ behind)) - length behind)) (place + (length text - length content)) (place + length text) (omega (arith, len, len2, len3)) (omega (arith, len, len2, len3)))
+    ∙ ap (λ (e : Piece). Ok e) (pieces content rest
+    (place + (suc (length (lead ++ behind)) - length behind)) (place + (length text - length content))
+    (place + length text) (omega (arith, len, len2, len3)) (omega (arith, len, len2, len3)))
 
 meaning_again : (kind : Primitive) (place : ℕ) (content : List ℕ) (v : Meaning kind) → IsMeaning kind content v → meaning_of kind place content ≡ Ok v
 meaning_again (integer low high) place content v h = integer_complete low high place content v h
@@ -83,12 +92,14 @@ IsComplete {A} one spells read = (place : ℕ) (text : List ℕ) (v : A) (rest :
 
 -- the same, where nothing follows
 last_again : {A : Type 0} (one : Bool) (spells : List ℕ → A → Type 0) (read : Input → Result (A × Input) DerFault) → IsComplete one spells read
-    → (place : ℕ) (text : List ℕ) (v : A) → spells text v → read (record { place = place; left = text }) ≡ Ok (v, record { place = place + length text; left = [] })
+    → (place : ℕ) (text : List ℕ) (v : A) → spells text v
+    → read (record { place = place; left = text }) ≡ Ok (v, record { place = place + length text; left = [] })
 last_again one spells read complete place text v h =
     ap (λ (t : List ℕ). read (record { place = place; left = t })) (sym (append-nil text)) ∙ complete place text v [] (inr refl) h
 
 inside_again : {A : Type 0} (tag : ℕ) (one : Bool) (spells : List ℕ → A → Type 0) (read : Input → Result (A × Input) DerFault) → IsComplete one spells read
-    → IsComplete true (λ text v. (content : List ℕ) × IsElement tag content text × spells content v) (λ i. element_at tag i >>= λ e. read e.content >>= λ y. ended y.1 >>= λ _. Ok (y.0, e.after))
+    → IsComplete true (λ text v. (content : List ℕ) × IsElement tag content text × spells content v)
+    (λ i. element_at tag i >>= λ e. read e.content >>= λ y. ended y.1 >>= λ _. Ok (y.0, e.after))
 inside_again tag one spells read complete place text v rest follows h =
     let e = element_again tag h.0 text place rest h.1 in
     let f = last_again one spells read complete (place + (length text - length h.0)) h.0 v h.2 in
@@ -109,7 +120,8 @@ each_again spells read complete some (suc budget) place text (v ∷ vs) enough h
     let p = some h.0 v h.3 in
     let len : length text ≡ length h.0 + length h.1 = ap length h.2 ∙ length-append h.0 h.1 in
     let there : eqb (length text) 0 ≡ false = ne_eqb _ _ (λ e. omega (arith, e, p, len)) in
-    let one : read (record { place = place; left = text }) ≡ Ok (v, record { place = place + length h.0; left = h.1 }) = ap (λ (t : List ℕ). read (record { place = place; left = t })) h.2 ∙ complete place h.0 v h.1 (inl refl) h.3 in
+    let one : read (record { place = place; left = text }) ≡ Ok (v, record { place = place + length h.0; left = h.1 }) =
+    ap (λ (t : List ℕ). read (record { place = place; left = t })) h.2 ∙ complete place h.0 v h.1 (inl refl) h.3 in
     let more = each_again spells read complete some budget (place + length h.0) h.1 vs (omega (arith, enough, p, len)) h.4 in
     let end : (place + length h.0) + length h.1 ≡ place + length text = omega (arith, len) in
     rw (there, one, more, end) refl
@@ -138,7 +150,8 @@ starts_front : (tag : ℕ) (one others : List ℕ) → 0 < length one → starts
 starts_front tag [] others some = absurd (omega arith)
 starts_front tag (b ∷ one) others some = refl
 
-apart_further : (low high tag : ℕ) → not (leb low tag && leb tag high) ≡ true → (text : List ℕ) (es : List (ℕ × List ℕ)) → AreInTurn (IsFurther low high) text es → starts tag text ≡ false
+apart_further : (low high tag : ℕ) → not (leb low tag && leb tag high) ≡ true
+    → (text : List ℕ) (es : List (ℕ × List ℕ)) → AreInTurn (IsFurther low high) text es → starts tag text ≡ false
 apart_further low high tag e text [] h = ap (starts tag) h
 apart_further low high tag e text (x ∷ es) h =
     let lead : text ≡ x.0 ∷ ((h.3.2.0 ++ x.1) ++ h.1) = h.2 ∙ ap (λ (t : List ℕ). t ++ h.1) h.3.2.2 in
@@ -187,12 +200,14 @@ complete (many item) clear place text v rest follows h =
     let all : text ++ rest ≡ text = ap (λ (t : List ℕ). text ++ t) none ∙ append-nil text in
     let one = subst (λ (b : Bool). IsComplete b (Spells item) (reads item)) c.0 (complete item c.1) in
     let end = each_again (Spells item) (reads item) one (λ t w k. not_empty item t w c.0 k) (length text) place text v (omega arith) h in
-    ap (λ (t : List ℕ). reads_each (reads item) (length t) (record { place = place; left = t })) all ∙ end ∙ ap (λ (t : List ℕ). Ok (v, record { place = place + length text; left = t })) (sym none)
+    ap (λ (t : List ℕ). reads_each (reads item) (length t) (record { place = place; left = t })) all
+    ∙ end ∙ ap (λ (t : List ℕ). Ok (v, record { place = place + length text; left = t })) (sym none)
 complete (further low high) clear place text v rest follows h =
     let none = no_rest rest follows in
     let all : text ++ rest ≡ text = ap (λ (t : List ℕ). text ++ t) none ∙ append-nil text in
     let end = further_again low high (length text) place text h.0 (omega arith) h.1 in
-    ap (λ (t : List ℕ). reads_further low high (length t) (record { place = place; left = t })) all ∙ end ∙ ap (λ (t : List ℕ). Ok (tt, record { place = place + length text; left = t })) (sym none)
+    ap (λ (t : List ℕ). reads_further low high (length t) (record { place = place; left = t })) all
+    ∙ end ∙ ap (λ (t : List ℕ). Ok (tt, record { place = place + length text; left = t })) (sym none)
 complete nothing clear place text v rest follows h =
     rw (h, add-zero) refl
 complete (field first rest) clear place text v after follows h =
@@ -209,7 +224,8 @@ complete (option tag first rest) clear place text (None, w) after follows h =
     let none = no_rest after follows in
     let c = and_true (is_clear first && is_clear rest) (is_apart tag rest) clear in
     let d = and_true (is_clear first) (is_clear rest) c.0 in
-    let not_there : starts tag (text ++ after) ≡ false = ap (λ (t : List ℕ). starts tag (text ++ t)) none ∙ ap (starts tag) (append-nil text) ∙ apart tag rest d.1 c.1 text w h in
+    let not_there : starts tag (text ++ after) ≡ false = ap (λ (t : List ℕ). starts tag (text ++ t)) none
+    ∙ ap (starts tag) (append-nil text) ∙ apart tag rest d.1 c.1 text w h in
     let more = complete rest d.1 place text w after (inr none) h in
     rw (not_there, more) refl
 complete (option tag first rest) clear place text (Some v, w) after follows h =
@@ -238,7 +254,8 @@ no_prefix s legal text more v w h k =
     let l = and_true (is_element s) (is_clear s) legal in
     let first = complete s l.1 0 text v more (inl l.0) h in
     let second = last_again (is_element s) (Spells s) (reads s) (complete s l.1) 0 (text ++ more) w k in
-    ap (λ (x : Value s × Input). x.1.left) (ok_is (v, record { place = 0 + length text; left = more }) (w, record { place = 0 + length (text ++ more); left = [] }) (sym first ∙ second))
+    ap (λ (x : Value s × Input). x.1.left) (ok_is (v, record { place = 0 + length text; left = more })
+    (w, record { place = 0 + length (text ++ more); left = [] }) (sym first ∙ second))
 
 pub one_value : (s : Shape) → is_legal s ≡ true → (text : List ℕ) (v w : Value s) → Spells s text v → Spells s text w → v ≡ w
 one_value s legal text v w h k =

@@ -1,9 +1,13 @@
 -- Numbers by their bytes, in two's complement.
-use Rattle.std.proofs.Common.{◌≡◌, ℕ, suc, ◌+◌, ◌*◌, ◌^◌, ◌<◌, ◌≤◌, Bool, true, false, cond, not, ◌||◌, ◌&&◌, List, [], ◌∷◌, length, take, get_or, refl, sym, ap, subst, ◌∙◌, arith, add-one, nat_lt, ltb, eqb, leb, if◌then◌else◌, ℤ, pos, negsuc, ◌-◌, ◌+ℤ◌, ◌-ℤ◌, ◌*ℤ◌, ◌<ℤ◌, ◌≤ℤ◌, w64, FitsSigned, to_z, of_z, Result, Ok, Err, ◌⊎◌, inl, inr}
+use Rattle.std.proofs.Common.{◌≡◌, ℕ, suc, ◌+◌, ◌*◌, ◌^◌, ◌<◌, ◌≤◌, Bool, true, false, cond, not, ◌||◌, ◌&&◌}
+use Rattle.std.proofs.Common.{List, [], ◌∷◌, length, take, get_or, refl, sym, ap, subst, ◌∙◌, arith, add-one}
+use Rattle.std.proofs.Common.{nat_lt, ltb, eqb, leb, if◌then◌else◌, ℤ, pos, negsuc, ◌-◌, ◌+ℤ◌, ◌-ℤ◌, ◌*ℤ◌}
+use Rattle.std.proofs.Common.{◌<ℤ◌, ◌≤ℤ◌, w64, FitsSigned, to_z, of_z, Result, Ok, Err, ◌⊎◌, inl, inr}
 use Rattle.std.specs.Prelude.{int_lt}
 use Rattle.std.proofs.lemmas.List.{take_more}
 use Rattle.std.proofs.Math.Nat.{pow-zero, pow-succ', pow-le-pow_right, mul-le-mul_right, mul_assoc, add-mul}
-use Rattle.std.proofs.lemmas.Bool.{cond_both, ltb-true, ltb-false, lt-ltb, le-ltb, eqb-true, leb-true, or_cases, or_parts, and_parts, or_right, cases_Bool, not-false}
+use Rattle.std.proofs.lemmas.Bool.{cond_both, ltb-true, ltb-false, lt-ltb, le-ltb, eqb-true, leb-true}
+use Rattle.std.proofs.lemmas.Bool.{or_cases, or_parts, and_parts, or_right, cases_Bool, not-false}
 use Rattle.std.proofs.lemmas.Bool.Decides.{nat_tests}
 use Rattle.std.proofs.lemmas.Int.{ints, to_z-of_z, by_lt_z}
 use Rattle.std.proofs.lemmas.Int.Digits.{number_after_append, number_lt}
@@ -15,13 +19,17 @@ use Rattle.krb_codec.specs.declared.fault.DerFault.{DerFault}
 use Rattle.krb_codec.specs.declared.fault.FaultKind.TheVariants.{BadInteger, OutOfRange}
 use Rattle.krb_codec.specs.Faults.{fault}
 use Rattle.krb_codec.proofs.StepLemmas.{guard_ok, ok_is}
-use Rattle.krb_codec.specs.Integers.{number, signed, is_shortest_integer, repeats_sign, integer_in, IsInteger, without_sign, integer_octets, word_of, in_word, sequence_number_in, IsSequenceNumber, least_sequence_number, greatest_sequence_number, sequence_number_octets}
+use Rattle.krb_codec.specs.Integers.{number, signed, is_shortest_integer, repeats_sign, integer_in}
+use Rattle.krb_codec.specs.Integers.{IsInteger, without_sign, integer_octets, word_of, in_word}
+use Rattle.krb_codec.specs.Integers.{sequence_number_in, IsSequenceNumber, least_sequence_number}
+use Rattle.krb_codec.specs.Integers.{greatest_sequence_number, sequence_number_octets}
 
 pub pow_more : (i : ℕ) → 256 ^ (i + 1) ≡ 256 * 256 ^ i
 pow_more i = rw add-one (pow-succ' 256 i)
 
 pub pow_few : (i : ℕ) → i < 7 → 256 ^ i ≤ 2 ^ 48
-pow_few i lt = let le : 256 ^ i ≤ 256 ^ 6 = pow-le-pow_right (let some : 0 < 256 = omega arith in some) {i = i} {j = 6} (let le : i ≤ 6 = omega arith in le) in omega (arith, le)
+pow_few i lt = let le : 256 ^ i ≤ 256 ^ 6 = pow-le-pow_right (let some : 0 < 256 = omega arith in some) {i = i} {j = 6}
+    (let le : i ≤ 6 = omega arith in le) in omega (arith, le)
 
 -- what a first byte counts less in two's complement, at k bytes
 abbrev pub sign_weight : ℕ → ℕ → ℕ
@@ -34,7 +42,8 @@ chosen_times false p q e = e
 pub sign_weight_more : (a k : ℕ) → sign_weight a (k + 1) ≡ 256 * sign_weight a k
 sign_weight_more a k = chosen_times (nat_lt a 128) (256 ^ k) (256 ^ (k + 1)) (pow_more k)
 
-pub number_more : (n i : ℕ) (bytes : List ℕ) → i < length bytes → number_from_digits_after 256 n (take (i + 1) bytes) ≡ number_from_digits_after 256 n (take i bytes) * 256 + get_or bytes i 0
+pub number_more : (n i : ℕ) (bytes : List ℕ) → i < length bytes → number_from_digits_after 256 n (take (i + 1) bytes)
+    ≡ number_from_digits_after 256 n (take i bytes) * 256 + get_or bytes i 0
 number_more n i bytes lt = ap (number_from_digits_after 256 n) (take_more bytes i 0 lt) ∙ number_after_append 256 n (take i bytes) (get_or bytes i 0 ∷ [])
 
 pub times_fits : (n : ℤ) (p : ℕ) → p ≤ 2 ^ 48 → pos 0 ≤ℤ (n +ℤ pos (128 * p)) → n <ℤ pos (128 * p) → FitsSigned w64 (pos 256 *ℤ n)
@@ -81,11 +90,13 @@ integer_complete low high place content n h =
     let second : int_lt high (signed content) ≡ false = false_below _ _ (subst (λ m. m ≤ℤ high) h.1 h.3) in
     rw (h.0, first, second, ← h.1) refl
 
-pub integer_bad : (low high : ℤ) (place : ℕ) (content : List ℕ) → is_shortest_integer content ≡ false → integer_in low high place content ≡ fault place BadInteger
+pub integer_bad : (low high : ℤ) (place : ℕ) (content : List ℕ)
+    → is_shortest_integer content ≡ false → integer_in low high place content ≡ fault place BadInteger
 unfolding integer_in
 integer_bad low high place content bad = rw bad refl
 
-pub integer_outside : (low high : ℤ) (place : ℕ) (content : List ℕ) → is_shortest_integer content ≡ true → (signed content <ℤ low) ⊎ (high <ℤ signed content) → integer_in low high place content ≡ fault place OutOfRange
+pub integer_outside : (low high : ℤ) (place : ℕ) (content : List ℕ) → is_shortest_integer content ≡ true
+    → (signed content <ℤ low) ⊎ (high <ℤ signed content) → integer_in low high place content ≡ fault place OutOfRange
 unfolding integer_in
 integer_outside low high place content good (inl below) = let t = true_below _ _ below in rw (good, t) refl
 integer_outside low high place content good (inr above) =
@@ -104,28 +115,35 @@ number_after_split n (b ∷ bytes) =
     let one = number_after_split (n * 256 + b) bytes in
     let zero_first = number_after_split (0 + b) bytes in
     let p : 256 ^ suc (length bytes) ≡ 256 * 256 ^ length bytes = pow-succ' 256 (length bytes) in
-    let parts : (n * 256 + b) * 256 ^ length bytes ≡ n * (256 * 256 ^ length bytes) + (0 + b) * 256 ^ length bytes = omega (arith, add-mul (n * 256) b (256 ^ length bytes), mul_assoc n 256 (256 ^ length bytes)) in
+    let parts : (n * 256 + b) * 256 ^ length bytes ≡ n * (256 * 256 ^ length bytes) + (0 + b) * 256 ^ length bytes =
+    omega (arith, add-mul (n * 256) b (256 ^ length bytes), mul_assoc n 256 (256 ^ length bytes)) in
     rw p (omega (arith, one, zero_first, parts))
 
 -- a first pair of bytes that a shortest form begins with, as a number
-pub shortest_pair : (a b : ℕ) (bytes : List ℕ) → a < 256 → b < 256 → is_shortest_integer (a ∷ b ∷ bytes) ≡ true → (a < 128 → 128 ≤ (0 + a) * 256 + b) × (128 ≤ a → (0 + a) * 256 + b < 65408)
+pub shortest_pair : (a b : ℕ) (bytes : List ℕ) → a < 256 → b < 256 → is_shortest_integer (a ∷ b ∷ bytes) ≡ true
+    → (a < 128 → 128 ≤ (0 + a) * 256 + b) × (128 ≤ a → (0 + a) * 256 + b < 65408)
 shortest_pair a b bytes fa fb e = grind (arith, nat_tests)
 
 -- a shortest form of more than eight bytes lies outside the range of an `i64`
-pub long_outside : (low high : ℤ) (content : List ℕ) → ((i : ℕ) → get_or content i 0 < 256) → FitsSigned w64 low → FitsSigned w64 high → is_shortest_integer content ≡ true → 8 < length content → (signed content <ℤ low) ⊎ (high <ℤ signed content)
+pub long_outside : (low high : ℤ) (content : List ℕ)
+    → ((i : ℕ) → get_or content i 0 < 256) → FitsSigned w64 low → FitsSigned w64 high
+    → is_shortest_integer content ≡ true → 8 < length content → (signed content <ℤ low) ⊎ (high <ℤ signed content)
 long_outside low high [] each fl fh good long = absurd (omega arith)
 long_outside low high (a ∷ []) each fl fh good long = absurd (omega arith)
 long_outside low high (a ∷ b ∷ bytes) each fl fh good long =
     let q = 256 ^ length bytes in
     let m = (0 + a) * 256 + b in
-    let big : 256 ^ 7 ≤ q = pow-le-pow_right (let some : 0 < 256 = omega arith in some) {i = 7} {j = length bytes} (let le : 7 ≤ length bytes = omega arith in le) in
+    let big : 256 ^ 7 ≤ q = pow-le-pow_right (let some : 0 < 256 = omega arith in some) {i = 7} {j = length bytes}
+    (let le : 7 ≤ length bytes = omega arith in le) in
     let pair = shortest_pair a b bytes (each 0) (each 1) good in
     let split = number_after_split m bytes in
     let rest : number bytes < q = number_lt 256 bytes (below_from bytes (λ i. each (suc (suc i)))) in
-    let p : 256 ^ suc (suc (length bytes)) ≡ 65536 * q = let p1 = pow-succ' 256 (suc (length bytes)) in let p2 = pow-succ' 256 (length bytes) in omega (arith, p1, p2) in
+    let p : 256 ^ suc (suc (length bytes)) ≡ 65536 * q =
+    let p1 = pow-succ' 256 (suc (length bytes)) in let p2 = pow-succ' 256 (length bytes) in omega (arith, p1, p2) in
     cond_both (ltb a 128) (pos (number (a ∷ b ∷ bytes))) (pos (number (a ∷ b ∷ bytes)) -ℤ pos (256 ^ length (a ∷ b ∷ bytes))) (λ n. (n <ℤ low) ⊎ (high <ℤ n))
     (λ e. let small = ltb-true a 128 e in let more = mul-le-mul_right {m = 128} {n = m} q (pair.0 small) in inr (omega (arith, ints, more, split, big)))
-    (λ e. let not_small = ltb-false a 128 e in let less = mul-le-mul_right {m = m} {n = 65407} q (let le : m ≤ 65407 = omega (arith, pair.1 not_small) in le) in inl (omega (arith, ints, less, split, big, rest, p)))
+    (λ e. let not_small = ltb-false a 128 e in let less = mul-le-mul_right {m = m} {n = 65407} q (let le : m
+    ≤ 65407 = omega (arith, pair.1 not_small) in le) in inl (omega (arith, ints, less, split, big, rest, p)))
 
 -- ---- the shortest form
 
@@ -151,7 +169,12 @@ signed_without a (b ∷ bytes) e =
           let second = number_after_split (0 + b) bytes in
           let p1 = pow-succ' 256 (suc (length bytes)) in
           let p2 = pow-succ' 256 (length bytes) in
-          let parts_of : ((0 + a) * 256 + b) * q ≡ 65280 * q + (0 + b) * q = omega (arith, is, add-mul 65280 (0 + b) q, ap (λ m. m * q) (let e : (0 + a) * 256 + b ≡ 65280 + (0 + b) = omega (arith, is) in e)) in
+          let parts_of : ((0 + a) * 256 + b) * q ≡ 65280 * q + (0 + b) * q = omega (
+            arith,
+            is,
+            add-mul 65280 (0 + b) q,
+            ap (λ m. m * q) (let e : (0 + a) * 256 + b ≡ 65280 + (0 + b) = omega (arith, is) in e),
+          ) in
           rw (negative, negative_too) (omega (arith, ints, first, second, p1, p2, parts_of))
     ]
 
@@ -177,7 +200,8 @@ number_of_eight a b c d e f g h = omega arith
 
 pub eight_again : (m : ℕ) → m < 2 ^ 64 → number (to_be_bytes w64 m) ≡ m
 eight_again m lt =
-    number_of_eight (byte_at 7 m) (byte_at 6 m) (byte_at 5 m) (byte_at 4 m) (byte_at 3 m) (byte_at 2 m) (byte_at 1 m) (byte_at 0 m) ∙ from_be_bytes-to_be_bytes_8 m lt
+    number_of_eight (byte_at 7 m) (byte_at 6 m) (byte_at 5 m)
+    (byte_at 4 m) (byte_at 3 m) (byte_at 2 m) (byte_at 1 m) (byte_at 0 m) ∙ from_be_bytes-to_be_bytes_8 m lt
 
 signed_by : (a : ℕ) (bytes : List ℕ) (m : ℕ) → length bytes ≡ 7 → number (a ∷ bytes) ≡ m → signed (a ∷ bytes) ≡ cond (ltb a 128) (pos m) (pos m -ℤ pos (2 ^ 64))
 signed_by a bytes m seven is = rw (seven, is) refl

@@ -1,13 +1,17 @@
 -- A usual spelling of a value is its text.
-use Rattle.std.proofs.Common.{◌≡◌, ℕ, zero, suc, ◌-◌, ◌+◌, ◌^◌, ◌≤◌, ◌<◌, ◌&&◌, true, false, cond, List, [], ◌∷◌, ◌++◌, Some, None, refl, sym, ap, subst, ◌∙◌, arith, length, get_or, eqb, ltb, inl, inr, ℤ, pos, negsuc, ◌≤ℤ◌, ◌-ℤ◌, FitsSigned, w64, w32}
+use Rattle.std.proofs.Common.{◌≡◌, ℕ, zero, suc, ◌-◌, ◌+◌, ◌^◌, ◌≤◌, ◌<◌, ◌&&◌, true, false, cond, List}
+use Rattle.std.proofs.Common.{[], ◌∷◌, ◌++◌, Some, None, refl, sym, ap, subst, ◌∙◌, arith, length, get_or}
+use Rattle.std.proofs.Common.{eqb, ltb, inl, inr, ℤ, pos, negsuc, ◌≤ℤ◌, ◌-ℤ◌, FitsSigned, w64, w32}
 use Rattle.std.specs.Int.{to_be_bytes, from_be_bytes, cast_unsigned}
 use Rattle.std.specs.List.{flat_map, AllByRecursion}
 use Rattle.std.proofs.lemmas.Int.{ints}
 use Rattle.std.proofs.lemmas.Nat.{be_bytes_8, be_bytes_4}
 use Rattle.std.proofs.lemmas.Bool.{and_parts, cases_Bool, ltb-true, ltb-false, lt-ltb, le-ltb, le-leb, ne_eqb}
 use Rattle.std.proofs.lemmas.List.Concat.{flat_map-cons}
-use Rattle.krb_codec.specs.Shapes.{Primitive, integer, sequence_number, octets, bits, time, Shape, primitive, tagged, many, further, nothing, field, option, Meaning, Value, is_between, tag_of}
-use Rattle.krb_codec.specs.Integers.{number, repeats_sign, is_shortest_integer, signed, IsInteger, IsSequenceNumber, without_sign, integer_octets, sequence_number_octets, word_of}
+use Rattle.krb_codec.specs.Shapes.{Primitive, integer, sequence_number, octets, bits, time, Shape, primitive, tagged}
+use Rattle.krb_codec.specs.Shapes.{many, further, nothing, field, option, Meaning, Value, is_between, tag_of}
+use Rattle.krb_codec.specs.Integers.{number, repeats_sign, is_shortest_integer, signed, IsInteger, IsSequenceNumber}
+use Rattle.krb_codec.specs.Integers.{without_sign, integer_octets, sequence_number_octets, word_of}
 use Rattle.krb_codec.specs.BitStrings.{IsBits, bits_octets}
 use Rattle.krb_codec.specs.Texts.{without_zeros, length_octets, element, content_of, text, time_content}
 use Rattle.krb_codec.specs.Grammar.{IsLength, IsElement, IsMeaning, AreInTurn, IsFurther, Spells, is_element, is_bounded, is_apart, is_clear, is_legal}
@@ -77,7 +81,8 @@ length_only (b ∷ c ∷ bytes) n h all =
     let tail : List ℕ = c ∷ bytes in
     let k : ℕ = 8 - length tail in
     let eight : length (zeros k tail) ≡ 8 = filled_length (λ (rest : List ℕ). 0) k tail ∙ omega (arith, h.1) in
-    let is : to_be_bytes w64 n ≡ zeros k tail = eight_only (zeros k tail) n eight (filled_bytes (λ (rest : List ℕ). 0) (λ rest. omega arith) k tail all.1) (zeros_number k tail ∙ sym h.4) in
+    let is : to_be_bytes w64 n ≡ zeros k tail = eight_only (zeros k tail) n eight
+    (filled_bytes (λ (rest : List ℕ). 0) (λ rest. omega arith) k tail all.1) (zeros_number k tail ∙ sym h.4) in
     let some : eqb c 0 ≡ false = ne_eqb c 0 (λ e. omega (arith, e, h.2)) in
     let first : without_zeros tail ≡ tail = rw some refl in
     let rest : without_zeros (to_be_bytes w64 n) ≡ tail = ap without_zeros is ∙ zeros_without k tail ∙ first in
@@ -176,7 +181,8 @@ short low high n content fl fh h all = elim (cases_Bool (ltb 8 (length content))
   | inr e ↦ ltb-false 8 (length content) e
 ]
 
-integer_only : (low high n : ℤ) (content : List ℕ) → FitsSigned w64 low → FitsSigned w64 high → IsInteger low high content n → AreBytes content → content ≡ integer_octets n
+integer_only : (low high n : ℤ) (content : List ℕ) → FitsSigned w64 low
+    → FitsSigned w64 high → IsInteger low high content n → AreBytes content → content ≡ integer_octets n
 unfolding integer_octets
 integer_only low high n content fl fh h all =
     let few = short low high n content fl fh h all in
@@ -184,8 +190,11 @@ integer_only low high n content fl fh h all =
     let k : ℕ = 8 - length content in
     let long : List ℕ = signs k content in
     let eight : length long ≡ 8 = filled_length sign_byte k content ∙ omega (arith, few) in
-    let value : number long ≡ cast_unsigned w64 n = sym (eight_unsigned long eight (filled_bytes sign_byte sign_small k content all)) ∙ ap (cast_unsigned w64) (signs_signed k content some ∙ sym h.1) in
-    let is : to_be_bytes w64 (cast_unsigned w64 n) ≡ long = eight_only long (cast_unsigned w64 n) eight (filled_bytes sign_byte sign_small k content all) value in
+    let value : number long ≡ cast_unsigned w64 n =
+    sym (eight_unsigned long eight (filled_bytes sign_byte sign_small k content all))
+    ∙ ap (cast_unsigned w64) (signs_signed k content some ∙ sym h.1) in
+    let is : to_be_bytes w64 (cast_unsigned w64 n) ≡ long =
+    eight_only long (cast_unsigned w64 n) eight (filled_bytes sign_byte sign_small k content all) value in
     sym (ap without_sign is ∙ signs_without k content some ∙ shortest_stays content h.0)
 
 -- ---- the other contents
@@ -197,7 +206,12 @@ word_again (negsuc k) low high = absurd (omega (arith, ints, low))
 sequence_number_only : (content : List ℕ) (n : ℕ) → IsSequenceNumber content n → pos 0 ≤ℤ signed content → AreBytes content → content ≡ sequence_number_octets n
 sequence_number_only content n h low all =
     let same : pos n ≡ signed content = ap pos h.1 ∙ word_again (signed content) low h.3 in
-    let is : IsInteger (negsuc 2147483647) (pos 4294967295) content (pos n) = (h.0, same, subst (λ m. negsuc 2147483647 ≤ℤ m) (sym same) h.2, subst (λ m. m ≤ℤ pos 4294967295) (sym same) h.3) in
+    let is : IsInteger (negsuc 2147483647) (pos 4294967295) content (pos n) = (
+      h.0,
+      same,
+      subst (λ m. negsuc 2147483647 ≤ℤ m) (sym same) h.2,
+      subst (λ m. m ≤ℤ pos 4294967295) (sym same) h.3,
+    ) in
     integer_only (negsuc 2147483647) (pos 4294967295) (pos n) content (omega (arith, ints)) (omega (arith, ints)) is all
 
 number_of_four : (a b c d : ℕ) → number (a ∷ b ∷ c ∷ d ∷ []) ≡ from_be_bytes w32 (a ∷ b ∷ c ∷ d ∷ [])
@@ -206,13 +220,16 @@ number_of_four a b c d = omega arith
 bits_only : (content : List ℕ) (n : ℕ) → IsBits content n → length content ≡ 5 → get_or content 0 0 ≡ 0 → AreBytes content → content ≡ bits_octets n
 unfolding bits_octets
 bits_only (u ∷ a ∷ b ∷ c ∷ d ∷ []) n h len none all =
-    let is : to_be_bytes w32 n ≡ a ∷ b ∷ c ∷ d ∷ [] = be_bytes_4 (a ∷ b ∷ c ∷ d ∷ []) n refl (byte_of (a ∷ b ∷ c ∷ d ∷ []) all.1) (h.1 ∙ number_of_four a b c d) in
+    let is : to_be_bytes w32 n ≡ a ∷ b ∷ c ∷ d ∷ [] =
+    be_bytes_4 (a ∷ b ∷ c ∷ d ∷ []) n refl (byte_of (a ∷ b ∷ c ∷ d ∷ []) all.1) (h.1 ∙ number_of_four a b c d) in
     rw (is, none) refl
 bits_only content n h len none all = absurd (omega (arith, len))
 
-content_only : (kind : Primitive) → is_bounded kind ≡ true → (content : List ℕ) (v : Meaning kind) → IsMeaning kind content v → IsUsualContent kind content → AreBytes content → content ≡ content_of kind v
+content_only : (kind : Primitive) → is_bounded kind ≡ true → (content : List ℕ) (v : Meaning kind)
+    → IsMeaning kind content v → IsUsualContent kind content → AreBytes content → content ≡ content_of kind v
 content_only (integer low high) bounded content n h usual all =
-    let b = and_parts (is_between (negsuc 9223372036854775807) (pos 9223372036854775807) low) (is_between (negsuc 9223372036854775807) (pos 9223372036854775807) high) bounded in
+    let b = and_parts (is_between (negsuc 9223372036854775807) (pos 9223372036854775807) low)
+    (is_between (negsuc 9223372036854775807) (pos 9223372036854775807) high) bounded in
     let l = within (negsuc 9223372036854775807) (pos 9223372036854775807) low b.0 in
     let u = within (negsuc 9223372036854775807) (pos 9223372036854775807) high b.1 in
     integer_only low high n content (fits_word low l.0 l.1) (fits_word high u.0 u.1) h all
@@ -232,7 +249,9 @@ each_only : {A : Type 0} (spells : List ℕ → A → Type 0) (usual : (text : L
 each_only spells usual text_of one bytes [] h u all = h
 each_only spells usual text_of one bytes (v ∷ vs) h u all =
     let there : AreBytes (h.0 ++ h.1) = subst AreBytes h.2 all in
-    h.2 ∙ both_only h.0 h.1 (text_of v) (flat_map text_of vs) (one h.0 v h.3 u.0 (front_bytes h.0 h.1 there)) (each_only spells usual text_of one h.1 vs h.4 u.1 (back_bytes h.0 h.1 there)) ∙ sym (flat_map-cons text_of v vs)
+    h.2 ∙ both_only h.0 h.1 (text_of v) (flat_map text_of vs) (one h.0 v h.3 u.0 (front_bytes h.0 h.1 there))
+    (each_only spells usual text_of one h.1 vs h.4 u.1 (back_bytes h.0 h.1 there))
+    ∙ sym (flat_map-cons text_of v vs)
 
 none_of : {A : Type 0} (spells : List ℕ → A → Type 0) (bytes : List ℕ) (vs : List A) → AreInTurn spells bytes vs → vs ≡ [] → bytes ≡ []
 none_of spells bytes [] h none = h
@@ -240,7 +259,8 @@ none_of spells bytes (v ∷ vs) h none = absurd cc
 
 text_only : (s : Shape) → is_clear s ≡ true → (bytes : List ℕ) (v : Value s) (h : Spells s bytes v) → IsUsual s bytes v h → AreBytes bytes → bytes ≡ text s v
 text_only (primitive kind) clear bytes v h u all =
-    element_only (tag_of kind) h.0 bytes h.1 all ∙ ap (element (tag_of kind)) (content_only kind clear h.0 v h.2 u (content_bytes (tag_of kind) h.0 bytes h.1 all))
+    element_only (tag_of kind) h.0 bytes h.1 all ∙ ap (element (tag_of kind))
+    (content_only kind clear h.0 v h.2 u (content_bytes (tag_of kind) h.0 bytes h.1 all))
 text_only (tagged tag s) clear bytes v h u all =
     element_only tag h.0 bytes h.1 all ∙ ap (element tag) (text_only s clear h.0 v h.2 u (content_bytes tag h.0 bytes h.1 all))
 text_only (many item) clear bytes vs h u all =
@@ -252,7 +272,9 @@ text_only (field first rest) clear bytes v h u all =
     let c = and_parts (is_element first && is_clear first) (is_clear rest) clear in
     let d = and_parts (is_element first) (is_clear first) c.0 in
     let there : AreBytes (h.0 ++ h.1) = subst AreBytes h.2 all in
-    h.2 ∙ both_only h.0 h.1 (text first v.0) (text rest v.1) (text_only first d.1 h.0 v.0 h.3 u.0 (front_bytes h.0 h.1 there)) (text_only rest c.1 h.1 v.1 h.4 u.1 (back_bytes h.0 h.1 there))
+    h.2 ∙ both_only h.0 h.1 (text first v.0)
+    (text rest v.1) (text_only first d.1 h.0 v.0 h.3 u.0 (front_bytes h.0 h.1 there))
+    (text_only rest c.1 h.1 v.1 h.4 u.1 (back_bytes h.0 h.1 there))
 text_only (option tag first rest) clear bytes (None, w) h u all =
     let c = and_parts (is_clear first && is_clear rest) (is_apart tag rest) clear in
     let d = and_parts (is_clear first) (is_clear rest) c.0 in

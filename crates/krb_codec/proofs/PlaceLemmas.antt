@@ -1,14 +1,20 @@
 -- The first fault stands within the text.
-use Rattle.std.proofs.Common.{◌≡◌, ℕ, ℤ, zero, suc, ◌+◌, ◌-◌, ◌≤◌, ◌||◌, not, int_lt, Bool, true, false, cond, List, [], ◌∷◌, Option, Some, None, Result, Ok, Err, refl, sym, ap, subst, ◌∙◌, arith, length, take, ltb, eqb, ◌⊎◌, inl, inr}
+use Rattle.std.proofs.Common.{◌≡◌, ℕ, ℤ, zero, suc, ◌+◌, ◌-◌, ◌≤◌, ◌||◌, not, int_lt, Bool, true}
+use Rattle.std.proofs.Common.{false, cond, List, [], ◌∷◌, Option, Some, None, Result, Ok, Err, refl}
+use Rattle.std.proofs.Common.{sym, ap, subst, ◌∙◌, arith, length, take, ltb, eqb, ◌⊎◌, inl, inr}
 use Rattle.std.proofs.lemmas.Bool.{ltb-false}
 use Rattle.std.proofs.lemmas.List.{length-append, length-take}
 use Rattle.krb_codec.specs.declared.fault.DerFault.{DerFault}
-use Rattle.krb_codec.specs.Shapes.{Primitive, integer, sequence_number, octets, bits, time, Shape, primitive, tagged, many, further, nothing, field, option, Value, tag_of}
+use Rattle.krb_codec.specs.Shapes.{Primitive, integer, sequence_number, octets, bits, time, Shape}
+use Rattle.krb_codec.specs.Shapes.{primitive, tagged, many, further, nothing, field, option, Value, tag_of}
 use Rattle.krb_codec.specs.Faults.{◌>>=◌}
-use Rattle.krb_codec.specs.Integers.{number, is_shortest_integer, signed, integer_in, in_word, sequence_number_in, least_sequence_number, greatest_sequence_number}
+use Rattle.krb_codec.specs.Integers.{number, is_shortest_integer, signed, integer_in, in_word}
+use Rattle.krb_codec.specs.Integers.{sequence_number_in, least_sequence_number, greatest_sequence_number}
 use Rattle.krb_codec.specs.BitStrings.{bits_in, is_bit_string}
 use Rattle.krb_codec.specs.Times.{time_in, is_time}
-use Rattle.krb_codec.specs.Reading.{Input, Piece, starts, first_of, starts_between, tag_at, length_at, element_at, piece_of, meaning_of, ended, reads_each, reads_further, reads_optional, reads, reads_all}
+use Rattle.krb_codec.specs.Reading.{Input, Piece, starts, first_of, starts_between, tag_at}
+use Rattle.krb_codec.specs.Reading.{length_at, element_at, piece_of, meaning_of, ended}
+use Rattle.krb_codec.specs.Reading.{reads_each, reads_further, reads_optional, reads, reads_all}
 use Rattle.krb_codec.specs.Grammar.{Spells, IsElement}
 use Rattle.krb_codec.proofs.StepLemmas.{bind_ok, guard_ok, ok_is, chosen}
 use Rattle.krb_codec.proofs.SoundLemmas.{element_takes, Takes, IsSound, inside_sound, sound}
@@ -20,7 +26,8 @@ not_err : {A C : Type 0} (x : A) (f : DerFault) → ◌≡◌ {A = Result A DerF
 not_err x f e = absurd cc
 
 -- the step that failed
-bind_err : {A B : Type 0} (r : Result A DerFault) (g : A → Result B DerFault) (f : DerFault) → (r >>= g) ≡ Err f → (r ≡ Err f) ⊎ ((x : A) × (r ≡ Ok x) × (g x ≡ Err f))
+bind_err : {A B : Type 0} (r : Result A DerFault) (g : A → Result B DerFault) (f : DerFault)
+    → (r >>= g) ≡ Err f → (r ≡ Err f) ⊎ ((x : A) × (r ≡ Ok x) × (g x ≡ Err f))
 bind_err (Ok x) g f e = inr (x, refl, e)
 bind_err (Err d) g f e = let same = same_fault d f e in inl (rw same refl)
 
@@ -51,13 +58,15 @@ length_fault place (b ∷ bytes) f e =
 
 element_fault : (tag : ℕ) (input : Input) (f : DerFault) → element_at tag input ≡ Err f → f.place ≡ input.place
 unfolding element_at
-element_fault tag input f e = elim (bind_err (tag_at tag input) (λ bytes. length_at input.place bytes >>= λ n. cond (ltb (length n.1) n.0) (Err _) (Ok (piece_of (input.place + (length input.left - length n.1)) n.0 n.1))) f e) [
-  | inl first ↦ tag_fault tag input.place input.left f first
-  | inr a ↦ elim (bind_err (length_at input.place a.0) (λ n. cond (ltb (length n.1) n.0) (Err _) (Ok (piece_of (input.place + (length input.left - length n.1)) n.0 n.1))) f a.2) [
-    | inl second ↦ length_fault input.place a.0 f second
-    | inr b ↦ either (f.place ≡ input.place) (ltb (length b.0.1) b.0.0) _ _ f b.2 (stands _ f) (not_err _ f)
-  ]
-]
+element_fault tag input f e = elim (bind_err (tag_at tag input) (λ bytes. length_at input.place bytes >>= λ n.
+    cond (ltb (length n.1) n.0) (Err _) (Ok (piece_of (input.place + (length input.left - length n.1)) n.0 n.1))) f e) [
+      | inl first ↦ tag_fault tag input.place input.left f first
+      | inr a ↦ elim (bind_err (length_at input.place a.0) (λ n. cond (ltb (length n.1) n.0)
+          (Err _) (Ok (piece_of (input.place + (length input.left - length n.1)) n.0 n.1))) f a.2) [
+            | inl second ↦ length_fault input.place a.0 f second
+            | inr b ↦ either (f.place ≡ input.place) (ltb (length b.0.1) b.0.0) _ _ f b.2 (stands _ f) (not_err _ f)
+          ]
+    ]
 
 ended_fault : (input : Input) (f : DerFault) → ended input ≡ Err f → f.place ≡ input.place
 ended_fault input f e = either (f.place ≡ input.place) (eqb (length input.left) 0) _ _ f e (not_err tt f) (stands _ f)
@@ -98,7 +107,8 @@ abbrev end_of : Input → ℕ
 end_of input = input.place + length input.left
 
 kept : {A : Type 0} (spells : List ℕ → A → Type 0) (input : Input) (x : A × Input) → Takes spells input x → end_of x.1 ≡ end_of input
-kept spells input x p = let len : length input.left ≡ length p.text + length x.1.left = ap length p.parts ∙ length-append p.text x.1.left in omega (arith, len, p.start)
+kept spells input x p = let len : length input.left
+    ≡ length p.text + length x.1.left = ap length p.parts ∙ length-append p.text x.1.left in omega (arith, len, p.start)
 
 element_kept : (tag : ℕ) (input : Input) (e : Piece) → element_at tag input ≡ Ok e → end_of e.after ≡ end_of input
 element_kept tag input e h = kept (λ text content. IsElement tag content text) input (e.content.left, e.after) (element_takes tag input e h)
@@ -107,8 +117,10 @@ element_kept tag input e h = kept (λ text content. IsElement tag content text) 
 content_end : (tag : ℕ) (input : Input) (e : Piece) → element_at tag input ≡ Ok e → end_of e.content ≡ e.after.place
 unfolding element_at
 content_end tag input e h =
-    let a = bind_ok (tag_at tag input) (λ bytes. length_at input.place bytes >>= λ n. cond (ltb (length n.1) n.0) (Err _) (Ok (piece_of (input.place + (length input.left - length n.1)) n.0 n.1))) e h in
-    let b = bind_ok (length_at input.place a.0) (λ n. cond (ltb (length n.1) n.0) (Err _) (Ok (piece_of (input.place + (length input.left - length n.1)) n.0 n.1))) e a.2 in
+    let a = bind_ok (tag_at tag input) (λ bytes. length_at input.place bytes >>= λ n. cond (ltb (length n.1) n.0)
+    (Err _) (Ok (piece_of (input.place + (length input.left - length n.1)) n.0 n.1))) e h in
+    let b = bind_ok (length_at input.place a.0) (λ n. cond (ltb (length n.1) n.0)
+    (Err _) (Ok (piece_of (input.place + (length input.left - length n.1)) n.0 n.1))) e a.2 in
     let n = b.0.0 in
     let rest = b.0.1 in
     let g = guard_ok (ltb (length rest) n) _ _ e b.2 in
@@ -142,7 +154,8 @@ inside_within {A} tag spells read is_sound within input f h =
           ]
     ]
 
-each_within : {A : Type 0} (spells : List ℕ → A → Type 0) (read : Input → Result (A × Input) DerFault) → IsSound spells read → IsWithin read → (budget : ℕ) → IsWithin (reads_each read budget)
+each_within : {A : Type 0} (spells : List ℕ → A → Type 0) (read : Input → Result (A × Input) DerFault)
+    → IsSound spells read → IsWithin read → (budget : ℕ) → IsWithin (reads_each read budget)
 each_within spells read is_sound within zero input f e = not_err _ f e
 each_within spells read is_sound within (suc budget) input f e =
     either (f.place ≤ end_of input) (eqb (length input.left) 0) _ _ f e (not_err _ f)
@@ -210,13 +223,16 @@ within (field first rest) input f h =
       ]
     ]
 within (option tag first rest) input f h =
-    let read : Input → Result (Value first × Input) DerFault = λ i. element_at tag i >>= λ e. reads first e.content >>= λ y. ended y.1 >>= λ _. Ok (y.0, e.after) in
+    let read : Input → Result (Value first × Input) DerFault =
+    λ i. element_at tag i >>= λ e. reads first e.content >>= λ y. ended y.1 >>= λ _. Ok (y.0, e.after) in
     elim (bind_err (reads_optional tag read input) (λ y. reads rest y.1 >>= λ z. Ok ((y.0, z.0), z.1)) f h) [
       | inl one ↦ optional_within tag read (inside_within tag (Spells first) (reads first) (sound first) (within first)) input f one
       | inr a ↦ elim (bind_err (reads rest a.0.1) (λ z. Ok ((a.0.0, z.0), z.1)) f a.2) [
         | inl others ↦
             let le = within rest a.0.1 f others in
-            let same = optional_kept (λ text v. (content : List ℕ) × IsElement tag content text × Spells first content v) tag read (inside_sound tag (Spells first) (reads first) (sound first)) input a.0 a.1 in
+            let same = optional_kept (λ text v. (content : List ℕ)
+            × IsElement tag content text × Spells first content v) tag read
+            (inside_sound tag (Spells first) (reads first) (sound first)) input a.0 a.1 in
             omega (arith, le, same)
         | inr ok ↦ not_err _ f ok.2
       ]

@@ -1,5 +1,6 @@
 -- What the sinks hold: the text that was put, or its length.
-use Rattle.std.proofs.Common.{◌≡◌, ℕ, ◌-◌, ◌+◌, ◌≤◌, ◌<◌, ◌&&◌, Bool, true, false, cond, List, [], ◌∷◌, ◌++◌, Option, Some, None, refl, sym, ap, ◌∙◌, append_assoc, arith, length, leb, inl, inr}
+use Rattle.std.proofs.Common.{◌≡◌, ℕ, ◌-◌, ◌+◌, ◌≤◌, ◌<◌, ◌&&◌, Bool, true, false, cond, List, [], ◌∷◌, ◌++◌}
+use Rattle.std.proofs.Common.{Option, Some, None, refl, sym, ap, ◌∙◌, append_assoc, arith, length, leb, inl, inr}
 use Rattle.std.specs.Prelude.{is_some}
 use Rattle.std.specs.List.{flat_map}
 use Rattle.std.proofs.lemmas.Bool.{cases_Bool, cases_lt, le-leb, lt-leb}
@@ -102,31 +103,42 @@ each_length : {A : Type 0} (put : Option ℕ → A → Option ℕ) (good : A →
     → (n : ℕ) (vs : List A) → n ≤ longest_text → puts_each put (Some n) vs ≡ held n (each_is good vs) (length (flat_map text_of vs))
 each_length put good text_of none one n [] le = nothing_held n le
 each_length put good text_of none one n (v ∷ vs) le =
-    let len : length (flat_map text_of (v ∷ vs)) ≡ length (text_of v) + length (flat_map text_of vs) = ap length (flat_map-cons text_of v vs) ∙ length-append (text_of v) (flat_map text_of vs) in
+    let len : length (flat_map text_of (v ∷ vs)) ≡ length (text_of v) + length (flat_map text_of vs) =
+    ap length (flat_map-cons text_of v vs) ∙ length-append (text_of v) (flat_map text_of vs) in
     ap (λ (h : Option ℕ). puts_each put h vs) (one n v le)
-    ∙ joined n (good v) (length (text_of v)) (each_is good vs) (length (flat_map text_of vs)) (λ h. puts_each put h vs) (each_none put none vs) (λ i small. each_length put good text_of none one i vs small)
+    ∙ joined n (good v) (length (text_of v)) (each_is good vs) (length (flat_map text_of vs))
+    (λ h. puts_each put h vs) (each_none put none vs) (λ i small. each_length put good text_of none one i vs small)
     ∙ ap (λ (m : ℕ). held n (good v && each_is good vs) m) (sym len)
 
-pub length_held : (s : Shape) (n : ℕ) (v : Value s) → n ≤ longest_text → puts length_put length_place length_enclose s (Some n) v ≡ held n (is_in_range s v) (length (text s v))
+pub length_held : (s : Shape) (n : ℕ) (v : Value s) → n ≤ longest_text
+    → puts length_put length_place length_enclose s (Some n) v ≡ held n (is_in_range s v) (length (text s v))
 unfolding puts
 length_held (primitive kind) n v le = ap (λ (m : ℕ). held n (is_meaning_in_range kind v) m) (sym (element_is (tag_of kind) (content_of kind v)))
 length_held (tagged tag s) n v le =
     ap (λ (h : Option ℕ). length_enclose h n tag) (length_held s n v le) ∙ wrapped tag n (is_in_range s v) (length (text s v))
     ∙ ap (λ (m : ℕ). held n (is_in_range s v) m) (sym (element_is tag (text s v)))
-length_held (many item) n vs le = each_length (puts length_put length_place length_enclose item) (is_in_range item) (text item) (none_held item) (length_held item) n vs le
+length_held (many item) n vs le = each_length (puts length_put length_place length_enclose item)
+    (is_in_range item) (text item) (none_held item) (length_held item) n vs le
 length_held (further low high) n v le = nothing_held n le
 length_held nothing n v le = nothing_held n le
 length_held (field first rest) n v le =
     let len = length-append (text first v.0) (text rest v.1) in
     ap (λ (h : Option ℕ). puts length_put length_place length_enclose rest h v.1) (length_held first n v.0 le)
-    ∙ joined n (is_in_range first v.0) (length (text first v.0)) (is_in_range rest v.1) (length (text rest v.1)) (λ h. puts length_put length_place length_enclose rest h v.1) (none_held rest v.1) (λ i small. length_held rest i v.1 small)
+    ∙ joined n (is_in_range first v.0) (length (text first v.0))
+    (is_in_range rest v.1) (length (text rest v.1)) (λ h. puts length_put length_place length_enclose rest h v.1)
+    (none_held rest v.1) (λ i small. length_held rest i v.1 small)
     ∙ ap (λ (m : ℕ). held n (is_in_range first v.0 && is_in_range rest v.1) m) (sym len)
 length_held (option tag first rest) n (None, w) le = length_held rest n w le
 length_held (option tag first rest) n (Some v, w) le =
-    let len : length (element tag (text first v) ++ text rest w) ≡ element_length (length (text first v)) + length (text rest w) = length-append (element tag (text first v)) (text rest w) ∙ ap (λ (m : ℕ). m + length (text rest w)) (element_is tag (text first v)) in
+    let len : length (element tag (text first v) ++ text rest w)
+    ≡ element_length (length (text first v)) + length (text rest w) =
+    length-append (element tag (text first v)) (text rest w)
+    ∙ ap (λ (m : ℕ). m + length (text rest w)) (element_is tag (text first v)) in
     ap (λ (h : Option ℕ). puts length_put length_place length_enclose rest (length_enclose h n tag) w) (length_held first n v le)
     ∙ ap (λ (h : Option ℕ). puts length_put length_place length_enclose rest h w) (wrapped tag n (is_in_range first v) (length (text first v)))
-    ∙ joined n (is_in_range first v) (element_length (length (text first v))) (is_in_range rest w) (length (text rest w)) (λ h. puts length_put length_place length_enclose rest h w) (none_held rest w) (λ i small. length_held rest i w small)
+    ∙ joined n (is_in_range first v) (element_length (length (text first v)))
+    (is_in_range rest w) (length (text rest w)) (λ h. puts length_put length_place length_enclose rest h w)
+    (none_held rest w) (λ i small. length_held rest i w small)
     ∙ ap (λ (m : ℕ). held n (is_in_range first v && is_in_range rest w) m) (sym len)
 
 measured : (good : Bool) (m : ℕ) → held 0 good m ≡ cond (good && leb m longest_text) (Some m) None

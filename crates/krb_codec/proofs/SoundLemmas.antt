@@ -1,14 +1,19 @@
 -- What is read is spelled so.
-use Rattle.std.proofs.Common.{◌≡◌, ℕ, zero, suc, ◌-◌, ◌+◌, ◌≤◌, ◌<◌, ◌||◌, true, false, cond, List, [], ◌∷◌, ◌++◌, Option, Some, None, Result, Ok, Err, refl, sym, ap, subst, ◌∙◌, append_assoc, arith, length, take, drop, ltb, leb, eqb, inl, inr}
+use Rattle.std.proofs.Common.{◌≡◌, ℕ, zero, suc, ◌-◌, ◌+◌, ◌≤◌, ◌<◌, ◌||◌, true, false, cond, List, []}
+use Rattle.std.proofs.Common.{◌∷◌, ◌++◌, Option, Some, None, Result, Ok, Err, refl, sym, ap, subst}
+use Rattle.std.proofs.Common.{◌∙◌, append_assoc, arith, length, take, drop, ltb, leb, eqb, inl, inr}
 use Rattle.std.specs.Prelude.{IfOk}
 use Rattle.std.proofs.lemmas.Bool.{and_parts, eqb-true, eqb-false, ltb-false, ltb-true, leb-true, or_parts}
 use Rattle.std.proofs.lemmas.List.{take-append-drop, length-append, length-take, append-nil, nil_from_length}
 use Rattle.krb_codec.specs.declared.fault.DerFault.{DerFault}
 use Rattle.krb_codec.specs.declared.fault.ReadError.{ReadError}
-use Rattle.krb_codec.specs.Shapes.{Primitive, integer, sequence_number, octets, bits, time, Shape, primitive, tagged, many, further, nothing, field, option, Meaning, Value, tag_of}
+use Rattle.krb_codec.specs.Shapes.{Primitive, integer, sequence_number, octets, bits, time, Shape, primitive}
+use Rattle.krb_codec.specs.Shapes.{tagged, many, further, nothing, field, option, Meaning, Value, tag_of}
 use Rattle.krb_codec.specs.Faults.{◌>>=◌}
 use Rattle.krb_codec.specs.Integers.{number}
-use Rattle.krb_codec.specs.Reading.{Input, Piece, starts, first_of, starts_between, tag_at, length_at, element_at, piece_of, meaning_of, ended, reads_each, reads_further, reads_optional, reads, reads_all, Gives}
+use Rattle.krb_codec.specs.Reading.{Input, Piece, starts, first_of, starts_between, tag_at}
+use Rattle.krb_codec.specs.Reading.{length_at, element_at, piece_of, meaning_of, ended, reads_each}
+use Rattle.krb_codec.specs.Reading.{reads_further, reads_optional, reads, reads_all, Gives}
 use Rattle.krb_codec.specs.Grammar.{IsLength, IsElement, IsMeaning, AreInTurn, IsFurther, IsOptional, Spells, is_element}
 use Rattle.krb_codec.proofs.StepLemmas.{bind_ok, guard_ok, guard_then, ok_is, chosen}
 use Rattle.krb_codec.proofs.IntegerLemmas.{integer_sound, sequence_number_sound}
@@ -29,7 +34,8 @@ pub long_is : (b : ℕ) (lead : List ℕ) → b ≡ 128 + length lead → length
 long_is b [] is few starts_not big = absurd (omega (arith, big))
 long_is b (c ∷ lead) is few starts_not big = let ne = eqb-false _ _ starts_not in (is, few, omega (arith, ne), big, refl)
 
-pub length_takes : (place : ℕ) (bytes : List ℕ) (n : ℕ) (rest : List ℕ) → length_at place bytes ≡ Ok (n, rest) → (lead : List ℕ) × (bytes ≡ lead ++ rest) × IsLength lead n
+pub length_takes : (place : ℕ) (bytes : List ℕ) (n : ℕ) (rest : List ℕ)
+    → length_at place bytes ≡ Ok (n, rest) → (lead : List ℕ) × (bytes ≡ lead ++ rest) × IsLength lead n
 unfolding length_at
 length_takes place [] n rest e = absurd cc
 length_takes place (b ∷ bytes) n rest e =
@@ -51,7 +57,8 @@ length_takes place (b ∷ bytes) n rest e =
           let big = ltb-false (number (take (b - 128) bytes)) 128 shortest.1 in
           let count : length (take (b - 128) bytes) ≡ b - 128 = omega (arith, length-take (b - 128) bytes, enough) in
           let is = long_is b (take (b - 128) bytes) (omega (arith, count, ge)) (omega (arith, count, le)) shortest.0 big in
-          subst (λ (p : ℕ × List ℕ). (lead : List ℕ) × (b ∷ bytes ≡ lead ++ p.1) × IsLength lead p.0) same (b ∷ take (b - 128) bytes, ap (λ (l : List ℕ). b ∷ l) (sym (take-append-drop (b - 128) bytes)), is)
+          subst (λ (p : ℕ × List ℕ). (lead : List ℕ) × (b ∷ bytes ≡ lead ++ p.1) × IsLength lead p.0) same
+          (b ∷ take (b - 128) bytes, ap (λ (l : List ℕ). b ∷ l) (sym (take-append-drop (b - 128) bytes)), is)
     ]
 
 -- what a reader of values takes from the front
@@ -68,8 +75,10 @@ TakesElement tag input e = Takes (λ text content. IsElement tag content text) i
 pub element_takes : (tag : ℕ) (input : Input) (e : Piece) → element_at tag input ≡ Ok e → TakesElement tag input e
 unfolding element_at
 element_takes tag input e h =
-    let a = bind_ok (tag_at tag input) (λ bytes. length_at input.place bytes >>= λ n. cond (ltb (length n.1) n.0) (Err _) (Ok (piece_of (input.place + (length input.left - length n.1)) n.0 n.1))) e h in
-    let b = bind_ok (length_at input.place a.0) (λ n. cond (ltb (length n.1) n.0) (Err _) (Ok (piece_of (input.place + (length input.left - length n.1)) n.0 n.1))) e a.2 in
+    let a = bind_ok (tag_at tag input) (λ bytes. length_at input.place bytes >>= λ n. cond (ltb (length n.1) n.0)
+    (Err _) (Ok (piece_of (input.place + (length input.left - length n.1)) n.0 n.1))) e h in
+    let b = bind_ok (length_at input.place a.0) (λ n. cond (ltb (length n.1) n.0)
+    (Err _) (Ok (piece_of (input.place + (length input.left - length n.1)) n.0 n.1))) e a.2 in
     let n = b.0.0 in
     let rest = b.0.1 in
     let g = guard_ok (ltb (length rest) n) _ _ e b.2 in
@@ -78,7 +87,9 @@ element_takes tag input e h =
     let l = length_takes input.place a.0 n rest b.1 in
     let made : Piece = piece_of (input.place + (length input.left - length rest)) n rest in
     let count : n ≡ length (take n rest) = omega (arith, length-take n rest) in
-    let whole : input.left ≡ tag ∷ (l.0 ++ take n rest) ++ drop n rest = left ∙ ap (λ (t : List ℕ). tag ∷ t) (l.1 ∙ ap (λ (t : List ℕ). l.0 ++ t) (sym (take-append-drop n rest)) ∙ sym (append_assoc l.0 (take n rest) (drop n rest))) in
+    let whole : input.left ≡ tag ∷ (l.0 ++ take n rest) ++ drop n rest =
+    left ∙ ap (λ (t : List ℕ). tag ∷ t) (l.1 ∙ ap (λ (t : List ℕ). l.0 ++ t) (sym (take-append-drop n rest))
+    ∙ sym (append_assoc l.0 (take n rest) (drop n rest))) in
     let sizes : length input.left ≡ suc (length l.0 + length rest) = ap length left ∙ ap suc (ap length l.1 ∙ length-append l.0 rest) in
     subst (TakesElement tag input) (ok_is made e g.1) (record {
       text = tag ∷ (l.0 ++ take n rest);
@@ -107,7 +118,8 @@ meaning_is time place content v e = time_sound place content v e
 abbrev pub IsSound : {A : Type 0} → (List ℕ → A → Type 0) → (Input → Result (A × Input) DerFault) → Type 0
 IsSound {A} spells read = (input : Input) (x : A × Input) → read input ≡ Ok x → Takes spells input x
 
-each_sound : {A : Type 0} (spells : List ℕ → A → Type 0) (read : Input → Result (A × Input) DerFault) → IsSound spells read → (budget : ℕ) → IsSound (AreInTurn spells) (reads_each read budget)
+each_sound : {A : Type 0} (spells : List ℕ → A → Type 0) (read : Input → Result (A × Input) DerFault)
+    → IsSound spells read → (budget : ℕ) → IsSound (AreInTurn spells) (reads_each read budget)
 each_sound spells read sound zero input x e =
     subst (Takes (AreInTurn spells) input) (ok_is ([], input) x e) (record { text = []; spelled = refl; parts = refl; start = omega arith })
 each_sound spells read sound (suc budget) input x e =
@@ -130,9 +142,11 @@ is_further : (low high : ℕ) (left : List ℕ) → starts_between low high left
 is_further low high [] e = absurd cc
 is_further low high (b ∷ left) e = let t = and_parts (leb low b) (leb b high) e in (leb-true low b t.0, leb-true b high t.1)
 
-further_sound : (low high budget : ℕ) → IsSound (λ text v. (elements : List (ℕ × List ℕ)) × AreInTurn (IsFurther low high) text elements) (reads_further low high budget)
+further_sound : (low high budget : ℕ) → IsSound (λ text v. (elements : List (ℕ × List ℕ))
+    × AreInTurn (IsFurther low high) text elements) (reads_further low high budget)
 further_sound low high zero input x e =
-    subst (Takes (λ text v. (elements : List (ℕ × List ℕ)) × AreInTurn (IsFurther low high) text elements) input) (ok_is (tt, input) x e) (record { text = []; spelled = ([], refl); parts = refl; start = omega arith })
+    subst (Takes (λ text v. (elements : List (ℕ × List ℕ)) × AreInTurn (IsFurther low high) text elements) input)
+    (ok_is (tt, input) x e) (record { text = []; spelled = ([], refl); parts = refl; start = omega arith })
 further_sound low high (suc budget) input x e =
     elim (chosen (starts_between low high input.left) _ _ _ e) [
       | inl some ↦
@@ -146,12 +160,15 @@ further_sound low high (suc budget) input x e =
             parts = p.parts ∙ ap (λ (t : List ℕ). p.text ++ t) q.parts ∙ sym (append_assoc p.text q.text x.1.left);
             start = let lens = length-append p.text q.text in omega (arith, lens, p.start, q.start);
           }
-      | inr none ↦ subst (Takes (λ text v. (elements : List (ℕ × List ℕ)) × AreInTurn (IsFurther low high) text elements) input) (ok_is (tt, input) x none.1) (record { text = []; spelled = ([], refl); parts = refl; start = omega arith })
+      | inr none ↦
+          subst (Takes (λ text v. (elements : List (ℕ × List ℕ)) × AreInTurn (IsFurther low high) text elements) input)
+          (ok_is (tt, input) x none.1) (record { text = []; spelled = ([], refl); parts = refl; start = omega arith })
     ]
 
 -- an element round contents that were read to their end
 pub inside_sound : {A : Type 0} (tag : ℕ) (spells : List ℕ → A → Type 0) (read : Input → Result (A × Input) DerFault) → IsSound spells read
-    → IsSound (λ text v. (content : List ℕ) × IsElement tag content text × spells content v) (λ i. element_at tag i >>= λ e. read e.content >>= λ y. ended y.1 >>= λ _. Ok (y.0, e.after))
+    → IsSound (λ text v. (content : List ℕ) × IsElement tag content text × spells content v)
+    (λ i. element_at tag i >>= λ e. read e.content >>= λ y. ended y.1 >>= λ _. Ok (y.0, e.after))
 inside_sound {A} tag spells read sound input x h =
     let a = bind_ok (element_at tag input) (λ e. read e.content >>= λ y. ended y.1 >>= λ _. Ok (y.0, e.after)) x h in
     let b = bind_ok (read a.0.content) (λ y. ended y.1 >>= λ _. Ok (y.0, a.0.after)) x a.2 in
@@ -166,7 +183,8 @@ inside_sound {A} tag spells read sound input x h =
       start = p.start;
     })
 
-optional_sound : {A B : Type 0} (spells : List ℕ → A → Type 0) (others : List ℕ → B → Type 0) (tag : ℕ) (read : Input → Result (A × Input) DerFault) (read_others : Input → Result (B × Input) DerFault)
+optional_sound : {A B : Type 0} (spells : List ℕ → A → Type 0) (others : List ℕ → B → Type 0)
+    (tag : ℕ) (read : Input → Result (A × Input) DerFault) (read_others : Input → Result (B × Input) DerFault)
     → IsSound spells read → IsSound others read_others → (input : Input) (x : (Option A × B) × Input)
     → (reads_optional tag read input >>= λ y. read_others y.1 >>= λ z. Ok ((y.0, z.0), z.1)) ≡ Ok x
     → Takes (λ text v. IsOptional spells others text v.0 v.1) input x
@@ -196,7 +214,17 @@ sound (primitive kind) input x h =
     let a = bind_ok (element_at (tag_of kind) input) (λ e. meaning_of kind input.place e.content.left >>= λ v. Ok (v, e.after)) x h in
     let b = bind_ok (meaning_of kind input.place a.0.content.left) (λ v. Ok (v, a.0.after)) x a.2 in
     let p = element_takes (tag_of kind) input a.0 a.1 in
-    subst (Takes (Spells (primitive kind)) input) (ok_is (b.0, a.0.after) x b.2) (record { text = p.text; spelled = (a.0.content.left, p.spelled, meaning_is kind input.place a.0.content.left b.0 b.1); parts = p.parts; start = p.start })
+    subst (Takes (Spells (primitive kind)) input)
+    (ok_is (b.0, a.0.after) x b.2) (record {
+      text = p.text;
+      spelled = (
+        a.0.content.left,
+        p.spelled,
+        meaning_is kind input.place a.0.content.left b.0 b.1,
+      );
+      parts = p.parts;
+      start = p.start;
+    })
 sound (tagged tag s) input x h = inside_sound tag (Spells s) (reads s) (sound s) input x h
 sound (many item) input x h = each_sound (Spells item) (reads item) (sound item) (length input.left) input x h
 sound (further low high) input x h = further_sound low high (length input.left) input x h
@@ -244,6 +272,7 @@ all_sound s text v h =
     let all : text ≡ p.text = p.parts ∙ ap (λ (t : List ℕ). p.text ++ t) (ended_ok a.0.1 b.0 b.1) ∙ append-nil p.text in
     subst (λ (w : Value s). Spells s text w) (ok_is a.0.0 v b.2) (subst (λ (t : List ℕ). Spells s t a.0.0) (sym all) p.spelled)
 
-pub is_found : {X : Type 0} (s : Shape) (view : X → Value s) (text : List ℕ) (r : Result X ReadError) → Gives view r (reads_all s text) → IfOk r (λ v. Spells s text (view v))
+pub is_found : {X : Type 0} (s : Shape) (view : X → Value s) (text : List ℕ) (r : Result X ReadError)
+    → Gives view r (reads_all s text) → IfOk r (λ v. Spells s text (view v))
 is_found s view text (Ok v) given = all_sound s text (view v) given
 is_found s view text (Err e) given = tt

@@ -1,5 +1,7 @@
 -- The text of a value spells it.
-use Rattle.std.proofs.Common.{◌≡◌, ℕ, ◌+◌, ◌^◌, ◌≤◌, ◌<◌, ◌&&◌, not, Bool, true, false, List, [], ◌∷◌, Option, Some, None, refl, sym, ap, subst, ◌∙◌, arith, length, eqb, ltb, inl, inr, ℤ, pos, negsuc, ◌≤ℤ◌, FitsSigned, w64}
+use Rattle.std.proofs.Common.{◌≡◌, ℕ, ◌+◌, ◌^◌, ◌≤◌, ◌<◌, ◌&&◌, not, Bool, true, false, List}
+use Rattle.std.proofs.Common.{[], ◌∷◌, Option, Some, None, refl, sym, ap, subst, ◌∙◌, arith}
+use Rattle.std.proofs.Common.{length, eqb, ltb, inl, inr, ℤ, pos, negsuc, ◌≤ℤ◌, FitsSigned, w64}
 use Rattle.std.specs.Prelude.{int_lt, is_some}
 use Rattle.std.specs.Int.{to_be_bytes, byte_at, bytes_high_first}
 use Rattle.std.specs.Int.Digits.{number_from_digits_after}
@@ -8,10 +10,12 @@ use Rattle.std.proofs.lemmas.Int.{ints}
 use Rattle.std.proofs.lemmas.Bool.{and_parts, cases_Bool, eqb-true, ltb-true, ltb-false, leb-true, not-true}
 use Rattle.std.proofs.lemmas.List.{length-append}
 use Rattle.std.proofs.lemmas.List.Concat.{flat_map-cons}
-use Rattle.krb_codec.specs.Shapes.{Primitive, integer, sequence_number, octets, bits, time, Shape, primitive, tagged, many, further, nothing, field, option, Meaning, Value, is_between, tag_of}
+use Rattle.krb_codec.specs.Shapes.{Primitive, integer, sequence_number, octets, bits, time, Shape, primitive, tagged}
+use Rattle.krb_codec.specs.Shapes.{many, further, nothing, field, option, Meaning, Value, is_between, tag_of}
 use Rattle.krb_codec.specs.Integers.{number}
 use Rattle.krb_codec.specs.Times.{IsTime, time_of}
-use Rattle.krb_codec.specs.Texts.{without_zeros, length_octets, element, content_of, text, time_content, is_meaning_in_range, each_is, is_in_range, longest_text, fits}
+use Rattle.krb_codec.specs.Texts.{without_zeros, length_octets, element, content_of, text, time_content}
+use Rattle.krb_codec.specs.Texts.{is_meaning_in_range, each_is, is_in_range, longest_text, fits}
 use Rattle.krb_codec.specs.Grammar.{IsLength, IsElement, IsMeaning, AreInTurn, Spells, is_element, is_bounded, is_apart, is_clear, is_legal}
 use Rattle.krb_codec.specs.Reading.{starts}
 use Rattle.krb_codec.proofs.IntegerLemmas.{eight_again, integer_spelled, not_below, sequence_number_spelled}
@@ -64,7 +68,8 @@ length_spelled n lt = elim (cases_Bool (ltb n 128)) [
       let lead : List ℕ = without_zeros (to_be_bytes w64 n) in
       let is : number lead ≡ n = number-without_zeros (to_be_bytes w64 n) ∙ eight_again n (omega arith) in
       let big = ltb-false n 128 e in
-      rw e (subst (IsLength ((128 + length lead) ∷ lead)) is (long_is (128 + length lead) lead refl (at_most_four n lt) (starts-without_zeros (to_be_bytes w64 n)) (omega (arith, is, big))))
+      rw e (subst (IsLength ((128 + length lead) ∷ lead)) is (long_is (128 + length lead) lead refl
+      (at_most_four n lt) (starts-without_zeros (to_be_bytes w64 n)) (omega (arith, is, big))))
 ]
 
 element_spelled : (tag : ℕ) (content : List ℕ) → length (element tag content) < 2 ^ 32 → IsElement tag content (element tag content)
@@ -93,7 +98,8 @@ time_spelled t (Some text) e good = (time_of-exact t text).0 e
 
 meaning_spelled : (kind : Primitive) → is_bounded kind ≡ true → (v : Meaning kind) → is_meaning_in_range kind v ≡ true → IsMeaning kind (content_of kind v) v
 meaning_spelled (integer low high) bounded n good =
-    let b = and_parts (is_between (negsuc 9223372036854775807) (pos 9223372036854775807) low) (is_between (negsuc 9223372036854775807) (pos 9223372036854775807) high) bounded in
+    let b = and_parts (is_between (negsuc 9223372036854775807) (pos 9223372036854775807) low)
+    (is_between (negsuc 9223372036854775807) (pos 9223372036854775807) high) bounded in
     let l = within (negsuc 9223372036854775807) (pos 9223372036854775807) low b.0 in
     let h = within (negsuc 9223372036854775807) (pos 9223372036854775807) high b.1 in
     let w = within low high n good in
@@ -112,7 +118,8 @@ each_spelled spells text_of good one [] all lt = refl
 each_spelled spells text_of good one (v ∷ vs) all lt =
     let a = and_parts (good v) (each_is good vs) all in
     let parts = flat_map-cons text_of v vs in
-    let len : length (flat_map text_of (v ∷ vs)) ≡ length (text_of v) + length (flat_map text_of vs) = ap length parts ∙ length-append (text_of v) (flat_map text_of vs) in
+    let len : length (flat_map text_of (v ∷ vs)) ≡ length (text_of v) + length (flat_map text_of vs) =
+    ap length parts ∙ length-append (text_of v) (flat_map text_of vs) in
     (text_of v, flat_map text_of vs, parts, one v a.0 (omega (arith, len, lt)), each_spelled spells text_of good one vs a.1 (omega (arith, len, lt)))
 
 spelled : (s : Shape) → is_clear s ≡ true → (v : Value s) → is_in_range s v ≡ true → length (text s v) < 2 ^ 32 → Spells s (text s v) v

@@ -1,5 +1,8 @@
 -- Times and the texts that spell them.
-use Rattle.std.proofs.Common.{◌≡◌, ℕ, zero, suc, ◌+◌, ◌-◌, ◌*◌, ◌/◌, ◌%◌, ◌<◌, ◌≤◌, Bool, true, false, cond, ◌&&◌, not, List, [], ◌∷◌, length, take, get_or, refl, sym, ap, subst, ◌∙◌, arith, eqb, leb, ℤ, pos, negsuc, ◌+ℤ◌, ◌*ℤ◌, ◌≤ℤ◌, ◌<ℤ◌, ◌↔◌, ◌⊎◌, inl, inr, w64, to_z, of_z, FitsSigned, Option, Some, None, Ok}
+use Rattle.std.proofs.Common.{◌≡◌, ℕ, zero, suc, ◌+◌, ◌-◌, ◌*◌, ◌/◌, ◌%◌, ◌<◌, ◌≤◌, Bool, true, false}
+use Rattle.std.proofs.Common.{cond, ◌&&◌, not, List, [], ◌∷◌, length, take, get_or, refl, sym, ap}
+use Rattle.std.proofs.Common.{subst, ◌∙◌, arith, eqb, leb, ℤ, pos, negsuc, ◌+ℤ◌, ◌*ℤ◌, ◌≤ℤ◌, ◌<ℤ◌}
+use Rattle.std.proofs.Common.{◌↔◌, ◌⊎◌, inl, inr, w64, to_z, of_z, FitsSigned, Option, Some, None, Ok}
 use Rattle.std.proofs.lemmas.Bool.{and_parts, and_from, and_right, le-leb, leb-true, eqb-true}
 use Rattle.std.proofs.lemmas.Int.{ints, to_z-of_z, by_lt_z}
 use Rattle.std.specs.Int.{IsInRange, is_in_range}
@@ -42,14 +45,22 @@ civil_time_is t e =
 
 pub civil_time_test : (t : CivilTime) → IsCivilTime t → is_civil_time t ≡ true
 civil_time_test t h =
-    rw (le-leb t.year 9999 h.0, in_range_test 1 12 t.month h.1, in_range_test 1 (days_in_month (pos t.year) t.month) t.day h.2, le-leb t.hour 23 h.3, le-leb t.minute 59 h.4, le-leb t.second 59 h.5) refl
+    rw (
+      le-leb t.year 9999 h.0,
+      in_range_test 1 12 t.month h.1,
+      in_range_test 1 (days_in_month (pos t.year) t.month) t.day h.2,
+      le-leb t.hour 23 h.3,
+      le-leb t.minute 59 h.4,
+      le-leb t.second 59 h.5,
+    ) refl
 
 -- each of the first bytes is a digit
 pub digit_at : (n : ℕ) (text : List ℕ) → all_ascii_digits (take n text) ≡ true → (i : ℕ) → i < n → i < length text → IsInRange 48 57 (get_or text i 0)
 digit_at zero text e i lt within = absurd (omega arith)
 digit_at (suc n) [] e i lt within = absurd (omega arith)
 digit_at (suc n) (c ∷ text) e zero lt within = in_range 48 57 c (and_parts (is_in_range 48 57 c) (all_ascii_digits (take n text)) e).0
-digit_at (suc n) (c ∷ text) e (suc i) lt within = digit_at n text (and_parts (is_in_range 48 57 c) (all_ascii_digits (take n text)) e).1 i (omega arith) (omega arith)
+digit_at (suc n) (c ∷ text) e (suc i) lt within =
+    digit_at n text (and_parts (is_in_range 48 57 c) (all_ascii_digits (take n text)) e).1 i (omega arith) (omega arith)
 
 -- ---- digits
 
@@ -59,14 +70,17 @@ tens a b ha hb = omega arith
 ones : (a b : ℕ) → IsInRange 48 57 a → IsInRange 48 57 b → b ≡ 48 + (10 * (a - 48) + (b - 48)) % 10
 ones a b ha hb = omega arith
 
-centuries : (a b c d : ℕ) → IsInRange 48 57 a → IsInRange 48 57 b → IsInRange 48 57 c → IsInRange 48 57 d → (100 * (10 * (a - 48) + (b - 48)) + (10 * (c - 48) + (d - 48))) / 100 ≡ 10 * (a - 48) + (b - 48)
+centuries : (a b c d : ℕ) → IsInRange 48 57 a → IsInRange 48 57 b → IsInRange 48 57 c → IsInRange 48 57 d
+    → (100 * (10 * (a - 48) + (b - 48)) + (10 * (c - 48) + (d - 48))) / 100 ≡ 10 * (a - 48) + (b - 48)
 centuries a b c d ha hb hc hd = omega arith
 
-years : (a b c d : ℕ) → IsInRange 48 57 a → IsInRange 48 57 b → IsInRange 48 57 c → IsInRange 48 57 d → (100 * (10 * (a - 48) + (b - 48)) + (10 * (c - 48) + (d - 48))) % 100 ≡ 10 * (c - 48) + (d - 48)
+years : (a b c d : ℕ) → IsInRange 48 57 a → IsInRange 48 57 b → IsInRange 48 57 c → IsInRange 48 57 d
+    → (100 * (10 * (a - 48) + (b - 48)) + (10 * (c - 48) + (d - 48))) % 100 ≡ 10 * (c - 48) + (d - 48)
 years a b c d ha hb hc hd = omega arith
 
 -- a text of digits and a Z is what is written for its parts
-pub text_of_parts : (text : List ℕ) → length text ≡ 15 → ((i : ℕ) → i < 14 → IsInRange 48 57 (get_or text i 0)) → get_or text 14 0 ≡ 90 → text ≡ civil_text (civil_of text)
+pub text_of_parts : (text : List ℕ) → length text ≡ 15
+    → ((i : ℕ) → i < 14 → IsInRange 48 57 (get_or text i 0)) → get_or text 14 0 ≡ 90 → text ≡ civil_text (civil_of text)
 text_of_parts (a ∷ b ∷ c ∷ d ∷ e ∷ f ∷ g ∷ h ∷ i ∷ j ∷ k ∷ l ∷ m ∷ n ∷ z ∷ []) len digit end =
     let da : IsInRange 48 57 a = digit 0 (omega arith) in
     let db : IsInRange 48 57 b = digit 1 (omega arith) in
@@ -84,10 +98,29 @@ text_of_parts (a ∷ b ∷ c ∷ d ∷ e ∷ f ∷ g ∷ h ∷ i ∷ j ∷ k ∷
     let dn : IsInRange 48 57 n = digit 13 (omega arith) in
     let first = centuries a b c d da db dc dd in
     let last = years a b c d da db dc dd in
-    rw (first, last, ← tens a b da db, ← ones a b da db, ← tens c d dc dd, ← ones c d dc dd, ← tens e f de df, ← ones e f de df, ← tens g h dg dh, ← ones g h dg dh, ← tens i j di dj, ← ones i j di dj, ← tens k l dk dl, ← ones k l dk dl, ← tens m n dm dn, ← ones m n dm dn, end) refl
+    rw (
+      first,
+      last,
+      ← tens a b da db,
+      ← ones a b da db,
+      ← tens c d dc dd,
+      ← ones c d dc dd,
+      ← tens e f de df,
+      ← ones e f de df,
+      ← tens g h dg dh,
+      ← ones g h dg dh,
+      ← tens i j di dj,
+      ← ones i j di dj,
+      ← tens k l dk dl,
+      ← ones k l dk dl,
+      ← tens m n dm dn,
+      ← ones m n dm dn,
+      end,
+    ) refl
 text_of_parts text len digit end = absurd (omega (arith, len))
 
-pub form_parts : (text : List ℕ) → has_time_form text ≡ true → (length text ≡ 15) × ((i : ℕ) → i < 14 → IsInRange 48 57 (get_or text i 0)) × (get_or text 14 0 ≡ 90)
+pub form_parts : (text : List ℕ) → has_time_form text ≡ true
+    → (length text ≡ 15) × ((i : ℕ) → i < 14 → IsInRange 48 57 (get_or text i 0)) × (get_or text 14 0 ≡ 90)
 form_parts text e =
     let a = and_parts (eqb (length text) 15 && all_ascii_digits (take 14 text)) (eqb (get_or text 14 0) 90) e in
     let b = and_parts (eqb (length text) 15) (all_ascii_digits (take 14 text)) a.0 in
@@ -131,13 +164,20 @@ seconds_computed day second s bound is small =
 
 -- ---- dates
 
-pub date_is : (d : Date) (t : CivilTime) → d.year ≡ pos t.year → d.month ≡ t.month → d.day ≡ t.day → t.year ≤ 9999 → (is_civil_day t ≡ true) × (epoch_day d ≡ day_number t)
+pub date_is : (d : Date) (t : CivilTime) → d.year ≡ pos t.year
+    → d.month ≡ t.month → d.day ≡ t.day → t.year ≤ 9999 → (is_civil_day t ≡ true) × (epoch_day d ≡ day_number t)
 date_is d t year month day low =
     let month_in : IsInRange 1 12 t.month = subst (λ m. IsInRange 1 12 m) month d.month_in in
     let first : IsInRange 1 (days_in_month (pos t.year) d.month) d.day = subst (λ y. IsInRange 1 (days_in_month y d.month) d.day) year d.day_in in
     let second : IsInRange 1 (days_in_month (pos t.year) t.month) d.day = subst (λ m. IsInRange 1 (days_in_month (pos t.year) m) d.day) month first in
-    let day_in : IsInRange 1 (days_in_month (pos t.year) t.month) t.day = subst (λ n. IsInRange 1 (days_in_month (pos t.year) t.month) n) day second in
-    (rw (le-leb t.year 9999 low, in_range_test 1 12 t.month month_in, in_range_test 1 (days_in_month (pos t.year) t.month) t.day day_in) refl, rw (year, month, day) refl)
+    let day_in : IsInRange 1 (days_in_month (pos t.year) t.month) t.day = subst (λ n. IsInRange 1 (days_in_month (pos t.year) t.month) n) day second in (
+      rw (
+        le-leb t.year 9999 low,
+        in_range_test 1 12 t.month month_in,
+        in_range_test 1 (days_in_month (pos t.year) t.month) t.day day_in,
+      ) refl,
+      rw (year, month, day) refl,
+    )
 
 -- ---- what is written
 
@@ -155,18 +195,38 @@ civil_text_again t h =
     let days : t.day ≤ 31 = omega (arith, h.2, days_in_month_bounds (pos t.year) t.month) in
     let century = pair_part (t.year / 100) (omega (arith, h.0)) in
     let rest = pair_part (t.year % 100) (omega (arith, h.0)) in
-    let year : 100 * (10 * (48 + t.year / 100 / 10 - 48) + (48 + t.year / 100 % 10 - 48)) + (10 * (48 + t.year % 100 / 10 - 48) + (48 + t.year % 100 % 10 - 48)) ≡ t.year = omega (arith, century, rest, year_part t.year (omega (arith, h.0))) in
-    same_time _ _ _ _ _ _ t year (pair_part t.month (omega (arith, h.1))) (pair_part t.day (omega (arith, days))) (pair_part t.hour (omega (arith, h.3))) (pair_part t.minute (omega (arith, h.4))) (pair_part t.second (omega (arith, h.5)))
+    let year : 100 * (10 * (48 + t.year / 100 / 10 - 48) + (48 + t.year / 100 % 10 - 48))
+    + (10 * (48 + t.year % 100 / 10 - 48) + (48 + t.year % 100 % 10 - 48)) ≡ t.year =
+    omega (arith, century, rest, year_part t.year (omega (arith, h.0))) in
+    same_time _ _ _ _ _ _ t year (pair_part t.month (omega (arith, h.1)))
+    (pair_part t.day (omega (arith, days))) (pair_part t.hour (omega (arith, h.3)))
+    (pair_part t.minute (omega (arith, h.4))) (pair_part t.second (omega (arith, h.5)))
 
 pub civil_text_form : (t : CivilTime) → IsCivilTime t → has_time_form (civil_text t) ≡ true
 civil_text_form t h =
     let days : t.day ≤ 31 = omega (arith, h.2, days_in_month_bounds (pos t.year) t.month) in
     let lead : (n : ℕ) → n < 100 → is_in_range 48 57 (48 + n / 10) ≡ true = λ n lt. digit_test (n / 10) (omega arith) in
     let last : (n : ℕ) → is_in_range 48 57 (48 + n % 10) ≡ true = λ n. digit_test (n % 10) (omega arith) in
-    rw (lead (t.year / 100) (omega (arith, h.0)), last (t.year / 100), lead (t.year % 100) (omega arith), last (t.year % 100), lead t.month (omega (arith, h.1)), last t.month, lead t.day (omega (arith, days)), last t.day, lead t.hour (omega (arith, h.3)), last t.hour, lead t.minute (omega (arith, h.4)), last t.minute, lead t.second (omega (arith, h.5)), last t.second) refl
+    rw (
+      lead (t.year / 100) (omega (arith, h.0)),
+      last (t.year / 100),
+      lead (t.year % 100) (omega arith),
+      last (t.year % 100),
+      lead t.month (omega (arith, h.1)),
+      last t.month,
+      lead t.day (omega (arith, days)),
+      last t.day,
+      lead t.hour (omega (arith, h.3)),
+      last t.hour,
+      lead t.minute (omega (arith, h.4)),
+      last t.minute,
+      lead t.second (omega (arith, h.5)),
+      last t.second,
+    ) refl
 
 pub civil_text_is_time : (t : CivilTime) → IsCivilTime t → is_time (civil_text t) ≡ true
-civil_text_is_time t h = and_from (has_time_form (civil_text t)) (is_civil_time (civil_of (civil_text t))) (civil_text_form t h) (ap is_civil_time (civil_text_again t h) ∙ civil_time_test t h)
+civil_text_is_time t h = and_from (has_time_form (civil_text t)) (is_civil_time (civil_of (civil_text t)))
+    (civil_text_form t h) (ap is_civil_time (civil_text_again t h) ∙ civil_time_test t h)
 
 -- ---- contents
 
@@ -193,7 +253,8 @@ some_is x y e = cc
 
 pub time_in_none : (place : ℕ) (content : List ℕ) → seconds_of content ≡ None → time_in place content ≡ fault place BadTime
 unfolding time_in seconds_of
-time_in_none place content e = ap (λ b. cond b (Ok (seconds_at (civil_of content))) (fault place BadTime)) (none_if (is_time content) (seconds_at (civil_of content)) e)
+time_in_none place content e = ap (λ b. cond b (Ok (seconds_at (civil_of content))) (fault place BadTime))
+    (none_if (is_time content) (seconds_at (civil_of content)) e)
 
 -- the text of a time in the years 0 to 9999 spells it
 pub time_spelled : (seconds : ℤ) → IsWritable seconds → IsTime (time_octets seconds) seconds
@@ -220,11 +281,14 @@ seconds_of-exact text seconds = (
 pub time_of_none : (seconds : ℤ) → (seconds <ℤ negsuc 62167219199) ⊎ (pos 253402300799 <ℤ seconds) → time_of seconds ≡ None
 unfolding time_of
 time_of_none seconds (inl below) = let t : is_writable seconds ≡ false = rw (true_below _ _ below) refl in ap (λ b. cond b (Some (time_octets seconds)) None) t
-time_of_none seconds (inr above) = let t : is_writable seconds ≡ false = and_right _ _ (ap not (true_below _ _ above)) in ap (λ b. cond b (Some (time_octets seconds)) None) t
+time_of_none seconds (inr above) =
+    let t : is_writable seconds ≡ false = and_right _ _ (ap not (true_below _ _ above)) in
+    ap (λ b. cond b (Some (time_octets seconds)) None) t
 
 pub time_of_some : (seconds : ℤ) → IsWritable seconds → time_of seconds ≡ Some (time_octets seconds)
 unfolding time_of
-time_of_some seconds h = let t : is_writable seconds ≡ true = rw (false_below _ _ h.0, false_below _ _ h.1) refl in ap (λ b. cond b (Some (time_octets seconds)) None) t
+time_of_some seconds h = let t : is_writable seconds ≡ true = rw (false_below _ _ h.0, false_below _ _ h.1) refl in
+    ap (λ b. cond b (Some (time_octets seconds)) None) t
 
 some_or_none : {A : Type 0} (x : A) → ◌≡◌ {A = Option A} (Some x) None → ⊥
 some_or_none x e = cc

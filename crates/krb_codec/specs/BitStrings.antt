@@ -1,5 +1,6 @@
 -- The contents of a BIT STRING of 32 flags (X.690 section 8.6, RFC 4120 section 5.2.8).
-use Rattle.std.specs.Prelude.{◌≡◌, ℕ, ◌-◌, ◌%◌, ◌^◌, Bool, true, false, ◌&&◌, List, [], ◌∷◌, ◌++◌, length, take, slice_index, Result, Ok, nat_lt, ◌==◌, if◌then◌else◌}
+use Rattle.std.specs.Prelude.{◌≡◌, ℕ, ◌-◌, ◌%◌, ◌^◌, Bool, true, false, ◌&&◌, List, [], ◌∷◌, ◌++◌}
+use Rattle.std.specs.Prelude.{length, take, slice_index, Result, Ok, nat_lt, ◌==◌, if◌then◌else◌}
 use Rattle.std.specs.Int.{w32, to_be_bytes, bit_at}
 use Rattle.krb_codec.specs.declared.fault.FaultKind.TheVariants.{BadInteger}
 use Rattle.krb_codec.specs.declared.fault.DerFault.{DerFault}

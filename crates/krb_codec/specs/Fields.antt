@@ -13,11 +13,13 @@ Takes before front old new =
     (rest : Shape) → reads (before rest) old ≡ (reads rest new >>= λ y. Ok (front rest y.0, y.1))
 
 -- what a function that reads such fields returned: their value or the fault, whatever follows
-abbrev pub GivesFields : {X : Type 0} (before : Shape → Shape) → ((rest : Shape) → X → Value rest → Value (before rest)) → Result X ReadError → Input → Input → Type 0
+abbrev pub GivesFields : {X : Type 0} (before : Shape → Shape)
+    → ((rest : Shape) → X → Value rest → Value (before rest)) → Result X ReadError → Input → Input → Type 0
 GivesFields before value (Ok x) old new = Takes before (λ rest y. value rest x y) old new
 GivesFields before value (Err e) old new = (rest : Shape) → Fails e (reads (before rest) old)
 
 -- what a function that puts such fields into a sink did, whatever follows
-abbrev pub PutsFields : {S X E : Type 0} → Bool → Result X E → ((s : Shape) → S → Value s → S) → (before : Shape → Shape) → ((rest : Shape) → Value rest → Value (before rest)) → S → S → Type 0
+abbrev pub PutsFields : {S X E : Type 0} → Bool → Result X E → ((s : Shape) → S → Value s → S)
+    → (before : Shape → Shape) → ((rest : Shape) → Value rest → Value (before rest)) → S → S → Type 0
 PutsFields can_fail result put before front old new =
     Puts can_fail result ((rest : Shape) (y : Value rest) → put (before rest) old (front rest y) ≡ put rest new y)

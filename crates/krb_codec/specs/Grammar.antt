@@ -3,7 +3,8 @@ use Rattle.std.specs.Prelude.{◌≡◌, ℕ, ◌+◌, ◌<◌, ◌≤◌, Bool,
 use Rattle.krb_codec.specs.Integers.{number, IsInteger, IsSequenceNumber}
 use Rattle.krb_codec.specs.BitStrings.{IsBits}
 use Rattle.krb_codec.specs.Times.{IsTime}
-use Rattle.krb_codec.specs.Shapes.{Primitive, integer, sequence_number, octets, bits, time, Shape, primitive, tagged, many, further, nothing, field, option, Meaning, Value, is_between, tag_of}
+use Rattle.krb_codec.specs.Shapes.{Primitive, integer, sequence_number, octets, bits, time, Shape, primitive, tagged}
+use Rattle.krb_codec.specs.Shapes.{many, further, nothing, field, option, Meaning, Value, is_between, tag_of}
 
 -- A length below 128 is one byte. A longer one follows a byte that counts its bytes, at most four of them, the first
 -- not 0 (sections 8.1.3 and 10.1).

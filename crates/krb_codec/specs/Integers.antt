@@ -1,5 +1,6 @@
 -- The contents of an INTEGER (X.690 section 8.3) and the sequence numbers of RFC 4120 section 5.5.1.
-use Rattle.std.specs.Prelude.{◌≡◌, ℕ, ◌^◌, Bool, true, false, not, ◌&&◌, ◌||◌, List, [], ◌∷◌, length, Result, Ok, Err, nat_lt, nat_le, ◌==◌, if◌then◌else◌, ℤ, pos, negsuc, ◌-ℤ◌, ◌≤ℤ◌, int_lt, unsigned_abs}
+use Rattle.std.specs.Prelude.{◌≡◌, ℕ, ◌^◌, Bool, true, false, not, ◌&&◌, ◌||◌, List, [], ◌∷◌, length, Result, Ok, Err}
+use Rattle.std.specs.Prelude.{nat_lt, nat_le, ◌==◌, if◌then◌else◌, ℤ, pos, negsuc, ◌-ℤ◌, ◌≤ℤ◌, int_lt, unsigned_abs}
 use Rattle.std.specs.Int.{w64, to_be_bytes, cast_unsigned, int_rem_euclid}
 use Rattle.std.specs.Int.Digits.{number_from_digits}
 use Rattle.krb_codec.specs.declared.fault.FaultKind.TheVariants.{BadInteger, OutOfRange}

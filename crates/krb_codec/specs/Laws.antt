@@ -2,7 +2,8 @@
 use Rattle.std.specs.Prelude.{◌≡◌, ℕ, ◌<◌, true, List, [], ◌∷◌, ◌++◌, length, slice_index, Some, None, Err, pos, ◌≤◌, ◌≤ℤ◌}
 use Rattle.std.specs.List.{AllByRecursion}
 use Rattle.krb_codec.specs.Integers.{signed}
-use Rattle.krb_codec.specs.Shapes.{Primitive, integer, sequence_number, octets, bits, time, Shape, primitive, tagged, many, further, nothing, field, option, Value}
+use Rattle.krb_codec.specs.Shapes.{Primitive, integer, sequence_number, octets, bits, time, Shape}
+use Rattle.krb_codec.specs.Shapes.{primitive, tagged, many, further, nothing, field, option, Value}
 use Rattle.krb_codec.specs.Texts.{text, fits}
 use Rattle.krb_codec.specs.declared.fault.DerFault.{DerFault}
 use Rattle.krb_codec.specs.Reading.{reads_all}

@@ -1,5 +1,6 @@
 -- Reading from left to right, with the first fault and its place.
-use Rattle.std.specs.Prelude.{◌≡◌, ℕ, zero, suc, ◌+◌, ◌-◌, Bool, false, ◌&&◌, ◌||◌, List, [], ◌∷◌, length, take, drop, Option, Some, None, Result, Ok, Err, nat_lt, nat_le, ◌==◌, if◌then◌else◌}
+use Rattle.std.specs.Prelude.{◌≡◌, ℕ, zero, suc, ◌+◌, ◌-◌, Bool, false, ◌&&◌, ◌||◌, List, [], ◌∷◌, length, take}
+use Rattle.std.specs.Prelude.{drop, Option, Some, None, Result, Ok, Err, nat_lt, nat_le, ◌==◌, if◌then◌else◌}
 use Rattle.krb_codec.specs.declared.fault.FaultKind.TheVariants.{Truncated, WrongTag, BadLength, Trailing}
 use Rattle.krb_codec.specs.declared.fault.DerFault.{DerFault}
 use Rattle.krb_codec.specs.declared.fault.ReadError.{ReadError}
@@ -8,7 +9,8 @@ use Rattle.krb_codec.specs.Faults.{fault, ◌>>=◌}
 use Rattle.krb_codec.specs.Integers.{number, integer_in, sequence_number_in}
 use Rattle.krb_codec.specs.BitStrings.{bits_in}
 use Rattle.krb_codec.specs.Times.{time_in}
-use Rattle.krb_codec.specs.Shapes.{Primitive, integer, sequence_number, octets, bits, time, Shape, primitive, tagged, many, further, nothing, field, option, Meaning, Value, tag_of}
+use Rattle.krb_codec.specs.Shapes.{Primitive, integer, sequence_number, octets, bits, time, Shape, primitive}
+use Rattle.krb_codec.specs.Shapes.{tagged, many, further, nothing, field, option, Meaning, Value, tag_of}
 
 -- What a function returned, seen by view, is what reading gives, unless memory ran out.
 abbrev pub Fails : {Y : Type 0} → ReadError → Result Y DerFault → Type 0

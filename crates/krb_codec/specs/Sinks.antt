@@ -1,5 +1,6 @@
 -- What a sink holds after a value was put into it, whatever it keeps of the value's text.
-use Rattle.std.specs.Prelude.{◌≡◌, ◌≤◌, ℕ, ◌+◌, ◌-◌, Bool, true, List, [], ◌∷◌, length, ◌++◌, take, drop, Option, Some, None, Result, Ok, Err, nat_le, if◌then◌else◌}
+use Rattle.std.specs.Prelude.{◌≡◌, ◌≤◌, ℕ, ◌+◌, ◌-◌, Bool, true, List, [], ◌∷◌, length, ◌++◌, take}
+use Rattle.std.specs.Prelude.{drop, Option, Some, None, Result, Ok, Err, nat_le, if◌then◌else◌}
 use Rattle.krb_codec.specs.Shapes.{Shape, primitive, tagged, many, further, nothing, field, option, Value, tag_of}
 use Rattle.krb_codec.specs.Texts.{element, length_octets, content_of, is_meaning_in_range, longest_text}
 

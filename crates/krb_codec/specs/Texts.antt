@@ -5,7 +5,8 @@ use Rattle.std.specs.Int.{w64, to_be_bytes}
 use Rattle.krb_codec.specs.Integers.{integer_octets, sequence_number_octets}
 use Rattle.krb_codec.specs.BitStrings.{bits_octets}
 use Rattle.krb_codec.specs.Times.{time_of}
-use Rattle.krb_codec.specs.Shapes.{Primitive, integer, sequence_number, octets, bits, time, Shape, primitive, tagged, many, further, nothing, field, option, Meaning, Value, is_between, tag_of}
+use Rattle.krb_codec.specs.Shapes.{Primitive, integer, sequence_number, octets, bits, time, Shape, primitive, tagged}
+use Rattle.krb_codec.specs.Shapes.{many, further, nothing, field, option, Meaning, Value, is_between, tag_of}
 
 abbrev pub without_zeros : List ℕ → List ℕ
 without_zeros [] = []

@@ -1,6 +1,7 @@
 -- KerberosTime: a GeneralizedTime in UTC with seconds and no fraction, `YYYYMMDDHHMMSSZ`
 -- (X.690 section 11.7, RFC 4120 section 5.2.3).
-use Rattle.std.specs.Prelude.{◌≡◌, ℕ, ◌+◌, ◌-◌, ◌*◌, ◌/◌, ◌%◌, Bool, ◌&&◌, not, List, [], ◌∷◌, ◌++◌, length, take, slice_index, Option, Some, None, Result, Ok, ◌==◌, if◌then◌else◌, ℤ, pos, negsuc, int_lt}
+use Rattle.std.specs.Prelude.{◌≡◌, ℕ, ◌+◌, ◌-◌, ◌*◌, ◌/◌, ◌%◌, Bool, ◌&&◌, not, List, [], ◌∷◌, ◌++◌, length, take}
+use Rattle.std.specs.Prelude.{slice_index, Option, Some, None, Result, Ok, ◌==◌, if◌then◌else◌, ℤ, pos, negsuc, int_lt}
 use Rattle.std.specs.Str.{all_ascii_digits}
 use Rattle.jiff_core.specs.Calendar.{IsBetween}
 use Rattle.krb_codec.specs.declared.fault.FaultKind.TheVariants.{BadTime}

@@ -35,13 +35,20 @@ counted_again : (bytes rest : List ℕ) → IsShort bytes → counted_at (counte
 unfolding counted_at
 counted_again bytes rest short =
     let long : ltb (length (bytes ++ rest)) (length bytes) ≡ false = le-ltb _ _ (omega (arith, length-append bytes rest)) in
-    rw (number_again w16 (2 ^ 16) wide16 (length bytes) (bytes ++ rest) short, long, take_at bytes rest (length bytes) refl, drop_at bytes rest (length bytes) refl) refl
+    rw (
+      number_again w16 (2 ^ 16) wide16 (length bytes) (bytes ++ rest) short,
+      long,
+      take_at bytes rest (length bytes) refl,
+      drop_at bytes rest (length bytes) refl,
+    ) refl
 
 components_again : (cs : List (List ℕ)) (rest : List ℕ) → AllByRecursion IsShort cs → components_at (length cs) (flat_map counted cs ++ rest) ≡ Some (cs, rest)
 unfolding components_at
 components_again [] rest short = refl
 components_again (c ∷ cs) rest short =
-    let regrouped : flat_map counted (c ∷ cs) ++ rest ≡ counted c ++ (flat_map counted cs ++ rest) = ap (λ (x : List ℕ). x ++ rest) (flat_map-cons counted c cs) ∙ append_assoc (counted c) (flat_map counted cs) rest in
+    let regrouped : flat_map counted (c ∷ cs) ++ rest ≡ counted c ++ (flat_map counted cs ++ rest) =
+    ap (λ (x : List ℕ). x ++ rest) (flat_map-cons counted c cs)
+    ∙ append_assoc (counted c) (flat_map counted cs) rest in
     ap (components_at (suc (length cs))) regrouped ∙ rw (counted_again c (flat_map counted cs ++ rest) short.0, components_again cs rest short.1) refl
 
 -- a signed number, and the one that its two bytes hold

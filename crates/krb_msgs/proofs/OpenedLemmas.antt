@@ -65,7 +65,8 @@ authenticator_times : (a : Authenticator) (bytes : List ℕ) → Spells authenti
 authenticator_times a bytes h =
     let fields = h.2.2.4.4.4 in
     let times : (others : List ℕ) × Spells time_fields others (time_value a) =
-    behind (λ one w. (content : List ℕ) × IsElement 0xa3 content one × Spells checksum content w) (Spells time_fields) _ (option_map checksum_value a.cksum) (time_value a) fields in
+    behind (λ one w. (content : List ℕ) × IsElement 0xa3 content one × Spells checksum content w)
+    (Spells time_fields) _ (option_map checksum_value a.cksum) (time_value a) fields in
     let cusec = times.1.3.2.2 in
     let ctime = times.1.4.3.2.2 in
     (time_again _ _ ctime, between (pos 0) (pos 999999) (pos a.cusec.0) cusec.2 cusec.3)

@@ -5,7 +5,8 @@ use Rattle.krb_codec.specs.Shapes.{kerberos_time, microseconds}
 use Rattle.krb_codec.specs.Texts.{text, fits, is_in_range}
 use Rattle.krb_der.specs.Types as types
 use Rattle.krb_der.specs.Types.{ap_rep, ap_req, authenticator, enc_ap_rep_part, enc_krb_priv_part, enc_ticket_part, krb_priv}
-use Rattle.krb_der.specs.Values.{ap_rep_value, ap_req_value, authenticator_value, enc_ap_rep_part_value, enc_krb_priv_part_value, enc_ticket_part_value, krb_priv_value, ticket_value}
+use Rattle.krb_der.specs.Values.{ap_rep_value, ap_req_value, authenticator_value, enc_ap_rep_part_value}
+use Rattle.krb_der.specs.Values.{enc_krb_priv_part_value, enc_ticket_part_value, krb_priv_value, ticket_value}
 use Rattle.krb_der.specs.declared.ap_rep.EncApRepPart.{EncApRepPart}
 use Rattle.krb_der.specs.declared.authenticator.Authenticator.{Authenticator}
 use Rattle.krb_der.specs.declared.enc_ticket_part.EncTicketPart.{EncTicketPart}

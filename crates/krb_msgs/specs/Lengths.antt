@@ -1,6 +1,7 @@
 -- The greatest length of a value's text, from which a caller shows that a message fits.
 use Rattle.std.specs.Prelude.{◌≡◌, ◌≤◌, ℕ, ◌+◌, true, List, [], ◌∷◌, length, Option, Some, None}
-use Rattle.krb_codec.specs.Shapes.{Primitive, integer, sequence_number, octets, bits, time, Shape, primitive, tagged, many, further, nothing, field, option, Meaning, Value}
+use Rattle.krb_codec.specs.Shapes.{Primitive, integer, sequence_number, octets, bits, time, Shape}
+use Rattle.krb_codec.specs.Shapes.{primitive, tagged, many, further, nothing, field, option, Meaning, Value}
 use Rattle.krb_codec.specs.Texts.{text, fits, is_in_range, longest_text}
 
 -- the contents of a number have at most eight bytes

@@ -5,7 +5,9 @@ ghost use Rattle.std.specs.Prelude.{◌≡◌, true, IfOk};
 ghost use Rattle.krb_codec.specs.Texts.{fits, text};
 ghost use Rattle.krb_der.specs.Types as types;
 ghost use Rattle.krb_der.specs.Types.{enc_ap_rep_part, enc_krb_priv_part, enc_ticket_part, krb_error};
-ghost use Rattle.krb_der.specs.Values.{ap_rep_value, ap_req_value, authenticator_value, enc_ap_rep_part_value, enc_krb_priv_part_value, enc_ticket_part_value, krb_error_value, krb_priv_value, ticket_value};
+ghost use Rattle.krb_der.specs.Values.{ap_rep_value, ap_req_value, authenticator_value};
+ghost use Rattle.krb_der.specs.Values.{enc_ap_rep_part_value, enc_krb_priv_part_value};
+ghost use Rattle.krb_der.specs.Values.{enc_ticket_part_value, krb_error_value, krb_priv_value, ticket_value};
 ghost use Rattle.krb_der.specs.declared.ticket.Ticket.{Ticket};
 ghost use Rattle.krb_msgs.specs.Making.{SpellsTicket, ap_rep_of, ap_req_of, priv_of, ticket_of};
 

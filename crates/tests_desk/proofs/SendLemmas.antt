@@ -7,7 +7,8 @@ use denote.Struct.Tuple.{TupleAt}
 use Rattle.std.specs.Prelude.{ℕ, [], ◌∷◌}
 use denote.Param.Send.{IsSend, IsSync, sendable}
 
-pub four_send : (n : ℕ) (δ : Ty) (ν : Sym) (A B C D : RattleType) → IsSend A → IsSend B → IsSend C → IsSend D → IsSend (param n (arg δ no (TupleAt ν (A ∷ B ∷ C ∷ D ∷ []))))
+pub four_send : (n : ℕ) (δ : Ty) (ν : Sym) (A B C D : RattleType)
+    → IsSend A → IsSend B → IsSend C → IsSend D → IsSend (param n (arg δ no (TupleAt ν (A ∷ B ∷ C ∷ D ∷ []))))
 four_send n δ ν A B C D a b c d = search sendable depth 20
 
 pub three_sync : (n : ℕ) (δ : Ty) (ν : Sym) (A B C : RattleType) → IsSync A → IsSync B → IsSync C → IsSync (param n (arg δ no (TupleAt ν (A ∷ B ∷ C ∷ []))))

@@ -4,7 +4,9 @@ ghost use Rattle.std.specs.List.{list_any};
 ghost use Rattle.chpw_rules.specs.Fitting.{is_same_principal};
 ghost use Rattle.chpw_commands.specs.declared.drill.line.Line.TheVariants.{Rule as RuleLine, Principal as PrincipalLine, Open as OpenLine};
 ghost use Rattle.chpw_commands.specs.Drilled.{turn};
-ghost use Rattle.chpw_commands.specs.Stages.{Stage as StageModel, Machine, blank, with_rule, with_principal, takes_principal, turn_first, turn_named, turn_listed, turn_running, turn_line};
+ghost use Rattle.chpw_commands.specs.Stages.{Stage as StageModel, Machine, blank, with_rule};
+ghost use Rattle.chpw_commands.specs.Stages.{with_principal, takes_principal, turn_first};
+ghost use Rattle.chpw_commands.specs.Stages.{turn_named, turn_listed, turn_running, turn_line};
 ghost use Rattle.chpw_commands.specs.Following.{Runs, Follows, held_realm, IsTurn, FitsLine};
 
 use crate::drill::line::{Line, parse_line};

@@ -30,6 +30,7 @@ make_ap_req-requires-clause-message c = λ t spelled.
     c.messages_fit.ensures.ticket REALM.now c.args.part.now c.args.service CONFOUNDER refl (omega arith) (omega (arith, short)) in
     let is : c.deref.result.now ≡ text types.ticket (ticket_value made) = c.deref.ensures.value ∙ c.in_ok-ticket.ensures.text in
     let long = c.messages_fit.ensures.ticket_length REALM.now c.args.part.now c.args.service CONFOUNDER refl in
-    let other : length (text types.authenticator (authenticator_value c.args.authenticator.now)) ≤ 10000 = c.is_short-else-not-is_short.ensures.short (search rules) in
+    let other : length (text types.authenticator (authenticator_value c.args.authenticator.now)) ≤ 10000 =
+    c.is_short-else-not-is_short.ensures.short (search rules) in
     c.messages_fit.ensures.ap_req made t c.args.options c.args.authenticator.now c.args.session.now CONFOUNDER refl (omega arith) fit
     (subst (λ (z : List ℕ). SpellsTicket z t) is spelled) (omega (arith, short, long, other))

@@ -19,7 +19,9 @@ returns t c =
     let some : 1 ≤ length older = grind (arith, common_steps) in
     record {
       value = on_ok_weaker c.put_change.result
-          (λ g. g ∙ (ap (λ (xs : List ℕ). xs ++ last) c.in_ok-put_keys.ensures.value ∙ (append_assoc old front last ∙ ap (λ (xs : List ℕ). old ++ xs) (change_text name c.args.keys.now key older is some))))
+          (λ g. g ∙ (ap (λ (xs : List ℕ). xs ++ last) c.in_ok-put_keys.ensures.value ∙ (append_assoc old front last
+          ∙ ap (λ (xs : List ℕ). old ++ xs) (change_text name c.args.keys.now key older is some))))
           c.put_change.ensures.value;
-      whole = on_ok_weaker c.put_change.result (λ w. change_whole name c.args.keys.now key older is some c.in_ok-put_keys.ensures.whole w) c.put_change.ensures.whole;
+      whole = on_ok_weaker c.put_change.result (λ w. change_whole name
+          c.args.keys.now key older is some c.in_ok-put_keys.ensures.whole w) c.put_change.ensures.whole;
     }

@@ -12,9 +12,11 @@ names_of s = map (λ (p : Principal). p.name) s.principals
 
 abbrev pub invariant-loop-name : goal.invariant-loop-name
 invariant-loop-name l =
-    (l.text.items ≡ records_text (raise_records l.opening.state l.held.state ++ flat_map (name_records l.opening.state l.held.state) (take l.place (names_of l.opening.state))))
+    (l.text.items ≡ records_text (raise_records l.opening.state l.held.state
+    ++ flat_map (name_records l.opening.state l.held.state) (take l.place (names_of l.opening.state))))
     × (l.place ≤ length (names_of l.opening.state))
-    × AreWholeRecords (raise_records l.opening.state l.held.state ++ flat_map (name_records l.opening.state l.held.state) (take l.place (names_of l.opening.state)))
+    × AreWholeRecords (raise_records l.opening.state l.held.state
+    ++ flat_map (name_records l.opening.state l.held.state) (take l.place (names_of l.opening.state)))
 
 abbrev pub decreases-loop-name : goal.decreases-loop-name
 decreases-loop-name l = length (names_of l.opening.state) - l.place

@@ -24,7 +24,8 @@ returns-in-Err-Fault c =
     let opens = rw c.in-Err-Fault.field-0-is at c.in-Err-Fault.ensures.opens in
     let is = c.bare.ensures.value in
     let body : (client : Target) → c.body_despite.result ≡ body_under [] client (content_despite c.in-Err-Fault.fault) =
-    subst (λ (f : PrivFault). (client : Target) → c.body_despite.result ≡ body_under [] client (content_despite f)) c.in-Err-Fault.fault-is c.body_despite.ensures.value in
+    subst (λ (f : PrivFault). (client : Target) → c.body_despite.result
+    ≡ body_under [] client (content_despite f)) c.in-Err-Fault.fault-is c.body_despite.ensures.value in
     record {
       content = (
         Err c.in-Err-Fault.fault,

@@ -11,7 +11,8 @@ returns-else-whole c = record {
       let g : is_name (name_from c.in-Some.parts.items) ≡ true = ap (λ (parts : List (List ℕ)). is_name (name_from parts)) r.1 ∙ f in
       let many : c.len.result ≡ c.from.result = c.len.ensures ∙ (c.in-Some.parts.ok.0 ∙ (r.0 ∙ sym c.from.ensures)) in
       elim c.else-whole.branch [
-        | else-whole-via-then-whole+else-fits w ↦ let q : false ≡ true = sym w.if-fits.false ∙ (w.fits.ensures.value ∙ (ap (λ (parts : List (List ℕ)). is_name (name_from parts)) c.of.ensures.value ∙ g)) in cc
+        | else-whole-via-then-whole+else-fits w ↦ let q : false ≡ true = sym w.if-fits.false ∙ (w.fits.ensures.value
+            ∙ (ap (λ (parts : List (List ℕ)). is_name (name_from parts)) c.of.ensures.value ∙ g)) in cc
         | else-whole-via-else-whole w ↦ w.if-whole.false many
       ];
 }

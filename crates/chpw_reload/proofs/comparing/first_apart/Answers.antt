@@ -19,7 +19,8 @@ loop-name-preserved c =
     let more = take_more names place c.in-Some.name.now found in
     let next : c.in-Some-checked_add.next ≡ place + 1 = search rules in
     let alike : HoldAlike s t c.in-Some.name.now = c.are_apart.ensures.alike c.if-are_apart.false in
-    let grown : All P (take (place + 1) names) = subst (All P) (sym more.1) (All-append P (take place names) (c.in-Some.name.now ∷ []) c.loop-name.invariant.0 (all_of_one P c.in-Some.name.now alike)) in (
+    let grown : All P (take (place + 1) names) = subst (All P) (sym more.1) (All-append P (take place names)
+    (c.in-Some.name.now ∷ []) c.loop-name.invariant.0 (all_of_one P c.in-Some.name.now alike)) in (
       rw next grown,
       rw next more.0,
     )

@@ -24,4 +24,7 @@ loop-name-preserved c =
 pub returns : goal.returns
 returns c =
     let found : slice_get (names_of c.args.closed.now.state) c.loop-name.place ≡ None = search rules in
-    record { value = c.loop-name.invariant.0 ∙ ap (filter (is_unknown c.args.renewed.now.state)) (take_whole (names_of c.args.closed.now.state) c.loop-name.place found).1 }
+    record {
+      value = c.loop-name.invariant.0 ∙ ap (filter (is_unknown c.args.renewed.now.state))
+          (take_whole (names_of c.args.closed.now.state) c.loop-name.place found).1;
+    }

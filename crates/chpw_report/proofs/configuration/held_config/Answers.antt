@@ -15,7 +15,8 @@ loop-name-preserved c =
     let row : PrincipalRow = c.in_ok-held_row.field-0 in
     let pushed : c.push.new.self.items ≡ c.loop-name.rows.items ++ row ∷ [] = search rules in
     let front : List PrincipalRow = map (row_of s) (take place (names_of s)) in
-    let grown = pushed ∙ (ap (λ (xs : List PrincipalRow). xs ++ row ∷ []) c.loop-name.invariant.0 ∙ (ap (λ (x : PrincipalRow). front ++ x ∷ []) c.in_ok-held_row.ensures.value ∙ sym more.1)) in (
+    let grown = pushed ∙ (ap (λ (xs : List PrincipalRow). xs ++ row ∷ []) c.loop-name.invariant.0
+    ∙ (ap (λ (x : PrincipalRow). front ++ x ∷ []) c.in_ok-held_row.ensures.value ∙ sym more.1)) in (
       rw next grown,
       rw next more.0,
     )

@@ -16,7 +16,9 @@ loop-name-preserved g c =
     let more = texts_more text (names_of t.state) place c.in-Some.name.now found in
     let next : c.in-Some-checked_add.next ≡ place + 1 = search rules in
     let front : List ℕ = flat_map text (take place (names_of t.state)) in
-    let out = appends_more (g.W.Write.contents c.args.writer.now) (g.W.Write.contents c.loop-name.writer) (g.W.Write.contents c.put.new.writer) front c.deref.result.now c.loop-name.invariant.0 c.in_ok-put.ensures.written in
+    let out = appends_more (g.W.Write.contents c.args.writer.now)
+    (g.W.Write.contents c.loop-name.writer) (g.W.Write.contents c.put.new.writer)
+    front c.deref.result.now c.loop-name.invariant.0 c.in_ok-put.ensures.written in
     let whole = ap (λ (xs : List ℕ). front ++ xs) (c.deref.ensures.value ∙ c.in_ok-text.ensures.value) ∙ sym more.1 in (
       rw next (subst (λ (xs : List ℕ). Appends (g.W.Write.contents c.args.writer.now) (g.W.Write.contents c.put.new.writer) xs) whole out),
       rw next more.0,

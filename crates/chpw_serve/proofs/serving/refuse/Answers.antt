@@ -14,7 +14,8 @@ returns-in-Err g c = record {
       words_are = c.draw-drawn.ensures.words;
       nine = c.draw-drawn.ensures.nine;
       bytes_are = refl;
-      heard = subst (λ (a : Answer). g.O.Observer.hears c.args.observer.now (refusal c.args.peer c.draw-drawn.result.now None a) c.refused.new.self) c.too_long.ensures.value c.refused.ensures.heard;
+      heard = subst (λ (a : Answer). g.O.Observer.hears c.args.observer.now (refusal c.args.peer
+          c.draw-drawn.result.now None a) c.refused.new.self) c.too_long.ensures.value c.refused.ensures.heard;
     },
     refl,
   );

@@ -46,7 +46,8 @@ returns-in-Err-answer_message g c =
             text = c.deref.result.now;
             moment = c.draw-drawn.result.now;
             words = c.draw-drawn.result.words;
-            taken = subst (λ (text : List ℕ). TakesPiece (message text) old new) (sym c.deref.ensures.value) (rw c.in-Ok-Message.field-0-is at c.in-Ok-Message.ensures.piece).0;
+            taken = subst (λ (text : List ℕ). TakesPiece (message text) old new)
+                (sym c.deref.ensures.value) (rw c.in-Ok-Message.field-0-is at c.in-Ok-Message.ensures.piece).0;
             moment_is = c.draw-drawn.ensures.moment;
             words_are = c.draw-drawn.ensures.words;
             adds_it = c.in-Err-answer_message.ensures.refused;
@@ -63,9 +64,23 @@ returns-in-Err-write_tcp g c =
     record {
       served = so_far_ends _ _ _ _ _ _ _ _ _ _ _ _ end.WriteFault c.loop-served.invariant c.loop-served-test.true
           (inl (
-            record { text = c.deref.result.now; moment = c.draw-drawn.result.now; words = c.draw-drawn.result.words; opened = c.in-Ok.answer.opened; reply = c.in-Ok.answer.bytes.items },
-            subst (λ (text : List ℕ). TakesPiece (message text) old new) (sym c.deref.ensures.value) (rw c.in-Ok-Message.field-0-is at c.in-Ok-Message.ensures.piece).0,
-            record { moment = c.draw-drawn.ensures.moment; words = c.draw-drawn.ensures.words; nine = c.draw-drawn.ensures.nine; gate = c.answer_message.new.gate; answer = c.in-Ok.ensures.answers; passed = refl },
+            record {
+              text = c.deref.result.now;
+              moment = c.draw-drawn.result.now;
+              words = c.draw-drawn.result.words;
+              opened = c.in-Ok.answer.opened;
+              reply = c.in-Ok.answer.bytes.items;
+            },
+            subst (λ (text : List ℕ). TakesPiece (message text) old new)
+                (sym c.deref.ensures.value) (rw c.in-Ok-Message.field-0-is at c.in-Ok-Message.ensures.piece).0,
+            record {
+              moment = c.draw-drawn.ensures.moment;
+              words = c.draw-drawn.ensures.words;
+              nine = c.draw-drawn.ensures.nine;
+              gate = c.answer_message.new.gate;
+              answer = c.in-Ok.ensures.answers;
+              passed = refl;
+            },
             subst (λ (bytes : List ℕ). AppendsFront out then (sent bytes)) c.deref-in-loop-served.ensures.value c.in-Err-write_tcp.ensures.front,
           ));
     }
@@ -77,10 +92,24 @@ loop-served-preserved g c =
     let out = g.W.Write.contents c.loop-served.writer in
     let then = g.W.Write.contents c.write_tcp.new.writer in
     so_far_on _ _ _ _ _ _ _ _ _ _ _ _ c.loop-served.invariant c.loop-served-test.true (
-      record { text = c.deref.result.now; moment = c.draw-drawn.result.now; words = c.draw-drawn.result.words; opened = c.in-Ok.answer.opened; reply = c.in-Ok.answer.bytes.items },
+      record {
+        text = c.deref.result.now;
+        moment = c.draw-drawn.result.now;
+        words = c.draw-drawn.result.words;
+        opened = c.in-Ok.answer.opened;
+        reply = c.in-Ok.answer.bytes.items;
+      },
       (
-        subst (λ (text : List ℕ). TakesPiece (message text) old new) (sym c.deref.ensures.value) (rw c.in-Ok-Message.field-0-is at c.in-Ok-Message.ensures.piece).0,
-        record { moment = c.draw-drawn.ensures.moment; words = c.draw-drawn.ensures.words; nine = c.draw-drawn.ensures.nine; gate = c.answer_message.new.gate; answer = c.in-Ok.ensures.answers; passed = c.pass_answered.ensures.passed },
+        subst (λ (text : List ℕ). TakesPiece (message text) old new)
+            (sym c.deref.ensures.value) (rw c.in-Ok-Message.field-0-is at c.in-Ok-Message.ensures.piece).0,
+        record {
+          moment = c.draw-drawn.ensures.moment;
+          words = c.draw-drawn.ensures.words;
+          nine = c.draw-drawn.ensures.nine;
+          gate = c.answer_message.new.gate;
+          answer = c.in-Ok.ensures.answers;
+          passed = c.pass_answered.ensures.passed;
+        },
         subst (λ (bytes : List ℕ). Appends out then (sent bytes)) c.deref-in-loop-served.ensures.value c.in-Ok-write_tcp.ensures.whole,
       ),
     )

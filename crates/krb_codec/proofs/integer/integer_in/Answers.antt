@@ -16,7 +16,13 @@ returns-then-n-high-clause-value c =
     let fn : FitsSigned w64 c.to_signed-n.result = search rules in
     let above : c.args.low ≤ℤ c.to_signed-n.result = omega (arith, ints) in
     let below : c.to_signed-n.result ≤ℤ c.args.high = omega (arith, ints) in
-    rw (to_z-of_z w64 c.to_signed-n.result fn) (sym (integer_complete c.args.low c.args.high c.args.place c.args.content.now c.to_signed-n.result (good, c.to_signed-n.ensures, above, below)))
+    rw (to_z-of_z w64 c.to_signed-n.result fn)
+    (sym (integer_complete c.args.low c.args.high c.args.place c.args.content.now c.to_signed-n.result (
+      good,
+      c.to_signed-n.ensures,
+      above,
+      below,
+    )))
 
 pub returns-else-low-n-clause-value : goal.returns-else-low-n-clause-value
 returns-else-low-n-clause-value c =
@@ -32,5 +38,6 @@ returns-else-low-n-clause-value c =
 pub returns-else-content-le-LONGEST-clause-value : goal.returns-else-content-le-LONGEST-clause-value
 returns-else-content-le-LONGEST-clause-value c =
     let good : is_shortest_integer c.args.content.now ≡ true = sym c.is_shortest.ensures ∙ c.if-not-is_shortest.false in
-    let out = long_outside c.args.low c.args.high c.args.content.now (λ i. let small = c.type_inv.content i in omega (arith, small)) c.ranges.low c.ranges.high good (omega (arith, c.if-content-le-LONGEST.false)) in
+    let out = long_outside c.args.low c.args.high c.args.content.now (λ i. let small = c.type_inv.content i in
+    omega (arith, small)) c.ranges.low c.ranges.high good (omega (arith, c.if-content-le-LONGEST.false)) in
     sym (integer_outside c.args.low c.args.high c.args.place c.args.content.now good out)

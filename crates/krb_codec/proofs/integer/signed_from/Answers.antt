@@ -20,7 +20,10 @@ loop-byte-preserved c =
     let so_far = c.loop-byte.invariant in
     let is = one_more n c.from.result b (256 ^ i) c.from.ensures below few so_far.above so_far.below in
     let more = pow_more i in
-    let value = value_more n b (sign_weight c.args.first (i + 1)) (number_from_digits_after 256 (0 + c.args.first) (take i c.args.rest.now)) (sign_weight c.args.first (i + 1 + 1)) (number_from_digits_after 256 (0 + c.args.first) (take (i + 1) c.args.rest.now)) so_far.value (sign_weight_more c.args.first (i + 1)) (number_more (0 + c.args.first) i c.args.rest.now c.loop-byte-test.true) in
+    let value = value_more n b (sign_weight c.args.first (i + 1)) (number_from_digits_after 256 (0 + c.args.first)
+    (take i c.args.rest.now)) (sign_weight c.args.first (i + 1 + 1)) (number_from_digits_after 256
+    (0 + c.args.first) (take (i + 1) c.args.rest.now)) so_far.value (sign_weight_more c.args.first (i + 1))
+    (number_more (0 + c.args.first) i c.args.rest.now c.loop-byte-test.true) in
     record {
       value = rw is value;
       above = rw is (omega (arith, ints, more, so_far.above));

@@ -15,4 +15,5 @@ pub elements-preserved : goal.elements-preserved
 elements-preserved c =
     let t = next_is (starts_between c.args.low c.args.high c.elements.region.left) c.in-Some.tag (first_of c.elements.region.left) c.in-Some.ensures in
     let one = sym (ap (λ (n : ℕ). element_at n c.elements.region) t.1) ∙ c.in_ok-element.ensures in
-    further_goes_on c.args.low c.args.high c.elements.invariant.0 c.elements.region _ _ t.0 c.elements.invariant.1 (elements-smaller c) one c.elements.invariant.2
+    further_goes_on c.args.low c.args.high c.elements.invariant.0 c.elements.region _ _ t.0 c.elements.invariant.1
+    (elements-smaller c) one c.elements.invariant.2

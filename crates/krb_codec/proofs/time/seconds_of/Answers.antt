@@ -21,21 +21,28 @@ returns-in-Some c =
     let same = c.civil_of-time.ensures.value in
     let day = some_if (is_civil_day c.civil_of-time.result) (day_number c.civil_of-time.result) c.in-Some.day (sym c.in-Some.ensures.value) in
     let of_day : is_time_of_day c.civil_of-time.result ≡ true = sym c.is_time_of_day.ensures ∙ c.if-is_time_of_day.true in
-    let civil : is_civil_time (civil_of c.args.text.now) ≡ true = ap is_civil_time (sym same) ∙ and_from (is_civil_day c.civil_of-time.result) (is_time_of_day c.civil_of-time.result) day.0 of_day in
-    let value = seconds_computed c.in-Some.day c.second_of_day.result (second_of_day c.civil_of-time.result) c.in-Some.ensures.bound c.second_of_day.ensures.value c.second_of_day.ensures.bound in
-    let seconds : c.in-Some.day *ℤ pos 86400 +ℤ pos (second_of_day c.civil_of-time.result) ≡ seconds_at (civil_of c.args.text.now) = ap (λ d. d *ℤ pos 86400 +ℤ pos (second_of_day c.civil_of-time.result)) (sym day.1) ∙ ap seconds_at same in
-    ap (λ (n : ℤ). Some n) (value ∙ seconds) ∙ sym (seconds_some c.args.text.now (and_from (has_time_form c.args.text.now) (is_civil_time (civil_of c.args.text.now)) form civil))
+    let civil : is_civil_time (civil_of c.args.text.now) ≡ true = ap is_civil_time (sym same)
+    ∙ and_from (is_civil_day c.civil_of-time.result) (is_time_of_day c.civil_of-time.result) day.0 of_day in
+    let value = seconds_computed c.in-Some.day c.second_of_day.result (second_of_day c.civil_of-time.result)
+    c.in-Some.ensures.bound c.second_of_day.ensures.value c.second_of_day.ensures.bound in
+    let seconds : c.in-Some.day *ℤ pos 86400 +ℤ pos (second_of_day c.civil_of-time.result)
+    ≡ seconds_at (civil_of c.args.text.now) =
+    ap (λ d. d *ℤ pos 86400 +ℤ pos (second_of_day c.civil_of-time.result)) (sym day.1) ∙ ap seconds_at same in
+    ap (λ (n : ℤ). Some n) (value ∙ seconds) ∙ sym (seconds_some c.args.text.now
+    (and_from (has_time_form c.args.text.now) (is_civil_time (civil_of c.args.text.now)) form civil))
 
 pub returns-in_default : goal.returns-in_default
 returns-in_default c =
     let same = c.civil_of-time.ensures.value in
     let of_day : is_time_of_day c.civil_of-time.result ≡ false = sym c.is_time_of_day.ensures ∙ c.if-is_time_of_day.false in
-    let civil : is_civil_time (civil_of c.args.text.now) ≡ false = ap is_civil_time (sym same) ∙ and_right (is_civil_day c.civil_of-time.result) (is_time_of_day c.civil_of-time.result) of_day in
+    let civil : is_civil_time (civil_of c.args.text.now) ≡ false = ap is_civil_time (sym same)
+    ∙ and_right (is_civil_day c.civil_of-time.result) (is_time_of_day c.civil_of-time.result) of_day in
     sym (seconds_none c.args.text.now (and_right (has_time_form c.args.text.now) (is_civil_time (civil_of c.args.text.now)) civil))
 
 pub returns-in_default-2 : goal.returns-in_default-2
 returns-in_default-2 c =
     let same = c.civil_of-time.ensures.value in
     let day = none_if (is_civil_day c.civil_of-time.result) (day_number c.civil_of-time.result) (sym c.in_default.ensures.value) in
-    let civil : is_civil_time (civil_of c.args.text.now) ≡ false = ap is_civil_time (sym same) ∙ and_left (is_civil_day c.civil_of-time.result) (is_time_of_day c.civil_of-time.result) day in
+    let civil : is_civil_time (civil_of c.args.text.now) ≡ false = ap is_civil_time (sym same)
+    ∙ and_left (is_civil_day c.civil_of-time.result) (is_time_of_day c.civil_of-time.result) day in
     sym (seconds_none c.args.text.now (and_right (has_time_form c.args.text.now) (is_civil_time (civil_of c.args.text.now)) civil))

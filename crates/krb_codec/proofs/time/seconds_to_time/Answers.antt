@@ -4,7 +4,8 @@ use Rattle.krb_codec.specs.CivilTimes.{civil_at}
 use Rattle.krb_codec.specs.Times.{IsWritable, civil_text, time_octets}
 use Rattle.krb_codec.proofs.TimeLemmas.{time_of_none, time_of_some, time_of-exact, outside}
 use Rattle.krb_codec.proofs.time.seconds_to_time.Goals as goal
-use Rattle.krb_codec.proofs.time.seconds_to_time.Goals.{then-seconds-lt-FIRST_SECOND-via-then-seconds-lt-FIRST_SECOND, then-seconds-lt-FIRST_SECOND-via-else-seconds-lt-FIRST_SECOND+then-seconds-gt-LAST_SECOND}
+use Rattle.krb_codec.proofs.time.seconds_to_time.Goals.{then-seconds-lt-FIRST_SECOND-via-then-seconds-lt-FIRST_SECOND}
+use Rattle.krb_codec.proofs.time.seconds_to_time.Goals.{then-seconds-lt-FIRST_SECOND-via-else-seconds-lt-FIRST_SECOND+then-seconds-gt-LAST_SECOND}
 
 pub returns-then-seconds-lt-FIRST_SECOND : goal.returns-then-seconds-lt-FIRST_SECOND
 returns-then-seconds-lt-FIRST_SECOND c =

@@ -43,6 +43,11 @@ pub returns : goal.returns
 returns c = record {
   text =
       IfOk-weaker c.write_ap_req.result _ _
-      (λ v h. (c.in-Ok.ticket, c.in-Ok.ensures.value, h ∙ ap (λ (x : EncryptedData). text ap_req (ap_req_value (message_of c.in-Ok.ticket c.args.options x))) c.in_ok-seal_part.ensures.value))
+      (λ v h. (
+        c.in-Ok.ticket,
+        c.in-Ok.ensures.value,
+        h ∙ ap (λ (x : EncryptedData). text ap_req
+            (ap_req_value (message_of c.in-Ok.ticket c.args.options x))) c.in_ok-seal_part.ensures.value,
+      ))
       c.write_ap_req.ensures.text;
 }

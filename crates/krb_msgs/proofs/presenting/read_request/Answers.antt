@@ -52,7 +52,8 @@ returns-then-not-has_known_etype c =
     let type : r.msg_type ≡ protocol.krb_ap_req = search rules in
     let clear : UsesSessionKey r → ⊥ = λ h. let yes = c.is_set.ensures.value ∙ h in search (rules, yes) in
     let ours : IsForUs c.args.realm.now r.ticket = c.is_for_us.ensures.0 (search rules) in
-    goes_on r c.in_ok-request.ensures (met version (met type (met clear (met ours (unmet (λ h. let yes = c.has_known_etype.ensures.1 h in search (rules, yes)) refl)))))
+    goes_on r c.in_ok-request.ensures (met version (met type
+    (met clear (met ours (unmet (λ h. let yes = c.has_known_etype.ensures.1 h in search (rules, yes)) refl)))))
 
 pub returns-in-Some : goal.returns-in-Some
 unfolding Presents
@@ -63,7 +64,8 @@ returns-in-Some c =
     let clear : UsesSessionKey r → ⊥ = λ h. let yes = c.is_set.ensures.value ∙ h in search (rules, yes) in
     let ours : IsForUs c.args.realm.now r.ticket = c.is_for_us.ensures.0 (search rules) in
     let known : IsKnownEtype r.ticket.enc_part.etype = c.has_known_etype.ensures.0 (search rules) in
-    goes_on r c.in_ok-request.ensures (met version (met type (met clear (met ours (met known (of_one c.in-Some.key (sym c.key_for.ensures ∙ c.in-Some.is) refl))))))
+    goes_on r c.in_ok-request.ensures (met version (met type
+    (met clear (met ours (met known (of_one c.in-Some.key (sym c.key_for.ensures ∙ c.in-Some.is) refl))))))
 
 pub returns-in-None : goal.returns-in-None
 unfolding Presents
@@ -74,4 +76,5 @@ returns-in-None c =
     let clear : UsesSessionKey r → ⊥ = λ h. let yes = c.is_set.ensures.value ∙ h in search (rules, yes) in
     let ours : IsForUs c.args.realm.now r.ticket = c.is_for_us.ensures.0 (search rules) in
     let known : IsKnownEtype r.ticket.enc_part.etype = c.has_known_etype.ensures.0 (search rules) in
-    goes_on r c.in_ok-request.ensures (met version (met type (met clear (met ours (met known (of_none (λ k h. let none = sym c.in-None.is ∙ c.key_for.ensures ∙ h in search (rules, none)) refl))))))
+    goes_on r c.in_ok-request.ensures (met version (met type (met clear (met ours (met known
+    (of_none (λ k h. let none = sym c.in-None.is ∙ c.key_for.ensures ∙ h in search (rules, none)) refl))))))

@@ -43,6 +43,7 @@ pub returns : goal.returns
 returns c =
     let some : 0 < length c.args.ap_rep.now = grind arith in record {
       opens =
-          says (OpensResult c.args.subkey.now c.args.tail.now) (OpensReply c.args.session.now c.args.subkey.now c.args.ctime c.args.cusec c.args.ap_rep.now c.args.tail.now)
+          says (OpensResult c.args.subkey.now c.args.tail.now) (OpensReply
+          c.args.session.now c.args.subkey.now c.args.ctime c.args.cusec c.args.ap_rep.now c.args.tail.now)
           (λ answer h. with_ap_rep _ _ _ _ _ _ answer some (goes_on tt c.in_ok-open_ap_rep.ensures h)) c.open_result.result c.open_result.ensures;
     }

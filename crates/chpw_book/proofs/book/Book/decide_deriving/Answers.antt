@@ -22,14 +22,17 @@ returns-else-is_err-clause-never g c =
     let same : u ≡ t = ap (λ (x : BookView). x.kept.table) c.in-Err.ensures.unchanged.0 in
     let back = c.in-Err.ensures.refused.opened in
     let first : IsFirst t (missing t.state c.args.now c.args.opened) (NeedKeys c.in-NeedKeys.counts) =
-    subst (λ (f : DecideFault). IsFirst t (missing t.state c.args.now c.args.opened) f) c.in-NeedKeys.is (c.in-Err.ensures.refused.first t.state (agrees_itself t.state)) in
+    subst (λ (f : DecideFault). IsFirst t (missing t.state c.args.now c.args.opened) f) c.in-NeedKeys.is
+    (c.in-Err.ensures.refused.first t.state (agrees_itself t.state)) in
     let given = first.2 in
     let o : Opened = c.complete.new.self in
     let made : o ≡ completed c.args.password.now (missing t.state c.args.now c.args.opened) c.args.opened = search (rules, back, given) in
     let none : missing u.state c.args.now o ≡ [] =
-    ap (λ (x : Held). missing x.state c.args.now o) same ∙ (ap (λ (x : Opened). missing t.state c.args.now x) made ∙ completed_lacks_nothing t.state c.args.now c.args.opened c.args.password.now) in
+    ap (λ (x : Held). missing x.state c.args.now o) same ∙ (ap (λ (x : Opened). missing t.state c.args.now x) made
+    ∙ completed_lacks_nothing t.state c.args.now c.args.opened c.args.password.now) in
     err_implies (λ (r : Refused). IsRefused u c.args.now o r) (λ (r : Refused). IsFinal r.fault)
-    (λ r h. no_need u (missing u.state c.args.now o) r.fault none (h.first u.state (agrees_itself u.state))) c.decide-in-NeedKeys.result c.decide-in-NeedKeys.ensures.refused
+    (λ r h. no_need u (missing u.state c.args.now o) r.fault none
+    (h.first u.state (agrees_itself u.state))) c.decide-in-NeedKeys.result c.decide-in-NeedKeys.ensures.refused
 
 pub returns-else-is_err-clause-full : goal.returns-else-is_err-clause-full
 returns-else-is_err-clause-full g c =
@@ -38,7 +41,9 @@ returns-else-is_err-clause-full g c =
     let same : u ≡ t = ap (λ (x : BookView). x.kept.table) c.in-Err.ensures.unchanged.0 in
     let o : Opened = c.complete.new.self in
     err_implies (λ (r : Refused). IsRefused u c.args.now o r) (λ (r : Refused). r.fault ≡ Full → t.events ≡ t.max_entries)
-    (λ r h e. sym (ap (λ (x : Held). x.events) same) ∙ (full_at u (missing u.state c.args.now o) r.fault (h.first u.state (agrees_itself u.state)) e ∙ ap (λ (x : Held). x.max_entries) same)) c.decide-in-NeedKeys.result c.decide-in-NeedKeys.ensures.refused
+    (λ r h e. sym (ap (λ (x : Held). x.events) same)
+    ∙ (full_at u (missing u.state c.args.now o) r.fault (h.first u.state (agrees_itself u.state)) e
+    ∙ ap (λ (x : Held). x.max_entries) same)) c.decide-in-NeedKeys.result c.decide-in-NeedKeys.ensures.refused
 
 pub returns-in_default : goal.returns-in_default
 returns-in_default g c =
@@ -47,6 +52,10 @@ returns-in_default g c =
       adds = tt;
       never = final_other c.in-Err.refused.fault c.in_default.not-NeedKeys;
       full = full_at t (missing t.state c.args.now c.args.opened) c.in-Err.refused.fault (c.in-Err.ensures.refused.first t.state (agrees_itself t.state));
-      unchanged = (c.in-Err.ensures.unchanged.0, c.in-Err.ensures.unchanged.1, ([], c.in-Err.ensures.refused.opened ∙ sym (completed_by_none c.args.password.now c.args.opened)));
+      unchanged = (
+        c.in-Err.ensures.unchanged.0,
+        c.in-Err.ensures.unchanged.1,
+        ([], c.in-Err.ensures.refused.opened ∙ sym (completed_by_none c.args.password.now c.args.opened)),
+      );
       told = c.decide.ensures.told;
     }

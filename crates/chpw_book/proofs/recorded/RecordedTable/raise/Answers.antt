@@ -23,11 +23,26 @@ make_room-requires g c =
     let kept = c.self.invariant.0 in
     let same = c.table-2.ensures.value in
     let opening : State = opening_state g.D.ListName.root in
-    let b : RecordedView = record { table = c.self.inside.journaled.table; history = c.self.inside.history.entries.items; counts = c.self.inside.history.counts.items; changes = c.self.inside.history.changes; total = c.self.inside.history.totals.total; told = g.S.JournalSink.told c.self.inside.journaled.sink } in
-    let published : IsPublished opening b.history b.table.state.broken c.args.shelf.now = subst (λ (x : RecordedView). IsPublished opening x.history x.table.state.broken c.args.shelf.now) (sym c.self.view_is) c.requires.published in
+    let b : RecordedView =
+    record {
+      table = c.self.inside.journaled.table;
+      history = c.self.inside.history.entries.items;
+      counts = c.self.inside.history.counts.items;
+      changes = c.self.inside.history.changes;
+      total = c.self.inside.history.totals.total;
+      told = g.S.JournalSink.told c.self.inside.journaled.sink;
+    } in
+    let published : IsPublished opening b.history b.table.state.broken c.args.shelf.now =
+    subst (λ (x : RecordedView). IsPublished opening x.history x.table.state.broken c.args.shelf.now)
+    (sym c.self.view_is) c.requires.published in
     record {
       room = subst (λ (t : Held). t.events < t.max_entries) (c.table.ensures.value ∙ sym same) c.in_ok-has_room.ensures.room;
-      kept = (b.history, kept.legal, subst (λ (t : Held). Agrees t.state (outcome opening b.history)) (sym same) kept.agrees, subst (λ (t : Held). IsPublished opening b.history t.state.broken c.args.shelf.now) (sym same) published);
+      kept = (
+        b.history,
+        kept.legal,
+        subst (λ (t : Held). Agrees t.state (outcome opening b.history)) (sym same) kept.agrees,
+        subst (λ (t : Held). IsPublished opening b.history t.state.broken c.args.shelf.now) (sym same) published,
+      );
     }
 
 -- there was room
@@ -60,15 +75,29 @@ add-requires-clause-changes g c = rw c.make_room.ensures.same.0 c.self.invariant
 pub invariant_of-self-2 : goal.invariant_of-self-2
 invariant_of-self-2 g c =
     let opening : State = opening_state g.D.ListName.root in
-    let b : RecordedView = record { table = c.self.inside.journaled.table; history = c.self.inside.history.entries.items; counts = c.self.inside.history.counts.items; changes = c.self.inside.history.changes; total = c.self.inside.history.totals.total; told = g.S.JournalSink.told c.self.inside.journaled.sink } in
+    let b : RecordedView =
+    record {
+      table = c.self.inside.journaled.table;
+      history = c.self.inside.history.entries.items;
+      counts = c.self.inside.history.counts.items;
+      changes = c.self.inside.history.changes;
+      total = c.self.inside.history.totals.total;
+      told = g.S.JournalSink.told c.self.inside.journaled.sink;
+    } in
     let kept : IsLinearized opening g.D.DeskName.workers b = c.self.invariant.0 in
     let s : State = outcome opening b.history in
     let made = c.in-Ok.raise in
     let w = c.pass.inside.calls.worker in
     let below : w < length b.counts = let all = kept.all in let mine = c.pass.invariant.2 in omega (arith, all, mine) in
-    let pushed : c.add.new.self.entries.items ≡ b.history ++ next_entry b.history w c.args.now made.io_failed (Raise c.args.count made.verdict) ∷ [] = rw (← c.make_room.ensures.same.0) c.add.ensures.entry in (
-      kept_event opening g.D.DeskName.workers b w c.args.now made.io_failed (Raise c.args.count made.verdict) c.raise.new.self.table c.add.new.self.entries.items c.add.new.self.counts.items c.add.new.self.changes c.add.new.self.totals.total (g.S.JournalSink.told c.raise.new.self.sink) kept
-          (c.in-Ok.ensures.legal s kept.agrees) (c.in-Ok.ensures.step s kept.agrees) (λ h. c.requires.count) c.in-Ok.ensures.told c.in-Ok.ensures.counts.0 below pushed c.add.ensures.counts c.add.ensures.changes c.add.ensures.total,
+    let pushed : c.add.new.self.entries.items
+    ≡ b.history ++ next_entry b.history w c.args.now made.io_failed (Raise c.args.count made.verdict) ∷ [] =
+    rw (← c.make_room.ensures.same.0) c.add.ensures.entry in (
+      kept_event opening g.D.DeskName.workers b w c.args.now made.io_failed (Raise c.args.count made.verdict)
+          c.raise.new.self.table c.add.new.self.entries.items c.add.new.self.counts.items
+          c.add.new.self.changes c.add.new.self.totals.total (g.S.JournalSink.told c.raise.new.self.sink) kept
+          (c.in-Ok.ensures.legal s kept.agrees) (c.in-Ok.ensures.step s kept.agrees)
+          (λ h. c.requires.count) c.in-Ok.ensures.told c.in-Ok.ensures.counts.0 below
+          pushed c.add.ensures.counts c.add.ensures.changes c.add.ensures.total,
       c.self.invariant.1,
     )
 
@@ -76,7 +105,15 @@ pub returns-clause-recorded : goal.returns-clause-recorded
 unfolding invariant_of-self-2
 returns-clause-recorded g c =
     let opening : State = opening_state g.D.ListName.root in
-    let b : RecordedView = record { table = c.self.inside.journaled.table; history = c.self.inside.history.entries.items; counts = c.self.inside.history.counts.items; changes = c.self.inside.history.changes; total = c.self.inside.history.totals.total; told = g.S.JournalSink.told c.self.inside.journaled.sink } in
+    let b : RecordedView =
+    record {
+      table = c.self.inside.journaled.table;
+      history = c.self.inside.history.entries.items;
+      counts = c.self.inside.history.counts.items;
+      changes = c.self.inside.history.changes;
+      total = c.self.inside.history.totals.total;
+      told = g.S.JournalSink.told c.self.inside.journaled.sink;
+    } in
     let made = c.in-Ok.raise in
     let t : Held = c.raise.new.self.table in
     let w = c.pass.inside.calls.worker in
@@ -85,14 +122,21 @@ returns-clause-recorded g c =
     let mine : c.add.new.calls.receipts.items ≡ c.pass.inside.calls.receipts.items ++ receipt_of b.history e ∷ [] =
     rw (← c.make_room.ensures.same.0, ← c.make_room.ensures.same.1) c.add.ensures.receipt in
     let later : IsLinearized opening g.D.DeskName.workers _ = (invariant_of-self-2 g c).0 in
-    let few : length c.add.new.self.entries.items < 2147483648 = let room = later.room in let most : t.events ≤ 1048576 = c.in-Ok.ensures.few in omega (arith, room, most) in
+    let few : length c.add.new.self.entries.items < 2147483648 =
+    let room = later.room in let most : t.events ≤ 1048576 = c.in-Ok.ensures.few in omega (arith, room, most) in
     let kept : IsLinearized opening g.D.DeskName.workers b = c.self.invariant.0 in
     let below : w < length b.counts = let all = kept.all in let own = c.pass.invariant.2 in omega (arith, all, own) in
     let number : slice_index b.counts w + 1 ≡ e.number = ap (λ (n : ℕ). n + 1) (kept.counted.counts_are w below) in
-    let waits : c.make_room.new.shelf ≡ with_waiting (would_raise b.table c.args.count) (Count c.args.count) c.args.shelf.now = rw (← c.table-2.ensures.value) c.in_ok-make_room.ensures.ok in
-    let published : IsPublished opening b.history b.table.state.broken c.args.shelf.now = subst (λ (x : RecordedView). IsPublished opening x.history x.table.state.broken c.args.shelf.now) (sym c.self.view_is) c.requires.published in
+    let waits : c.make_room.new.shelf
+    ≡ with_waiting (would_raise b.table c.args.count) (Count c.args.count) c.args.shelf.now =
+    rw (← c.table-2.ensures.value) c.in_ok-make_room.ensures.ok in
+    let published : IsPublished opening b.history b.table.state.broken c.args.shelf.now =
+    subst (λ (x : RecordedView). IsPublished opening x.history x.table.state.broken c.args.shelf.now)
+    (sym c.self.view_is) c.requires.published in
     let pass_is = c.pass.view_is ∙ c.has_room.ensures.same in
-    let saw : IsPrefix c.pass.inside.place.seen c.args.shelf.now.list = subst (λ (p : PassView). IsPrefix p.place.seen c.args.shelf.now.list) (sym pass_is) c.in_ok-has_room.ensures.saw in
+    let saw : IsPrefix c.pass.inside.place.seen c.args.shelf.now.list =
+    subst (λ (p : PassView). IsPrefix p.place.seen c.args.shelf.now.list)
+    (sym pass_is) c.in_ok-has_room.ensures.saw in
     rw (← c.self.view_is, ← pass_is) (record {
       entry = e;
       enters = record { entry_is = refl; receipts = mine; share = c.add.ensures.share; same = (c.add.ensures.worker.0, refl) };
@@ -105,7 +149,9 @@ returns-clause-recorded g c =
       };
       place = refl;
       saw = saw;
-      shelves = raise_shelves b.table c.args.count made.verdict made.io_failed t.state.broken c.args.shelf.now c.make_room.new.shelf c.in-Ok.ensures.room published.free (c.in-Ok.ensures.legal b.table.state (agrees_itself b.table.state)).verdict_is c.in-Ok.ensures.broken waits;
+      shelves = raise_shelves b.table c.args.count made.verdict
+          made.io_failed t.state.broken c.args.shelf.now c.make_room.new.shelf c.in-Ok.ensures.room published.free
+          (c.in-Ok.ensures.legal b.table.state (agrees_itself b.table.state)).verdict_is c.in-Ok.ensures.broken waits;
       linearized = (kept, later);
       few = few;
     })

@@ -9,6 +9,8 @@ use Rattle.chpw_connections.proofs.set.Connections.find_room_to_read.Goals as go
 pub returns-clause-value : goal.returns-clause-value
 returns-clause-value c =
     c.find_room.ensures.value
-    ∙ ap (λ (count : ℕ). has_room_besides c.room_to_read-most.result.0 c.room_to_read-most.result.1 (slots_of c.args.self.now) c.args.slot count) c.growth-count.ensures.value
-    ∙ ap₂ (λ (most : ℕ) (who : EvictionRule). has_room_besides most who (slots_of c.args.self.now) c.args.slot (growth_at (get (slots_of c.args.self.now) c.args.slot)))
+    ∙ ap (λ (count : ℕ). has_room_besides c.room_to_read-most.result.0 c.room_to_read-most.result.1
+    (slots_of c.args.self.now) c.args.slot count) c.growth-count.ensures.value
+    ∙ ap₂ (λ (most : ℕ) (who : EvictionRule). has_room_besides most who
+    (slots_of c.args.self.now) c.args.slot (growth_at (get (slots_of c.args.self.now) c.args.slot)))
     c.room_to_read-most.ensures.most c.room_to_read-most.ensures.who

@@ -22,4 +22,5 @@ pub returns-clause-few : goal.returns-clause-few
 returns-clause-few c = subst (λ (xs : List Answer). length xs ≤ 1024) (sym (returns-clause-value c)) (few_kept _ _)
 
 pub returns-clause-bytes : goal.returns-clause-bytes
-returns-clause-bytes c = subst (λ (xs : List Answer). bytes_of xs ≤ 4194304) (sym c.drop_oldest.ensures.value) (bytes-within 4194304 (answers_of c.push_front_reserved.new.self.items))
+returns-clause-bytes c = subst (λ (xs : List Answer). bytes_of xs ≤ 4194304)
+    (sym c.drop_oldest.ensures.value) (bytes-within 4194304 (answers_of c.push_front_reserved.new.self.items))

@@ -11,7 +11,9 @@ returns-then-on_left-on_right-clause-deep g t c =
     let parts = length-append fork.left (fork.key ∷ fork.right) in
     let even : AreEven (length fork.left) (length fork.right) = subst IsEven c.in-Some.is c.self.invariant.1 in
     let side = ap (λ f. length f.right) c.deref-2.ensures in
-    one_deeper c.depth-on_right.result (length c.deref-2.result.now.right) (length fork.left) (length c.args.self.now) c.depth-on_right.ensures.deep (omega (arith, even.1, side)) (omega (arith, all, parts, side))
+    one_deeper c.depth-on_right.result (length c.deref-2.result.now.right)
+    (length fork.left) (length c.args.self.now) c.depth-on_right.ensures.deep (omega (arith, even.1, side))
+    (omega (arith, all, parts, side))
 
 pub returns-else-on_left-on_right-clause-deep : goal.returns-else-on_left-on_right-clause-deep
 returns-else-on_left-on_right-clause-deep g t c =
@@ -20,4 +22,6 @@ returns-else-on_left-on_right-clause-deep g t c =
     let parts = length-append fork.left (fork.key ∷ fork.right) in
     let even : AreEven (length fork.left) (length fork.right) = subst IsEven c.in-Some.is c.self.invariant.1 in
     let side = ap (λ f. length f.left) c.deref.ensures in
-    one_deeper c.depth-on_left.result (length c.deref.result.now.left) (length fork.right) (length c.args.self.now) c.depth-on_left.ensures.deep (omega (arith, even.0, side)) (omega (arith, all, parts, side))
+    one_deeper c.depth-on_left.result (length c.deref.result.now.left)
+    (length fork.right) (length c.args.self.now) c.depth-on_left.ensures.deep (omega (arith, even.0, side))
+    (omega (arith, all, parts, side))

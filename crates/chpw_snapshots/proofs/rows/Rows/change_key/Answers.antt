@@ -14,7 +14,8 @@ invariant_of-self c =
     let names = names_changed c.self.inside.kept c.args.change c.args.change.number c.as_mut_slice.result.now ∙ ap names_of_rows slice in
     let behind : List Row = drop (length new) c.self.inside.rows.items in
     let count : c.self.inside.rows.len ≡ length c.self.inside.rows.items = search rules in
-    let same : c.self.inside.rows.len ≡ length new = count ∙ ap length (sym slice) ∙ sym (length_changed c.self.inside.kept c.args.change c.args.change.number c.as_mut_slice.result.now) in
+    let same : c.self.inside.rows.len ≡ length new = count ∙ ap length (sym slice)
+    ∙ sym (length_changed c.self.inside.kept c.args.change c.args.change.number c.as_mut_slice.result.now) in
     let all : take c.self.inside.rows.len (new ++ behind) ≡ new = ap (λ n. take n (new ++ behind)) same ∙ take-append_seam new behind in (
       search rules,
       search rules,

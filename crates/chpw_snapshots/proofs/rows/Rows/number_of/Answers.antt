@@ -18,6 +18,8 @@ returns c =
     let rows : c.as_slice.result.now ≡ c.args.self.now.rows = search rules in
     record {
       value = c.place_of.ensures.value
-          ∙ (position_alike (λ (r : Row). eq_by_cmp name_cmp r.name c.args.name.now) (λ (r : Row). is_same_name r.name c.args.name.now) (λ r. sym (same_name_ties r.name c.args.name.now)) c.as_slice.result.now
+          ∙ (position_alike (λ (r : Row). eq_by_cmp name_cmp r.name c.args.name.now)
+          (λ (r : Row). is_same_name r.name c.args.name.now)
+          (λ r. sym (same_name_ties r.name c.args.name.now)) c.as_slice.result.now
           ∙ ap (position (λ (r : Row). is_same_name r.name c.args.name.now)) rows);
     }

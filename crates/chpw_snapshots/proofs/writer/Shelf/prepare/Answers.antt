@@ -23,4 +23,5 @@ pub returns-clause-ok : goal.returns-clause-ok
 returns-clause-ok g c =
     let change : NumberedKey = record { number = c.number_of-number.result; kvno = c.args.kvno; count = c.args.count } in
     let waits : KeyChange → Shelved = λ k. record { list = c.args.self.now.list; waiting = Some (Key k) } in
-    subst (λ (k : KeyChange). OnOk c.wait.result (c.wait.new.self ≡ waits k)) (named_change (opening_state g.D.ListName.root) c.args.name.now change c.number_of-number.ensures.number).1 c.wait.ensures.ok
+    subst (λ (k : KeyChange). OnOk c.wait.result (c.wait.new.self ≡ waits k)) (named_change
+    (opening_state g.D.ListName.root) c.args.name.now change c.number_of-number.ensures.number).1 c.wait.ensures.ok

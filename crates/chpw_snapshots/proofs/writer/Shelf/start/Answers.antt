@@ -22,11 +22,17 @@ invariant_of-result g c =
     let r = g.D.ListName.root in
     let v = c.of-first.ensures.value in
     let x = c.of-first.result in
-    let shows : ShowsList x.root.book x.root.log [] x = opening_version r c.args.rows x v.1 v.0 (ap (λ m. m.log) v.3 ∙ c.requires.root.1) (v.2 ∙ sym v.3) c.requires.rows.0 in
+    let shows : ShowsList x.root.book x.root.log [] x =
+    opening_version r c.args.rows x v.1 v.0 (ap (λ m. m.log) v.3 ∙ c.requires.root.1)
+    (v.2 ∙ sym v.3) c.requires.rows.0 in
     let values = ok_case c.publish_as-writer.result.1 _ _ (c.publish_as-writer.ensures.succeeds tt) c.publish_as-writer.ensures.values in
     let rule = ok_case c.publish_as-writer.result.1 _ _ (c.publish_as-writer.ensures.succeeds tt) c.publish_as-writer.ensures.rule in
     let w = c.in_ok-writer.writer in
     let same = rw (c.in_ok-writer.ensures.1) at values.1.0 in
-    let all = shelved_first b r (view w.desk.place) (view c.publish_as-writer.result.0.desk.place) x c.publish_as-writer.result.0.desk.shown.value (same ∙ c.in_ok-writer.ensures.0)
-    (ap (λ m. m.book) v.3 ∙ c.requires.root.0) (ap (λ m. m.log) v.3 ∙ c.requires.root.1) shows rule.1 in
-    (subst (λ (l : List Accepted). IsShelved b r (view c.publish_as-writer.result.0.desk.place) c.publish_as-writer.result.0.desk.shown.value l) (sym c.requires.keeper) all, values.1.1)
+    let all = shelved_first b r (view w.desk.place) (view c.publish_as-writer.result.0.desk.place)
+    x c.publish_as-writer.result.0.desk.shown.value (same ∙ c.in_ok-writer.ensures.0)
+    (ap (λ m. m.book) v.3 ∙ c.requires.root.0) (ap (λ m. m.log) v.3 ∙ c.requires.root.1) shows rule.1 in (
+      subst (λ (l : List Accepted). IsShelved b r (view c.publish_as-writer.result.0.desk.place)
+          c.publish_as-writer.result.0.desk.shown.value l) (sym c.requires.keeper) all,
+      values.1.1,
+    )
