@@ -135,7 +135,7 @@ pub fn is_record_length(length: usize) -> bool
 }
 
 impl Record {
-    ghost use Rattle.chpw_record.specs.Records.{IsRead, ChangeFits};
+    ghost use Rattle.chpw_record.specs.Records.{IsRead};
 
     /// The record with this text, from behind its length; none where it is that of no record within the limits. A raise
     /// has 5 bytes, and no change and no base has as few.
@@ -156,6 +156,8 @@ impl Record {
 }
 
 impl Change {
+    ghost use Rattle.chpw_record.specs.Records.{ChangeFits};
+
     // The change with this text, if the text is of this kind; none where it is that of no change within the limits. A
     // base has such a text too, of another kind.
     fn read(alloc: Global, kind: u8, body: &[u8]) -> Result<Option<Change>, AllocError>
