@@ -1,13 +1,19 @@
 #!/usr/bin/env bash
-# Megabytes read and written a second, of an AP-REQ of about 700 bytes with its ticket, by the program
-# as it stands (it is built where something changed). Of several rounds of processor time the least
-# counts, of a high and of a low count of texts; a figure is what the high count takes longer, so that
-# the start of the program is taken off. The last line is `read R written W`.
+# usage: bench/der.sh [ROUNDS]
+#
+# Megabytes read and written a second, of an AP-REQ of about 700 bytes with its ticket. The program is built first if a
+# source has changed. Of ROUNDS rounds (by default 7) of processor time the least counts, of a high and of a low count of
+# texts; a figure is what the high count takes longer, so that the start of the program is taken off.
+#
+# Last line: read R written W.
+# Status: 0; 1 if it can't be measured; 2 if the command line is wrong.
 set -euo pipefail
-cd "$(dirname "$0")/../crates/bench"
+. "$(dirname "$0")/../interop/command.sh"
+command_line 1 number "$@"
+cd "$(dirname "$0")/../crates/support_bench"
 export PYTHONPATH=../../bench PYTHONDONTWRITEBYTECODE=1
 rt run <stdin >/dev/null
-exec python3 - out/bench "${1:-7}" <<'END'
+exec python3 - out/support_bench "${1:-7}" <<'END'
 import subprocess
 import sys
 

@@ -1,8 +1,14 @@
 #!/usr/bin/env bash
-# Processor seconds of the drill over 200 principals, for 2,000, 40,000, 100,000 and 1,000,000 requests
-# (or those of the arguments), each of which changes a key; the least of three runs. The last line is
-# `N requests over 200 principals in S s`.
+# usage: bench/drill.sh [REQUESTS ..]
+#
+# Processor seconds of the drill over 200 principals for so many requests (by default 2000, 40000, 100000 and 1000000), each
+# of which changes a key; the least of three runs. The program is built first if a source has changed.
+#
+# Last line: N requests over 200 principals in S s.
+# Status: 0; 1 if it can't be measured; 2 if the command line is wrong.
 set -euo pipefail
+. "$(dirname "$0")/../interop/command.sh"
+command_line any number "$@"
 cd "$(dirname "$0")/.."
 (cd crates/chpw_drill && rt run </dev/null >/dev/null)
 export PYTHONDONTWRITEBYTECODE=1

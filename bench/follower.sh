@@ -1,11 +1,16 @@
 #!/usr/bin/env bash
-# How long the followers take from being asked to their answer, among 10,000 principals: MIT's default
-# database and Heimdal's, on the disk of the temporary folder and, where there is one, in memory. And changes
-# a second: of the service, of the service with a follower, and of MIT's kadmind. The status is 1 where kadmind
-# makes more than the service with its follower.
+# usage: bench/follower.sh [PROGRAM]
 #
-#   bench/follower.sh [PROGRAM]
+# How long the followers take from the service's question to their answer, in a realm of 10,000 principals: with MIT's
+# default database and Heimdal's, on the disk of the temporary folder and, where there is one, in memory. And changes a
+# second: of the service, of the service with a follower, and of MIT's kadmind. PROGRAM is by default
+# crates/chpw_server/out/chpw_server. It needs the packages that interop/fetch.sh unpacks.
+#
+# Last line: changes a second of the last server.
+# Status: 0; 1 if kadmind makes more changes than the service with its follower; 2 if the command line is wrong.
 set -euo pipefail
+. "$(dirname "$0")/../interop/command.sh"
+command_line 1 word "$@"
 cd "$(dirname "$0")/.."
 program=$(realpath "${1:-crates/chpw_server/out/chpw_server}")
 export CHPW_PACKAGES=${CHPW_PACKAGES:-${TMPDIR:-/tmp}/chpw-packages}

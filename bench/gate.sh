@@ -1,13 +1,19 @@
 #!/usr/bin/env bash
-# Processor seconds that the gate's parts take of each crate, from nothing and one after the other: its
-# proof, its tests, its edits of must-fail/. All crates, in the order of crates.txt, or those of the
-# arguments; the libraries below them are built first where they aren't. It works on a copy, and takes
-# three hours and more for all. It prints rows for the table in docs/RESULTS.md, at last one for all.
+# usage: bench/gate.sh [CRATE ..]
+#
+# Processor seconds that the gate's parts take of each crate, from nothing and one after the other: its proof, its tests, its
+# edits of must-fail/. By default all crates, in the order of crates.txt. The libraries below them are built first. It works
+# on a copy, and takes hours for all.
+#
+# Last line: | all | PROOFS | TESTS | EDITS |, after such a row for each crate.
+# Status: 0; 1 if anything failed; 2 if the command line is wrong.
 set -euo pipefail
+. "$(dirname "$0")/../interop/command.sh"
+command_line any word "$@"
 cd "$(dirname "$0")/.."
 copy=$(mktemp -d)
 trap 'rm -rf "$copy"' EXIT
-tar --exclude='*/out/incremental' -cf - crates crates.txt HANDLES prove trials must-fail | tar -C "$copy" -xf -
+tar --exclude='*/out/incremental' -cf - crates crates.txt HANDLES prove trials must-fail interop/command.py | tar -C "$copy" -xf -
 git -C "$copy" init --quiet
 cd "$copy"
 names=("$@")

@@ -1,17 +1,23 @@
 #!/usr/bin/env bash
-# What hashes, keys and the cipher cost, beside OpenSSL on the same machine: an iteration of PBKDF2,
-# both keys of a password at 4096 iterations, a block of SHA-1 and of AES, a sealed text of 1000
-# bytes refused. The last line is `ratio R`: our time of an iteration over OpenSSL's.
+# usage: bench/keys.sh [ROUNDS]
 #
-# Each time is processor time, the least of ROUNDS rounds (the argument, 25), of a high count less
-# that of a low one (timing.py). OpenSSL is called by Python: its PBKDF2 and SHA-1 through hashlib,
-# its AES (CBC, whose blocks it deciphers several at a time) through the package `cryptography`,
-# which brings an OpenSSL of its own. Where that isn't installed its figures are left out.
+# What hashes, keys and the cipher cost, beside OpenSSL on the same machine: an iteration of PBKDF2, both keys of a password
+# at 4096 iterations, a block of SHA-1 and of AES, a sealed text of 1000 bytes refused. The program is built first if a source
+# has changed.
+#
+# Each time is processor time, the least of ROUNDS rounds (by default 25), of a high count less that of a low one (timing.py).
+# OpenSSL is called by Python: its PBKDF2 and SHA-1 through hashlib, its AES (CBC, whose blocks it deciphers several at a time)
+# through the package `cryptography`, which has an OpenSSL of its own. Without that package its figures are left out.
+#
+# Last line: ratio R, the time of our iteration over OpenSSL's.
+# Status: 0; 1 if it can't be measured; 2 if the command line is wrong.
 set -euo pipefail
-cd "$(dirname "$0")/../crates/bench"
+. "$(dirname "$0")/../interop/command.sh"
+command_line 1 number "$@"
+cd "$(dirname "$0")/../crates/support_bench"
 export PYTHONPATH=../../bench PYTHONDONTWRITEBYTECODE=1
 log=$(rt run <stdin 2>&1) || { echo "$log" >&2; exit 1; }
-exec python3 - out/bench "${1:-25}" <<'END'
+exec python3 - out/support_bench "${1:-25}" <<'END'
 import hashlib
 import ssl
 import sys

@@ -1,14 +1,19 @@
 #!/usr/bin/env bash
-# Nanoseconds to look up the name in the middle of a realm at a desk, beside its lock: by one pass, by
-# each of four passes at once, and by one pass while another's decision holds the lock, for a second at
-# a time. First in realms of 100, 1,000 and 10,000 principals, then in one of 16. A figure is elapsed
-# time, the least of several rounds (the argument, 5), over the lookups of one pass; so for the second
-# the machine needs four processors that are free. The last line is
-# `lookup N ns, four N ns, beside a held lock N ns`.
+# usage: bench/lookup.sh [ROUNDS]
+#
+# Nanoseconds to look up the name in the middle of a realm at a desk, beside its lock: by one worker, by each of four at once,
+# and by one while another's decision holds the lock, for a second at a time. First in realms of 100, 1,000 and 10,000
+# principals, then in one of 16. A figure is elapsed time, the least of ROUNDS rounds (by default 5), over the lookups of one
+# worker; so the second needs four free processors. The program is built first if a source has changed.
+#
+# Last line: lookup N ns, four N ns, beside a held lock N ns.
+# Status: 0; 1 if it can't be measured; 2 if the command line is wrong.
 set -euo pipefail
-cd "$(dirname "$0")/../crates/bench"
+. "$(dirname "$0")/../interop/command.sh"
+command_line 1 number "$@"
+cd "$(dirname "$0")/../crates/support_bench"
 rt run <stdin >/dev/null
-exec python3 - out/bench "${1:-5}" <<'END'
+exec python3 - out/support_bench "${1:-5}" <<'END'
 import re
 import subprocess
 import sys

@@ -1,17 +1,13 @@
 """Measures for how long a reload holds up decisions, and how soon `status` is answered.
 
-    python3 reload.py [--server PROGRAM] [--principals N] [--changers N] [--reloads N] [--held MS] [--status MS]
-
-`serve` has four workers and a realm of so many principals (10,000), each with three keys. Clients change passwords as fast
-as they are answered (4), and one asks, request after request over one connection, for a password that is too short: such an
-answer takes a fraction of a millisecond, so what it waits longer is what holds it up. First there is nothing beside them,
-and then so many reloads (10), a second after one another, each of a file that has one principal more. Another client asks
-for `status` twenty times a second all the time. A line for each has how many answers there were, the median, the 99th of
-100 and the longest, in milliseconds. The limits: no answer is wrong; the longest wait among the reloads is at most --held
-(200) more than in peace; `status` is answered within --status (50) in 99 of 100. The last line is `limits N failed N`.
+`serve` has four workers and a large realm, each principal with three keys. Clients change passwords as fast as they are
+answered, and one asks, request after request over one connection, for a password that is too short: such an answer takes a
+fraction of a millisecond, so what it waits longer is what holds it up. First there is nothing beside them, and then reloads,
+a second after one another, each of a file that has one principal more. Another client asks for `status` twenty times a
+second all the time. A line for each has how many answers there were, the median, the 99th of 100 and the longest, in
+milliseconds. No answer may be wrong.
 """
 
-import argparse
 import pathlib
 import socket
 import statistics
@@ -20,9 +16,10 @@ import threading
 import time
 
 import asking
+from command import Parser
 from report import Report
 from sample_realm import SERVICE_KEY
-from server import PROGRAM, Server
+from server import Server
 from sync import Changer
 
 CONNECTIONS = 4_294_967_295
@@ -30,6 +27,13 @@ TOO_SHORT = "code 4 password too short"
 KEYS = 3
 # how long the peace is
 SECONDS = 5
+OPTIONS = [
+    ("principals", 10_000, "of the realm"),
+    ("changers", 4, "clients that change passwords"),
+    ("reloads", 10, "how often it is reloaded"),
+    ("held", 200, "limit: milliseconds that an answer waits longer among the reloads than in peace"),
+    ("status", 50, "limit: milliseconds within which 99 of 100 are answered"),
+]
 
 
 def configuration(path, names):
@@ -127,15 +131,15 @@ def measured(report, what, server, folder, work):
 
 
 def main():
-    parser = argparse.ArgumentParser(description="For how long a reload holds up decisions.")
-    parser.add_argument("--server", type=pathlib.Path, default=PROGRAM)
-    for name, usual in (("principals", 10_000), ("changers", 4), ("reloads", 10), ("held", 200), ("status", 50)):
-        parser.add_argument(f"--{name}", type=int, default=usual)
+    parser = Parser(__doc__, "limits N failed M", "a limit is passed")
+    parser.add_program()
+    for name, usual, words in OPTIONS:
+        parser.add_argument(f"--{name}", type=int, default=usual, metavar="N", help=f"{words}, by default {usual}")
     words = parser.parse_args()
     report = Report("limits {} failed {}")
     with tempfile.TemporaryDirectory(prefix="chpw-reload-") as place:
         folder = pathlib.Path(place)
-        server = Server(words.server.resolve(), folder, workers=4, options=["--control", "control"])
+        server = Server(words.server, folder, workers=4, options=["--control", "control"])
         names = ["asker", *(f"changer{it}" for it in range(words.changers))]
         names += [f"user{it:05}" for it in range(words.principals - len(names) - words.reloads)]
         configuration(server.configuration, names)

@@ -1,7 +1,14 @@
 #!/usr/bin/env bash
-# Processor seconds that `serve` takes to refuse so many replayed messages (the first argument, 60,000),
-# sent over sixteen connections to four workers. The last line is `replayed N messages in S s`.
+# usage: bench/replays.sh [MESSAGES]
+#
+# Processor seconds that `serve` takes to refuse so many replayed messages (by default 60000), sent over sixteen connections
+# to four workers. The program is built first if a source has changed.
+#
+# Last line: replayed N messages in S s.
+# Status: 0; 1 if it can't be measured; 2 if the command line is wrong.
 set -euo pipefail
+. "$(dirname "$0")/../interop/command.sh"
+command_line 1 number "$@"
 cd "$(dirname "$0")/.."
 (cd crates/chpw_server && rt run -- drill </dev/null >/dev/null)
 export PYTHONPATH=interop PYTHONDONTWRITEBYTECODE=1

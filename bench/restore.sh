@@ -1,9 +1,15 @@
 #!/usr/bin/env bash
-# Processor seconds that `serve` takes to restore a journal of so many records (the first argument,
-# 1,048,576), in which each principal has as many as another: over realms of 100, 1,000 and 10,000
-# principals, or over those of the further arguments. What it takes to start with an empty journal is
-# taken off. The last line is `restored N records over M principals in S s`.
+# usage: bench/restore.sh [RECORDS [PRINCIPALS ..]]
+#
+# Processor seconds that `serve` takes to restore a journal of RECORDS records (by default 1048576), in which each principal
+# has as many as another: over realms of so many principals (by default 100, 1000 and 10000). What it takes to start with an
+# empty journal is taken off. The program is built first if a source has changed.
+#
+# Last line: restored N records over M principals in S s.
+# Status: 0; 1 if it can't be measured; 2 if the command line is wrong.
 set -euo pipefail
+. "$(dirname "$0")/../interop/command.sh"
+command_line any number "$@"
 cd "$(dirname "$0")/.."
 (cd crates/chpw_server && rt run -- drill </dev/null >/dev/null)
 export PYTHONPATH=interop PYTHONDONTWRITEBYTECODE=1

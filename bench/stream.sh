@@ -1,18 +1,25 @@
 #!/usr/bin/env bash
-# Microseconds to answer a message of a stream, from memory to memory, with a table that one thread has
-# alone: 2,000 changes of passwords in one realm, whose keys are derived under an iteration count of 1,
-# so that all but the derivation is seen. First of realms of 1,000 and of 10,000 principals, then of one
-# of 100. A figure is the least of several rounds of processor time (the argument, 5); what it takes to
-# read the configuration and the messages is taken off. The last line is `answered N us a message`.
+# usage: bench/stream.sh [ROUNDS]
+#
+# Microseconds to answer a message of a stream, from memory to memory, with a table that one thread has alone: 2,000 changes of
+# passwords in one realm, whose keys are derived under an iteration count of 1, so that all but the derivation is seen. First in
+# realms of 1,000 and of 10,000 principals, then in one of 100. A figure is the least of ROUNDS rounds (by default 5) of
+# processor time; what it takes to read the configuration and the messages is taken off. The program is built first if a
+# source has changed.
+#
+# Last line: answered N us a message.
+# Status: 0; 1 if it can't be measured; 2 if the command line is wrong.
 set -euo pipefail
-cd "$(dirname "$0")/../crates/bench"
+. "$(dirname "$0")/../interop/command.sh"
+command_line 1 number "$@"
+cd "$(dirname "$0")/../crates/support_bench"
 export PYTHONPATH=../../bench:../../interop PYTHONDONTWRITEBYTECODE=1
 room=$(mktemp -d)
 trap 'rm -rf "$room"' EXIT
 rt run <stdin >/dev/null
 python3 ../../bench/stream_input.py 100 1 >"$room/first"
-out/bench stream serve 1 <"$room/first"
-python3 - out/bench "$room" "${1:-5}" <<'END'
+out/support_bench stream serve 1 <"$room/first"
+python3 - out/support_bench "$room" "${1:-5}" <<'END'
 import sys
 
 import stream_input

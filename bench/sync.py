@@ -1,19 +1,15 @@
 """Measures how long a request waits for the journal's sync of another one.
 
-    python3 sync.py [--server PROGRAM] [--slow MILLISECONDS] [--count N] [--changers N ..]
-
 `serve` has four workers, and each sync of its journal takes so many milliseconds (hostile/machine.c). Clients change
 passwords as fast as they are answered, none of them at first and then so many; beside them one client asks, one request
 after the other, each over a connection of its own, of four kinds in turn: a password that is too short, a message that
 was answered before, a forged ticket, and a change. A line for each number of changers and kind has the median and the
-longest time from the request to its answer, in milliseconds. What each answer says is looked at; the last line is
-`limits N failed N`.
+longest time from the request to its answer, in milliseconds. What each answer says is looked at. Needs gcc.
 
 Only the change is written to the journal. A forged ticket is refused before any decision. The two others are decided
 under the lock, since each decision has its place in the history.
 """
 
-import argparse
 import os
 import pathlib
 import socket
@@ -26,9 +22,10 @@ import time
 
 import asking
 import changepw_client as wire
+from command import Parser
 from report import Report
 from sample_realm import write_configuration
-from server import PROGRAM, Server
+from server import Server
 
 HERE = pathlib.Path(__file__).resolve().parent
 WORKERS = 4
@@ -107,11 +104,11 @@ def measured(report, server, asker, count, changers):
 
 
 def main():
-    parser = argparse.ArgumentParser(description="How long a request waits for another one's sync.")
-    parser.add_argument("--server", default=PROGRAM)
-    parser.add_argument("--slow", type=int, default=20)
-    parser.add_argument("--count", type=int, default=50)
-    parser.add_argument("--changers", type=int, nargs="*", default=[1, 3])
+    parser = Parser(__doc__, "limits N failed M", "an answer is wrong")
+    parser.add_program()
+    parser.add_argument("--slow", type=int, default=20, metavar="MILLISECONDS", help="of a sync, by default 20")
+    parser.add_argument("--count", type=int, default=50, metavar="N", help="requests of each kind, by default 50")
+    parser.add_argument("--changers", type=int, nargs="*", default=[1, 3], metavar="N", help="by default 1 and then 3")
     arguments = parser.parse_args()
     report = Report("limits {} failed {}")
     with tempfile.TemporaryDirectory(prefix="chpw-sync-") as folder:

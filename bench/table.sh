@@ -1,9 +1,15 @@
 #!/usr/bin/env bash
-# What `table` takes of a journal of so many records (the first argument, 1,000,000) over 10,000 principals,
-# or over those of the further arguments: seconds and the most memory, beside those of a journal that makes the
-# same table of three records for each principal. The last line is `within the limits`, 15 s and 8 MB more than
-# that, or `beyond a limit` with status 1.
+# usage: bench/table.sh [RECORDS [PRINCIPALS ..]]
+#
+# What `table` takes of a journal of RECORDS records (by default 1000000) over so many principals (by default 10000): seconds
+# and the most memory, beside those of a journal that makes the same table of three records for each principal. The limits are
+# 15 s, and 8 MB more than that. The program is built first if a source has changed.
+#
+# Last line: within the limits, or beyond a limit.
+# Status: 0; 1 if a limit is passed; 2 if the command line is wrong.
 set -euo pipefail
+. "$(dirname "$0")/../interop/command.sh"
+command_line any number "$@"
 cd "$(dirname "$0")/.."
 (cd crates/chpw_server && rt run -- drill </dev/null >/dev/null)
 export PYTHONPATH=interop PYTHONDONTWRITEBYTECODE=1

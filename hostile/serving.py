@@ -4,7 +4,6 @@ A client's requests are of interop/changepw_client.py, which shares nothing with
 them say is read by interop/asking.py.
 """
 
-import argparse
 import os
 import pathlib
 import select
@@ -14,9 +13,10 @@ import time
 import asking
 import changepw_client as wire
 from changing import machine
+from command import Parser
 from report import Report
 from sample_realm import write_configuration
-from server import PROGRAM, Server
+from server import Server
 
 # the second at which a clock that is set stands at first, and one of which tickets are
 START = 1_000_100
@@ -27,7 +27,7 @@ NO_REQUEST = bytes.fromhex("0006ff800000")
 # the most bytes of a message, and the most seconds that a read waits
 LONGEST = 65_535
 PATIENCE = 10
-# the record of a change of alice, and one of bob's (docs/RULES, The journal)
+# the record of a change of alice, and one of bob's (docs/PROTOCOL, The journal)
 ALICES, BOBS = 66, 64
 
 
@@ -195,17 +195,17 @@ class Case:
         self.tell("its end", self.last_lines(), (list(lines), 0))
 
 
-def run(description, cases):
-    """Runs the cases, each with a folder of its own, and gives the status. A word names the cases that begin so."""
-    parser = argparse.ArgumentParser(description=description)
-    parser.add_argument("--program", type=pathlib.Path, default=PROGRAM)
-    parser.add_argument("case", nargs="?", default="")
+def run(text, cases):
+    """Runs the cases of a script with this text at its head, each with a folder of its own, and gives the status."""
+    parser = Parser(text)
+    parser.add_program("--program")
+    parser.add_argument("case", nargs="?", default="", metavar="CASE", help="the cases whose name begins so; by default all")
     words = parser.parse_args()
     report = Report()
     for name, body in cases:
         if name.startswith(words.case):
             with tempfile.TemporaryDirectory(prefix="chpw-case-") as folder:
-                run_one(Case(report, name, words.program.resolve(), pathlib.Path(folder)), body)
+                run_one(Case(report, name, words.program, pathlib.Path(folder)), body)
     return report.status()
 
 

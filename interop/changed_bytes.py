@@ -1,14 +1,13 @@
-"""What comes of a message or a journal of which one byte is changed, or which is cut short: worked out
-from docs/RULES.md, docs/JOURNAL.md and the rules of DER (X.690), with Python's own library alone. Nothing is
-deciphered: a sealed text opens where it is the one that the client made, and no other does.
+"""What comes of a message or a journal of which one byte is changed, or which is cut short: worked out from docs/PROTOCOL.md and
+the rules of DER (X.690), with Python's own library alone. Nothing is deciphered: a sealed text opens where it is the one that
+the client made, and no other does.
 
-    python3 interop/changed_bytes.py stream      # answers of crates/stream_cases, by the line
-    python3 interop/changed_bytes.py journal     # answers of crates/journal_cases
+    python3 interop/changed_bytes.py stream      # answers of crates/cases_stream, by the line
+    python3 interop/changed_bytes.py journal     # answers of crates/cases_journal
 """
 
-import sys
-
 import changepw_client as client
+from command import Parser
 
 CHANGES = ["prefixes", "prefixes with their length"]
 CHANGES += ["changed by 01", "changed by 80", "changed by ff", "changed to 00"]
@@ -154,7 +153,7 @@ def krb_priv(text):
     return pvno, kind, part
 
 
-# The service of crates/stream_cases: its key has etype 18 and kvno 3. Session key and subkey have etype 18.
+# The service of crates/cases_stream: its key has etype 18 and kvno 3. Session key and subkey have etype 18.
 
 
 def ap_fault(text, sealed):
@@ -231,7 +230,7 @@ def stream_answers():
             yield census("left out" if m is None else answer(m, sealed) for m in others)
 
 
-# The journal of crates/journal_cases: three changes of alice, to kvno 2, 3 and 4; bob/admin has kvno 1
+# The journal of crates/cases_journal: three changes of alice, to kvno 2, 3 and 4; bob/admin has kvno 1
 
 
 def record(kvno):
@@ -313,5 +312,8 @@ def journal_answers():
 
 
 if __name__ == "__main__":
-    for line in {"stream": stream_answers, "journal": journal_answers}[sys.argv[1]]():
+    parser = Parser(__doc__, None, "the cases can't be read")
+    answers = {"stream": stream_answers, "journal": journal_answers}
+    parser.add_argument("what", choices=answers)
+    for line in answers[parser.parse_args().what]():
         print(line)

@@ -1,7 +1,5 @@
-"""What a compact journal has, and what restoring it gives: worked out from docs/JOURNAL.md, with Python's own
-library alone.
-
-    python3 interop/compact_journal.py     # at the top: each line `compact: ..` of crates/journal_cases, and its answer
+"""What a compact journal has, and what restoring it gives: worked out from docs/PROTOCOL.md, with Python's own library alone.
+Run at the top it prints each line `compact: ..` of crates/cases_journal, and its answer.
 
 The configuration has alice and bob/admin, each with a key of kvno 1, 48 bytes a1, under 4096 iterations, and keeps
 two keys; each record's key is 48 bytes a2 under 4096 iterations.
@@ -54,7 +52,10 @@ def answer(pieces):
 
 
 if __name__ == "__main__":
-    with open("crates/journal_cases/stdin", encoding="utf-8") as file:
+    from command import Parser
+
+    Parser(__doc__, None, "a case can't be read").parse_args()
+    with open("crates/cases_journal/stdin", encoding="utf-8") as file:
         for line in file.read().splitlines():
             if line.startswith("compact: "):
                 print(line)

@@ -1,15 +1,12 @@
 #!/usr/bin/env python3
-"""Makes the service's configuration (docs/CONFIGURATION.md) from a keytab.
+"""Makes the service's configuration (docs/ADMIN.md) from a keytab, on standard output.
 
-    configuration.py KEYTAB [ACTOR:TARGET ..] > FILE
+The keytab holds the keys of kadmin/changepw and of the principals, as `ktadd -norandkey` in kadmin.local writes them. The
+principals' keys are taken to be derived under 4096 iterations with the default salt, which a keytab doesn't say.
 
-The keytab holds the keys of kadmin/changepw and of the principals, as `ktadd -norandkey` in
-kadmin.local writes them; ACTOR:TARGET is a rule. The principals' keys are taken to be derived under
-4096 iterations with the default salt, which a keytab doesn't say.
-
-What the service can't hold is left out, and a line on standard error says so: `left out: ..`. So
-are principals that are no users': the KDC's own, and services of hosts. Without a key of
-kadmin/changepw that can be used there is no configuration, but a line and status 1.
+What the service can't hold is left out, and a line on standard error says so: `left out: ..`. So are principals that are no
+users': the KDC's own, and services of hosts. Without a key of kadmin/changepw that can be used there is no configuration,
+but a line.
 """
 
 import collections
@@ -17,6 +14,8 @@ import dataclasses
 import os
 import pathlib
 import sys
+
+from command import Parser
 
 SERVICE = (b"kadmin", b"changepw")
 AES128, AES256 = 17, 18
@@ -305,9 +304,13 @@ set_needs_initial = false
 
 
 def main():
-    file, *rules = sys.argv[1:] or [""]
-    if not file or not all(":" in rule for rule in rules):
-        sys.exit("usage: configuration.py KEYTAB [ACTOR:TARGET ..]")
+    parser = Parser(__doc__, None, "there is no configuration")
+    parser.add_argument("keytab", metavar="KEYTAB")
+    parser.add_argument("rule", nargs="*", metavar="ACTOR:TARGET", help="a rule: who may set whose password")
+    words = parser.parse_args()
+    file, rules = words.keytab, words.rule
+    if not all(":" in rule for rule in rules):
+        parser.error("a rule is ACTOR:TARGET")
     try:
         keytab = pathlib.Path(file).read_bytes()
         text = configuration(keytab, [rule.split(":", 1) for rule in rules])

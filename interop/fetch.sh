@@ -1,9 +1,15 @@
 #!/usr/bin/env bash
-# Unpacks MIT Kerberos and Heimdal (of both KDC, kadmin, clients, libraries and headers) from
-# Debian's packages into FOLDER/mit and FOLDER/heimdal, into FOLDER/kpropd what a replica of MIT's
-# runs, into FOLDER/pam, FOLDER/pam-heimdal and FOLDER/sssd what logs users in, and into FOLDER/logrotate
-# what rotates logs. Nothing is installed: the two conflict as packages, and not as folders (unpack.sh).
+# usage: interop/fetch.sh FOLDER
+#
+# Unpacks MIT Kerberos and Heimdal (of both KDC, kadmin, clients, libraries and headers) from Debian's packages into FOLDER/mit
+# and FOLDER/heimdal, into FOLDER/kpropd what a replica of MIT's runs, into FOLDER/pam, FOLDER/pam-heimdal and FOLDER/sssd what
+# logs users in, and into FOLDER/logrotate what rotates logs. Nothing is installed: the two conflict as packages, and not as
+# folders (unpack.sh).
+#
+# Status: 0; 1 or that of apt-get if the packages can't be had; 2 if the command line is wrong.
 set -euo pipefail
+. "$(dirname "$0")/../interop/command.sh"
+command_line 1 word "$@"
 . "$(dirname "$0")/unpack.sh"
 
 # each with the libraries that a plain Debian doesn't have

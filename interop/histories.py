@@ -1,7 +1,5 @@
 #!/usr/bin/env python3
-"""A history that runs full, three times over, in the midst of changes.
-
-    histories.py [--server PROGRAM]
+"""A history that runs full, three times over, during changes.
 
 `serve` takes 1,000 decisions into a history (max_entries = 1000). Four clients change their passwords
 until 3,200 requests were decided, and ask in between what is refused: a password of theirs again, and
@@ -10,15 +8,13 @@ one connection from the first message to the last, the others open a new one now
 answered `history full` is sent again, over the same connection.
 
 A full history ends no connection. What comes behind its last entry is decided in the next one; only
-what its workers had under way may be told `history full`, one message of each. Each other message has
+what its workers had under way may be answered `history full`, one message of each. Each other message has
 to be decided once and answered once, as what the client was answered before has it. The service prints
 `entries 1000 changes N` for each full history, and at the end the same of the last one; it goes on
 without a quiet time; what was accepted in the first history is a replay in each later one. All accepted
-changes, and no others, are in the journal, in order, with versions and keys. The last line is
-`cases N failed N`.
+changes, and no others, are in the journal, in order, with versions and keys.
 """
 
-import argparse
 import pathlib
 import sys
 import tempfile
@@ -26,10 +22,11 @@ import threading
 
 import asking
 from changepw_client import REALM, string_to_key
+from command import Parser
 from journal import read_journal
 from report import Report
 from sample_realm import write_configuration
-from server import PROGRAM, Server
+from server import Server
 
 ENTRIES = 1_000
 HISTORIES = 3
@@ -245,8 +242,8 @@ def tell(report, server, clients, histories):
 
 
 def main():
-    parser = argparse.ArgumentParser()
-    parser.add_argument("--server", default=PROGRAM)
+    parser = Parser(__doc__)
+    parser.add_program()
     arguments = parser.parse_args()
     report = Report()
     with tempfile.TemporaryDirectory(prefix="chpw-histories-") as folder:

@@ -1,15 +1,14 @@
 #!/usr/bin/env python3
-"""Reads a journal (docs/JOURNAL.md), and writes records of one.
+"""Reads a journal (docs/PROTOCOL.md), and writes records of one.
 
-    journal.py FILE
-
-prints kvno, iteration count and name of each change, the same behind `base` of each base record, the count of
-each raise, and whether the tail is torn; no keys.
+Prints kvno, iteration count and name of each change, the same behind `base` of each base record, and the count of each
+raise; no keys.
 """
 
 import dataclasses
 import pathlib
-import sys
+
+from command import Parser
 
 
 @dataclasses.dataclass(frozen=True)
@@ -84,9 +83,9 @@ def record_of(body):
 
 
 def main():
-    if len(sys.argv) != 2:
-        sys.exit("usage: journal.py FILE")
-    records, torn = read_journal(pathlib.Path(sys.argv[1]).read_bytes())
+    parser = Parser(__doc__, "whole, or torn tail: N bytes", "it is no journal")
+    parser.add_argument("file", type=pathlib.Path, metavar="FILE")
+    records, torn = read_journal(parser.parse_args().file.read_bytes())
     for record in records:
         if isinstance(record, Raise):
             print("raise", record.iterations)

@@ -1,22 +1,19 @@
 #!/usr/bin/env python3
-"""Kills the service in the midst of changes, and looks for each answered change in the journal.
+"""Kills the service during changes, and looks for each answered change in the journal.
 
-    kill.py [--server PROGRAM] [--runs N] [--clients N] [--signal KILL|TERM] [COMMAND WORD ..]
+One journal grows over all runs. In each, clients run the command again and again, each for a principal of its own and with
+another password each time, until `kill -9`, or the signal that is named, ends the server at a moment drawn at random, up to
+half a second after the first answer. Then the server is started again on that journal. A change counts as answered where
+the command printed a line that begins with `0 ` or `code 0 `. Each of those has to be in the journal: in order, version
+after version from 2 on, with the keys of its password. A client may have one more there from each run, the one whose answer
+was lost. What was in the journal before a run stays as it was.
 
-One journal grows over all N runs (100). In each, N clients (4) run the command again and again,
-each for a principal of its own and with another password each time, until `kill -9`, or the signal
-that is named, ends the server at a moment drawn at random, up to half a second after the first
-answer. Then the server is started again on that journal. A change counts as answered where the command printed a line that
-begins with `0 ` or `code 0 `. Each of those has to be in the journal: in order, version after
-version from 2 on, with the keys of its password. A client may have one more there from each run,
-the one whose answer was lost. What was in the journal before a run stays as it was.
+In the command's words {config}, {seed}, {port}, {client} and {password} are replaced; by default it is the service's own
+client, which needs no KDC. A command makes one change, with that password.
 
-In the command's words {config}, {seed}, {port}, {client} and {password} are replaced; the default
-is the service's own client, which needs no KDC. A command makes one change, with that password.
-
-A service that found a journal refuses what was asked within 300 seconds of its start. So the
-command's clock is that much ahead (ahead.c, which gcc makes a library of): as much as the service
-allows. The command has to take its time from the C library, and that from LD_PRELOAD.
+A service that found a journal refuses what was asked within 300 seconds of its start. So the command's clock is that much
+ahead (ahead.c, which gcc makes a library of): as much as the service allows. The command has to take its time from the C
+library, and that from LD_PRELOAD.
 """
 
 import argparse
@@ -33,9 +30,10 @@ import threading
 import time
 
 from changepw_client import REALM, string_to_key
+from command import Parser
 from journal import read_journal
 from sample_realm import write_configuration
-from server import PROGRAM, Server
+from server import Server
 
 CLIENT = "client --config {config} --seed {seed} --port {port} --client {client}"
 DEFAULT = [*CLIENT.split(), "--password", "{password}"]
@@ -134,7 +132,7 @@ def restarted(server):
     _, torn = read_journal(left)
     wanted = "entries 0 changes 0"
     if torn:
-        wanted += f"\n{server.journal}: a torn tail was cut off behind {len(left) - len(torn)} bytes"
+        wanted += f"\n{server.journal}: a torn tail was cut off after {len(left) - len(torn)} bytes"
     server.start(connections=1)
     server.connect()
     words = server.last_words()
@@ -223,12 +221,12 @@ def all_runs(server, command, names, runs, number):
 
 
 def main():
-    parser = argparse.ArgumentParser()
-    parser.add_argument("--server", default=PROGRAM)
-    parser.add_argument("--runs", type=int, default=100)
-    parser.add_argument("--clients", type=int, default=4)
-    parser.add_argument("--signal", choices=["KILL", "TERM"], default="KILL")
-    parser.add_argument("command", nargs=argparse.REMAINDER)
+    parser = Parser(__doc__, "runs N failed M")
+    parser.add_program()
+    parser.add_argument("--runs", type=int, default=100, metavar="N", help="by default 100")
+    parser.add_argument("--clients", type=int, default=4, metavar="N", help="by default 4")
+    parser.add_argument("--signal", choices=["KILL", "TERM"], default="KILL", help="by default KILL")
+    parser.add_argument("command", nargs=argparse.REMAINDER, metavar="COMMAND", help="what makes a change, with its words")
     arguments = parser.parse_args()
     command = arguments.command or [str(arguments.server), *DEFAULT]
     names = [f"user{number}" for number in range(arguments.clients)]

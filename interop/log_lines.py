@@ -1,4 +1,4 @@
-"""The lines of a service's log (docs/RULES, A line of the log), by their kinds: the second word tells which."""
+"""The lines of a service's log (docs/PROTOCOL, The log), by their kinds: the second word tells which."""
 
 
 def of_kind(text, kind):

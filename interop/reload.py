@@ -1,43 +1,34 @@
 #!/usr/bin/env python3
 """A service that goes on while its realm gets a new user, new keys of kadmin/changepw and a new log.
 
-    reload.py [--server PROGRAM] [--soon SECONDS] [--keep]
-
 There is a realm of MIT Kerberos on loopback, and its stock clients change passwords all the while: bob with `kpasswd`,
 again and again, each time with a ticket that he gets then, and alice with one ticket (set_password.c). None of their
 requests may be refused.
 
-- **A new user.** `addprinc` and `ktadd` of `kadmin.local`, `import`, `control reload`: `kpasswd` changes carol's
-  password within two seconds of the reload, or as --soon says for a program that is slow since it was built without a
-  proof. Before, the service knows nobody of her name.
-- **New keys of kadmin/changepw**, the service first: keys of a word that nobody knows are put into a keytab (`ktutil`)
-  and brought in beside the former ones (`import`, `reload`), then the KDC gets them (`cpw`), and later the former ones
-  go.
-- **The same, the KDC first** (`ktadd`). From then on it gives tickets that the service can't read until the reload: bob
-  waits for that, and alice's ticket is one of before.
-- **A new log**, twice, by logrotate and the file in samples/.
-
-Prints a line for each case, `ok: ..` or `FAILED: ..`; the last line is `cases N failed F`. --keep leaves the realm's
-folder.
+- A new user. `addprinc` and `ktadd` of `kadmin.local`, `import`, `control reload`: `kpasswd` changes carol's password within
+  --soon seconds of the reload. Before, the service knows nobody of her name.
+- New keys of kadmin/changepw, the service first: keys of a word that nobody knows are put into a keytab (`ktutil`) and added
+  beside the former ones (`import`, `reload`), then the KDC gets them (`cpw`), and later the former ones go.
+- The same, the KDC first (`ktadd`). From then on it gives tickets that the service can't read until the reload: bob waits for
+  that, and alice's ticket is one of before.
+- A new log, twice, by logrotate and the file in samples/.
 """
 
-import argparse
 import base64
 import os
-import pathlib
 import secrets
 import subprocess
 import sys
 import threading
 import time
 
+from command import TOP, Parser
 from journal import read_journal
 from log_lines import events, messages
 from realm import REALM, SERVICE, Project, Realm, packages_folder
 from report import Report
-from server import PROGRAM, Server
+from server import Server
 
-TOP = PROGRAM.parents[3]
 HEAD = TOP / "samples/head.toml"
 ROTATION = TOP / "samples/boddrelyn.logrotate"
 OLD = "Old-pass1"
@@ -302,14 +293,15 @@ def run(realm, server, report, soon):
 
 
 def main():
-    parser = argparse.ArgumentParser(description="A realm that changes under a service that goes on.")
-    parser.add_argument("--server", default=PROGRAM)
-    parser.add_argument("--soon", type=float, default=SOON)
-    parser.add_argument("--keep", action="store_true")
+    parser = Parser(__doc__)
+    parser.add_program()
+    parser.add_argument("--soon", type=float, default=SOON, metavar="SECONDS",
+                        help=f"by default {SOON}; more for a program that was built without a proof")
+    parser.add_keep()
     arguments = parser.parse_args()
     report = Report()
     with Realm({"alice": OLD, "bob": OLD}, arguments.keep) as realm:
-        server = Server(pathlib.Path(arguments.server), realm.folder, WORKERS)
+        server = Server(arguments.server, realm.folder, WORKERS)
         try:
             run(realm, server, report, arguments.soon)
         finally:

@@ -1,23 +1,19 @@
 #!/usr/bin/env python3
-"""Changes and sets passwords through the service with clients of other projects.
+"""Heimdal's and MIT's clients change and set passwords through the service, in version 0xff80.
 
-    run.py [--server PROGRAM] [--keep]
-
-prints a line for each run, `ok: ..` or `FAILED: ..`, and ends with status 1 where any failed.
-PROGRAM is crates/chpw_server/out/chpw_server where it isn't given; --keep leaves the realm's
-folder.
+A realm of MIT Kerberos on loopback gives the tickets. A line for each run says what the client printed.
 """
 
-import argparse
 import dataclasses
 import sys
 import unicodedata
 
 import configuration
+from command import Parser
 from journal import read_journal
 from realm import SERVICE, Realm
 from report import Report
-from server import PROGRAM, Server
+from server import Server
 
 # what the KDC knows all the time: the service keeps the changes to itself
 PASSWORDS = {
@@ -158,9 +154,9 @@ def run(realm, server, report):
 
 
 def main():
-    parser = argparse.ArgumentParser()
-    parser.add_argument("--server", default=PROGRAM)
-    parser.add_argument("--keep", action="store_true")
+    parser = Parser(__doc__)
+    parser.add_program()
+    parser.add_keep()
     arguments = parser.parse_args()
     report = Report()
     with Realm(PASSWORDS, arguments.keep) as realm:

@@ -1,12 +1,11 @@
-"""The configuration of a realm for tests and benches (docs/CONFIGURATION.md): EXAMPLE.COM, with a
-service key of 32 bytes 5a and kvno 3, and these principals, each with a key that nobody knows the
-password of. The service's own client makes its tickets itself, so any keys will do.
-
-    python3 interop/sample_realm.py FILE NAME ..
+"""The configuration of a realm for tests and benches (docs/ADMIN.md): EXAMPLE.COM, with a service key of 32 bytes 5a and
+kvno 3, and these principals, each with a key that nobody knows the password of. The service's own client makes its tickets
+itself, so any keys will do.
 """
 
 import pathlib
-import sys
+
+from command import Parser
 
 SERVICE_KEY = b"\x5a" * 32
 
@@ -50,4 +49,8 @@ def write_configuration(path, names, **settings):
 
 
 if __name__ == "__main__":
-    write_configuration(pathlib.Path(sys.argv[1]), sys.argv[2:])
+    parser = Parser(__doc__, None, "the file can't be written")
+    parser.add_argument("file", type=pathlib.Path, metavar="FILE")
+    parser.add_argument("name", nargs="*", metavar="NAME")
+    words = parser.parse_args()
+    write_configuration(words.file, words.name)

@@ -1,14 +1,11 @@
 """The service as a process: started on a port of loopback, and ended."""
 
 import os
-import pathlib
 import signal
 import socket
 import subprocess
 
 from ports import free_ports
-
-PROGRAM = pathlib.Path(__file__).resolve().parent.parent / "crates/chpw_server/out/chpw_server"
 
 
 def private(path):

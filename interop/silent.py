@@ -1,23 +1,19 @@
 #!/usr/bin/env python3
 """Clients that keep the service waiting, by the thousand, and real ones among them.
 
-    silent.py [--server PROGRAM] [--silent N] [--every N]
+Many clients connect one after the other to four workers that serve with `--idle 2`: in turn one that keeps silent, one that
+sends the half of a message's length, one that sends half a message, and one that sends a byte of a message every quarter of
+a second; every hundredth sends requests and reads no reply. Now and then one connects that changes its password. It has to
+be answered within a second. The service ends each of the others once it has kept it waiting for two seconds, not before and
+no more than three seconds later. All may be there at a time (`--clients`).
 
-N clients (2,000) connect one after the other to four workers that serve with `--idle 2`: in turn one that keeps
-silent, one that sends the half of a message's length, one that sends half a message, and one that sends a byte of a
-message every quarter of a second; every hundredth sends requests and reads no reply. Behind every N (200) of them one
-connects that changes its password. It has to be answered within a second. The service ends each of the others once
-it has kept it waiting for two seconds, not before and no more than three seconds later. All may be there at a time
-(`--clients`).
+Then a quarter as many silent ones connect where 64 may be there at a time, with real ones among them: these are answered as
+soon, those that have waited the longest are ended to make room, and 64 stay.
 
-Then a quarter as many silent ones connect where 64 may be there at a time, with real ones among them: these are
-answered as soon, those that have waited the longest are ended to make room, and 64 stay.
-
-In the end a worker is kept busy: a message whose connection is reset before that worker takes it isn't decided, and
-one whose client closes its writing side behind it is answered. The last line is `cases N failed N`.
+In the end a worker is kept busy: a message whose connection is reset before that worker takes it isn't decided, and one
+whose client closes its writing side behind it is answered.
 """
 
-import argparse
 import contextlib
 import functools
 import heapq
@@ -35,10 +31,11 @@ import time
 
 import asking
 import changepw_client as wire
+from command import Parser
 from journal import read_journal
 from report import Report
 from sample_realm import write_configuration
-from server import PROGRAM, Server
+from server import Server
 
 WORKERS = 4
 IDLE = 2
@@ -416,10 +413,10 @@ def service(program, names, connections, workers=WORKERS, idle=None, iterations=
 
 
 def main():
-    parser = argparse.ArgumentParser()
-    parser.add_argument("--server", default=PROGRAM)
-    parser.add_argument("--silent", type=int, default=2_000)
-    parser.add_argument("--every", type=int, default=200)
+    parser = Parser(__doc__)
+    parser.add_program()
+    parser.add_argument("--silent", type=int, default=2_000, metavar="N", help="clients that keep it waiting, by default 2000")
+    parser.add_argument("--every", type=int, default=200, metavar="N", help="a real client behind so many, by default 200")
     arguments = parser.parse_args()
     _, most = resource.getrlimit(resource.RLIMIT_NOFILE)
     resource.setrlimit(resource.RLIMIT_NOFILE, (most, most))

@@ -1,19 +1,15 @@
 #!/usr/bin/env python3
 """Changes a second of MIT's kadmind and of the service, by one client over MIT's library.
 
-    speed.py [--server PROGRAM] [--changes N] [--rounds N]
-
-The client has its ticket before the clock starts, makes a message and a connection for each change,
-and waits for each answer. The rounds of the two take turns, so that both see the same machine; the
-best round counts. The last line is `kadmind N serve N`, or `kadmind N` where PROGRAM isn't built.
+The client has its ticket before the clock starts, makes a message and a connection for each change, and waits for each
+answer. The rounds of the two take turns, so that both see the same machine; the best round counts.
 """
 
-import argparse
-import pathlib
 
 import configuration
+from command import Parser
 from realm import Failed, Realm
-from server import PROGRAM, Server
+from server import Server
 
 PASSWORDS = {"alice": "Old-pass1"}
 
@@ -31,10 +27,10 @@ def measured(realm, client, port, changes, name):
 
 
 def main():
-    parser = argparse.ArgumentParser()
-    parser.add_argument("--server", type=pathlib.Path, default=PROGRAM)
-    parser.add_argument("--changes", type=int, default=200)
-    parser.add_argument("--rounds", type=int, default=5)
+    parser = Parser(__doc__, "kadmind N serve N", "it can't be measured")
+    parser.add_program()
+    parser.add_argument("--changes", type=int, default=200, metavar="N", help="changes of a round, by default 200")
+    parser.add_argument("--rounds", type=int, default=5, metavar="N", help="rounds of each, by default 5")
     arguments = parser.parse_args()
     with Realm(PASSWORDS) as realm:
         client = realm.client()
@@ -42,12 +38,9 @@ def main():
         ports = {"kadmind": realm.kpasswd_port}
         server = Server(arguments.server, realm.folder, workers=1)
         try:
-            if arguments.server.exists():
-                server.configuration.write_text(
-                    configuration.configuration(realm.keytab(), [])
-                )
-                server.start(connections=1_000_000)
-                ports["serve"] = server.port
+            server.configuration.write_text(configuration.configuration(realm.keytab(), []))
+            server.start(connections=1_000_000)
+            ports["serve"] = server.port
             best = dict.fromkeys(ports, 0)
             for turn in range(arguments.rounds):
                 for name, port in ports.items():

@@ -1,4 +1,4 @@
-/* The socket at which the service asks to be told when the database has its journal (docs/FOLLOWER.md). */
+/* The socket at which the service asks to be told when the database has its journal (docs/PROTOCOL.md). */
 #ifndef ASKS_H
 #define ASKS_H
 

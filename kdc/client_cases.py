@@ -1,7 +1,7 @@
 """Stock clients of both projects against the service with `--follower`, and the KDC at once behind it.
 
 Each case is tried so many times in a row, for a user of its own. What a client's user sees of the first
-time is printed, as OPERATING's table has it.
+time is printed, as docs/RESULTS.md has it.
 """
 
 import contextlib

@@ -1,4 +1,4 @@
-/* Reads the service's journal (docs/JOURNAL.md), record by record, while the service writes it. */
+/* Reads the service's journal (docs/PROTOCOL.md), record by record, while the service writes it. */
 #ifndef JOURNAL_H
 #define JOURNAL_H
 

@@ -1,5 +1,5 @@
 /*
- * Reads the lines of `table --as keys` (docs/RULES.md): each is NAME@REALM KVNO ETYPE COUNT KEY SALT,
+ * Reads the lines of `table --as keys` (docs/PROTOCOL.md): each is NAME@REALM KVNO ETYPE COUNT KEY SALT,
  * a principal's newest version first, and of each version etype 18 before 17.
  */
 #ifndef LINES_H

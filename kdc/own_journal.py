@@ -19,7 +19,7 @@ def keys_of(name, password):
 
 
 def change_record(name, kvno, keys):
-    """A change's record (docs/JOURNAL.md)."""
+    """A change's record (docs/PROTOCOL.md)."""
     return keys_record(CHANGE, name, kvno, COUNT, keys)
 
 

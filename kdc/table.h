@@ -8,7 +8,7 @@
 #include <stddef.h>
 #include <stdint.h>
 
-/* the limits of docs/CONFIGURATION.md */
+/* the limits of docs/ADMIN.md */
 #define MOST_COMPONENTS 8
 #define LONGEST_COMPONENT 128
 #define LONGEST_NAME (1 + MOST_COMPONENTS * (1 + LONGEST_COMPONENT))

@@ -7,12 +7,14 @@ import re
 import sys
 
 TOP = pathlib.Path(__file__).resolve().parent.parent
+# command.py has the form of the command line.
+sys.path.append(str(TOP / "interop"))
 CRATES = TOP / "crates"
 WORD = re.compile(r"[A-Za-z_][A-Za-z0-9_']*")
 FIELD = re.compile(r"\.([a-z_][A-Za-z0-9_]*)")
 IMPORT = re.compile(r"^\s*(?:ghost )?(?:pub )?use ((?:Rattle|mathlib|lib)\.[\w.]+?)(?:\.\{([^}]*)\}| as (\w+))?;?\s*$")
 ITEM = re.compile(r"(?:\s*(?:pub )?(?:abbrev|unfoldable|data|def)|\s*pub record|record)\b(?: pub| rec)* ([^\s:({]+)")
-TYPE = re.compile(r"^pub(?:\([a-z]+\))? (struct|enum|trait) (\w+)", re.MULTILINE)
+TYPE = re.compile(r"^(?:pub(?:\([a-z]+\))? )?(struct|enum|trait) (\w+)", re.MULTILINE)
 RUST_USE = re.compile(r"^use (\w+)(?:::[\w:]+)?::(?:\{([^}]*)\}|(\w+));", re.MULTILINE)
 
 
@@ -68,12 +70,20 @@ def items(text):
             pending = []
         elif line.lstrip().startswith("--"):
             pending.append(line)
-            current = None
         elif not line.strip() or re.match(r"\s*((pub )?(use|mod)|module) ", line):
             pending = []
         elif current is not None:
-            found[current].append(line)
+            found[current] += [*pending, line]
+            pending = []
     return {name: "\n".join(lines) for name, lines in found.items()}
+
+
+def holder(found, name):
+    """The definition that a name stands for: its own, or that of the data type of which it is a constructor."""
+    if name in found:
+        return name
+    line = re.compile(rf"^\s+(?:pub )?{re.escape(name)} :", re.MULTILINE)
+    return next((it for it, text in found.items() if re.search(r"^\s*(pub )?data\b", plain(text), re.MULTILINE) and line.search(text)), None)
 
 
 def block(text, start):
@@ -128,8 +138,9 @@ class Sources:
         if len(rest) < 2:
             return None
         file = CRATES / crate / "specs" / pathlib.Path(*rest[:-1]).with_suffix(".antt")
-        found = items(self.text(file)).get(rest[-1])
-        return Definition(str(file.relative_to(TOP)), rest[-1], found, "spec", crate) if found else None
+        found = items(self.text(file))
+        name = holder(found, rest[-1])
+        return Definition(str(file.relative_to(TOP)), name, found[name], "spec", crate) if name else None
 
     def constant(self, crate, name):
         for file in sorted((CRATES / crate / "src").rglob("*.rt")):
@@ -346,3 +357,45 @@ def clauses_of(head):
         match = re.match(r"\s+(requires|ensures)\*? (\w+)?", text)
         found[f"{match[2] or ''} {match[1]}"] = text.rstrip()
     return signature, found
+
+
+def contracts(sources, words):
+    """The contracts that are asked for: `CRATE PATH [CLAUSE ..]`, with a `+` between two of them."""
+    found, rest = [], list(words)
+    while rest:
+        end = rest.index("+") if "+" in rest else len(rest)
+        crate, path, *clauses = rest[:end] if end > 1 else sys.exit(f"a crate and a path are missing: {' '.join(words)}")
+        found.append(sources.contract(crate, path, clauses))
+        rest = rest[end + 1 :]
+    return found
+
+
+def walk(sources, asked, used):
+    """The definitions that contracts rest on, where they speak of these fields; and the libraries' words."""
+    found, seen, foreign = [], {(it.place, it.name) for it in asked}, set()
+    waiting = collections.deque(asked)
+    while waiting:
+        for word, definition in sources.words(waiting.popleft(), used):
+            if definition is None:
+                foreign.add(word)
+            elif (definition.place, definition.name) not in seen:
+                seen.add((definition.place, definition.name))
+                waiting.append(definition)
+                found.append(definition)
+    return found, foreign
+
+
+def rests_on(sources, asked):
+    """The same, for the fields that are spoken of: those that the found definitions name."""
+    used = set()
+    while True:
+        found, foreign = walk(sources, asked, used)
+        more = used_fields("\n".join(it.text for it in [*asked, *found] if it.kind in ("spec", "contract")))
+        if more <= used:
+            return found, foreign
+        used |= more
+
+
+def count_of(found):
+    """How much there is to read."""
+    return f"{sum(it.lines() for it in found)} lines in {len(found)} definitions"

@@ -1,7 +1,13 @@
 #!/usr/bin/env bash
-# Unpacks gokrb5 with all that it needs, and the Go compiler, from Debian's packages into FOLDER/go: 80 MB are
-# fetched, and 570 MB of the disk taken. Nothing is installed (interop/unpack.sh).
+# usage: kdc/gokrb5/fetch.sh FOLDER
+#
+# Unpacks gokrb5 with all that it needs, and the Go compiler, from Debian's packages into FOLDER/go. Nothing is installed
+# (interop/unpack.sh).
+#
+# Status: 0; 1 or that of apt-get if the packages can't be had; 2 if the command line is wrong.
 set -euo pipefail
+. "$(dirname "$0")/../../interop/command.sh"
+command_line 1 word "$@"
 . "$(dirname "$0")/../../interop/unpack.sh"
 
 compiler=(golang-1.19-go golang-1.19-src)

@@ -1,4 +1,4 @@
-"""Numbers of what is in the tree: crates, edits, tests, cases, samples."""
+"""Numbers of what is in the tree: crates, edits, tests, cases, samples; and that docs/TESTS.md has each of them."""
 
 import re
 
@@ -55,6 +55,28 @@ def samples():
     return len(list((TOP / "samples/drill").glob("*.script")))
 
 
+def answering():
+    """The programs that answer cases on standard input."""
+    names = (it.parent.name for it in CRATES.glob("*/stdout") if (it.parent / "stdin").is_file())
+    return [it for it in names if re.fullmatch(r"\w+_(cases|vectors)|cases_\w+", it)]
+
+
+def scripts():
+    """The scripts that hostile/run runs of its own folder."""
+    return re.findall(r"^\./(\w+)$", (TOP / "hostile/run").read_text(), re.MULTILINE)
+
+
+def check_whole(document, faults):
+    """No program of cases, no crate of tests and no script of hostile/ is left out."""
+    if document is None:
+        return
+    wanted = [f"| `{it}` | " for it in answering()]
+    wanted += [f"| `{it.name}` (" for it in CRATES.iterdir() if tests(it.name)]
+    wanted += [f"| `hostile/{it}` | " for it in scripts()]
+    for row in wanted:
+        faults.check(f"\n{row}" in document.text, document.name, f"no row {row.strip('| (')}")
+
+
 def of(count, *words):
     """A counter that has nothing to take out of the document."""
     return lambda _: count(*words)
@@ -67,7 +89,7 @@ TABLE = [
     ("docs/TESTS.md", r"^\| `(?P<name>\w+)` \| (?P<n>\d+) blocks \|", lambda it: beginning("==")(it["name"])),
     ("docs/TESTS.md", r"^\| `(?P<name>\w+)` \| (?P<n>\d+), in \d+ scripts \|", lambda it: cases(it["name"])),
     ("docs/TESTS.md", r"^\| `(?P<name>\w+)` \| \d+, in (?P<n>\d+) scripts \|", lambda it: beginning("start")(it["name"])),
-    ("docs/TESTS.md", r"`(?P<name>\w+_tests)` \((?P<n>\d+)\)", lambda it: tests(it["name"])),
+    ("docs/TESTS.md", r"^\| `(?P<name>\w+)` \((?P<n>\d+)\) \|", lambda it: tests(it["name"])),
     ("docs/TESTS.md", r"`must-fail/` has (?P<n>\d+)", of(must_fail)),
     ("docs/TESTS.md", r"`trials/` has (?P<n>\d+)", of(refused)),
     ("docs/TESTS.md", r"(?P<n>\d+) wrong bodies that no clause", of(caught)),
@@ -79,6 +101,7 @@ TABLE = [
 
 
 def check(tree, faults):
+    check_whole(tree.document("docs/TESTS.md"), faults)
     for name, expression, count in TABLE:
         document = tree.document(name)
         if document is None:

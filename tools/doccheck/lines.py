@@ -6,12 +6,12 @@ from .tree import TOP
 
 CRATES = TOP / "crates"
 # Where lines are looked up; the codes of a journal's and a configuration's faults also where those are described.
-DOCUMENTS = ("docs/ADMIN.md", "docs/OPERATING.md")
-CODES = ("docs/PROTOCOL.md", "docs/JOURNAL.md", "docs/CONFIGURATION.md")
+DOCUMENTS = ("docs/ADMIN.md",)
+CODES = ("docs/PROTOCOL.md",)
 # What `import` says of an entry that it leaves out is the end of a line; it may stand in the text of these too.
 REASONS = "*_import/src/left.rt"
 REASON = re.compile(r"\bb\"(\w[^\"]* [^\"]*)\"")
-TEXTS = (*DOCUMENTS, "docs/PROTOCOL.md", "docs/RULES.md")
+TEXTS = (*DOCUMENTS, "docs/PROTOCOL.md")
 # Crates that are no part of the program.
 TESTS = re.compile(r".*_(cases|tests|vectors|streams|realm|lines)|(cases|tests|support)_.*|bench")
 DISPLAY = re.compile(r"^impl(?:<.*>)? fmt::Display for (\w+)", re.MULTILINE)

@@ -32,7 +32,7 @@ def check_mentions(tree, faults):
             text = file.read_text()
         except UnicodeDecodeError:
             continue
-        for match in MENTION.finditer(text):
+        for match in MENTION.finditer(text) if "docs/" in text else ():
             place = f"{file.relative_to(TOP)}:{text.count(chr(10), 0, match.start()) + 1}"
             faults.check((TOP / f"docs/{match[1]}.md").is_file(), place, f"no docs/{match[1]}.md")
 

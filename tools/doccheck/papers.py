@@ -15,6 +15,6 @@ def check(tree, faults):
             text = file.read_text()
         except UnicodeDecodeError:
             continue
-        found = CITED.search(text)
+        found = CITED.search(text) if "paper" in text.lower() else None
         number = text.count("\n", 0, found.start()) + 1 if found else 0
         faults.check(found is None, f"{file.relative_to(TOP)}:{number}", "cites a paper")

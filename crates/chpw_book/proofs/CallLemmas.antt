@@ -14,8 +14,14 @@ use Rattle.chpw_table.proofs.AgreementLemmas.{same_missing}
 use Rattle.chpw_table.proofs.StandingLemmas.{refused_anyway_law}
 use Rattle.chpw_decider.specs.Deciding.{IsFinal}
 use Rattle.chpw_decider.specs.Entered.{AsksFor}
-use Rattle.chpw_book.specs.Stored.{Stored, Replays}
-use Rattle.chpw_book.specs.Calls.{AsksAfter, LacksAfter}
+use Rattle.chpw_table.specs.declared.history.Event.{Event}
+use Rattle.chpw_book.specs.Passes.{PassView}
+use Rattle.chpw_book.specs.Recorded.{RecordedView, IsLinearized}
+use Rattle.chpw_book.specs.Calls.{Adds, Notes, AsksAfter, LacksAfter}
+
+-- what happens under the lock happens at the desk
+pub notes_of : (opening : State) (b later : RecordedView) (mine more : PassView) (now : Moment) (event : Event) → Adds opening b later mine more now event → Notes opening mine more now event
+notes_of opening b later mine more now event h = record { before = b.history; entry = h.entry; happens = h.happens }
 
 -- Full is told of a full table alone
 pub full_at : (t : Held) (counts : List ℕ) (f : DecideFault) → IsFirst t counts f → f ≡ Full → t.events ≡ t.max_entries
@@ -35,8 +41,8 @@ asks_for t counts missed (NeedKeys given) e h = ((λ none. h.1 (e ∙ none)), h.
 asks_for t counts missed Memory e h = tt
 
 -- the table's own refusal is one after the history
-pub asks_of_first : (opening : State) (workers : ℕ) (b : Stored) (now : Moment) (o : Opened) (f : DecideFault)
-    → Replays opening workers b → IsFirst b.table (missing b.table.state now o) f → AsksAfter opening now o f
+pub asks_of_first : (opening : State) (workers : ℕ) (b : RecordedView) (now : Moment) (o : Opened) (f : DecideFault)
+    → IsLinearized opening workers b → IsFirst b.table (missing b.table.state now o) f → AsksAfter opening now o f
 asks_of_first opening workers b now o f k h = record {
   before = b.history;
   legal = k.legal;
@@ -44,7 +50,7 @@ asks_of_first opening workers b now o f k h = record {
 }
 
 -- so is what it lacks
-pub lacks_after : (opening : State) (workers : ℕ) (b : Stored) (now : Moment) (o : Opened) → Replays opening workers b → LacksAfter opening now o (missing b.table.state now o)
+pub lacks_after : (opening : State) (workers : ℕ) (b : RecordedView) (now : Moment) (o : Opened) → IsLinearized opening workers b → LacksAfter opening now o (missing b.table.state now o)
 lacks_after opening workers b now o k = record {
   before = b.history;
   legal = k.legal;

@@ -25,7 +25,7 @@ use Rattle.chpw_table.specs.Requests.{target_of}
 use Rattle.chpw_journal.specs.Runs.{BringsWhole}
 use Rattle.chpw_journal.proofs.JoinedLemmas.{whole_more}
 use Rattle.chpw_book.specs.Receipts.{IsNumbered, IsCounted, is_of, entries_of, next_entry}
-use Rattle.chpw_book.specs.Stored.{Stored, Replays}
+use Rattle.chpw_book.specs.Recorded.{RecordedView, IsLinearized}
 use Rattle.chpw_book.specs.Wholeness.{NewestIsWhole}
 use Rattle.chpw_book.proofs.WholeLemmas.{brings_whole}
 use Rattle.chpw_decider.proofs.KeepingLemmas.{legal_on, outcome_on, journal_on, journal_goes_on}
@@ -106,15 +106,15 @@ count_more p es e =
 
 -- ---- all together
 
-kept_more : (opening : State) (workers : ℕ) (b : Stored) (e : Entry) (t : Held) (n : ℕ) (told : Option (List ℕ))
-    → Replays opening workers b
+kept_more : (opening : State) (workers : ℕ) (b : RecordedView) (e : Entry) (t : Held) (n : ℕ) (told : Option (List ℕ))
+    → IsLinearized opening workers b
     → IsJudged (outcome opening b.history) e.now e.io_failed e.event
     → Agrees t.state (step_entry (outcome opening b.history) e)
     → (is_accepted e.event ≡ true → BringsWhole (outcome opening b.history) e.event)
     → told ≡ option_map (λ xs. xs ++ event_appended (outcome opening b.history) e.event) b.told
     → e.worker < length b.counts → e.number ≡ length (entries_of e.worker b.history) + 1
     → t.events ≡ b.table.events + 1 → n ≡ b.total + 1
-    → Replays opening workers (record { table = t; history = b.history ++ e ∷ []; counts = slice_set b.counts e.worker (slice_index b.counts e.worker + 1); changes = if is_accepted e.event then b.changes + 1 else b.changes; total = n; told = told })
+    → IsLinearized opening workers (record { table = t; history = b.history ++ e ∷ []; counts = slice_set b.counts e.worker (slice_index b.counts e.worker + 1); changes = if is_accepted e.event then b.changes + 1 else b.changes; total = n; told = told })
 kept_more opening workers b e t n told k decided agrees whole tells below number events total = record {
   legal = legal_on opening b.history e k.legal decided;
   agrees = subst (λ (z : State). Agrees t.state z) (sym (outcome_on opening b.history e)) agrees;
@@ -131,22 +131,22 @@ kept_more opening workers b e t n told k decided agrees whole tells below number
 }
 
 -- an event that the machine judges so, and its entry
-pub kept_event : (opening : State) (workers : ℕ) (b : Stored) (w : ℕ) (now : Moment) (io : Bool) (event : Event) (t : Held) (es : List Entry) (counts : List ℕ) (changes n : ℕ) (told : Option (List ℕ))
-    → Replays opening workers b → IsJudged (outcome opening b.history) now io event → Agrees t.state (step_event (outcome opening b.history) now io event)
+pub kept_event : (opening : State) (workers : ℕ) (b : RecordedView) (w : ℕ) (now : Moment) (io : Bool) (event : Event) (t : Held) (es : List Entry) (counts : List ℕ) (changes n : ℕ) (told : Option (List ℕ))
+    → IsLinearized opening workers b → IsJudged (outcome opening b.history) now io event → Agrees t.state (step_event (outcome opening b.history) now io event)
     → (is_accepted event ≡ true → BringsWhole (outcome opening b.history) event)
     → told ≡ option_map (λ xs. xs ++ event_appended (outcome opening b.history) event) b.told → t.events ≡ b.table.events + 1
     → w < length b.counts → es ≡ b.history ++ next_entry b.history w now io event ∷ []
     → counts ≡ slice_set b.counts w (slice_index b.counts w + 1) → changes ≡ (if is_accepted event then b.changes + 1 else b.changes) → n ≡ b.total + 1
-    → Replays opening workers (record { table = t; history = es; counts = counts; changes = changes; total = n; told = told })
+    → IsLinearized opening workers (record { table = t; history = es; counts = counts; changes = changes; total = n; told = told })
 kept_event opening workers b w now io event t es counts changes n told k judged agrees whole tells events below h c d total =
     rw (h, c, d) (kept_more opening workers b (next_entry b.history w now io event) t n told k judged agrees whole tells below refl events total)
 
 -- a step of the table, and its entry
-pub kept_step : (opening : State) (workers : ℕ) (b : Stored) (w : ℕ) (now : Moment) (o : Opened) (r : Outcome) (t : Held) (es : List Entry) (counts : List ℕ) (changes n : ℕ) (told : Option (List ℕ))
-    → Replays opening workers b → Steps b.table t now o r → ((s : State) → Agrees b.table.state s → told ≡ option_map (λ xs. xs ++ appended s o r.verdict) b.told)
+pub kept_step : (opening : State) (workers : ℕ) (b : RecordedView) (w : ℕ) (now : Moment) (o : Opened) (r : Outcome) (t : Held) (es : List Entry) (counts : List ℕ) (changes n : ℕ) (told : Option (List ℕ))
+    → IsLinearized opening workers b → Steps b.table t now o r → ((s : State) → Agrees b.table.state s → told ≡ option_map (λ xs. xs ++ appended s o r.verdict) b.told)
     → (is_done r.verdict ≡ true → NewestIsWhole (keys_held t.state (target_of o).name)) → w < length b.counts → es ≡ b.history ++ next_entry b.history w now r.io_failed (Ask o r.verdict) ∷ []
     → counts ≡ slice_set b.counts w (slice_index b.counts w + 1) → changes ≡ (if is_done r.verdict then b.changes + 1 else b.changes) → n ≡ b.total + 1
-    → Replays opening workers (record { table = t; history = es; counts = counts; changes = changes; total = n; told = told })
+    → IsLinearized opening workers (record { table = t; history = es; counts = counts; changes = changes; total = n; told = told })
 kept_step opening workers b w now o r t es counts changes n told k steps tells newest below h c d total =
     let s : State = outcome opening b.history in
     kept_event opening workers b w now r.io_failed (Ask o r.verdict) t es counts changes n told k (steps.legal s k.agrees) (steps.agrees s k.agrees) (brings_whole s t.state now o r.io_failed r.verdict (steps.legal s k.agrees) (steps.agrees s k.agrees) newest) (tells s k.agrees) steps.events below h c d total

@@ -9,7 +9,7 @@ use Rattle.chpw_table.specs.declared.history.Event.TheVariants.{Raise}
 use Rattle.chpw_table.specs.State.{State, new_count}
 use Rattle.chpw_table.specs.Raising.{raise_verdict, is_raised, would_raise}
 use Rattle.chpw_table.specs.Agreement.{Held}
-use Rattle.chpw_versions.specs.Known.{Shelved}
+use Rattle.chpw_snapshots.specs.Known.{Shelved}
 use Rattle.chpw_book.specs.Publishing.{Shelves, with_waiting}
 
 both_true : (a b : Bool) → (a && b) ≡ true → (a ≡ true) × (b ≡ true)

@@ -5,10 +5,10 @@ use Rattle.std.specs.List.{list_all}
 use Rattle.std.proofs.lemmas.Bool.{leb-true}
 use Rattle.std.proofs.lemmas.Int.{ints}
 use Rattle.krb_keys.specs.KeyUsages.{usage_ticket, usage_ap_req_authenticator, usage_krb_priv}
-use Rattle.krb_elements.specs.Shapes.{Value, ◌&◌, flags, general_string}
-use Rattle.krb_elements.specs.Texts.{each_is, fits, is_in_range, text}
-use Rattle.krb_elements.proofs.CompleteLemmas.{and_both, and_true, one_value}
-use Rattle.krb_elements.proofs.TextLemmas.{text_spells}
+use Rattle.krb_codec.specs.Shapes.{Value, ◌&◌, flags, general_string}
+use Rattle.krb_codec.specs.Texts.{each_is, fits, is_in_range, text}
+use Rattle.krb_codec.proofs.CompleteLemmas.{and_both, and_true, one_value}
+use Rattle.krb_codec.proofs.TextLemmas.{text_spells}
 use Rattle.krb_protocol.specs.Numbers as protocol
 use Rattle.krb_der.specs.Types as types
 use Rattle.krb_der.specs.Values.{ap_req_value, authenticator_value, change_passwd_data_value, enc_krb_priv_part_value, enc_ticket_part_value, krb_priv_value, principal_name_value, ticket_value}

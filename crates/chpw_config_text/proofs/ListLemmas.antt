@@ -73,16 +73,16 @@ comes_after_end [] newer kvno = refl
 comes_after_end (_ ∷ []) newer kvno = refl
 comes_after_end (_ ∷ next ∷ before) newer kvno = comes_after_end (next ∷ before) newer kvno
 
-keys_read_behind : (at : Location) (before : List KeyBytes) (newer : KeyBytes) (keys : List KeyBytes)
+keys_read_after : (at : Location) (before : List KeyBytes) (newer : KeyBytes) (keys : List KeyBytes)
     → list_all key_fits keys ≡ true → list_all is_typed_key keys ≡ true → descend_from newer.kvno keys ≡ true
     → AreRead (key_row at) key_of (before ++ newer ∷ []) keys
-keys_read_behind at before newer [] fit typed down = tt
-keys_read_behind at before newer (key ∷ keys) fit typed down =
+keys_read_after at before newer [] fit typed down = tt
+keys_read_after at before newer (key ∷ keys) fit typed down =
     let (fits, more_fit) = and_parts (key_fits key) (list_all key_fits keys) fit in
     let (here, more_typed) = and_parts (is_typed_key key) (list_all is_typed_key keys) typed in
     let (step, more_down) = and_parts (key.kvno + 1 == newer.kvno) (descend_from key.kvno keys) down in (
       key_read at (before ++ newer ∷ []) key fits here (comes_after_end before newer key.kvno ∙ step),
-      keys_read_behind at (before ++ newer ∷ []) key keys more_fit more_typed more_down,
+      keys_read_after at (before ++ newer ∷ []) key keys more_fit more_typed more_down,
     )
 
 pub keys_read : (at : Location) (keys : List KeyBytes) → list_all key_fits keys ≡ true → list_all is_typed_key keys ≡ true
@@ -91,7 +91,7 @@ keys_read at [] fit typed down = tt
 keys_read at (key ∷ keys) fit typed down =
     let (fits, more_fit) = and_parts (key_fits key) (list_all key_fits keys) fit in
     let (here, more_typed) = and_parts (is_typed_key key) (list_all is_typed_key keys) typed in
-    (key_read at [] key fits here refl, keys_read_behind at [] key keys more_fit more_typed down)
+    (key_read at [] key fits here refl, keys_read_after at [] key keys more_fit more_typed down)
 
 -- no row before has the name
 named_anew : (row : PrincipalRow) (before : List PrincipalRow)

@@ -6,14 +6,14 @@ use Rattle.std.proofs.lemmas.Bool.Decides.{nat_tests}
 use Rattle.std.proofs.lemmas.List.{take-append-drop, length-append, append-nil}
 use Rattle.std.proofs.lemmas.List.Elements.{All-append, All-cons}
 use Rattle.std.proofs.lemmas.List.{nil_from_length}
-use Rattle.chpw_connections.specs.Messages.{wanted_behind, IsPiece}
+use Rattle.chpw_connections.specs.Messages.{wanted_after, IsPiece}
 use Rattle.chpw_connections.specs.Stages.{Stage, reading, queued, answering, confirming, writing, lingering, abandoned, ended, Event, came, taken, replied, deferred, unanswered, released, wrote, closed, failed, received, read_to, written_to, is_over, is_last_reply}
 use Rattle.chpw_connections.specs.Lives.{Life, accepted, behind, life, joined, IsOrderly, Orderly, Final}
 use Rattle.chpw_connections.proofs.PieceLemmas.{piece_is_whole}
 
 -- what waits is a whole message, and what is read isn't yet
 abbrev IsWaiting : Stage → Type 0
-IsWaiting (reading bytes) = 0 < wanted_behind bytes
+IsWaiting (reading bytes) = 0 < wanted_after bytes
 IsWaiting (queued message) = IsPiece message
 IsWaiting stage = Unit {0}
 
@@ -46,15 +46,15 @@ same c h r w n s o =
     rw (append-nil c, append-nil h, append-nil r, append-nil w) o
 
 -- a fact for either place behind more bytes
-read_cases : (P : Stage → Type 0) (all : List ℕ) → (wanted_behind all ≡ 0 → P (queued all)) → (0 < wanted_behind all → P (reading all)) → P (read_to all)
+read_cases : (P : Stage → Type 0) (all : List ℕ) → (wanted_after all ≡ 0 → P (queued all)) → (0 < wanted_after all → P (reading all)) → P (read_to all)
 read_cases P all whole part =
     ⊎_elim
-    (λ (some : 0 < wanted_behind all). let e : (wanted_behind all == 0) ≡ false = grind (arith, nat_tests) in
+    (λ (some : 0 < wanted_after all). let e : (wanted_after all == 0) ≡ false = grind (arith, nat_tests) in
     subst (λ (t : Bool). P (cond t (queued all) (reading all))) (sym e) (part some))
-    (λ (none : wanted_behind all ≤ 0). let zero : wanted_behind all ≡ 0 = omega arith in
-    let e : (wanted_behind all == 0) ≡ true = grind (arith, nat_tests) in
+    (λ (none : wanted_after all ≤ 0). let zero : wanted_after all ≡ 0 = omega arith in
+    let e : (wanted_after all == 0) ≡ true = grind (arith, nat_tests) in
     subst (λ (t : Bool). P (cond t (queued all) (reading all))) (sym e) (whole zero))
-    (cases_lt 0 (wanted_behind all))
+    (cases_lt 0 (wanted_after all))
 
 -- more bytes of a message
 reads : (c : List ℕ) (h r : List (List ℕ)) (w : List ℕ) (n : ℕ) (b more : List ℕ) → Holds (made c h r w n (reading b))

@@ -77,8 +77,8 @@ one_line line h has = by_case (first_newline [] line has.0 (codes "ok\n") refl h
     by_case (inr found) = with_newline found.0 found.1
 
 -- a line, and what comes behind it
-behind_line : (line rest : List ℕ) → is_whole line ≡ false → HasOk (line ++ 10 ∷ rest) → ((line ≡ codes "ok") × (rest ≡ [])) ⊎ HasOk rest
-behind_line line rest h has = by_case (first_newline [] (line ++ 10 ∷ rest) has.0 (codes "ok\n") refl has.1)
+after_line : (line rest : List ℕ) → is_whole line ≡ false → HasOk (line ++ 10 ∷ rest) → ((line ≡ codes "ok") × (rest ≡ [])) ⊎ HasOk rest
+after_line line rest h has = by_case (first_newline [] (line ++ 10 ∷ rest) has.0 (codes "ok\n") refl has.1)
   where
     by_first : ((line ≡ codes "ok") × (rest ≡ [])) ⊎ ((between : List ℕ) × ([] ≡ between ++ 10 ∷ rest)) → ((line ≡ codes "ok") × (rest ≡ [])) ⊎ HasOk rest
     by_first (inl found) = inl found
@@ -138,17 +138,17 @@ no_ok (line ∷ lines) n h has = by_case (take_line n line (lines_text lines)) (
     of_line : (is_whole line ≡ false) × (line ≡ codes "ok" → ⊥)
     of_line = line_parts line parts.0
 
-    by_behind : (k : ℕ) → ((m : ℕ) → are_lines lines ≡ true → HasOk (take m (lines_text lines)) → ⊥)
+    by_after : (k : ℕ) → ((m : ℕ) → are_lines lines ≡ true → HasOk (take m (lines_text lines)) → ⊥)
         → ((line ≡ codes "ok") × (take k (lines_text lines) ≡ [])) ⊎ HasOk (take k (lines_text lines)) → ⊥
-    by_behind k more (inl found) = of_line.1 found.0
-    by_behind k more (inr found) = more k parts.1 found
+    by_after k more (inl found) = of_line.1 found.0
+    by_after k more (inr found) = more k parts.1 found
 
     by_case : (take n (line ++ 10 ∷ lines_text lines) ≡ take n line)
         ⊎ ((k : ℕ) × (n ≡ length line + suc k) × (take n (line ++ 10 ∷ lines_text lines) ≡ line ++ 10 ∷ take k (lines_text lines)))
         → ((m : ℕ) → are_lines lines ≡ true → HasOk (take m (lines_text lines)) → ⊥) → ⊥
     by_case (inl e) more = one_line (take n line) (whole_take n line of_line.0) (subst HasOk e has)
     by_case (inr found) more =
-        by_behind found.0 more (behind_line line (take found.0 (lines_text lines)) of_line.0 (subst HasOk found.2 has))
+        by_after found.0 more (after_line line (take found.0 (lines_text lines)) of_line.0 (subst HasOk found.2 has))
 
 -- lines and `ok`, cut off
 no_whole_ok : (lines : List (List ℕ)) (n : ℕ) → are_lines lines ≡ true → n < length (lines_text (lines ++ ok_line ∷ []))
@@ -169,10 +169,10 @@ no_whole_ok (line ∷ lines) n h less has = by_case (take_line n line (lines_tex
     of_line : (is_whole line ≡ false) × (line ≡ codes "ok" → ⊥)
     of_line = line_parts line parts.0
 
-    by_behind : (k : ℕ) → k < length rest → ((m : ℕ) → are_lines lines ≡ true → m < length rest → HasOk (take m rest) → ⊥)
+    by_after : (k : ℕ) → k < length rest → ((m : ℕ) → are_lines lines ≡ true → m < length rest → HasOk (take m rest) → ⊥)
         → ((line ≡ codes "ok") × (take k rest ≡ [])) ⊎ HasOk (take k rest) → ⊥
-    by_behind k l more (inl found) = of_line.1 found.0
-    by_behind k l more (inr found) = more k parts.1 l found
+    by_after k l more (inl found) = of_line.1 found.0
+    by_after k l more (inr found) = more k parts.1 l found
 
     by_case : (take n (line ++ 10 ∷ rest) ≡ take n line)
         ⊎ ((k : ℕ) × (n ≡ length line + suc k) × (take n (line ++ 10 ∷ rest) ≡ line ++ 10 ∷ take k rest))
@@ -180,7 +180,7 @@ no_whole_ok (line ∷ lines) n h less has = by_case (take_line n line (lines_tex
     by_case (inl e) more = one_line (take n line) (whole_take n line of_line.0) (subst HasOk e has)
     by_case (inr found) more =
         let l : found.0 < length rest = omega (arith, found.1, less, length-append line (10 ∷ rest)) in
-        by_behind found.0 l more (behind_line line (take found.0 rest) of_line.0 (subst HasOk found.2 has))
+        by_after found.0 l more (after_line line (take found.0 rest) of_line.0 (subst HasOk found.2 has))
 
 -- ---- the laws
 

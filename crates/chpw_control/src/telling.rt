@@ -1,4 +1,4 @@
-//! The lines of a status.
+//! The lines of the answer to `status`.
 ghost use Rattle.std.specs.Prelude.{◌≡◌, ◌++◌, ◌∷◌, [], codes, true, false, IfOk, OnOk};
 ghost use Rattle.std.specs.Fmt.{decimal};
 ghost use Rattle.std.specs.Option.{ForSome, option_map_or};

@@ -6,7 +6,7 @@ use Rattle.std.proofs.lemmas.Bool.{ltb-true}
 use Rattle.std.proofs.lemmas.List.{append-nil, map-append}
 use Rattle.chpw_datagrams.specs.declared.kept.Kept.{Kept}
 use Rattle.chpw_datagrams.specs.declared.sender.Sender.{Sender}
-use Rattle.chpw_datagrams.specs.Answers.{Answer, is_for, is_recent, bytes_of, within, behind_keep, reply_for}
+use Rattle.chpw_datagrams.specs.Answers.{Answer, is_for, is_recent, bytes_of, within, after_keep, reply_for}
 use Rattle.chpw_datagrams.specs.Fields.{answer_of, answers_of}
 use Rattle.chpw_datagrams.proofs.WithinLemmas.{within-push}
 
@@ -77,7 +77,7 @@ map_filter {X} {Y} f p (x ∷ xs) = by_test (p (f x)) (map_filter f p xs)
     by_test false others = others
 
 pub kept_is : (k : Kept) (recent : List Kept) (old : List Kept) → recent ≡ filter (λ (x : Kept). is_recent k.moment (answer_of x)) old
-    → within 4194304 (answers_of (k ∷ take 1023 recent)) ≡ behind_keep (answers_of old) (answer_of k)
+    → within 4194304 (answers_of (k ∷ take 1023 recent)) ≡ after_keep (answers_of old) (answer_of k)
 kept_is k recent old e =
     ap (λ (xs : List Answer). within 4194304 (answer_of k ∷ xs))
     (map_take answer_of 1023 recent ∙ ap (λ (xs : List Answer). take 1023 xs) (ap answers_of e ∙ map_filter answer_of (is_recent k.moment) old))

@@ -2,11 +2,11 @@
 use Rattle.std.proofs.Common.{◌≡◌, ℕ, ℤ, List, Option, Some, None, Ok, IfOk, IfErr, sym, ◌∙◌, ap, subst, map-id}
 use Rattle.std.specs.Prelude.{option_map}
 use Rattle.std.proofs.lemmas.Iterator.Adapters.{option_map_id}
-use Rattle.krb_elements.specs.Shapes.{Value, ◌&◌}
-use Rattle.krb_elements.specs.Grammar.{Spells}
-use Rattle.krb_elements.specs.Reading.{Fails}
-use Rattle.krb_elements.specs.declared.fault.DerFault.{DerFault}
-use Rattle.krb_elements.specs.declared.fault.ReadError.TheVariants.{Fault}
+use Rattle.krb_codec.specs.Shapes.{Value, ◌&◌}
+use Rattle.krb_codec.specs.Grammar.{Spells}
+use Rattle.krb_codec.specs.Reading.{Fails}
+use Rattle.krb_codec.specs.declared.fault.DerFault.{DerFault}
+use Rattle.krb_codec.specs.declared.fault.ReadError.TheVariants.{Fault}
 use Rattle.krb_der.specs.Types.{change_passwd_data, principal_name}
 use Rattle.krb_der.specs.Values.{principal_name_value, change_passwd_data_value}
 use Rattle.krb_der.specs.declared.change_passwd_data.ChangePasswdData.{ChangePasswdData}

@@ -5,9 +5,9 @@ use Rattle.std.proofs.Math.Seq.{take-append_seam, drop-append_seam}
 use Rattle.std.proofs.lemmas.Nat.{from_be_bytes-to_be_bytes_4}
 use Rattle.std.specs.Int.{from_be_bytes, to_be_bytes, w32}
 use Rattle.std.specs.Io.KnownBytes.{Consumes, IsAtEnd}
-use Rattle.chpw_frame.specs.Stream.{message, cut_off, too_long, next_piece, behind_piece, stated_length, sent, longest}
+use Rattle.chpw_frame.specs.Stream.{message, cut_off, too_long, next_piece, after_piece, stated_length, sent, longest}
 use Rattle.chpw_frame.specs.Receiving.{TakesPiece, ConsumesSome, IsLength}
-use Rattle.read_fully.proofs.FillingLemmas.{consumes_more}
+use Rattle.chpw_read_fully.proofs.FillingLemmas.{consumes_more}
 use Rattle.chpw_frame.proofs.Tests.{is_below, not_below}
 
 -- the tests of a stream's front
@@ -91,7 +91,7 @@ begun_body old mid new header n buffer count h g l k c d =
     (header ++ body, consumes_more old mid new header body c d, inr (is_cut_short (header ++ body) (omega (arith, sz)) (omega (arith, st, g)) (omega (arith, sz, st, part, k))))
 
 -- what was sent is the next piece
-pub sent_is_next : (bytes left : List ℕ) → length bytes ≤ longest → (next_piece (sent bytes ++ left) ≡ message bytes) × (behind_piece (message bytes) (sent bytes ++ left) ≡ left)
+pub sent_is_next : (bytes left : List ℕ) → length bytes ≤ longest → (next_piece (sent bytes ++ left) ≡ message bytes) × (after_piece (message bytes) (sent bytes ++ left) ≡ left)
 sent_is_next bytes left g =
     let h : IsLength (to_be_bytes w32 (length bytes)) (length bytes) = (refl, from_be_bytes-to_be_bytes_4 (length bytes) (omega (arith, g))) in
     let t = takes_message (Some (sent bytes ++ left)) (Some (bytes ++ left)) (Some left) (to_be_bytes w32 (length bytes)) (length bytes) bytes h g refl refl refl in

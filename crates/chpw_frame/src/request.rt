@@ -14,7 +14,7 @@ pub const REQUEST_VERSION: u16 = 0xff80;
 /// (draft-ietf-cat-kerb-chg-password-02 section 3).
 pub const OLD_REQUEST_VERSION: u16 = 0x0001;
 
-/// The versions of the requests that are taken.
+/// The versions of the requests that are accepted.
 pub const REQUEST_VERSIONS: [u16; 2] = [REQUEST_VERSION, OLD_REQUEST_VERSION];
 
 /// The parts of a request of either version (RFC 3244 section 2), or its first fault.

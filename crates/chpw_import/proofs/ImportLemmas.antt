@@ -9,7 +9,7 @@ use Rattle.chpw_rules.specs.Fitting.{principal_fits, principals_fit, service_fit
 use Rattle.chpw_rules.specs.Names.{is_name}
 use Rattle.chpw_config_text.specs.Stanzas.{stanzas_of}
 use Rattle.chpw_invocation.specs.declared.invocation.ImportOptions.{ImportOptions}
-use Rattle.chpw_import.specs.declared.keytab.Brought.{Brought}
+use Rattle.chpw_import.specs.declared.keytab.KeytabImport.{KeytabImport}
 use Rattle.chpw_import.specs.Keytabs.{IsBrought}
 use Rattle.chpw_import.specs.LeftLines.{left_lines}
 use Rattle.chpw_import.specs.Passwords.{IsPasswordOf}
@@ -17,7 +17,7 @@ use Rattle.chpw_invocation.specs.declared.invocation.KeyOptions.{KeyOptions}
 use Rattle.chpw_rules.specs.declared.name.Name.{Name}
 use Rattle.chpw_import.specs.Stanzas.{Imports, WritesKey, key_row, note_of}
 
-pub imported : (o : ImportOptions) (bytes : List ℕ) (b : Brought) (before behind untold told : Option (List ℕ)) (text t lines l : List ℕ) (s : List ServiceRow) (p : List PrincipalRow)
+pub imported : (o : ImportOptions) (bytes : List ℕ) (b : KeytabImport) (before behind untold told : Option (List ℕ)) (text t lines l : List ℕ) (s : List ServiceRow) (p : List PrincipalRow)
     → IsBrought bytes o.realm.now o.iterations b → (service_fits b.service.items ≡ true) × (principals_fit b.principals.items ≡ true) → s ≡ b.service.items → p ≡ b.principals.items
     → IsDocumentText false (stanzas_of s p) text → parse_document text ≡ Some (stanzas_of s p) → t ≡ text → Appends before behind t
     → lines ≡ left_lines o.keytab.now b.entries.items b.left.items → l ≡ lines → Appends untold told l

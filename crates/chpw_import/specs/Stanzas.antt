@@ -11,14 +11,14 @@ use Rattle.chpw_rules.specs.Names.{is_name, name_of as name_in}
 use Rattle.chpw_config_text.specs.Stanzas.{stanzas_of}
 use Rattle.chpw_invocation.specs.declared.invocation.ImportOptions.{ImportOptions}
 use Rattle.chpw_invocation.specs.declared.invocation.KeyOptions.{KeyOptions}
-use Rattle.chpw_import.specs.declared.keytab.Brought.{Brought}
+use Rattle.chpw_import.specs.declared.keytab.KeytabImport.{KeytabImport}
 use Rattle.chpw_import.specs.declared.numbers.KeyNumbers.{KeyNumbers}
 use Rattle.chpw_import.specs.Keytabs.{IsBrought}
 use Rattle.chpw_import.specs.LeftLines.{left_lines}
 use Rattle.chpw_import.specs.Passwords.{IsPasswordOf, has_carriage_return, row_of}
 
--- A text is added that is read as the stanzas of these rows. It is a document of lines, each table behind a header
--- of its own and none inline, so that it can stand behind other tables.
+-- A text is added that is read as the stanzas of these rows. It is a document of lines, each table with a header of its
+-- own and none inline, so that it can follow other tables.
 abbrev pub AppendsRows : Option (List ℕ) → Option (List ℕ) → List ServiceRow → List PrincipalRow → Type 0
 AppendsRows before behind service principals =
     (text : List ℕ) × Appends before behind text × IsDocumentText false (stanzas_of service principals) text
@@ -26,10 +26,10 @@ AppendsRows before behind service principals =
 
 -- ---- import
 
--- what a keytab with these bytes holds of the realm, in stanzas that a configuration can have; and a line for each
--- entry that isn't used
+-- the keys that a keytab with these bytes has of the realm, in stanzas that a configuration can have; and a line for
+-- each skipped entry
 pub record Imports (o : ImportOptions) (bytes : List ℕ) (before behind untold told : Option (List ℕ)) : Type 0 where
-  pub brought : Brought
+  pub brought : KeytabImport
   pub is_brought : IsBrought bytes o.realm.now o.iterations brought
   pub fits : (service_fits brought.service.items ≡ true) × (principals_fit brought.principals.items ≡ true)
   pub written : AppendsRows before behind brought.service.items brought.principals.items
@@ -41,16 +41,16 @@ pub record Imports (o : ImportOptions) (bytes : List ℕ) (before behind untold 
 abbrev pub numbers_of : KeyOptions → KeyNumbers
 numbers_of o = record { kvno = o.kvno; iterations = o.iterations; some_count = o.some_count.0 }
 
--- the keys that string-to-key makes of the password, with those numbers
+-- the keys that string-to-key makes from the password, with those numbers
 abbrev pub key_row : KeyOptions → Name → List ℕ → PrincipalRow
 key_row o name password = row_of o.realm.now name password (numbers_of o)
 
--- a carriage return at the end of a password's file is no part of it, and that is told
+-- a carriage return at the end of a password's file is no part of it, which a line reports
 abbrev pub note_of : List ℕ → List ℕ → List ℕ
-note_of file bytes = if has_carriage_return bytes then file ++ codes ": a carriage return at the end is left out\n" else []
+note_of file bytes = if has_carriage_return bytes then file ++ codes ": a carriage return at the end is ignored\n" else []
 
--- the stanza of this principal with the keys of the password that a file with these bytes holds; a configuration
--- can have it where it can have the name
+-- the stanza of this principal with the keys of the password in a file with these bytes; a configuration can have it if
+-- it can have the name
 pub record WritesKey (o : KeyOptions) (name : Name) (bytes : List ℕ) (before behind untold told : Option (List ℕ)) : Type 0 where
   pub password : List ℕ
   pub is_password : IsPasswordOf bytes password
@@ -58,7 +58,7 @@ pub record WritesKey (o : KeyOptions) (name : Name) (bytes : List ℕ) (before b
   pub written : AppendsRows before behind [] (key_row o name password ∷ [])
   pub note : Appends untold told (note_of o.password_file.now bytes)
 
--- the same of the name on the command line
+-- the stanza of the name on the command line
 pub record Keys (o : KeyOptions) (bytes : List ℕ) (before behind untold told : Option (List ℕ)) : Type 0 where
   pub name : Name
   pub is_name : name_in o.name.now ≡ Some name

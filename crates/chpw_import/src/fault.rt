@@ -1,8 +1,8 @@
-//! Why no keys are brought in.
+//! Why no keys are written.
 use krb_keytab::KeytabFault;
 use std::fmt;
 
-/// Why no keys are brought in; displayed as the line that the program writes.
+/// Why no keys are written; displayed as the line on standard error.
 #[derive(Clone, Copy, Drop)]
 pub enum KeysFault<'a> {
     /// The name isn't one that a configuration can have.
@@ -49,11 +49,11 @@ impl fmt::Display for KeytabWords {
 
     fn fmt<W: fmt::Write>(&self, f: &mut fmt::Formatter<W>) -> fmt::Result {
         match self.0 {
-            KeytabFault::NotKeytab => f.write_str("no keytab of format 0x0502"),
+            KeytabFault::NotKeytab => f.write_str("not a keytab of format 0x0502"),
             KeytabFault::CutOff { place } => write!(f, "the record at {place} is cut off"),
             KeytabFault::BadLength { place } => write!(f, "the length at {place} is -2147483648"),
             KeytabFault::BadEntry { place } => {
-                write!(f, "a field of the record at {place} ends behind it")
+                write!(f, "a field of the record at {place} extends past its end")
             }
         }
     }

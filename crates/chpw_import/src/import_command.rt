@@ -6,7 +6,7 @@ ghost use Rattle.chpw_import.specs.Faults.{IsEarly, IsLate, IsOfBytes, IsOfImpor
 ghost use Rattle.chpw_import.specs.Stanzas.{Imports};
 
 use crate::fault::KeysFault;
-use crate::keytab::{Brought, ImportFault, bring_in};
+use crate::keytab::{ImportFault, KeytabImport, bring_in};
 use crate::left::left_text;
 use crate::output::{ErrorWriter, read_file, stanzas, write_text};
 use chpw_invocation::ImportOptions;
@@ -24,8 +24,8 @@ pub fn tell_keytab<'a, R: Files + Print + Eprint + AllocGlobal>(
     import(rt, options, &mut io::writer(rt), &mut ErrorWriter { rt })
 }
 
-/// Writes the stanzas of what a keytab holds of the realm, and then a line for each entry that is left out to
-/// `left`. Where the file can't be read, or has a fault, nothing is written.
+/// Writes the stanzas for the keys that a keytab has of the realm, and then a line for each skipped entry to `left`. If
+/// the file can't be read, or has a fault, nothing is written.
 pub fn import<'a, R: Files + AllocGlobal, W: Write, E: Write>(
     rt: &R,
     options: ImportOptions<'a>,
@@ -41,8 +41,8 @@ pub fn import<'a, R: Files + AllocGlobal, W: Write, E: Write>(
     write_keytab(rt.alloc(), options, bytes.as_slice(), writer, left)
 }
 
-/// Writes the stanzas of what a keytab with these bytes holds of the realm, and then a line for each entry that
-/// is left out to `left`. Where the keytab has a fault nothing is written.
+/// Writes the stanzas for the keys that a keytab with these bytes has of the realm, and then a line for each skipped
+/// entry to `left`. If the keytab has a fault nothing is written.
 pub fn write_keytab<'a, W: Write, E: Write>(
     alloc: Global,
     options: ImportOptions<'a>,
@@ -73,7 +73,7 @@ fn brought_in<'a>(
     alloc: Global,
     bytes: &[u8],
     options: ImportOptions<'a>,
-) -> Result<Brought, KeysFault<'a>>
+) -> Result<KeytabImport, KeysFault<'a>>
     ensures brought { IfOk result (IsBrought bytes.now options.entry.realm.now options.entry.iterations) }
     ensures fits { IfOk result (λ b.
         (service_fits b.service.items ≡ true) × (principals_fit b.principals.items ≡ true)) }

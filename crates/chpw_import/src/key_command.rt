@@ -26,9 +26,9 @@ pub fn tell_password<'a, R: Files + Print + Eprint + AllocGlobal>(
     key(rt, options, &mut io::writer(rt), &mut ErrorWriter { rt })
 }
 
-/// Writes the stanza of the principal with the keys of the password in a file, and a line to `notes` where a carriage
-/// return at its end was left out. The name is looked at first, and then the file is read; where either has a fault
-/// nothing is written.
+/// Writes the stanza of the principal with the keys of the password in a file, and a line to `notes` if a carriage
+/// return at its end was ignored. The name is checked first, and then the file is read; if either has a fault nothing
+/// is written.
 pub fn key<'a, R: Files + AllocGlobal, W: Write, E: Write>(
     rt: &R,
     options: KeyOptions<'a>,
@@ -45,9 +45,8 @@ pub fn key<'a, R: Files + AllocGlobal, W: Write, E: Write>(
     write_password(rt.alloc(), options, name, bytes.as_slice(), writer, notes)
 }
 
-/// Writes the stanza of the principal with this name whose keys are those of the password that the bytes of
-/// its file hold, and a line to `notes` where they end with a carriage return and a newline. Where they hold none nothing
-/// is written.
+/// Writes the stanza of the principal with this name whose keys are those of the password in the bytes of its file, and
+/// a line to `notes` if they end with a carriage return and a newline. If they have no password nothing is written.
 pub fn write_password<'a, W: Write, E: Write>(
     alloc: Global,
     options: KeyOptions<'a>,
@@ -70,7 +69,7 @@ pub fn write_password<'a, W: Write, E: Write>(
     write_note(alloc, options.password_file, bytes, notes)
 }
 
-// Writes a line where a carriage return at the end of the file's bytes was left out.
+// Writes a line if a carriage return at the end of the file's bytes was ignored.
 fn write_note<'a, E: Write>(
     alloc: Global,
     file: &str,
@@ -84,7 +83,7 @@ fn write_note<'a, E: Write>(
     if !has_carriage_return(bytes) {
         return Ok(());
     }
-    match format!(in alloc; "{file}: a carriage return at the end is left out\n") {
+    match format!(in alloc; "{file}: a carriage return at the end is ignored\n") {
         Ok(line) => write_text(line.as_bytes(), notes),
         Err(_) => Err(KeysFault::CannotPrint),
     }

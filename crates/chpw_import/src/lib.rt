@@ -1,5 +1,5 @@
-//! The commands `import` and `key`: the keys that a keytab holds, with what is left out of it and why, and a principal's
-//! keys of a password, printed as stanzas of a configuration.
+//! Importing keys: the service keys and the principals' keys of a keytab, with the entries that are skipped and why;
+//! and a principal's keys from a password.
 #![tactic(auto)]
 
 mod entries;
@@ -19,7 +19,7 @@ mod table;
 pub use fault::KeysFault;
 pub use import_command::{import, tell_keytab, write_keytab};
 pub use key_command::{key, tell_password, write_password};
-pub use keytab::{Brought, ImportFault, bring_in};
-pub use left::{Left, Reason, left_text};
+pub use keytab::{ImportFault, KeytabImport, bring_in};
+pub use left::{Reason, SkippedEntry, left_text};
 pub use numbers::KeyNumbers;
 pub use password::{default_salt, has_carriage_return, password_in, password_row};

@@ -43,7 +43,7 @@ pub(crate) fn stanzas<'a>(
     match write_stanzas(alloc, service, principals) {
         Ok(text) => Ok(text),
         Err(WriteFault::Memory) => Err(KeysFault::Memory),
-        // A name that no file can say is left out before.
+        // A name that no file can express was skipped before.
         Err(WriteFault::Unwritable) => Err(KeysFault::CannotPrint),
     }
 }

@@ -13,7 +13,7 @@ command name options = record (new_shape name) { rules = options }
 abbrev pub alone : Shape → App
 alone command = record { top = command; subs = [] }
 
--- no option of it is passed down to the commands below it
+-- no option of it is passed down to its subcommands
 abbrev pub IsLocal : Command → Type 0
 IsLocal c = (out-Command c).has_globals ≡ false
 
@@ -100,7 +100,7 @@ client = command (codes "client")
     ∷ flag (codes "old")
     ∷ [])
 
--- with a version, and one of the commands below it has to be named
+-- with a version, and one of the subcommands required
 abbrev pub leading : App → App
 leading a = record a {
   top = record a.top {

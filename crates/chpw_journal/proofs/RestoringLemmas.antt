@@ -20,7 +20,7 @@ use Rattle.chpw_journal.specs.Restoring.{is_there, IsRestored, IsRefused}
 use Rattle.chpw_journal.specs.Taking.{IsRecordRefused, TakesRecord, IsRecordFault, IsSoFar}
 use Rattle.chpw_record.proofs.LengthLemmas.{length_short, text_short}
 use Rattle.chpw_journal.proofs.CutLemmas.{header_states}
-use Rattle.read_fully.proofs.FillingLemmas.{consumes_none, consumes_more}
+use Rattle.chpw_read_fully.proofs.FillingLemmas.{consumes_none, consumes_more}
 use Rattle.chpw_record.proofs.RecordLemmas.{records_more, framed_is, framed_same}
 use Rattle.chpw_journal.proofs.RecordsLemmas.{restored_joined, next_more}
 

@@ -1,4 +1,4 @@
--- For the proofs: what one record, from behind its length, does to a table that is being restored.
+-- For proofs alone: what one record, after its length, does to a table that is being restored.
 use Rattle.std.specs.Prelude.{◌≡◌, ◌≢◌, ℕ, ◌+◌, List, length, false, Option, Some}
 use Rattle.std.specs.Io.KnownBytes.{Consumes}
 use Rattle.chpw_record.specs.declared.key.KeyRow.{KeyRow}
@@ -17,7 +17,7 @@ use Rattle.chpw_journal.specs.declared.restoring.Restored.{Restored}
 use Rattle.chpw_record.specs.Records.{ChangeFits, RecordFits, body_text, records_text}
 use Rattle.chpw_journal.specs.JournalText.{IsNextRecord, IsOfUnknown, AreNext, with_record, restored}
 
--- why a record isn't put back: a change or a base for what its key is refused; a raise never
+-- why a record isn't replayed: a change or a base for the fault of its key; a raise never
 abbrev pub IsRecordRefused : Held → Record → KeyFault → Type 0
 IsRecordRefused before (record_of.Change c) fault = (s : State) → Agrees before.state s → IsKeyRefused s c.name c.key fault
 IsRecordRefused before (record_of.Raise count) fault = ⊥

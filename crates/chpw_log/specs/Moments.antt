@@ -6,7 +6,7 @@ use Rattle.chpw_printing.specs.Times as printed
 abbrev pub moment_text : Moment → List ℕ
 moment_text m = printed.time_text m.seconds m.micros
 
--- a text tells a moment: its date and time of day spell these seconds (RFC 4120 section 5.2.3)
+-- a text says this moment: its date and time of day spell these seconds (RFC 4120 section 5.2.3)
 abbrev pub Tells : List ℕ → Moment → Type 0
 Tells text m = printed.Tells text m.seconds m.micros
 

@@ -6,12 +6,12 @@ use Rattle.std.specs.List.{list_any}
 use Rattle.std.proofs.lemmas.List.{drop-take, length-drop, length-take, length-take-le, take-append-drop, take-take}
 use Rattle.std.proofs.lemmas.Bool.{ltb-true}
 use Rattle.std.proofs.lemmas.Nat.{from_be_bytes-to_be_bytes_2}
-use Rattle.krb_elements.specs.Grammar.{Spells}
-use Rattle.krb_elements.proofs.CompleteLemmas.{no_prefix, same_or_not}
+use Rattle.krb_codec.specs.Grammar.{Spells}
+use Rattle.krb_codec.proofs.CompleteLemmas.{no_prefix, same_or_not}
 use Rattle.krb_der.specs.Types.{krb_priv}
 use Rattle.krb_der.specs.Values.{krb_priv_value}
 use Rattle.krb_der.specs.declared.krb_priv.KrbPriv.{KrbPriv}
-use Rattle.krb_elements.specs.declared.numbers.SeqNumber.{SeqNumber}
+use Rattle.krb_codec.specs.declared.numbers.SeqNumber.{SeqNumber}
 use Rattle.krb_keys.specs.declared.key.Key.{Key}
 use Rattle.krb_msgs.specs.Checks.{goes_on, of_none, of_one, stops}
 use Rattle.krb_msgs.specs.ApExchange.{OpensAp}
@@ -28,7 +28,7 @@ use Rattle.chpw_frame.specs.declared.fault.FrameFault.TheVariants.{BadLength, Ba
 use Rattle.chpw_frame.specs.Framing.{ap_length_of, ap_of, first_fault, is_past_end, is_whole, number_at, request_versions, tail_of, version_of}
 use Rattle.chpw_frame.specs.Stream.{longest}
 use Rattle.chpw_frame.proofs.Tests.{is_below, is_same, not_below, not_below_is}
-use Rattle.chpw_answer.specs.Requests.{Opens, Request, bad_data, opened}
+use Rattle.chpw_serve.specs.Requests.{Opens, Request, bad_data, opened}
 use Rattle.chpw_messages.specs.Opening.{IsContent, OpensAs, OpensFramed, OpensParts, OpensTo, request_of, stamp_in}
 use Rattle.chpw_messages.specs.Prefixes.{KrbPrivsFollow, PrefixesOpen, cut_short, shortened}
 use Rattle.chpw_frame.proofs.FramingLemmas.{cleared, neither}

@@ -13,7 +13,7 @@ pub record Identity : Type 0 where
 abbrev pub IsRealm : List ℕ → Type 0
 IsRealm realm = (1 ≤ length realm) × (length realm ≤ 255)
 
--- the version and key that the service holds, and those of the configuration
+-- the version and key that the service has, and those of the configuration
 abbrev pub held : ServiceKey → ℕ × Option Key
 held k = (k.kvno, Some k.key)
 

@@ -5,29 +5,27 @@ ghost use Rattle.chpw_messages.specs.Prefixes.{KrbPrivsFollow, PrefixesOpen};
 ghost use Rattle.chpw_messages.specs.RepliesOpen.{ErrorFramesOpen, PrivateFramesOpen};
 ghost use Rattle.chpw_messages.specs.WorkedReplies.{MalformedReply, VersionReply, TooLongReply};
 
-/// The two parts of a request for a change of password, made of their records, open to that
-/// request, in either version; and parts in a frame open as they do.
+/// The two parts of a request for a password change, made from their records, open to that request, in either version;
+/// and parts in a frame open as they do.
 pub fn openings()
     ensures parts { PartsOpen }
     ensures frames { FramesOpen }
 {}
 
-/// A message opens to one answer, so what a call answers is all that its relation allows: one that
-/// is refused opens to no request, and one that opens asks one thing.
+/// A message opens to one answer: one that is refused opens to no request, and one that opens asks one thing.
 pub fn one_opening()
     ensures message { MessagesOpenOnce }
 {}
 
-/// A reply opens, for the client that asked, to the result code, the text and the error code that it
-/// was made of.
+/// A reply opens, for the client that asked, to the result code, the text and the error code that it was made from.
 pub fn replies_open()
     ensures krb_error { ErrorFramesOpen }
     ensures private { PrivateFramesOpen }
 {}
 
-/// A request whose tail is a KRB-PRIV, cut short and its length field set to its size, is no other
-/// request: it has a bad length or bad parts, or is the same with bad data and no stamp. The tail
-/// is one unless the request is bad data.
+/// A request whose tail is a KRB-PRIV, cut short with its length field set to match, is no other request: it has a bad
+/// length or bad parts, or is the same with bad data and no stamp. The tail is a KRB-PRIV unless the request is bad
+/// data.
 pub fn prefixes()
     ensures message { PrefixesOpen }
     ensures tail { KrbPrivsFollow }

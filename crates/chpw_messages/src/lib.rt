@@ -1,5 +1,4 @@
-//! What a message to the service opens to, and the replies to it: `Service` opens messages and
-//! makes replies.
+//! What a message to the service opens to, and the replies to it. `Service` opens messages and makes replies.
 #![tactic(auto)]
 
 mod content;

@@ -1,12 +1,12 @@
-//! A message is opened (RFC 3244 section 2): its frame, then its AP-REQ, then its KRB-PRIV.
+//! Opening a message (RFC 3244 section 2): its frame, then its AP-REQ, then its KRB-PRIV.
 ghost use Rattle.std.specs.Prelude.{IfOk};
-ghost use Rattle.chpw_answer.specs.Holding.{IsInTime};
+ghost use Rattle.chpw_serve.specs.Holding.{IsInTime};
 ghost use Rattle.chpw_messages.specs.Holds.{HoldsMessage, HoldsParts};
 
 use crate::content::open_content;
 use crate::incoming::incoming_of;
-use chpw_answer::OpenResult;
 use chpw_frame::{Parts, split_request};
+use chpw_serve::OpenResult;
 use krb_msgs::{OpenError, ServiceKey, open_ap};
 use std::alloc::{AllocError, Global};
 
@@ -27,7 +27,7 @@ pub(crate) fn open_message(
     }
 }
 
-/// The same of the parts of a message.
+/// What the parts of a message open to.
 fn open_parts(
     alloc: Global,
     realm: &[u8],

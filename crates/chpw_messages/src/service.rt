@@ -9,8 +9,8 @@ ghost use Rattle.chpw_messages.specs.Service.{configured, held};
 use crate::opening::open_message;
 use crate::private_reply::private_reply;
 use crate::replies::error_reply;
-use chpw_answer::{Messages, OpenResult, Seal};
 use chpw_rules::{Config, Items, ServiceRow};
+use chpw_serve::{Messages, OpenResult, Seal};
 use chpw_table::Moment;
 use krb_keys::key_of;
 use krb_msgs::ServiceKey;
@@ -37,9 +37,8 @@ impl Model for Service {
 }
 
 impl Service {
-    /// The service of a configuration that fits: its realm, and its service keys in their order,
-    /// each of as many bytes as its encryption type says. So a message opens to one answer
-    /// ([`crate::laws::one_opening`]).
+    /// The service of a configuration that fits: its realm, and its service keys in their order, each of the length of
+    /// its encryption type. So a message opens to one answer ([`crate::laws::one_opening`]).
     pub fn of(alloc: Global, config: &Config) -> Result<Service, AllocError>
         requires fits { config_fits config.now ≡ true }
         ensures realm { IfOk result (λ s. s.realm ≡ config.now.realm) }

@@ -44,8 +44,8 @@ graphic_printed (byte ∷ rest) h =
     and_from _ _ (in_wider byte parts.0) (graphic_printed rest parts.1)
 
 -- a digit behind others
-digit_behind : (n : ℕ) (ds : List ℕ) → are_graphic ds ≡ true → are_graphic (ds ++ (48 + n % 10) ∷ []) ≡ true
-digit_behind n ds h =
+digit_after : (n : ℕ) (ds : List ℕ) → are_graphic ds ≡ true → are_graphic (ds ++ (48 + n % 10) ∷ []) ≡ true
+digit_after n ds h =
     let low = le-leb 33 (48 + n % 10) (omega arith) in
     let high = le-leb (48 + n % 10) 126 (omega arith) in
     let one : are_graphic ((48 + n % 10) ∷ []) ≡ true = and_from _ _ (and_from _ _ low high) refl in
@@ -58,7 +58,7 @@ decimal_graphic n h =
     (λ k small. let low = le-leb 33 (48 + k) (omega arith) in
     let high = le-leb (48 + k) 126 (omega (arith, small)) in
     and_from _ _ (and_from _ _ low high) refl)
-    (λ k ds _ front. digit_behind k ds front) n h
+    (λ k ds _ front. digit_after k ds front) n h
 
 pub signed_graphic : (z : ℤ) → mag z < 2 ^ 63 → are_graphic (signed_decimal z) ≡ true
 signed_graphic (pos n) h = decimal_graphic n (omega (arith, h))

@@ -4,13 +4,13 @@ use Rattle.std.specs.Prelude.{IsSome, is_some}
 use Rattle.std.proofs.lemmas.Bool.{and_from, le-leb}
 use Rattle.std.proofs.lemmas.List.Folds.{list_all-append}
 use Rattle.jiff_core.proofs.CalendarLemmas.{days_in_month_bounds}
-use Rattle.krb_elements.specs.Times.{IsTime, IsWritable, pair, time_octets, time_of}
-use Rattle.krb_elements.proofs.TimeLemmas.{time_of_some, time_spelled}
+use Rattle.krb_codec.specs.Times.{IsTime, IsWritable, pair, time_octets, time_of}
+use Rattle.krb_codec.proofs.TimeLemmas.{time_of_some, time_spelled}
 use Rattle.chpw_rules.specs.Limits.{range, is_in}
 use Rattle.chpw_printing.specs.Quoting.{are_graphic, is_field}
 use Rattle.chpw_printing.specs.Times.{Tells, date_time, time_text}
 
--- what krb_elements writes of it
+-- what krb_codec writes of it
 pub time_is : (seconds : ℤ) (text : List ℕ) → IsWritable seconds → time_of seconds ≡ Some text → text ≡ time_octets seconds
 time_is seconds text h found =
     let same : Some text ≡ Some (time_octets seconds) = sym found ∙ time_of_some seconds h in

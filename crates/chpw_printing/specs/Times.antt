@@ -1,7 +1,7 @@
 -- A time as it is printed (RFC 3339 section 5.6): `YYYY-MM-DDTHH:MM:SS.FFFFFFZ`, in UTC, with six
 -- digits of the second's fraction.
 use Rattle.std.specs.Prelude.{◌≡◌, ℕ, ℤ, ◌/◌, ◌%◌, List, ◌++◌, codes, slice_range}
-use Rattle.krb_elements.specs.Times.{IsTime, pair, time_octets}
+use Rattle.krb_codec.specs.Times.{IsTime, pair, time_octets}
 
 -- the six decimal digits of a number below 1,000,000
 abbrev pub six_digits : ℕ → List ℕ
@@ -17,6 +17,6 @@ date_time time micros =
 abbrev pub time_text : ℤ → ℕ → List ℕ
 time_text seconds micros = date_time (time_octets seconds) micros
 
--- a text tells a time: its date and time of day spell these seconds (RFC 4120 section 5.2.3)
+-- a text says a time: its date and time of day spell these seconds (RFC 4120 section 5.2.3)
 abbrev pub Tells : List ℕ → ℤ → ℕ → Type 0
 Tells text seconds micros = (time : List ℕ) × IsTime time seconds × (text ≡ date_time time micros)

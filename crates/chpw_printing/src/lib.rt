@@ -1,4 +1,4 @@
-//! How names, bytes, texts, numbers and times are printed, as printed ASCII: put at the end of a text.
+//! How names, bytes, texts and numbers are printed, as printable ASCII: each is added at the end of a text.
 #![tactic(auto)]
 
 pub mod laws;

@@ -25,7 +25,7 @@ pub fn put_signed(text: &mut Vec<u8>, number: i64) -> Result<(), AllocError>
     text.extend_from_slice(digits.as_bytes())
 }
 
-/// Puts a number at the end, behind a space.
+/// Adds a space and a number.
 pub fn put_behind_space(text: &mut Vec<u8>, number: u32) -> Result<(), AllocError>
     ensures value { OnOk result (text.new.items ≡ text.old.items ++ number_text number) }
 {

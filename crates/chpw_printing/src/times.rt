@@ -1,14 +1,14 @@
 //! Times as they are printed.
 ghost use Rattle.std.specs.Prelude.{◌≡◌, ◌++◌, ◌<◌, true, OnOk};
-ghost use Rattle.krb_elements.specs.Times.{IsWritable, pair, time_octets};
+ghost use Rattle.krb_codec.specs.Times.{IsWritable, pair, time_octets};
 ghost use Rattle.chpw_printing.specs.Quoting.{is_field};
 ghost use Rattle.chpw_printing.specs.Times.{date_time, six_digits, time_text};
 
-use krb_elements::seconds_to_time;
+use krb_codec::seconds_to_time;
 use std::alloc::AllocError;
 
-/// Puts a time at the end: `2026-11-25T06:31:50.123456Z`. It is told in seconds since 1970-01-01T00:00:00Z, of the years 0
-/// to 9999, and microseconds below 1,000,000.
+/// Adds a time: `2026-11-25T06:31:50.123456Z`. It is given in seconds since 1970-01-01T00:00:00Z, of the years 0 to
+/// 9999, and microseconds below 1,000,000.
 #[tactic(auto, using(crate::proofs::TimeLemmas::time_field))]
 pub fn put_time(text: &mut Vec<u8>, seconds: i64, micros: u32) -> Result<(), AllocError>
     requires seconds { IsWritable seconds }
@@ -28,7 +28,7 @@ fn octets_of(seconds: i64) -> [u8; 15]
     seconds_to_time(seconds).unwrap()
 }
 
-// The same with RFC 3339's marks, and the second's fraction.
+// The time with RFC 3339's marks, and the second's fraction.
 fn put_date_time(text: &mut Vec<u8>, time: &[u8; 15], micros: u32) -> Result<(), AllocError>
     requires { micros < 1000000 }
     ensures value { OnOk result (text.new.items ≡ text.old.items ++ date_time time.now micros) }

@@ -1,10 +1,10 @@
--- For the proofs: the version of a record read by places, and whether its numbers are within their limits.
+-- For proofs alone: the version of a record read by places, and whether its numbers are within their limits.
 use Rattle.std.specs.Prelude.{ℕ, List, take, drop, Bool, ◌&&◌}
 use Rattle.std.specs.Int.{from_be_bytes, w32}
 use Rattle.chpw_rules.specs.Limits.{is_in, kvnos, iteration_counts}
 use Rattle.chpw_record.specs.declared.key.KeyRow.{KeyRow}
 
--- kvno, iteration count and keys behind the kind
+-- kvno, iteration count and keys after the kind
 abbrev pub key_at : List ℕ → KeyRow
 key_at bytes = record {
   kvno = from_be_bytes w32 (take 4 (drop 1 bytes));

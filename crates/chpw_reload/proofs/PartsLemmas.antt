@@ -22,9 +22,9 @@ all_read text read None h e = absurd h
 all_read text read (Some ys) h e = h ∙ (ap (λ (zs : List ℕ). read ++ zs) e ∙ append-nil read)
 
 -- what was read of a text behind a front is read of the whole
-read_behind : (front text read : List ℕ) (new : Option (List ℕ)) → Consumes (Some text) new read → Consumes (Some (front ++ text)) new (front ++ read)
-read_behind front text read None h = absurd h
-read_behind front text read (Some ys) h = ap (λ (zs : List ℕ). front ++ zs) h ∙ sym (append_assoc front read ys)
+read_after : (front text read : List ℕ) (new : Option (List ℕ)) → Consumes (Some text) new read → Consumes (Some (front ++ text)) new (front ++ read)
+read_after front text read None h = absurd h
+read_after front text read (Some ys) h = ap (λ (zs : List ℕ). front ++ zs) h ∙ sym (append_assoc front read ys)
 
 -- the records of both readings, one behind the other
 joined_text : (cs ds : List Record) (rest : List ℕ) → records_text cs ++ (records_text ds ++ rest) ≡ records_text (cs ++ ds) ++ rest
@@ -40,7 +40,7 @@ two_parts_are_one before front more new later first second a b =
     ap (λ (n : ℕ). drop n (front ++ more)) a.kept ∙ (ap (drop (length (records_text cs))) all ∙ drop-append_seam (records_text cs) (a.rest ++ more)) in
     let rest_read : Consumes (Some (a.rest ++ more)) later (records_text ds ++ b.rest) = subst (λ (xs : List ℕ). Consumes (Some xs) later (records_text ds ++ b.rest)) behind b.read in
     let read : Consumes (Some (front ++ more)) later (records_text cs ++ (records_text ds ++ b.rest)) =
-    subst (λ (xs : List ℕ). Consumes (Some xs) later (records_text cs ++ (records_text ds ++ b.rest))) (sym all) (read_behind (records_text cs) (a.rest ++ more) (records_text ds ++ b.rest) later rest_read) in
+    subst (λ (xs : List ℕ). Consumes (Some xs) later (records_text cs ++ (records_text ds ++ b.rest))) (sym all) (read_after (records_text cs) (a.rest ++ more) (records_text ds ++ b.rest) later rest_read) in
     record {
       whole_records = cs ++ ds;
       rest = b.rest;

@@ -9,7 +9,7 @@ use Rattle.chpw_report.specs.Held.{opening}
 use Rattle.chpw_reload.specs.Next.{settings_of, next_state}
 use Rattle.chpw_reload.specs.Comparing.{MayFollow}
 
--- the new file's table, with these records of the journal put back
+-- the new file's table, with these records of the journal replayed
 pub record IsRenewed (file : Config) (records : List Record) (renewed : State) : Type 0 where
   pub next : AreNext (opening file) records
   pub table : Agrees renewed (restored (opening file) records)

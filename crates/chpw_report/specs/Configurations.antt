@@ -1,4 +1,4 @@
--- The configuration that a table's principals make, beside the other settings of one.
+-- The configuration with a table's principals, and the other settings of one.
 use Rattle.std.specs.Prelude.{List, [], map}
 use Rattle.std.specs.Option.{option_map_or}
 use Rattle.chpw_rules.specs.declared.name.Name.{Name}

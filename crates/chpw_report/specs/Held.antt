@@ -1,4 +1,4 @@
--- The table that is held: the opening of its configuration, with the changes of its journal put back.
+-- The table that is held: the opening of its configuration, with the changes of its journal replayed.
 use Rattle.std.specs.Prelude.{◌≡◌, ℕ, negsuc, List, Option}
 use Rattle.chpw_rules.specs.declared.config.Config.{Config}
 use Rattle.chpw_table.specs.Agreement.{Agrees, Held}
@@ -13,8 +13,8 @@ use Rattle.chpw_report.specs.declared.holding.HeldTable.{HeldTable}
 abbrev pub opening : Config → State
 opening config = opening_of config (negsuc 0)
 
--- a table that agrees with the opening, as all of a journal restores it; how many changes that has; behind
--- which bytes a torn record stands
+-- a table that agrees with the opening, as the whole journal restores it; how many changes that has; after how many
+-- bytes a torn record begins
 pub record IsHeld (config : Config) (journal : Option (List ℕ)) (h : HeldTable) : Type 0 where
   pub before : Held
   pub opens : Agrees before.state (opening config)

@@ -22,7 +22,7 @@ shown_line name shown =
     name_text name ++ codes " kvno " ++ decimal shown.kvno
     ++ codes " counts" ++ flat_map number_text shown.held ++ codes "\n"
 
--- ---- lines for a KDC's tool, a line a key: principal, kvno, etype, iterations, key, salt
+-- ---- lines for a KDC's tools, a line for each key: principal, kvno, etype, iterations, key, salt
 
 -- the default salt (RFC 4120 section 4): the realm, then the name's components
 abbrev pub salt_text : List ℕ → Name → List ℕ

@@ -11,8 +11,8 @@ use chpw_table::{KeyRow, Table};
 use std::alloc::{AllocError, Global};
 use std::io::Write;
 
-/// The configuration with the principals that the table holds, in the order of their names, and with its
-/// iteration count. What it sets else stays.
+/// The configuration with the principals that the table holds, in the order of their names, and with its iteration
+/// count. Its other settings stay.
 #[tactic(auto, using(crate::proofs::RowLemmas::rows_more, crate::proofs::RowLemmas::rows_all))]
 pub fn held_config(alloc: Global, config: Config, table: &Table) -> Result<Config, AllocError>
     ensures value { IfOk result (λ held. held ≡ config_held table.now.state config) }
@@ -21,7 +21,7 @@ pub fn held_config(alloc: Global, config: Config, table: &Table) -> Result<Confi
     let mut place = 0u32;
     while let Some(name) = table.name_at(place) {
         rows.push(held_row(alloc, table, name)?)?;
-        // More names than that no memory holds.
+        // No memory holds more names than that.
         let Some(next) = place.checked_add(1) else {
             return Err(AllocError);
         };
@@ -38,7 +38,7 @@ pub fn held_config(alloc: Global, config: Config, table: &Table) -> Result<Confi
     })
 }
 
-/// A principal with the keys that the table holds; with none, where the table has no such principal.
+/// A principal with the keys that the table holds; with none if the table has no such principal.
 pub fn held_row(alloc: Global, table: &Table, name: &Name) -> Result<PrincipalRow, AllocError>
     ensures value { IfOk result (λ row. row ≡ row_of table.now.state name.now) }
 {
@@ -67,10 +67,10 @@ fn key_bytes(alloc: Global, rows: &[KeyRow]) -> Result<Vec<KeyBytes>, AllocError
     Ok(keys)
 }
 
-/// Writes the configuration that is held as the text of its file, which is read as that configuration. It
-/// holds keys in the clear.
+/// Writes the configuration that is held as the text of its file, which is read as that configuration. It has keys in
+/// the clear.
 ///
-/// `Write` where a write failed, or where the configuration can't be written (chpw_config_text).
+/// `Write` if a write failed, or if the configuration can't be written (chpw_config_text).
 pub fn write_configuration<W: Write>(
     alloc: Global,
     config: Config,

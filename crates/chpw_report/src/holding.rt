@@ -16,12 +16,12 @@ pub struct HeldTable {
     pub table: Table,
     /// How many changes the journal has: accepted requests, and raises of the count.
     pub changes: u64,
-    /// Behind how many bytes a record stands of which not all is there; none where all is.
+    /// After how many bytes an incomplete record begins; none if all are complete.
     pub torn_behind: Option<u64>,
 }
 
-/// The configuration's table with a journal's changes put back. The journal is read to its end; what stands
-/// behind its last whole record is told.
+/// The configuration's table with a journal's changes replayed. The journal is read to its end; what follows its last
+/// complete record is reported.
 pub fn held_from<F: Read + Drop>(
     alloc: Global,
     config: Config,

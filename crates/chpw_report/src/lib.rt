@@ -1,5 +1,4 @@
-//! What a table and its journal hold, in each form in which the command `table` prints it: lines for a person, lines for a
-//! KDC's tool, a configuration.
+//! Reports of the principals that a table holds: lines for a person, and lines for a KDC's tools.
 #![tactic(auto)]
 
 mod configuration;

@@ -14,10 +14,10 @@ use crate::policy::Policy;
 use crate::rules::Rule;
 
 impl Config {
-    /// Whether every value is within its limits, no service key and no name stands twice, and each
-    /// principal's version numbers go down by one. An empty list of service keys fits.
+    /// Whether every value is within its limits, no service key and no name is repeated, and each principal's version
+    /// numbers go down by one. An empty list of service keys fits.
     ///
-    /// Each name is compared with those before it: some 50 million comparisons at 10,000.
+    /// Each name is compared with those before it, which is quadratic in the number of principals.
     pub fn fits(&self) -> bool
         ensures value { result ≡ config_fits self.now }
     {
@@ -129,11 +129,11 @@ fn descend_from(mut newer: u32, keys: &[KeyBytes]) -> bool
     true
 }
 
-/// What stands at most once in its list.
+/// What may be in its list only once.
 pub trait Identified {
     ghost same: { Self → Self → Bool };
 
-    /// Whether the two may not stand in one list.
+    /// Whether the two may not be in one list.
     fn is_same(&self, other: &Self) -> bool
         ensures { result ≡ same self.now other.now };
 }

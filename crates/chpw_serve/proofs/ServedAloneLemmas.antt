@@ -3,38 +3,39 @@ use Rattle.std.proofs.Common.{◌≡◌, ℕ, ◌+◌, ◌≤◌, ◌<◌, List,
 use Rattle.std.specs.Prelude.{IfSome, MatchBool}
 use Rattle.std.proofs.lemmas.List.{append-nil}
 use Rattle.std.specs.Io.KnownBytes.{Appends}
-use Rattle.chpw_frame.specs.Stream.{Piece, message, ended, cut_off, too_long, next_piece, behind_piece, sent}
+use Rattle.chpw_frame.specs.Stream.{Piece, message, ended, cut_off, too_long, next_piece, after_piece, sent}
 use Rattle.chpw_frame.specs.Receiving.{ConsumesSome, AppendsFront, TakesPiece, TakesLength}
-use Rattle.chpw_frame.proofs.StreamLemmas.{appends_more, put_behind}
+use Rattle.chpw_frame.proofs.StreamLemmas.{appends_more, put_after}
 use Rattle.chpw_table.specs.declared.times.Moment.{Moment}
 use Rattle.chpw_table.specs.declared.history.Receipt.{Receipt}
 use Rattle.chpw_table.specs.Agreement.{Held}
 use Rattle.chpw_table.specs.History.{IsLegal}
 use Rattle.chpw_table.specs.Replies.{Answer}
 use Rattle.chpw_decider.specs.Keeping.{Kept, IsKept, entries}
-use Rattle.chpw_answer.specs.declared.messages.Seal.{Seal}
-use Rattle.chpw_answer.specs.Requests.{Opens, refused, opened}
-use Rattle.chpw_answer.specs.Answers.{IsAnswer}
-use Rattle.chpw_answer.specs.Hearing.{Heard, HearsUnanswered}
+use Rattle.chpw_serve.specs.declared.messages.Seal.{Seal}
+use Rattle.chpw_serve.specs.Requests.{Opens, refused, opened}
+use Rattle.chpw_serve.specs.Answers.{IsAnswer}
+use Rattle.chpw_serve.specs.declared.gate.Spot.{Spot}
+use Rattle.chpw_serve.specs.Hearing.{Heard, AreCallsUnanswered}
 use Rattle.chpw_decider.specs.Making.{Makes}
 use Rattle.chpw_serve.specs.declared.serving.Ended.{Ended}
 use Rattle.chpw_serve.specs.declared.serving.Ended.TheVariants as end
-use Rattle.chpw_answer.specs.InTurn.{InTurn}
+use Rattle.chpw_serve.specs.InTurn.{InTurn}
 use Rattle.chpw_serve.specs.Serving.{StreamState, stream_state, Around, Turn, Refuses, IsEnd, IsServed, TakesAtMostOne, message_too_long}
 use Rattle.chpw_serve.specs.StreamReplies.{Draw, Run, written_for, replies}
-use Rattle.chpw_serve.specs.ServedAlone.{AnsweringAlone, AddsOneAlone, run_of, IsDrawnFor, AreDrawnFor, left_behind, IsEndOf, Leaves, Writes, HasDrawn, AreReceipts, AreMore, IsServedAlone}
+use Rattle.chpw_serve.specs.ServedAlone.{AnsweringAlone, AddsOneAlone, run_of, IsDrawnFor, AreDrawnFor, left_after, IsEndOf, Leaves, Writes, HasDrawn, AreReceipts, AreMore, IsServedAlone}
 use Rattle.chpw_serve.proofs.ChainLemmas.{took, moments_of, words_of, opening_stays, Chain, turn_of, first, drawn_first, chain}
 
 pub at_most : (b : Bool) (m n : ℕ) → MatchBool b (m ≡ n) (m < n) → m ≤ n
 at_most true m n h = omega (arith, h)
 at_most false m n h = omega (arith, h)
 
-module _ {C X G : Type 0} (error_frame : Answer → Moment → List ℕ) (private_frame : Seal → Answer → List ℕ → List ℕ) (opens : List ℕ → Opens → Type 0) (hears : G → Heard → G → Type 0) (peer : List ℕ) (moments : C → Moment → C → Type 0) (random : X → ℕ → X → Type 0) where
+module _ {C X G : Type 0} (error_frame : Answer → Moment → List ℕ) (private_frame : Seal → Answer → List ℕ → List ℕ) (opens : List ℕ → Opens → Type 0) (passes : G → Spot → G → Type 0) (hears : G → Heard → G → Type 0) (peer : List ℕ) (moments : C → Moment → C → Type 0) (random : X → ℕ → X → Type 0) where
   abbrev refused_by : Moment → List ℕ
   refused_by now = error_frame message_too_long now
 
   abbrev EndsAlone : Ended → ℕ → StreamState C X Kept G → StreamState C X Kept G → Type 0
-  EndsAlone e n last final = IsEnd (AnsweringAlone hears error_frame private_frame opens peer) (AddsOneAlone hears opens peer) refused_by moments random hears peer e n last final
+  EndsAlone e n last final = IsEnd (AnsweringAlone passes hears error_frame private_frame opens peer) (AddsOneAlone passes hears opens peer) refused_by moments random passes hears peer e n last final
 
   -- the receipts grow, and the opening stays, at the end too
   Grows : Kept → Kept → Type 0
@@ -53,14 +54,14 @@ module _ {C X G : Type 0} (error_frame : Answer → Moment → List ℕ) (privat
   AddsAtMostOne old new = (own : List Receipt) × (new ≡ old ++ own) × (length own ≤ 1)
 
   -- where memory ran out there is a receipt more at the most
-  one_at_most : (text : List ℕ) (now : Moment) (before after : Kept) (gate later : G) → AddsOneAlone hears opens peer text now before after gate later → AddsAtMostOne before.receipts after.receipts
-  one_at_most text now before after gate later h = heard_one h.hears_it
+  one_at_most : (text : List ℕ) (now : Moment) (before after : Kept) (gate later : G) → AddsOneAlone passes hears opens peer text now before after gate later → AddsAtMostOne before.receipts after.receipts
+  one_at_most text now before after gate later h = one_of h.calls_are
     where
-      heard_one : HearsUnanswered peer now (Makes after) before.receipts after.receipts (opens text) h.heard → AddsAtMostOne before.receipts after.receipts
-      heard_one (inl k) = ([], k.0 ∙ sym (append-nil before.receipts), omega arith)
-      heard_one (inr (refused a, o, k)) = ([], k.0 ∙ sym (append-nil before.receipts), omega arith)
-      heard_one (inr (opened q, o, inl k)) = ([], k.0 ∙ sym (append-nil before.receipts), omega arith)
-      heard_one (inr (opened q, o, inr k)) = (k.0 ∷ [], k.2, omega arith)
+      one_of : AreCallsUnanswered peer now (Makes after) before.receipts after.receipts (opens text) h.calls → AddsAtMostOne before.receipts after.receipts
+      one_of (inl k) = ([], k.0 ∙ sym (append-nil before.receipts), omega arith)
+      one_of (inr (refused a, o, k)) = ([], k.0 ∙ sym (append-nil before.receipts), omega arith)
+      one_of (inr (opened q, o, inl k)) = ([], k.0 ∙ sym (append-nil before.receipts), omega arith)
+      one_of (inr (opened q, o, inr k)) = (k.0 ∷ [], k.2, omega arith)
 
   end_grows : (e : Ended) (n : ℕ) (last final : StreamState C X Kept G) → EndsAlone e n last final → Grows last.decider final.decider
   unfolding Grows
@@ -74,7 +75,7 @@ module _ {C X G : Type 0} (error_frame : Answer → Moment → List ℕ) (privat
   end_grows e n last final (less, h) = stays last.decider final.decider h.1.1
 
   module _ (start last final : StreamState C X Kept G) (legal : IsLegal start.decider.opening.state (entries final.decider.receipts)) (room : start.decider.opening.events + length final.decider.receipts ≤ start.decider.opening.max_entries)
-      (turns : List Turn) (stream : List ℕ) (w : Chain error_frame private_frame opens hears peer moments random start.decider.opening final.decider.receipts legal room start last turns stream)
+      (turns : List Turn) (stream : List ℕ) (w : Chain error_frame private_frame opens passes hears peer moments random start.decider.opening final.decider.receipts legal room start last turns stream)
       (like : final.decider.opening ≡ start.decider.opening) where
     abbrev limit : ℕ
     limit = start.decider.opening.max_entries
@@ -85,7 +86,7 @@ module _ {C X G : Type 0} (error_frame : Answer → Moment → List ℕ) (privat
     -- with nothing more, or one draw more
     close : (e : Ended) (ds : List Draw) (own more : List Receipt) → length turns + length ds ≤ 65536 → AreDrawnFor opens w.rest ds
         → AreReceipts limit run_at_last ds own → final.decider.receipts ≡ last.decider.receipts ++ own ++ more → AreMore e more
-        → IsEndOf e stream (w.draws ++ ds) → Leaves e (left_behind w.rest ds) final.left
+        → IsEndOf e stream (w.draws ++ ds) → Leaves e (left_after w.rest ds) final.left
         → HasDrawn moments e start.around.clock (moments_of (w.draws ++ ds)) final.around.clock
         → HasDrawn random e start.around.words (words_of (w.draws ++ ds)) final.around.words
         → Writes e start.around.out final.around.out (w.bytes ++ replies limit error_frame private_frame w.rest run_at_last ds)
@@ -145,16 +146,16 @@ module _ {C X G : Type 0} (error_frame : Answer → Moment → List ℕ) (privat
 
     front_then : (d : Draw) (bytes : List ℕ) → replies limit error_frame private_frame w.rest run_at_last (d ∷ []) ≡ bytes → AppendsFront last.around.out final.around.out bytes
         → AppendsFront start.around.out final.around.out (w.bytes ++ replies limit error_frame private_frame w.rest run_at_last (d ∷ []))
-    front_then d bytes e h = subst (λ (bs : List ℕ). AppendsFront start.around.out final.around.out (w.bytes ++ bs)) (sym e) (h.0, put_behind start.around.out last.around.out final.around.out w.bytes bytes h.0 w.written h.1, h.2)
+    front_then d bytes e h = subst (λ (bs : List ℕ). AppendsFront start.around.out final.around.out (w.bytes ++ bs)) (sym e) (h.0, put_after start.around.out last.around.out final.around.out w.bytes bytes h.0 w.written h.1, h.2)
 
-    left_now : (p : Piece) → next_piece w.rest ≡ p → final.left ≡ Some (behind_piece p w.rest) → final.left ≡ Some (behind_piece (next_piece w.rest) w.rest)
-    left_now p e h = h ∙ ap (λ (q : Piece). Some (behind_piece q w.rest)) (sym e)
+    left_now : (p : Piece) → next_piece w.rest ≡ p → final.left ≡ Some (after_piece p w.rest) → final.left ≡ Some (after_piece (next_piece w.rest) w.rest)
+    left_now p e h = h ∙ ap (λ (q : Piece). Some (after_piece q w.rest)) (sym e)
 
     none_but : (own : List Receipt) → final.decider.receipts ≡ last.decider.receipts ++ own → final.decider.receipts ≡ last.decider.receipts ++ own ++ []
     none_but own h = h ∙ sym (append-nil (last.decider.receipts ++ own))
 
-    so_far : left_behind stream w.draws ≡ w.rest
-    so_far = ap (left_behind stream) (sym (append-nil w.draws)) ∙ w.behind []
+    so_far : left_after stream w.draws ≡ w.rest
+    so_far = ap (left_after stream) (sym (append-nil w.draws)) ∙ w.behind []
 
     -- memory ran out, with a receipt more at the most
     memory_ends : length turns < 65536 → (more : List Receipt) → final.decider.receipts ≡ last.decider.receipts ++ [] ++ more → length more ≤ 1 → TakesAtMostOne (Some w.rest) final.left → final.around.out ≡ last.around.out
@@ -203,34 +204,34 @@ module _ {C X G : Type 0} (error_frame : Answer → Moment → List ℕ) (privat
     ends end.WriteFault (less, inl h) =
         let t : Turn = h.0 in
         let next = took (message t.text) w.rest last.left final.left w.left h.1 in
-        let one = turn_of error_frame private_frame opens hears peer moments random start.decider.opening final.decider.receipts legal room false last final t h.2 like ([], sym (append-nil final.decider.receipts)) in
+        let one = turn_of error_frame private_frame opens passes hears peer moments random start.decider.opening final.decider.receipts legal room false last final t h.2 like ([], sym (append-nil final.decider.receipts)) in
         let d : Draw = one.draw in
         close end.WriteFault (d ∷ []) one.own [] (omega (arith, less))
-        (drawn_first error_frame private_frame opens hears peer moments random start.decider.opening final.decider.receipts legal room last final t w.rest one [] h.2.nine next.0, tt)
+        (drawn_first error_frame private_frame opens passes hears peer moments random start.decider.opening final.decider.receipts legal room last final t w.rest one [] h.2.nine next.0, tt)
         (one.own, [], sym (append-nil one.own), one.own_are, refl) (none_but one.own one.added) refl
         tt (left_now (message t.text) next.0 next.1)
         (clock_then d (subst (λ (m : Moment). moments last.around.clock m final.around.clock) (sym one.moment_is) h.2.moment))
         (words_then d (subst (λ (ws : List ℕ). InTurn random last.around.words ws final.around.words) (sym one.words_are) h.2.words))
-        (front_then d (sent t.reply) (first error_frame private_frame opens hears peer moments random start.decider.opening final.decider.receipts legal room last final t w.rest one [] next.0 ∙ append-nil (sent t.reply)) h.3)
+        (front_then d (sent t.reply) (first error_frame private_frame opens passes hears peer moments random start.decider.opening final.decider.receipts legal room last final t w.rest one [] next.0 ∙ append-nil (sent t.reply)) h.3)
 
   -- the whole, where the history kept in the end is legal and has room
-  pub served_alone : (e : Ended) (start final : StreamState C X Kept G) (stream : List ℕ) → IsServed (AnsweringAlone hears error_frame private_frame opens peer) (AddsOneAlone hears opens peer) refused_by moments random hears peer e start final
+  pub served_alone : (e : Ended) (start final : StreamState C X Kept G) (stream : List ℕ) → IsServed (AnsweringAlone passes hears error_frame private_frame opens peer) (AddsOneAlone passes hears opens peer) refused_by moments random passes hears peer e start final
       → start.left ≡ Some stream → IsKept final.decider → final.decider.table.events ≤ final.decider.table.max_entries → IsServedAlone error_frame private_frame opens moments random e stream start final
   unfolding Grows
   served_alone e start final stream h is kept few =
       let last = h.last in
       let grown = end_grows e (length h.turns) last final h.end_is in
-      let like : final.decider.opening ≡ start.decider.opening = grown.1 ∙ opening_stays error_frame private_frame opens hears peer moments random start h.turns last h.served in
+      let like : final.decider.opening ≡ start.decider.opening = grown.1 ∙ opening_stays error_frame private_frame opens passes hears peer moments random start h.turns last h.served in
       let legal : IsLegal start.decider.opening.state (entries final.decider.receipts) = subst (λ (o : Held). IsLegal o.state (entries final.decider.receipts)) like kept.legal in
       let events : start.decider.opening.events + length final.decider.receipts ≡ final.decider.table.events = ap (λ (o : Held). o.events + length final.decider.receipts) (sym like) ∙ sym kept.events in
       let limit : final.decider.table.max_entries ≡ start.decider.opening.max_entries = kept.limit ∙ ap (λ (o : Held). o.max_entries) like in
       let room : start.decider.opening.events + length final.decider.receipts ≤ start.decider.opening.max_entries = omega (arith, events, limit, few) in
-      let w = chain error_frame private_frame opens hears peer moments random start.decider.opening final.decider.receipts legal room start h.turns last stream h.served is refl grown.0 in
+      let w = chain error_frame private_frame opens passes hears peer moments random start.decider.opening final.decider.receipts legal room start h.turns last stream h.served is refl grown.0 in
       ends start last final legal room h.turns stream w like e h.end_is
 
   -- where the reader tells its bytes
   pub served_alone_of : (e : Ended) (left rest : Option (List ℕ)) (before after : Kept) (old new : Option (List ℕ)) (clock then : C) (words later : X) (gate passed : G)
-      → IsServed (AnsweringAlone hears error_frame private_frame opens peer) (AddsOneAlone hears opens peer) refused_by moments random hears peer e (stream_state left before old clock words gate) (stream_state rest after new then later passed)
+      → IsServed (AnsweringAlone passes hears error_frame private_frame opens peer) (AddsOneAlone passes hears opens peer) refused_by moments random passes hears peer e (stream_state left before old clock words gate) (stream_state rest after new then later passed)
       → IsKept after → after.table.events ≤ after.table.max_entries
       → IfSome left (λ stream. (gate passed : G) × IsServedAlone error_frame private_frame opens moments random e stream (stream_state left before old clock words gate) (stream_state rest after new then later passed))
   served_alone_of e None rest before after old new clock then words later gate passed h kept few = tt

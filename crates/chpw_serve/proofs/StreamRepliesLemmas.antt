@@ -16,11 +16,11 @@ use Rattle.chpw_table.specs.History.{IsDecided, IsJudged, IsLegal, outcome, step
 use Rattle.chpw_table.specs.Replies.{Answer}
 use Rattle.chpw_decider.specs.Deciding.{AddsReceipt}
 use Rattle.chpw_decider.specs.Keeping.{entries}
-use Rattle.chpw_answer.specs.declared.messages.Seal.{Seal}
-use Rattle.chpw_answer.specs.Requests.{Request, Opens, refused, opened, opened_under}
-use Rattle.chpw_answer.specs.Answers.{IsAnswer, history_full, reply}
-use Rattle.chpw_answer.specs.Judging.{judged}
-use Rattle.chpw_answer.proofs.JudgingLemmas.{judged_alike}
+use Rattle.chpw_serve.specs.declared.messages.Seal.{Seal}
+use Rattle.chpw_serve.specs.Requests.{Request, Opens, refused, opened, opened_under}
+use Rattle.chpw_serve.specs.Answers.{IsAnswer, history_full, reply}
+use Rattle.chpw_serve.specs.Judging.{judged}
+use Rattle.chpw_serve.proofs.JudgingLemmas.{judged_alike}
 use Rattle.chpw_serve.specs.StreamReplies.{Draw, Run, is_full, run_after, reply_to}
 use Rattle.chpw_serve.specs.ServedAlone.{AreOwnOf}
 

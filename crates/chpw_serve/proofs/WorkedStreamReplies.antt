@@ -4,8 +4,8 @@ use Rattle.std.proofs.Common.{◌≡◌, ℕ, List, [], ◌∷◌, ◌++◌, fal
 use Rattle.chpw_frame.specs.Stream.{sent}
 use Rattle.chpw_table.specs.declared.times.Moment.{Moment}
 use Rattle.chpw_table.specs.Replies.{Answer}
-use Rattle.chpw_answer.specs.declared.messages.Seal.{Seal}
-use Rattle.chpw_answer.specs.Requests.{refused}
+use Rattle.chpw_serve.specs.declared.messages.Seal.{Seal}
+use Rattle.chpw_serve.specs.Requests.{refused}
 use Rattle.chpw_serve.specs.Serving.{message_too_long}
 use Rattle.chpw_serve.specs.StreamReplies.{Draw, Run, replies}
 

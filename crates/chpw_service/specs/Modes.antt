@@ -1,7 +1,7 @@
--- Which files a service takes, and which it tells of.
+-- Which files a service accepts, and which it reports.
 use Rattle.std.specs.Prelude.{ℕ, Bool, true, false, not, ◌==◌, bit_and}
-use Rattle.chpw_service.specs.declared.sheets.Kind.{Kind}
-use Rattle.chpw_service.specs.declared.sheets.Kind.TheVariants as kind
+use Rattle.chpw_service.specs.declared.line_output.Kind.{Kind}
+use Rattle.chpw_service.specs.declared.line_output.Kind.TheVariants as kind
 
 -- group or others may read or write it: bits 066 of its mode
 abbrev pub lets_others : ℕ → Bool

@@ -12,8 +12,8 @@ use Rattle.std.proofs.lemmas.Cmp.{int_ranked}
 use Rattle.std.proofs.lemmas.List.Kept.{IsStrictlySortedBy-filter}
 use Rattle.std.proofs.lemmas.Map.Keys.{IsDistinct-from_sorted}
 use Rattle.std.proofs.lemmas.Map.Views.{any-filter_same}
-use Rattle.ordered_keys.specs.Trees.{with_first}
-use Rattle.ordered_keys.proofs.OrderLemmas.{sorted_first, first_length, any_insert}
+use Rattle.chpw_ordered_keys.specs.Trees.{with_first}
+use Rattle.chpw_ordered_keys.proofs.OrderLemmas.{sorted_first, first_length, any_insert}
 use Rattle.chpw_table.specs.declared.times.Moment.{Moment}
 use Rattle.chpw_table.specs.declared.request.Opened.{Opened}
 use Rattle.chpw_table.specs.declared.request.RequestId.{RequestId}

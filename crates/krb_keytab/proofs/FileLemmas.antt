@@ -16,7 +16,7 @@ use Rattle.krb_keytab.proofs.RecordLemmas.{at_end}
 use Rattle.krb_keytab.proofs.WrittenLemmas.{entry_again}
 
 is_entry : Record → Bool
-is_entry (an_entry e short behind_key) = true
+is_entry (an_entry e short after_key) = true
 is_entry (a_hole bytes) = false
 
 -- what the number of a record's length says
@@ -29,11 +29,11 @@ record IsStated (r : Record) : Type 0 where
 
 stated_of : (place : ℕ) (r : Record) → StandsAt place r → IsStated r
 unfolding is_entry
-stated_of place (an_entry e short behind_key) h =
+stated_of place (an_entry e short after_key) h =
     let fits = h.1 in
-    let below : length (fields e short behind_key) < 2 ^ 31 = fits.size in
-    let is : is_positive (length (fields e short behind_key)) ≡ true = lt-ltb _ _ below in
-    let some : 0 < length (fields e short behind_key) = omega arith in
+    let below : length (fields e short after_key) < 2 ^ 31 = fits.size in
+    let is : is_positive (length (fields e short after_key)) ≡ true = lt-ltb _ _ below in
+    let some : 0 < length (fields e short after_key) = omega arith in
     record { small = omega arith; some = some; other = λ q. omega arith; size = rw is refl; sign = is }
 stated_of place (a_hole bytes) h =
     let some : 0 < length bytes = h.0 in
@@ -88,13 +88,13 @@ stands place r rest h =
 record_length : (place : ℕ) (r : Record) → place + (4 + length (content r)) ≡ place + length (record_bytes r)
 record_length place r = omega arith
 
-past_entry : (place b : ℕ) (bytes rest : List ℕ) (e : Entry) (short : ℕ) (behind_key : List ℕ) → StandsAt place (an_entry e short behind_key)
-    → record_at place bytes ≡ Ok (Some (record { is_entry = true; bytes = fields e short behind_key; rest = rest }))
-    → from_place (suc b) place bytes ≡ (from_place b (place + length (record_bytes (an_entry e short behind_key))) rest >>= λ es. Ok (e ∷ es))
-past_entry place b bytes rest e short behind_key h next =
-    let one : entry_at place (fields e short behind_key) ≡ Some e = ap (λ (p : ℕ). entry_at p (fields e short behind_key)) (sym h.0) ∙ entry_again e short behind_key h.1 in
-    let step : from_place (suc b) place bytes ≡ (from_place b (place + (4 + length (fields e short behind_key))) rest >>= λ es. Ok (e ∷ es)) = rw (next, one) refl in
-    step ∙ ap (λ (p : ℕ). from_place b p rest >>= λ es. Ok (e ∷ es)) (record_length place (an_entry e short behind_key))
+past_entry : (place b : ℕ) (bytes rest : List ℕ) (e : Entry) (short : ℕ) (after_key : List ℕ) → StandsAt place (an_entry e short after_key)
+    → record_at place bytes ≡ Ok (Some (record { is_entry = true; bytes = fields e short after_key; rest = rest }))
+    → from_place (suc b) place bytes ≡ (from_place b (place + length (record_bytes (an_entry e short after_key))) rest >>= λ es. Ok (e ∷ es))
+past_entry place b bytes rest e short after_key h next =
+    let one : entry_at place (fields e short after_key) ≡ Some e = ap (λ (p : ℕ). entry_at p (fields e short after_key)) (sym h.0) ∙ entry_again e short after_key h.1 in
+    let step : from_place (suc b) place bytes ≡ (from_place b (place + (4 + length (fields e short after_key))) rest >>= λ es. Ok (e ∷ es)) = rw (next, one) refl in
+    step ∙ ap (λ (p : ℕ). from_place b p rest >>= λ es. Ok (e ∷ es)) (record_length place (an_entry e short after_key))
 
 past_hole : (place b : ℕ) (bytes rest hole : List ℕ) → record_at place bytes ≡ Ok (Some (record { is_entry = false; bytes = hole; rest = rest }))
     → from_place (suc b) place bytes ≡ from_place b (place + length (record_bytes (a_hole hole))) rest
@@ -106,15 +106,15 @@ past_hole place b bytes rest hole next =
 behind : List Entry → Result (List Entry) KeytabFault → Result (List Entry) KeytabFault
 behind front read = read >>= λ es. Ok (front ++ es)
 
-behind_none : (read : Result (List Entry) KeytabFault) → read ≡ behind [] read
+after_none : (read : Result (List Entry) KeytabFault) → read ≡ behind [] read
 unfolding behind
-behind_none (Ok es) = refl
-behind_none (Err fault) = refl
+after_none (Ok es) = refl
+after_none (Err fault) = refl
 
-behind_one : (e : Entry) (front : List Entry) (read : Result (List Entry) KeytabFault) → (behind front read >>= λ es. Ok (e ∷ es)) ≡ behind (e ∷ front) read
+after_one : (e : Entry) (front : List Entry) (read : Result (List Entry) KeytabFault) → (behind front read >>= λ es. Ok (e ∷ es)) ≡ behind (e ∷ front) read
 unfolding behind
-behind_one e front (Ok es) = refl
-behind_one e front (Err fault) = refl
+after_one e front (Ok es) = refl
+after_one e front (Err fault) = refl
 
 regrouped : (r : Record) (rs : List Record) (rest : List ℕ) → records_bytes (r ∷ rs) ++ rest ≡ record_bytes r ++ (records_bytes rs ++ rest)
 regrouped r rs rest = ap (λ (x : List ℕ). x ++ rest) (flat_map-cons record_bytes r rs) ∙ append_assoc (record_bytes r) (records_bytes rs) rest
@@ -135,23 +135,23 @@ unfolding is_entry
 reads_on [] place budget rest h enough = record {
   left = budget;
   enough = enough;
-  reads = behind_none (from_place budget place rest) ∙ ap (λ (p : ℕ). behind [] (from_place budget p rest)) (omega arith);
+  reads = after_none (from_place budget place rest) ∙ ap (λ (p : ℕ). behind [] (from_place budget p rest)) (omega arith);
 }
 reads_on (r ∷ rs) place zero rest h enough =
     let size = ap length (regrouped r rs rest) in
     let parts = length-append (record_bytes r) (records_bytes rs ++ rest) in
     absurd (omega (arith, size, parts, enough))
-reads_on (an_entry e short behind_key ∷ rs) place (suc b) rest h enough =
-    let r : Record = an_entry e short behind_key in
+reads_on (an_entry e short after_key ∷ rs) place (suc b) rest h enough =
+    let r : Record = an_entry e short after_key in
     let size = ap length (regrouped r rs rest) in
     let parts = length-append (record_bytes r) (records_bytes rs ++ rest) in
     let more = reads_on rs (place + length (record_bytes r)) b rest h.1 (omega (arith, size, parts, enough)) in
-    let one = past_entry place b (record_bytes r ++ (records_bytes rs ++ rest)) (records_bytes rs ++ rest) e short behind_key h.0 (stands place r (records_bytes rs ++ rest) h.0) in
+    let one = past_entry place b (record_bytes r ++ (records_bytes rs ++ rest)) (records_bytes rs ++ rest) e short after_key h.0 (stands place r (records_bytes rs ++ rest) h.0) in
     record {
       left = more.left;
       enough = more.enough;
       reads = ap (from_place (suc b) place) (regrouped r rs rest) ∙ one ∙ ap (λ (x : Result (List Entry) KeytabFault). x >>= λ es. Ok (e ∷ es)) more.reads
-          ∙ behind_one e (entries_of rs) _ ∙ ap (λ (p : ℕ). behind (e ∷ entries_of rs) (from_place more.left p rest)) (records_length place r rs);
+          ∙ after_one e (entries_of rs) _ ∙ ap (λ (p : ℕ). behind (e ∷ entries_of rs) (from_place more.left p rest)) (records_length place r rs);
     }
 reads_on (a_hole hole ∷ rs) place (suc b) rest h enough =
     let r : Record = a_hole hole in

@@ -54,8 +54,8 @@ whole place bytes piece h =
     let fits : size_of n ≤ length behind = ltb-false _ _ f.1 in
     let size : length (take (size_of n) behind) ≡ size_of n = length-take-le (size_of n) behind fits in
     let left : length (drop (size_of n) behind) ≡ length behind - size_of n = length-drop (size_of n) behind in
-    let behind_is : length behind ≡ length bytes - 4 = length-drop 4 bytes in
-    let made_whole : length bytes ≡ 4 + length made.bytes + length made.rest = omega (arith, four, fits, size, left, behind_is) in
+    let after_is : length behind ≡ length bytes - 4 = length-drop 4 bytes in
+    let made_whole : length bytes ≡ 4 + length made.bytes + length made.rest = omega (arith, four, fits, size, left, after_is) in
     subst (λ (p : Piece). length bytes ≡ 4 + length p.bytes + length p.rest) f.2 made_whole
 
 pub begins : (file : List ℕ) (place : ℕ) (rest : List ℕ) → length rest ≤ length file → IsBegun [] place rest (from_place (length file) place rest)

@@ -72,7 +72,7 @@ record_takes place bytes piece fits h =
     let f = found place (length bytes == 0) (nat_lt (length bytes) 4) (n == 0) (n == 2 ^ 31) (nat_lt (length behind) (size_of n)) made piece h in
     let four : 4 ≤ length bytes = ltb-false _ _ f.0 in
     let within : size_of n ≤ length behind = ltb-false _ _ f.3 in
-    let behind_fits = IsBytes-drop 4 bytes fits in
+    let after_fits = IsBytes-drop 4 bytes fits in
     let made_is : IsRecord bytes made n = record {
       parts = head_is bytes fits four ∙ ap (λ (t : List ℕ). to_be_bytes w32 n ++ t) (sym (take-append-drop (size_of n) behind));
       small = sound32.below (take 4 bytes) (IsBytes-take 4 bytes fits);
@@ -80,8 +80,8 @@ record_takes place bytes piece fits h =
       other = eqb-false _ _ f.2;
       sign = refl;
       size = sym (length-take-le (size_of n) behind within);
-      bytes_fit = IsBytes-take (size_of n) behind behind_fits;
-      rest_fits = IsBytes-drop (size_of n) behind behind_fits;
+      bytes_fit = IsBytes-take (size_of n) behind after_fits;
+      rest_fits = IsBytes-drop (size_of n) behind after_fits;
     } in
     subst (λ (p : Piece). IsRecord bytes p n) f.4 made_is
 

@@ -142,7 +142,7 @@ abbrev from_count : (place : ℕ) → ℕ × List ℕ → Option Entry
 from_count place count = counted_at count.1 >>= from_realm place count.0
 
 unfoldable pub IsWritten : ℕ → List ℕ → Entry → Type 0
-IsWritten place bytes e = (short : ℕ) × (behind_key : List ℕ) × (bytes ≡ fields e short behind_key) × (e.place ≡ place) × Fits e short behind_key
+IsWritten place bytes e = (short : ℕ) × (after_key : List ℕ) × (bytes ≡ fields e short after_key) × (e.place ≡ place) × Fits e short after_key
 
 -- parts that follow one another
 joined : (bytes a r1 b r2 c r3 d r4 e r5 f r6 g r7 h : List ℕ)

@@ -10,11 +10,11 @@ use Rattle.krb_keys.specs.Sealing.{checksum_of, enciphered, encryption_key, seal
 use Rattle.krb_keys.specs.declared.key.Key.{Key}
 use Rattle.krb_keys.specs.declared.key.Key.TheVariants.{Aes128, Aes256}
 use Rattle.krb_keys.proofs.SealingLemmas.{length-checksum_of}
-use Rattle.krb_elements.specs.Shapes.{Shape, Value, ◌&◌, uint32, tagged, field, nothing, int32, flags}
-use Rattle.krb_elements.specs.Grammar.{is_element}
-use Rattle.krb_elements.specs.Texts.{fits, is_in_range, longest_text, text}
-use Rattle.krb_elements.proofs.CompleteLemmas.{and_both, and_true, one_value}
-use Rattle.krb_elements.proofs.TextLemmas.{text_spells}
+use Rattle.krb_codec.specs.Shapes.{Shape, Value, ◌&◌, uint32, tagged, field, nothing, int32, flags}
+use Rattle.krb_codec.specs.Grammar.{is_element}
+use Rattle.krb_codec.specs.Texts.{fits, is_in_range, longest_text, text}
+use Rattle.krb_codec.proofs.CompleteLemmas.{and_both, and_true, one_value}
+use Rattle.krb_codec.proofs.TextLemmas.{text_spells}
 use Rattle.krb_protocol.specs.Numbers as protocol
 use Rattle.krb_der.specs.Types as types
 use Rattle.krb_der.specs.Types.{ap_rep, ap_req, authenticator, enc_ap_rep_part, enc_krb_priv_part, enc_ticket_part, encrypted_data, krb_priv}

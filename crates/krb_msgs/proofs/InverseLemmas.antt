@@ -1,10 +1,10 @@
 -- Records are told apart by their values: each is got back from its value.
 use Rattle.std.proofs.Common.{◌≡◌, ℕ, List, [], ◌∷◌, Option, Some, None, option_map, map, refl, sym, ap, ◌∙◌, ℤ, pos}
 use Rattle.std.specs.Prelude.{unsigned_abs}
-use Rattle.krb_elements.specs.Shapes.{Value}
-use Rattle.krb_elements.specs.declared.kerberos_time.KerberosTime.{KerberosTime}
-use Rattle.krb_elements.specs.declared.numbers.Microseconds.{Microseconds}
-use Rattle.krb_elements.specs.declared.numbers.SeqNumber.{SeqNumber}
+use Rattle.krb_codec.specs.Shapes.{Value}
+use Rattle.krb_codec.specs.declared.kerberos_time.KerberosTime.{KerberosTime}
+use Rattle.krb_codec.specs.declared.numbers.Microseconds.{Microseconds}
+use Rattle.krb_codec.specs.declared.numbers.SeqNumber.{SeqNumber}
 use Rattle.krb_der.specs.Types as types
 use Rattle.krb_der.specs.Values.{principal_name_value, encrypted_data_value, encryption_key_value, host_address_value, checksum_value, authorization_entry_value, authorization_data_value, ticket_value, enc_ticket_part_value, authenticator_value, ap_req_value, ap_rep_value, enc_ap_rep_part_value, krb_priv_value, enc_krb_priv_part_value, krb_error_value}
 use Rattle.krb_der.specs.declared.principal_name.PrincipalName.{PrincipalName}

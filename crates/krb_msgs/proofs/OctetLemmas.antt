@@ -10,14 +10,14 @@ use Rattle.std.specs.Int.{cast_unsigned, to_be_bytes, to_le_bytes, w16, w32, w64
 use Rattle.krb_aes.specs.Bytes.{AreBytes}
 use Rattle.krb_keys.specs.Keys.{IsProtocolKey, key_of}
 use Rattle.krb_keys.specs.declared.key.Key.TheVariants.{Aes128, Aes256}
-use Rattle.krb_elements.specs.Shapes.{Primitive, integer, sequence_number, octets, bits, time, Shape, primitive, tagged, many, further, nothing, field, option, Meaning, Value, tag_of}
-use Rattle.krb_elements.specs.Grammar.{IsElement, Spells}
-use Rattle.krb_elements.proofs.CompleteLemmas.{and_true, same_or_not}
-use Rattle.krb_elements.specs.Integers.{integer_octets, repeats_sign, without_sign}
-use Rattle.krb_elements.specs.BitStrings.{bits_octets}
-use Rattle.krb_elements.specs.Times.{civil_text, time_of}
-use Rattle.krb_elements.specs.Texts.{content_of, element, length_octets, text, time_content, without_zeros}
-use Rattle.krb_elements.proofs.TimeLemmas.{civil_text_form, form_parts, time_of-exact}
+use Rattle.krb_codec.specs.Shapes.{Primitive, integer, sequence_number, octets, bits, time, Shape, primitive, tagged, many, further, nothing, field, option, Meaning, Value, tag_of}
+use Rattle.krb_codec.specs.Grammar.{IsElement, Spells}
+use Rattle.krb_codec.proofs.CompleteLemmas.{and_true, same_or_not}
+use Rattle.krb_codec.specs.Integers.{integer_octets, repeats_sign, without_sign}
+use Rattle.krb_codec.specs.BitStrings.{bits_octets}
+use Rattle.krb_codec.specs.Times.{civil_text, time_of}
+use Rattle.krb_codec.specs.Texts.{content_of, element, length_octets, text, time_content, without_zeros}
+use Rattle.krb_codec.proofs.TimeLemmas.{civil_text_form, form_parts, time_of-exact}
 use Rattle.krb_msgs.specs.Making.{word_bytes}
 use Rattle.krb_msgs.proofs.LengthLemmas.{short-without_zeros}
 

@@ -7,11 +7,11 @@ use Rattle.krb_aes.specs.Bytes.{AreBytes}
 use Rattle.krb_keys.specs.Keys.{IsProtocolKey, key_of, etype_of, number_of}
 use Rattle.krb_keys.specs.declared.key.Key.{Key}
 use Rattle.krb_keys.proofs.SealingLemmas.{sealed_once}
-use Rattle.krb_elements.specs.Shapes.{Shape, Value}
-use Rattle.krb_elements.specs.Grammar.{Spells, is_legal}
-use Rattle.krb_elements.proofs.CompleteLemmas.{one_value, same_or_not}
-use Rattle.krb_elements.specs.declared.kerberos_time.KerberosTime.{KerberosTime}
-use Rattle.krb_elements.specs.declared.numbers.Microseconds.{Microseconds}
+use Rattle.krb_codec.specs.Shapes.{Shape, Value}
+use Rattle.krb_codec.specs.Grammar.{Spells, is_legal}
+use Rattle.krb_codec.proofs.CompleteLemmas.{one_value, same_or_not}
+use Rattle.krb_codec.specs.declared.kerberos_time.KerberosTime.{KerberosTime}
+use Rattle.krb_codec.specs.declared.numbers.Microseconds.{Microseconds}
 use Rattle.krb_der.specs.Types.{ap_req, ap_rep, authenticator, enc_ap_rep_part, enc_krb_priv_part, enc_ticket_part, encryption_key, krb_error, krb_priv}
 use Rattle.krb_der.specs.Values.{ap_req_value, ap_rep_value, authenticator_value, enc_ap_rep_part_value, enc_krb_priv_part_value, enc_ticket_part_value, encryption_key_value, krb_error_value, krb_priv_value}
 use Rattle.krb_der.specs.declared.ap_req.ApReq.{ApReq}

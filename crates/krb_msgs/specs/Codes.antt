@@ -1,4 +1,4 @@
--- The answers to an AP-REQ that is refused.
+-- The refusal of an AP-REQ for each fault.
 use Rattle.std.specs.Prelude.{ℤ, codes}
 use Rattle.krb_protocol.specs.Refusals.{Refusal}
 use Rattle.krb_protocol.specs.declared.codes.TheConstants.{KDC_ERR_ETYPE_NOSUPP, KRB_AP_ERR_BAD_INTEGRITY, KRB_AP_ERR_BADADDR, KRB_AP_ERR_BADKEYVER, KRB_AP_ERR_BADMATCH, KRB_AP_ERR_BADVERSION, KRB_AP_ERR_MSG_TYPE, KRB_AP_ERR_NOKEY, KRB_AP_ERR_NOT_US, KRB_ERR_GENERIC, KRB5_KPASSWD_AUTHERROR, KRB5_KPASSWD_MALFORMED}

@@ -1,6 +1,6 @@
 use Rattle.chpw_table.proofs.AgreementLemmas.{agrees_itself}
-use Rattle.chpw_fronts.specs.Pens.{opening_state}
-use Rattle.chpw_changes.proofs.RiseLemmas.{row_next}
+use Rattle.chpw_changelog.specs.Pens.{opening_state}
+use Rattle.chpw_book.proofs.RiseLemmas.{row_next}
 use Rattle.chpw_book.proofs.PublishLemmas.{whole_at}
 use Rattle.chpw_book.proofs.deciding.make_room.Goals as goal
 

@@ -1,7 +1,7 @@
 use Rattle.std.proofs.Common.{◌≡◌, true, sym, ◌∙◌}
 use Rattle.chpw_table.specs.Raising.{would_raise}
-use Rattle.chpw_fronts.specs.Pens.{opening_state}
-use Rattle.chpw_changes.proofs.RiseLemmas.{count_next}
+use Rattle.chpw_changelog.specs.Pens.{opening_state}
+use Rattle.chpw_book.proofs.RiseLemmas.{count_next}
 use Rattle.chpw_book.proofs.RaiseLemmas.{would_be}
 use Rattle.chpw_book.proofs.raising.make_room.Goals as goal
 

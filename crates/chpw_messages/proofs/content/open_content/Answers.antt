@@ -3,7 +3,7 @@ use Rattle.std.proofs.lemmas.Result.{IfOk-weaker}
 use Rattle.krb_msgs.specs.declared.fault.PrivFault.{PrivFault}
 use Rattle.krb_msgs.specs.declared.fault.PrivFault.TheVariants.{Malformed, NotSealed, WrongMessage, WrongSeqNumber}
 use Rattle.chpw_table.specs.declared.request.Target.{Target}
-use Rattle.chpw_answer.specs.Requests.{body_under, password_in}
+use Rattle.chpw_serve.specs.Requests.{body_under, password_in}
 use Rattle.chpw_messages.specs.declared.content.Content.{Content}
 use Rattle.chpw_messages.specs.Opening.{content_despite}
 use Rattle.chpw_messages.proofs.content.open_content.Goals as goal

@@ -3,7 +3,7 @@ use Rattle.std.specs.Prelude.{FitsSigned}
 use Rattle.std.specs.Int.{w32}
 use Rattle.std.proofs.lemmas.Int.{ints}
 use Rattle.std.proofs.lemmas.Result.{IfOk-weaker}
-use Rattle.krb_elements.specs.Texts.{fits}
+use Rattle.krb_codec.specs.Texts.{fits}
 use Rattle.krb_der.specs.Types.{krb_error}
 use Rattle.krb_der.specs.Values.{krb_error_value}
 use Rattle.krb_der.specs.declared.krb_error.KrbError.{KrbError}

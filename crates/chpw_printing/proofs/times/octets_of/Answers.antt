@@ -1,5 +1,5 @@
 use Rattle.std.proofs.Common.{◌≡◌, sym, ◌∙◌, rules}
-use Rattle.krb_elements.specs.Times as times
+use Rattle.krb_codec.specs.Times as times
 use Rattle.chpw_printing.proofs.TimeLemmas.{time_is, time_some}
 use Rattle.chpw_printing.proofs.times.octets_of.Goals as goal
 

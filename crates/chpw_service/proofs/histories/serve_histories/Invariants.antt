@@ -1,4 +1,4 @@
-use Rattle.chpw_fronts.specs.Pens.{opening_state}
+use Rattle.chpw_changelog.specs.Pens.{opening_state}
 use Rattle.chpw_book.specs.Starting.{ledger_name, ledger_parts, list_book, list_root, workers_of}
 use Rattle.chpw_reload.specs.ReloadRuns.{IsServiceRun}
 use Rattle.chpw_service.proofs.histories.serve_histories.Given as goal

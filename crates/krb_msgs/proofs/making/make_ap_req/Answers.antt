@@ -1,9 +1,9 @@
 use Rattle.std.proofs.Common.{◌≡◌, ℕ, true, subst, sym, ap, ◌∙◌, Ok, Err}
 use Rattle.std.proofs.lemmas.Result.{IfOk-weaker}
-use Rattle.krb_elements.specs.Reading.{Gives}
-use Rattle.krb_elements.specs.Texts.{text, fits}
-use Rattle.krb_elements.specs.declared.fault.DerFault.{DerFault}
-use Rattle.krb_elements.specs.declared.fault.ReadError.TheVariants as errors
+use Rattle.krb_codec.specs.Reading.{Gives}
+use Rattle.krb_codec.specs.Texts.{text, fits}
+use Rattle.krb_codec.specs.declared.fault.DerFault.{DerFault}
+use Rattle.krb_codec.specs.declared.fault.ReadError.TheVariants as errors
 use Rattle.krb_protocol.specs.Numbers as protocol
 use Rattle.krb_der.specs.Types.{ap_req}
 use Rattle.krb_der.specs.Values.{ticket_value, ap_req_value}

@@ -1,7 +1,7 @@
 use Rattle.std.proofs.Common.{rules, ◌≡◌, ◌<◌, ℕ, List, [], ◌∷◌, length, refl, arith, Result}
 use Rattle.krb_keys.specs.declared.key.Key.{Key}
-use Rattle.krb_elements.specs.declared.kerberos_time.KerberosTime.{KerberosTime}
-use Rattle.krb_elements.specs.declared.numbers.Microseconds.{Microseconds}
+use Rattle.krb_codec.specs.declared.kerberos_time.KerberosTime.{KerberosTime}
+use Rattle.krb_codec.specs.declared.numbers.Microseconds.{Microseconds}
 use Rattle.krb_msgs.specs.declared.fault.ReplyFault.{ReplyFault}
 use Rattle.krb_msgs.specs.declared.reply.Reply.{Reply}
 use Rattle.krb_msgs.specs.Checks.{Then, goes_on, stops}

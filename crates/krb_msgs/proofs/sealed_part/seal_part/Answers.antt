@@ -1,6 +1,6 @@
 use Rattle.std.proofs.Common.{◌≡◌, ◌<◌, ℕ, List, length, subst, sym, ◌∙◌}
-use Rattle.krb_elements.specs.Texts.{text}
-use Rattle.krb_elements.proofs.CompleteLemmas.{and_true}
+use Rattle.krb_codec.specs.Texts.{text}
+use Rattle.krb_codec.proofs.CompleteLemmas.{and_true}
 use Rattle.krb_msgs.proofs.PartLemmas.{some_text}
 use Rattle.krb_msgs.proofs.sealed_part.seal_part.Goals as goal
 

@@ -1,8 +1,8 @@
 use Rattle.std.proofs.Common.{◌≡◌, List, sym, ◌∙◌, ap, subst}
-use Rattle.chpw_fronts.specs.declared.entry.LogEntry.{LogEntry}
-use Rattle.chpw_fronts.specs.Pens.{opening_table}
+use Rattle.chpw_changelog.specs.declared.entry.LogEntry.{LogEntry}
+use Rattle.chpw_changelog.specs.Pens.{opening_table}
 use Rattle.chpw_table.specs.Agreement.{Held}
-use Rattle.chpw_versions.specs.Rows.{Rowed, IsPositive, ShowsOpening}
+use Rattle.chpw_snapshots.specs.Rows.{Rowed, IsPositive, ShowsOpening}
 use Rattle.chpw_book.specs.Publishing.{table_rows}
 use Rattle.chpw_book.proofs.RowsLemmas.{table_shows}
 use Rattle.chpw_book.proofs.book.Book.start.Goals as goal

@@ -9,7 +9,7 @@ use Rattle.chpw_table.specs.Outcomes.{Steps, Writes}
 use Rattle.chpw_table.proofs.AgreementLemmas.{agrees_itself}
 use Rattle.chpw_table.proofs.DecideLemmas.{refused_for_all}
 use Rattle.chpw_decider.specs.Keeping.{Kept, IsKept, basis_after}
-use Rattle.chpw_decider.specs.Entered.{receipt_behind}
+use Rattle.chpw_decider.specs.Entered.{receipt_after}
 use Rattle.chpw_decider.proofs.KeepingLemmas.{kept_next, may_be_full, basis_next, basis_few}
 use Rattle.chpw_decider.proofs.alone.AloneDecider.decide.Goals as goal
 
@@ -42,8 +42,8 @@ invariant_of-self-2 g c =
     let outcome = c.finish-outcome.result in
     let later = c.finish-outcome.new.self in
     let k : Kept = record { opening = c.self.inside.opening.value; table = table; receipts = before; told = g.S.JournalSink.told c.self.inside.journaled.sink } in
-    let pushed : c.note.new.receipts.items ≡ before ++ receipt_behind before c.args.now outcome ∷ [] =
-    c.note.ensures.receipt ∙ ap (λ (rs : List Receipt). rs ++ receipt_behind rs c.args.now outcome ∷ []) c.reserve.ensures.items in
+    let pushed : c.note.new.receipts.items ≡ before ++ receipt_after before c.args.now outcome ∷ [] =
+    c.note.ensures.receipt ∙ ap (λ (rs : List Receipt). rs ++ receipt_after rs c.args.now outcome ∷ []) c.reserve.ensures.items in
     let steps : Steps table later.table c.args.now c.args.opened outcome =
     rw (← c.prepare.ensures.unchanged.0, ← c.in_ok-prepared.ensures.parts.0, ← c.in_ok-prepared.ensures.parts.1) c.finish-outcome.ensures.steps in
     let writes : Writes g.S.JournalSink.failed g.S.JournalSink.told table.state c.self.inside.journaled.sink later.sink c.args.opened outcome =

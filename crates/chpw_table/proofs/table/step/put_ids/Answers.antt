@@ -1,6 +1,6 @@
 use Rattle.std.proofs.Common.{length, sym, ap, subst, arith}
 use Rattle.std.specs.List.Sorted.{IsStrictlySortedBy}
-use Rattle.ordered_keys.proofs.OrderLemmas.{sorted_first, first_length}
+use Rattle.chpw_ordered_keys.proofs.OrderLemmas.{sorted_first, first_length}
 use Rattle.chpw_table.specs.Holding.{id_cmp}
 use Rattle.chpw_table.proofs.OrderLemmas.{ids_total}
 use Rattle.chpw_table.proofs.table.step.put_ids.Goals as goal

@@ -1,0 +1,146 @@
+//! The realm EXAMPLE.COM with alice and bob, and alice's requests.
+ghost use Rattle.std.specs.Prelude.{◌≡◌, true, IfOk};
+ghost use Rattle.chpw_rules.specs.Fitting.{config_fits};
+ghost use Rattle.chpw_rules.specs.Names.{is_name};
+
+use crate::clock::{Counting, NOW};
+use crate::stop::{Stop, called};
+use chpw_client::{LAST_START, LONGEST_PASSWORD, Sent, client_request};
+use chpw_rules::{Config, Items, Name};
+use chpw_table::{Body, Counts, Digest, Moment, Opened, Table};
+use krb_keys::CONFOUNDER_LEN;
+use std::alloc::Global;
+use support_realm::name;
+
+pub const CONFOUNDER: [u8; CONFOUNDER_LEN] = [1; CONFOUNDER_LEN];
+
+/// The client's address.
+pub const PEER: [u8; 4] = [127, 0, 0, 1];
+
+/// The bytes of a journal in these cases.
+pub const JOURNAL: usize = 10_000;
+
+/// The bytes of replies in these cases.
+pub const REPLIES: usize = 10_000;
+
+/// The principal with this name.
+pub fn known(alloc: Global, text: &str) -> Result<Name, Stop>
+    ensures fits { IfOk result (λ name. is_name name ≡ true) }
+{
+    match name(alloc, text) {
+        Ok(name) => Ok(name),
+        Err(error) => Err(Stop::from(error)),
+    }
+}
+
+fn principals(alloc: Global) -> Result<Vec<Name>, Stop> {
+    let (alice, bob) = (known(alloc, "alice")?, known(alloc, "bob")?);
+    Ok(vec![in alloc; alice, bob]?)
+}
+
+/// The realm's configuration.
+pub fn configured(alloc: Global) -> Result<Config, Stop>
+    ensures fits { IfOk result (λ config. config_fits config ≡ true) }
+{
+    match support_realm::config(alloc, principals(alloc)?, 4, 100) {
+        Ok(config) => Ok(config),
+        Err(error) => Err(Stop::from(error)),
+    }
+}
+
+/// The table that it opens with.
+pub fn table(alloc: Global) -> Result<Table, Stop> {
+    let config = configured(alloc)?;
+    Ok(Table::start(alloc, config, -1)?)
+}
+
+/// Alice's request, with these microseconds; each is for another password.
+pub fn sent(alloc: Global, micros: u32) -> Result<Sent, Stop> {
+    let now = Moment {
+        seconds: NOW.seconds,
+        micros,
+    };
+    sent_at(alloc, now, micros)
+}
+
+/// Alice's request at a moment, for the password of this number.
+pub fn sent_at(alloc: Global, now: Moment, number: u32) -> Result<Sent, Stop> {
+    let password = password(alloc, number)?;
+    let alice = known(alloc, "alice")?;
+    let config = configured(alloc)?;
+    request(alloc, &config, &alice, password.as_str().as_bytes(), now)
+}
+
+/// A principal's request with a password.
+fn request(
+    alloc: Global,
+    config: &Config,
+    client: &Name,
+    password: &[u8],
+    now: Moment,
+) -> Result<Sent, Stop>
+    requires fits { config_fits config.now ≡ true }
+    requires client { is_name client.now ≡ true }
+{
+    if config.service.as_slice().is_empty()
+        || now.seconds < 0
+        || now.seconds > LAST_START
+        || now.micros >= 1_000_000
+        || password.len() > LONGEST_PASSWORD
+    {
+        return Err(Stop::Wrong("no request"));
+    }
+    let words = &mut Counting::new();
+    called(client_request(
+        alloc, config, now, client, password, None, true, false, words,
+    ))
+}
+
+/// Alice's request as it opened, with these microseconds and no keys yet.
+pub fn asked(alloc: Global, cusec: u32) -> Result<Opened, Stop> {
+    let crealm = Items::of(Vec::from_slice(alloc, b"EXAMPLE.COM")?);
+    let client = known(alloc, "alice")?;
+    match Digest::of(9, 4, Vec::new(alloc)) {
+        Some(digest) => Ok(opened_of(crealm, client, digest, cusec)),
+        None => Err(Stop::Wrong("no digest")),
+    }
+}
+
+fn opened_of(crealm: Items<u8>, client: Name, digest: Digest, cusec: u32) -> Opened {
+    Opened {
+        crealm,
+        client,
+        initial: true,
+        invalid: false,
+        starts: 0,
+        ends: 2_000_000,
+        ctime: NOW.seconds,
+        cusec,
+        stamp: None,
+        body: Body::Ask {
+            target: None,
+            digest,
+        },
+    }
+}
+
+/// The request with the keys of its password under the one count that there is.
+pub fn complete(alloc: Global, cusec: u32) -> Result<Opened, Stop> {
+    let mut opened = asked(alloc, cusec)?;
+    derive(alloc, &mut opened, cusec)?;
+    Ok(opened)
+}
+
+fn derive(alloc: Global, opened: &mut Opened, cusec: u32) -> Result<(), Stop> {
+    let mut counts = Counts::new();
+    counts.push(4);
+    let password = password(alloc, cusec)?;
+    let salt = opened.salt()?;
+    opened.complete(password.as_str().as_bytes(), &salt, &counts)?;
+    Ok(())
+}
+
+/// The password of the request with these microseconds.
+pub fn password(alloc: Global, cusec: u32) -> Result<String, Stop> {
+    Ok(format!(in alloc; "New-pass{cusec}")?)
+}

@@ -1,0 +1,62 @@
+"""The form of the scripts' command lines: `--help` answers on standard output with status 0, and a word that isn't known
+gets a line on standard error and status 2.
+
+What a script does is the text at its head. Its parser adds the use, the options, the last line and the statuses.
+"""
+
+import argparse
+import os
+import pathlib
+import sys
+
+TOP = pathlib.Path(__file__).resolve().parent.parent
+PROGRAM = TOP / "crates/chpw_server/out/chpw_server"
+
+
+def name_of(script):
+    """The script as a user calls it from the top: a measurement by its shell script, which builds the program first."""
+    path = pathlib.Path(script).resolve()
+    shell = path.with_suffix(".sh")
+    path = shell if path.parent.name == "bench" and shell.exists() else path
+    return str(path.relative_to(TOP)) if TOP in path.parents else path.name
+
+
+class Parser(argparse.ArgumentParser):
+    """The parser of a script with this text at its head and this last line; `wrong` is when its status is 1."""
+
+    # the word of the command line that has to name a program, if one has
+    program = None
+
+    def __init__(self, text, last="cases N failed M", wrong="anything failed", **more):
+        ends = [f"Last line: {last}."] if last else []
+        ends.append(f"Status: 0; 1 if {wrong}; 2 if the command line is wrong.")
+        super().__init__(prog=name_of(sys.argv[0]), description=text, epilog="\n".join(ends), allow_abbrev=False,
+                         formatter_class=argparse.RawDescriptionHelpFormatter, **more)
+
+    def error(self, message):
+        self.exit(2, f"{self.prog}: {message} (--help says more)\n")
+
+    def add_program(self, word="--server", program=PROGRAM, words="the program"):
+        """The option that names another built program than the gate's, which has to be there."""
+        usual = f", by default {program.relative_to(TOP)}" if program else ""
+        option = self.add_argument(word, type=pathlib.Path, default=program, metavar="PROGRAM", help=words + usual)
+        self.program = option.dest
+
+    def parse_args(self, *words):
+        found = super().parse_args(*words)
+        path = self.program and getattr(found, self.program)
+        if path:
+            setattr(found, self.program, path.resolve())
+            if not os.access(path, os.X_OK):
+                self.error(f"there is no program {path}")
+        return found
+
+    def add_keep(self):
+        self.add_argument("--keep", action="store_true", help="leave the folder with the realm's files and logs")
+
+
+def answer_lines(text, answer):
+    """A script that answers cases: of each line on standard input the answer, of an empty one or a comment the line."""
+    Parser(text, None, "a case can't be read").parse_args()
+    for line in sys.stdin.read().split("\n")[:-1]:
+        print(line if line == "" or line.startswith("#") else answer(line))

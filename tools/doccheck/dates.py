@@ -1,0 +1,15 @@
+"""Dates stand in docs/RESULTS.md and CHANGELOG.md alone, but for examples in code."""
+
+import re
+
+DATED = {"docs/RESULTS.md", "CHANGELOG.md"}
+DATE = re.compile(r"\b20\d\d-\d\d-\d\d\b")
+
+
+def check(tree, faults):
+    for document in tree.documents:
+        if document.name in DATED:
+            continue
+        for number, line in document.prose():
+            found = DATE.search(re.sub(r"(`+).+?\1", "", line))
+            faults.check(found is None, f"{document.name}:{number}", f"has a date: {found and found[0]}")
