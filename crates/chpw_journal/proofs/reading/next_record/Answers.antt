@@ -22,5 +22,7 @@ returns-then-not-is_record_length-clause-next g c =
     let two : length header ≡ 2 = search rules in
     let whole = take_all 2 header (omega (arith, two)) in
     let outside : is_record_length (stated_length header) ≡ false =
-    ap (λ (xs : List ℕ). is_record_length (from_be_bytes w16 xs)) whole ∙ (ap is_record_length (sym c.length_in-length.ensures.value) ∙ (sym c.is_record_length.ensures.value ∙ c.if-not-is_record_length.true)) in
+    ap (λ (xs : List ℕ). is_record_length (from_be_bytes w16 xs)) whole
+    ∙ (ap is_record_length (sym c.length_in-length.ensures.value)
+    ∙ (sym c.is_record_length.ensures.value ∙ c.if-not-is_record_length.true)) in
     (header, c.in-Whole.ensures.bytes, (omega (arith, two), outside))
