@@ -11,7 +11,7 @@ use krb_keys::Key;
 use krb_msgs::{ServiceKey, laws, make_ap_rep, make_ap_req, make_error, make_priv, make_ticket};
 use std::alloc::Global;
 
-/// The longest text of a record here.
+/// The longest text of a record in these cases.
 const SHORT: usize = 10_000;
 
 fn is_short<T: Write>(record: &T) -> bool

@@ -87,7 +87,7 @@ fn serve(alloc: Global, world: &mut World, how: How, stream: &[u8]) -> Outcome {
     }
 }
 
-/// Serves a stream by any decider and past any gate, over whoever opens and makes messages.
+/// Serves a stream by any decider and past any gate, with any maker of messages.
 pub fn serve_by<M: Messages, D: Decider, G: Gate + Observer>(
     alloc: Global,
     messages: &M,

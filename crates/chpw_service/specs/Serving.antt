@@ -12,7 +12,7 @@ pub record IsAskedFor (options : ServeOptions) (seed : List ℕ) (terms : PoolOp
   pub buffers : terms.buffers ≡ options.buffers
   pub idle : terms.idle ≡ options.idle
 
--- the first pass has as many receipts as a history may have entries, before any message is answered: of a raise
+-- the first pass has as many receipts as a history may have entries, before any message is answered, because of a raise
 abbrev pub is_full_with : List PassView → ℕ → Bool
 is_full_with [] most = false
 is_full_with (p ∷ ps) most = nat_le most (length p.receipts)

@@ -77,7 +77,7 @@ impl<L: Lines> Observer for Logging<L> {
 
     ghost hears = { λ a h b. (b.worker ≡ a.worker) × InTurn L.takes a.lines (noted a.worker h) b.lines };
 
-    // A raise is no message's.
+    // A raise belongs to no message.
     fn decided(&mut self, peer: [u8; 4], now: Moment, receipt: &Receipt, kvno: Option<u32>) {
         if let Event::Ask { opened, verdict } = &receipt.entry.event {
             tell_failed(&mut self.lines, now, *verdict);
