@@ -86,7 +86,7 @@ def of_follower():
     options = {}
     for bracket, name, value in re.findall(r"(\[?)(--[\w-]+)(?: ([A-Z]+))?", usage):
         default = re.search(rf'options->{name[2:]} = "?([\w-]+)"?;', source)
-        options[name] = Option(value, not bracket, default and default[1])
+        options[name] = Option(value, not bracket, default[1] if value and default else None)
     named = set(re.findall(r'\{"([\w-]+)", \w+_argument', source))
     return options, named
 
