@@ -1,4 +1,4 @@
-"""The followers, compiled as Debian compiles its programs, and the packages that they depend on."""
+"""The programs: the followers, compiled as Debian compiles its own, without symbols, and the packages that they depend on."""
 
 import pathlib
 import subprocess
@@ -26,8 +26,15 @@ def built(kind, packages, scratch):
         flags += words.stdout.split()
     flags += ["-fPIE", "-pie", "-Wl,--as-needed"]
     program = building.built(realm.Project(fetched(packages) / kind), folder, kind, flags)
-    subprocess.run(["strip", "--strip-all", "--remove-section=.comment", "--remove-section=.note", program], check=True)
     return pathlib.Path(program)
+
+
+def stripped(program, scratch):
+    """A copy without symbols, whose loaded parts are the same."""
+    copy = scratch / f"stripped-{program.name}"
+    words = ["--strip-all", "--remove-section=.comment", "--remove-section=.note", "-o", copy]
+    subprocess.run(["strip", *words, program], check=True)
+    return copy
 
 
 def libraries(kind, packages, scratch):

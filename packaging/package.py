@@ -6,7 +6,6 @@ import hashlib
 import os
 import pathlib
 import re
-import shutil
 import subprocess
 
 import pages
@@ -93,7 +92,7 @@ class Package:
 
     # ---- what speaks of the others
 
-    def build(self, out, libraries):
+    def build(self, out, depends):
         files = sorted(it for it in self.folder.rglob("*") if it.is_file() and "DEBIAN" not in it.parts)
         names = [it.relative_to(self.folder) for it in files]
         self.put("DEBIAN/conffiles", "".join(f"/{it}\n" for it in names if it.parts[0] == "etc").encode())
@@ -101,7 +100,7 @@ class Package:
                 if name.parts[0] != "etc")
         self.put("DEBIAN/md5sums", "".join(sums).encode())
         self.words["SIZE"] = str(sum(-(-it.stat().st_size // 1024) for it in files))
-        self.words["DEPENDS"] = self.depends(libraries)
+        self.words["DEPENDS"] = depends
         self.put("DEBIAN/control", self.text(f"{self.name}.control").encode())
         for path in [self.folder, *self.folder.rglob("*")]:
             if path.is_dir():
@@ -113,21 +112,21 @@ class Package:
                        stdout=subprocess.DEVNULL, check=True)
         return file
 
-    def depends(self, libraries):
-        """The packages of the libraries that its program is linked with."""
-        place = self.folder.parent / f"{self.name}.shlibdeps"
-        (place / "debian").mkdir(parents=True)
-        (place / "debian/control").write_text(f"Source: boddrelyn\n\nPackage: {self.name}\nArchitecture: any\n")
-        words = [f"-S{folder}" for folder in libraries]
-        run = subprocess.run(["dpkg-shlibdeps", "-O", "--warnings=0", *words, f"-e{self.program}"], cwd=place,
-                             capture_output=True, text=True, check=False)
-        shutil.rmtree(place)
-        if run.returncode:
-            raise SystemExit(f"dpkg-shlibdeps: {run.stderr.strip()}")
-        found = run.stdout.strip().removeprefix("shlibs:Depends=").split(", ")
-        if self.kind == "heimdal":
-            found = [of_same_upstream(it, libraries) for it in found]
-        return ", ".join(found)
+
+def depends(kind, program, libraries, scratch):
+    """The packages of the libraries that a program is linked with."""
+    place = scratch / f"shlibdeps-{kind}"
+    (place / "debian").mkdir(parents=True)
+    (place / "debian/control").write_text("Source: boddrelyn\n\nPackage: boddrelyn\nArchitecture: any\n")
+    words = [f"-S{folder}" for folder in libraries]
+    run = subprocess.run(["dpkg-shlibdeps", "-O", "--warnings=0", *words, f"-e{program.resolve()}"], cwd=place,
+                         capture_output=True, text=True, check=False)
+    if run.returncode:
+        raise SystemExit(f"dpkg-shlibdeps: {run.stderr.strip()}")
+    found = run.stdout.strip().removeprefix("shlibs:Depends=").split(", ")
+    if kind == "heimdal":
+        found = [of_same_upstream(it, libraries) for it in found]
+    return ", ".join(found)
 
 
 def of_same_upstream(dependency, libraries):

@@ -67,17 +67,13 @@ def of_source():
 def of_program(program, command):
     """The options of a command, from what `--help` prints; which of them are needed isn't read."""
     run = subprocess.run([program, command, "--help"], capture_output=True, text=True, timeout=PATIENCE, check=False)
-    options, name = {}, None
+    options, is_list = {}, False
     for line in (run.stdout + run.stderr).splitlines():
+        is_list = line in ("Arguments:", "Options:") or is_list and line.startswith("  ")
         found = re.match(r"\s{2,6}(?:(--[\w-]+)(?: <(\w+)>)?|[<\[](\w+)[>\]])(?:\s+(.*))?$", line)
-        if found and (found[1] or found[3]):
-            name = found[1] or found[3]
-            options[name] = [found[2] or "", found[4] or ""]
-        elif name and line.startswith(" " * 8):
-            options[name][1] += " " + line.strip()
-        else:
-            name = None
-    return {name: of_text(value, False, text) for name, (value, text) in options.items() if name != "--help"}
+        if is_list and found:
+            options[found[1] or found[3]] = of_text(found[2] or "", False, found[4] or "")
+    return options
 
 
 def of_follower():
