@@ -94,11 +94,11 @@ echo "systemd: the end"
 """
 
 
-def run(cache, into, files, report, keep):
-    """`files` is what a start leaves where no systemd runs."""
+def run(cache, put, files, report, keep):
+    """`put` puts the packages there, and `files` is what a start leaves where no systemd runs."""
     with root.Root("mit", cache, keep) as where:
         print("-- systemd", flush=True)
-        into(where)
+        put(where, mit)
         realm = mit.Realm(where)
         realm.write()
         for name in ("usr/local/bin/systemctl", "etc/machine-id"):

@@ -112,9 +112,9 @@ class Root:
         """Runs a command there as root, the lines as its input."""
         known = {"PATH": "/usr/local/sbin:/usr/local/bin:/usr/sbin:/usr/bin:/sbin:/bin", "LC_ALL": "C.UTF-8", "TZ": "UTC",
                  "HOME": "/root", "DEBIAN_FRONTEND": "noninteractive"}
-        return subprocess.run(["chroot", self.folder, *words], input="".join(f"{it}\n" for it in lines), text=True,
-                              stdout=subprocess.PIPE, stderr=subprocess.STDOUT, env={**known, **environment}, timeout=300,
-                              start_new_session=True, check=False)
+        chroot = ["chroot", self.folder, "env", *(f"{name}={value}" for name, value in environment.items())]
+        return subprocess.run([*chroot, *words], input="".join(f"{it}\n" for it in lines), text=True, env=known, timeout=300,
+                              stdout=subprocess.PIPE, stderr=subprocess.STDOUT, start_new_session=True, check=False)
 
     def must(self, *words, **more):
         done = self.run(*words, **more)

@@ -4,6 +4,8 @@ import re
 import subprocess
 import time
 
+from root import Failed
+
 HERE = __import__("pathlib").Path(__file__).resolve().parent
 FOLDERS = ("/etc/boddrelyn", "/var/lib/boddrelyn", "/var/log/boddrelyn", "/run/boddrelyn", "/run/boddrelyn-follow")
 SERVICE, JOURNAL, LOG = "boddrelyn", "/var/lib/boddrelyn/journal", "/var/log/boddrelyn/log"
@@ -90,6 +92,8 @@ class Steps:
         self.tell("README.Debian: import and check", (done.returncode, "ok: principals 2," in done.stdout), (0, True)) or print(done.stdout)
         self.root.run("sh", "-c", start)
         it = self.service()
+        if it.process is None:
+            raise Failed(f"it doesn't start: {self.output(SERVICE)}")
         self.tell("port 464 is taken: it ends", it.process.wait(20), 1)
         said = self.output(SERVICE)
         self.tell("port 464 is taken: it says so", ["cannot listen" in said, "port 464: in use" in said], [True, True])
@@ -131,7 +135,7 @@ class Steps:
                   [re.search(rf"{it}:\s+(\w+)", status)[1].lstrip("0") for it in ("CapEff", "CapBnd", "CapAmb")], ["400"] * 3)
         self.tell("limits: no new privileges", re.search(r"NoNewPrivs:\s+(\d)", status)[1], "1")
         self.tell("limits: open files, core", [re.search(rf"{it}\s+(\d+)", limits)[1] for it in ("Max open files", "Max core file size")],
-                  ["65552", "0"])
+                  [str(self.service().limit("LimitNOFILE")), "0"])
         pid = self.root.unit(self.follower).process.pid
         status = open(f"/proc/{pid}/status", encoding="ascii").read()
         self.tell("limits: the follower's capabilities", re.search(r"CapEff:\s+(\w+)", status)[1].lstrip("0"), "5")

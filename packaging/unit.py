@@ -6,14 +6,17 @@ directories and read-only paths that it names. Of the rest (system calls, namesp
 
 import pathlib
 import re
+import resource
 import shlex
 import signal
 import subprocess
+import threading
 import time
 
 PLACES = ("usr/lib/systemd/system", "etc/systemd/system")
 FOLDERS = {"StateDirectory": "var/lib", "LogsDirectory": "var/log", "RuntimeDirectory": "run"}
 LIMITS = {"LimitNOFILE": "--nofile", "LimitCORE": "--core"}
+KINDS = {"LimitNOFILE": resource.RLIMIT_NOFILE, "LimitCORE": resource.RLIMIT_CORE}
 
 
 def settings(text):
@@ -78,6 +81,16 @@ class Unit:
         names = self.one(key, None)
         return None if names is None else [it.removeprefix("CAP_").lower() for it in names.split()]
 
+    def limit(self, key):
+        """What a limit becomes: the unit's, or, where the right to raise it is missing, the nearest, as with systemd."""
+        value = int(self.one(key))
+        highest = resource.getrlimit(KINDS[key])[1]
+        if highest == resource.RLIM_INFINITY or value <= highest:
+            return value
+        words = ["prlimit", f"{LIMITS[key]}={value}:{value}", "true"]
+        may = subprocess.run(words, stderr=subprocess.DEVNULL, check=False).returncode == 0
+        return value if may else highest
+
     def as_user(self):
         """The command by which another one runs as the unit's user, with its limits."""
         user, group = self.one("User", "root"), self.one("Group", "") or self.one("User", "root")
@@ -90,7 +103,7 @@ class Unit:
             words += [f"--inh-caps={chosen}", f"--ambient-caps={chosen}"]
         if self.one("NoNewPrivileges") == "yes":
             words.append("--no-new-privs")
-        limits = [f"{option}={self.one(key)}:{self.one(key)}" for key, option in LIMITS.items() if self.one(key)]
+        limits = [f"{option}={self.limit(key)}:{self.limit(key)}" for key, option in LIMITS.items() if self.one(key)]
         return (["prlimit", *limits, "--"] if limits else []) + words + [
             "sh", "-c", 'umask "$1"; shift; exec "$@"', "sh", self.one("UMask", "0022")]
 
@@ -152,6 +165,8 @@ class Unit:
         with self.output.open("a") as out:
             self.process = subprocess.Popen(self.launcher(self.one("ExecStart")), env=self.environment(),
                                             stdin=subprocess.DEVNULL, stdout=out, stderr=out, start_new_session=True)
+        # it is waited for at once when it ends, so that `tail --pid` sees that
+        threading.Thread(target=self.process.wait, daemon=True).start()
         return "started"
 
     def reload(self):
@@ -165,10 +180,13 @@ class Unit:
         if self.is_active():
             self.process.send_signal(getattr(signal, self.one("KillSignal", "SIGTERM")))
         try:
-            return self.process.wait(float(self.one("TimeoutStopSec", "90")))
+            status = self.process.wait(float(self.one("TimeoutStopSec", "90")))
         except subprocess.TimeoutExpired:
             self.process.kill()
-            return self.process.wait()
+            status = self.process.wait()
+        if self.one("RuntimeDirectory") and self.one("RuntimeDirectoryPreserve", "no") == "no":
+            self.root.must("rm", "-rf", f"/run/{self.one('RuntimeDirectory')}")
+        return status
 
     def says(self, words, seconds=20):
         """Whether it prints that within so many seconds, before it ends."""
