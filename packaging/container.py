@@ -44,15 +44,15 @@ files() { find /etc/boddrelyn /var/lib/boddrelyn /var/log/boddrelyn /run/boddrel
 none() { ! "$@"; }
 
 check "install" dpkg -i /opt/try/0/*.deb
-check "the units are without a fault" sh -c "systemd-analyze verify $S.service $F.service 2>&1 | tee /dev/stderr | grep -c boddrelyn | grep -qx 0"
+check "the units are without a fault" sh -c "systemd-analyze verify --man=no $S.service $F.service 2>&1 | tee /dev/stderr | grep -c boddrelyn | grep -qx 0"
 for it in $S $F; do
     check "$it is enabled" systemctl is-enabled $it
     systemctl start $it
     check "$it is skipped without a configuration" is $it ConditionResult no
     check "$it isn't failed" is $it ActiveState inactive
 done
-sh -eu /opt/try/first > /opt/try/last 2>&1
-check "README.Debian: import and check" grep "ok: principals 2" /opt/try/last
+sh -eu /opt/try/first > /opt/try/said 2>&1
+check "README.Debian: import and check" grep "ok: principals 2" /opt/try/said
 check "port 464 is taken: it says so" says $S "port 464: in use"
 check "port 464 is taken: it is given up" wait_for is $S Result exit-code
 systemctl stop $S; rm -f $J
@@ -88,7 +88,8 @@ check "remove" dpkg -r $F $S
 check "remove: it is stopped" none pidof chpw_server
 check "remove: the follower is stopped" none pidof follow_mit
 check "purge" dpkg -P $F $S
-check "purge: it names what goes" grep "removed: $J" /opt/try/last
+cp /opt/try/last /opt/try/said
+check "purge: it names what goes" grep "removed: $J" /opt/try/said
 check "purge: no file is left" none sh -c "find / -xdev -not -path '/opt/*' -not -path '/proc/*' -not -path '/var/log/journal/*' '(' -user boddrelyn -o -name '*boddrelyn*' ')' | grep ."
 echo "systemd: the end"
 """

@@ -8,6 +8,8 @@ REALM = "EXAMPLE.COM"
 FOLLOWER = "boddrelyn-follow-heimdal"
 USERS = {"alice": "Old-pass1", "bob": "Old-pass2"}
 CHANGED = "Success : password changed"
+# what the service says while kpasswdd has the port, over UDP alone
+SAYS = ("cannot listen",)
 # of the service, since Heimdal's clients show a reason over UDP alone
 OPTIONS = "--udp --follower-wait 1500"
 EXPORT = "kadmin -l ext_keytab --keytab=users.keytab kadmin/changepw alice bob"

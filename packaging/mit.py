@@ -9,6 +9,8 @@ REALM = "EXAMPLE.COM"
 FOLLOWER = "boddrelyn-follow-mit"
 USERS = {"alice": "Old-pass1", "bob": "Old-pass2"}
 CHANGED = "Password changed."
+# what the service says while the KDC's own server has the port
+SAYS = ("cannot listen", "port 464: in use")
 # of the service, and another export of keys than README.Debian's first
 OPTIONS, EXPORT = "", None
 # what README.Debian says that gives up port 464
