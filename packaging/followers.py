@@ -24,7 +24,7 @@ def built(kind, packages, scratch):
         words = subprocess.run([*FLAGS, name], env={"DEB_BUILD_MAINT_OPTIONS": "hardening=+all", "PATH": "/usr/bin:/bin"},
                                cwd=scratch, capture_output=True, text=True, check=True)
         flags += words.stdout.split()
-    flags += ["-fPIE", "-pie", "-Wl,--as-needed"]
+    flags += ["-g0", "-fPIE", "-pie", "-Wl,--as-needed"]
     program = building.built(realm.Project(fetched(packages) / kind), folder, kind, flags)
     return pathlib.Path(program)
 
