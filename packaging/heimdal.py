@@ -54,10 +54,13 @@ class Realm:
     def kadmin(self, *words):
         return self.root.must("kadmin", "-l", *words)
 
-    def give_up_port(self):
+    def give_up_port(self, _tell):
         """As README.Debian says: kpasswdd doesn't run."""
         self.kpasswdd.terminate()
         self.kpasswdd.wait()
+
+    def is_second(self, _tell):
+        """It isn't tried."""
 
     def kpasswd(self, name, old, new, **environment):
         """What the client says."""

@@ -1,5 +1,6 @@
 """An MIT realm in a root, as Debian's packages make it: its KDC, kadmind and clients."""
 
+import socket
 import time
 
 from root import Failed
@@ -13,8 +14,9 @@ CHANGED = "Password changed."
 SAYS = ("cannot listen", "port 464: in use")
 # of the service, and another export of keys than README.Debian's first
 OPTIONS, EXPORT = "", None
-# what README.Debian says that gives up port 464
+# what README.Debian says that gives up port 464; the first is the one that it advises
 GIVES_UP = "kpasswd_listen = 127.0.0.1:1464"
+GIVES_UP_TOO = "kpasswd_port = 1464"
 CLIENT = """\
 [libdefaults]
     default_realm = EXAMPLE.COM
@@ -38,6 +40,18 @@ KDC = """\
         master_key_type = aes256-cts-hmac-sha1-96
     }
 """
+
+
+def is_free(port):
+    """Whether nobody has the port, at any address."""
+    with socket.socket() as it:
+        it.setsockopt(socket.SOL_SOCKET, socket.SO_REUSEADDR, 1)
+        try:
+            it.bind(("", port))
+            it.listen()
+        except OSError:
+            return False
+    return True
 
 
 class Realm:
@@ -67,13 +81,28 @@ class Realm:
         if self.kadmind.poll() is not None:
             raise Failed(f"kadmind ended: {self.root.path('/tmp/kadmind.output').read_text()}")
 
-    def give_up_port(self):
-        """As README.Debian says."""
-        file = self.root.path("/etc/krb5kdc/kdc.conf")
-        file.write_text(file.read_text().replace("# here", GIVES_UP))
+    def restart(self, line):
+        """kadmind, with another line of README.Debian, or none."""
+        self.root.path("/etc/krb5kdc/kdc.conf").write_text(KDC.replace("# here", line))
         self.kadmind.terminate()
         self.kadmind.wait()
         self.start_password_server()
+
+    def give_up_port(self, tell):
+        """As README.Debian says."""
+        for line in (GIVES_UP_TOO, GIVES_UP):
+            self.restart(line)
+            tell(f"kadmind gives up port 464: {line}", is_free(464))
+
+    def is_second(self, tell):
+        """kadmind, as it is installed, where the service has the port."""
+        try:
+            self.restart("")
+            tell("kadmind, started second without that line, ends", False)
+        except Failed:
+            tell("kadmind, started second without that line, ends", True)
+        self.restart(GIVES_UP)
+        tell("kadmind runs beside the service", self.kadmind.poll(), None)
 
     def kpasswd(self, name, old, new, **environment):
         """What the client says."""

@@ -99,7 +99,7 @@ class Steps:
         self.tell("port 464 is taken: it says so", [it for it in self.kind.SAYS if it not in said], [])
         self.tell("port 464 is taken: an empty journal is left", self.root.path(JOURNAL).stat().st_size, 0)
         self.root.path(JOURNAL).unlink()
-        self.realm.give_up_port()
+        self.realm.give_up_port(self.tell)
         self.start_by_hand()
         done = self.root.run("sh", "-c", start)
         self.tell("start: systemctl", done.returncode, 0)
@@ -110,6 +110,9 @@ class Steps:
         wanted = {JOURNAL, LOG, "/run/boddrelyn/control", "/etc/boddrelyn/realm.toml", "/run/boddrelyn-follow/socket"}
         private = {line.split()[2] for line in self.files() if re.match(r"[-s]rw------- boddrelyn:", line)}
         self.tell("start: configuration, journal, log and sockets are the user's alone", private, wanted)
+
+    def second(self):
+        self.realm.is_second(self.tell)
 
     def start_by_hand(self):
         """The last command of README.Debian; the follower's unit runs, and the service is told of its socket."""
