@@ -1,12 +1,13 @@
 """The steps of a package's life in a root: install, first start, changes, upgrade, a journal that was there, remove, purge."""
 
+import pathlib
 import re
 import subprocess
 import time
 
 from root import Failed
 
-HERE = __import__("pathlib").Path(__file__).resolve().parent
+HERE = pathlib.Path(__file__).resolve().parent
 FOLDERS = ("/etc/boddrelyn", "/var/lib/boddrelyn", "/var/log/boddrelyn", "/run/boddrelyn", "/run/boddrelyn-follow")
 SERVICE, JOURNAL, LOG = "boddrelyn", "/var/lib/boddrelyn/journal", "/var/log/boddrelyn/log"
 # seconds that a client is ahead, so that it isn't refused in the five minutes after a start
@@ -80,16 +81,31 @@ class Steps:
             self.tell(f"install: {name} is skipped without a configuration", self.root.unit(name).start(), "skipped")
 
     def first_start(self):
-        """The commands of README.Debian, while the KDC's own password server has the port."""
+        """The commands of README.Debian, while the KDC's own password server has the port, and when it has given it up."""
         commands = block("First start").replace("EXAMPLE.COM", self.kind.REALM).replace("boddrelyn-follow-mit", self.follower)
         if self.kind.EXPORT:
             commands = re.sub(r"kadmin\.local ktadd (?:.*\\\n)*.*", self.kind.EXPORT, commands)
         if self.kind.OPTIONS:
             file = self.root.path(f"/etc/default/{SERVICE}")
             file.write_text(file.read_text().replace("\nOPTIONS=\n", f"\nOPTIONS={self.kind.OPTIONS}\n"))
-        before, start = commands[: commands.index("systemctl start")], commands[commands.index("systemctl start"):]
-        done = self.root.run("sh", "-eu", "-c", f"cd /root; {before}")
-        self.tell("README.Debian: import and check", (done.returncode, "ok: principals 2," in done.stdout), (0, True)) or print(done.stdout)
+        start = commands.index("systemctl start")
+        done = self.root.run("sh", "-eu", "-c", f"cd /root; {commands[:start]}")
+        is_good = done.returncode == 0 and "ok: principals 2," in done.stdout
+        self.tell("README.Debian: import and check", is_good) or print(done.stdout)
+        self.port_is_taken(commands[start:])
+        self.realm.give_up_port(self.tell)
+        self.start_by_hand()
+        done = self.root.run("sh", "-c", commands[start:])
+        self.tell("start: systemctl", done.returncode, 0)
+        self.tell("start: it listens", self.service().says("listening on 127.0.0.1:464"))
+        self.tell("start: the follower compares the table", self.root.unit(self.follower).says("principals 2, set 0, failed 0"))
+        self.by_unit = self.files()
+        self.tell("start: a start by hand leaves the same files", self.by_hand, self.by_unit)
+        wanted = {JOURNAL, LOG, "/run/boddrelyn/control", "/etc/boddrelyn/realm.toml", "/run/boddrelyn-follow/socket"}
+        private = {line.split()[2] for line in self.files() if re.match(r"[-s]rw------- boddrelyn:", line)}
+        self.tell("start: configuration, journal, log and sockets are the user's alone", private, wanted)
+
+    def port_is_taken(self, start):
         self.root.run("sh", "-c", start)
         it = self.service()
         if it.process is None:
@@ -99,17 +115,6 @@ class Steps:
         self.tell("port 464 is taken: it says so", [it for it in self.kind.SAYS if it not in said], [])
         self.tell("port 464 is taken: an empty journal is left", self.root.path(JOURNAL).stat().st_size, 0)
         self.root.path(JOURNAL).unlink()
-        self.realm.give_up_port(self.tell)
-        self.start_by_hand()
-        done = self.root.run("sh", "-c", start)
-        self.tell("start: systemctl", done.returncode, 0)
-        self.tell("start: it listens", self.service().says("listening on 127.0.0.1:464"))
-        self.tell("start: the follower compares the table", self.root.unit(self.follower).says("principals 2, set 0, failed 0"))
-        self.by_unit = self.files()
-        self.tell("start: a start by hand leaves the same files", self.by_hand, self.by_unit)
-        wanted = {JOURNAL, LOG, "/run/boddrelyn/control", "/etc/boddrelyn/realm.toml", "/run/boddrelyn-follow/socket"}
-        private = {line.split()[2] for line in self.files() if re.match(r"[-s]rw------- boddrelyn:", line)}
-        self.tell("start: configuration, journal, log and sockets are the user's alone", private, wanted)
 
     def second(self):
         self.realm.is_second(self.tell)
@@ -137,8 +142,8 @@ class Steps:
         self.tell("limits: CAP_NET_BIND_SERVICE alone",
                   [re.search(rf"{it}:\s+(\w+)", status)[1].lstrip("0") for it in ("CapEff", "CapBnd", "CapAmb")], ["400"] * 3)
         self.tell("limits: no new privileges", re.search(r"NoNewPrivs:\s+(\d)", status)[1], "1")
-        self.tell("limits: open files, core", [re.search(rf"{it}\s+(\d+)", limits)[1] for it in ("Max open files", "Max core file size")],
-                  [str(self.service().limit("LimitNOFILE")), "0"])
+        found = [re.search(rf"{it}\s+(\d+)", limits)[1] for it in ("Max open files", "Max core file size")]
+        self.tell("limits: open files, core", found, [str(self.service().limit("LimitNOFILE")), "0"])
         pid = self.root.unit(self.follower).process.pid
         status = open(f"/proc/{pid}/status", encoding="ascii").read()
         self.tell("limits: the follower's capabilities", re.search(r"CapEff:\s+(\w+)", status)[1].lstrip("0"), "5")
@@ -195,8 +200,9 @@ class Steps:
         (self.root.path("/root/former")).mkdir()
         self.root.must("sh", "-c", "cp /etc/boddrelyn/realm.toml /var/lib/boddrelyn/journal /root/former; "
                        "rm -r /etc/boddrelyn/realm.toml /var/lib/boddrelyn/journal; chown -R root:root /root/former")
-        process = self.root.start("sh", "-c", "cd /root/former; exec chpw_server serve --config realm.toml --journal journal --seed "
-                                  "/dev/urandom --port 4464 --workers 1 --connections 100 --control control")
+        command = ("chpw_server serve --config realm.toml --journal journal --seed /dev/urandom --port 4464 --workers 1 "
+                   "--connections 100 --control control")
+        process = self.root.start("sh", "-c", f"cd /root/former; exec {command}")
         self.root.path("/root/former/new").write_text("Newest-pass2\n")
         waited(lambda: self.root.path("/root/former/control").exists())
         time.sleep(300 - AHEAD + 2)
@@ -219,7 +225,8 @@ class Steps:
         before = self.files(*FOLDERS[:3])
         done = self.root.run("dpkg", "-r", self.follower, SERVICE)
         self.tell("remove: dpkg", done.returncode, 0) or print(done.stdout)
-        self.tell("remove: both are stopped", [f"stop {it}.service" in self.root.asked for it in (self.follower, SERVICE)], [True, True])
+        stopped = [f"stop {it}.service" in self.root.asked for it in (self.follower, SERVICE)]
+        self.tell("remove: both are stopped", stopped, [True, True])
         self.tell("remove: none runs", self.pids(), [])
         self.tell("remove: the files stay", self.files(*FOLDERS[:3]), before)
         self.tell("remove: the programs are gone", [it.name for it in self.root.path("/usr/sbin").glob("chpw_*")], [])
@@ -233,7 +240,8 @@ class Steps:
         self.tell("purge: it names the files that go", [it for it in wanted if it not in named], [])
         self.tell("purge: it says what it leaves", "boddrelyn: left: the user boddrelyn" in done.stdout) or print(done.stdout)
         left = self.root.run("find", "/", "-xdev", "(", "-user", "boddrelyn", "-o", "-name", "*boddrelyn*", ")", "-printf", "%p\\n")
-        self.tell("purge: no file is left", [it for it in left.stdout.splitlines() if not it.startswith(("/proc", "/tmp", "/opt/try"))], [])
+        found = [it for it in left.stdout.splitlines() if not it.startswith(("/proc", "/tmp", "/opt/try"))]
+        self.tell("purge: no file is left", found, [])
 
 
 def waited(is_so, seconds=20):
