@@ -47,12 +47,12 @@ def of_source():
     """The commands of chpw_server with their options, from the source."""
     source = HELP.read_text()
     texts = {name: re.sub(r"\\\n", "", text) for name, text in re.findall(r'const (\w+): &str =\s*"((?:[^"\\]|\\.|\\\n)*)";', source)}
-    kinds = {"required": True, "number": True, "word": True, "optional": False, "optional_number": False,
+    kinds = {"required_option": True, "number": True, "word": True, "optional": False, "optional_number": False,
              "optional_word": False, "flag": False}
     line = re.compile(rf'\b({"|".join(kinds)})\(\s*"([\w-]+)",\s*([^()]*?),?\s*\)')
     commands = {}
     for body in re.split(r"\nfn ", source)[1:]:
-        found = re.search(r'described\(\s*alloc,\s*"(\w+)"', body)
+        found = re.search(r'command_with\(\s*alloc,\s*"(\w+)"', body)
         if found:
             options = {}
             for kind, name, words in line.findall(body):
