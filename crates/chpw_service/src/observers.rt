@@ -1,4 +1,4 @@
-//! What a worker passes with its messages, and writes into the log.
+//! What hears what came of a worker's messages, and writes it into the log.
 ghost use Rattle.std.specs.Prelude.{◌≡◌, ◌<◌, IfOk, map, vec_len};
 ghost use Rattle.std.specs.List.{range_with_len};
 ghost use Rattle.chpw_table.specs.Times.{IsMoment};
