@@ -1,4 +1,4 @@
-//! Cases of chpw_keys and chpw_import, a line each on standard input, with the answer of each on standard output.
+//! Cases of chpw_import, a line each on standard input, with the answer of each on standard output.
 //!
 //! - `keytab REALM ITERATIONS HEX`: what is written for the keytab with these bytes, its lines joined, and a line for
 //!   each entry that is skipped; or its fault.

@@ -94,7 +94,7 @@ impl<D: DeskName, S: JournalSink> Desk<D, S> {
     ///
     /// `now` has seconds from 0 to `chpw_table::LAST_SECOND`. Refused as `Table::decide` refuses, and
     /// then the pass is as before, but that it notes `Full`.
-    #[tactic(auto, using(crate::proofs::CallLemmas::notes_of))]
+    #[tactic(auto, using(crate::proofs::CallLemmas::notes_of_ask))]
     pub fn decide<R: Wait>(
         &self,
         rt: &R,
@@ -118,7 +118,7 @@ impl<D: DeskName, S: JournalSink> Desk<D, S> {
     /// The same, with the digest completed for this password under the lock, as far as keys are
     /// missing, so that none are asked for. The request that a refusal hands back may have more of
     /// them.
-    #[tactic(auto, using(crate::proofs::CallLemmas::notes_of))]
+    #[tactic(auto, using(crate::proofs::CallLemmas::notes_of_deriving))]
     pub fn decide_deriving<R: Wait>(
         &self,
         rt: &R,
@@ -151,7 +151,7 @@ impl<D: DeskName, S: JournalSink> Desk<D, S> {
     ///
     /// `now` has seconds from 0 to `chpw_table::LAST_SECOND`. After a fault the pass is as before, but
     /// that it notes `Full`.
-    #[tactic(auto, using(crate::proofs::CallLemmas::notes_of))]
+    #[tactic(auto, using(crate::proofs::CallLemmas::notes_of_raise))]
     pub fn raise<R: Wait>(
         &self,
         rt: &R,

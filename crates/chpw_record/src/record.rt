@@ -137,12 +137,14 @@ pub fn is_record_length(length: usize) -> bool
 }
 
 impl Record {
-    ghost use Rattle.chpw_record.specs.Records.{IsRead};
+    ghost use Rattle.chpw_record.specs.Records.{RecordFits, body_text};
 
     /// The record with this text, from behind its length; none where it is that of no record within the limits. A raise
     /// has 5 bytes, and no change and no base has as few.
     pub fn read(alloc: Global, body: &[u8]) -> Result<Option<Record>, AllocError>
-        ensures value { IfOk result (IsRead body.now) }
+        ensures value { IfOk result (λ found. MatchOption found
+            ((r : _) → RecordFits r → body.now ≢ body_text r)
+            (λ r. RecordFits r × (body.now ≡ body_text r))) }
     {
         if body.len() == RAISE_LENGTH {
             return Ok(raise_in(body).map(Record::Raise));

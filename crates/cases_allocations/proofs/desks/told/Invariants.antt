@@ -7,5 +7,5 @@ ghosts-at-D-DeskName g a = record { workers = workers_of a.unnamed }
 abbrev pub ghosts-at-D-Ledger : goal.ghosts-at-D-Ledger
 ghosts-at-D-Ledger g a = record { name = ledger_name a.unnamed; parts = ledger_parts a.unnamed }
 
-abbrev pub ghosts-at-D-ListName : goal.ghosts-at-D-ListName
-ghosts-at-D-ListName g a = record { book = list_book a.unnamed; root = list_root a.unnamed }
+abbrev pub ghosts-at-D-LogName : goal.ghosts-at-D-LogName
+ghosts-at-D-LogName g a = record { book = list_book a.unnamed; root = list_root a.unnamed }

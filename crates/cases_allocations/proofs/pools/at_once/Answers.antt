@@ -22,8 +22,8 @@ use Rattle.cases_allocations.proofs.pools.at_once.Goals as goal
 
 pub join-fell-requires-send-F : goal.join-fell-requires-send-F
 join-fell-requires-send-F g c κs within =
-    let desk = Desk.the_row (param 0 g.row.D) MemorySink.the_row g.D.DeskName g.D.Ledger g.D.ListName sink.ghosts in
-    let passes = Vec.the_row (Pass.the_row (param 0 g.row.D) g.D.DeskName g.D.Ledger g.D.ListName) Global.the_row allocator.ghosts in
+    let desk = Desk.the_row (param 0 g.row.D) MemorySink.the_row g.D.DeskName g.D.Ledger g.D.LogName sink.ghosts in
+    let passes = Vec.the_row (Pass.the_row (param 0 g.row.D) g.D.DeskName g.D.Ledger g.D.LogName) Global.the_row allocator.ghosts in
     six_send _ _ _ _ _ _ _ _ _ (shr_send _ _ (param 1 g.row.R) (search sendable)) (shr_send _ _ Global.the_row (search (global.the_sync, sendable)))
     (shr_send _ _ TcpListener.the_row (search (listener.the_sync, sendable))) (shr_send _ _ Service.the_row (search (service.the_sync, sendable)))
     (shr_send _ _ desk (search (desk_sync, memory.the_send, sendable)))

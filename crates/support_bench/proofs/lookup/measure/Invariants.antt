@@ -7,5 +7,5 @@ ghosts-at_desk-D-DeskName g a = record { workers = workers_of a.unnamed }
 abbrev pub ghosts-at_desk-D-Ledger : goal.ghosts-at_desk-D-Ledger
 ghosts-at_desk-D-Ledger g a = record { name = ledger_name a.unnamed; parts = ledger_parts a.unnamed }
 
-abbrev pub ghosts-at_desk-D-ListName : goal.ghosts-at_desk-D-ListName
-ghosts-at_desk-D-ListName g a = record { book = list_book a.unnamed; root = list_root a.unnamed }
+abbrev pub ghosts-at_desk-D-LogName : goal.ghosts-at_desk-D-LogName
+ghosts-at_desk-D-LogName g a = record { book = list_book a.unnamed; root = list_root a.unnamed }

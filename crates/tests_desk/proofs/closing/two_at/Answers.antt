@@ -15,7 +15,7 @@ use Rattle.tests_desk.proofs.closing.two_at.Goals as goal
 -- src/closing.rt:36:18
 pub join-a-requires-send-F : goal.join-a-requires-send-F
 join-a-requires-send-F g c κs within =
-    let desk = Desk.the_row (param 0 g.row.D) Tally.the_row g.D.DeskName g.D.Ledger g.D.ListName sink.ghosts in
-    let passes = Pass.the_row (param 0 g.row.D) g.D.DeskName g.D.Ledger g.D.ListName in
+    let desk = Desk.the_row (param 0 g.row.D) Tally.the_row g.D.DeskName g.D.Ledger g.D.LogName sink.ghosts in
+    let passes = Pass.the_row (param 0 g.row.D) g.D.DeskName g.D.Ledger g.D.LogName in
     four_send _ _ _ _ _ _ Opened.the_row (shr_send _ _ desk (search (desk_sync, tally.the_send, sendable))) (shr_send _ _ (param 1 g.row.R) (search sendable))
     (mut_send _ _ passes (search (pass.the_send, sendable))) (search (opened.the_send, sendable))

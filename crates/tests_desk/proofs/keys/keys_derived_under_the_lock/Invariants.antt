@@ -7,5 +7,5 @@ ghosts-derive_and_fill-D-DeskName g a = record { workers = workers_of a.unnamed 
 abbrev pub ghosts-derive_and_fill-D-Ledger : goal.ghosts-derive_and_fill-D-Ledger
 ghosts-derive_and_fill-D-Ledger g a = record { name = ledger_name a.unnamed; parts = ledger_parts a.unnamed }
 
-abbrev pub ghosts-derive_and_fill-D-ListName : goal.ghosts-derive_and_fill-D-ListName
-ghosts-derive_and_fill-D-ListName g a = record { book = list_book a.unnamed; root = list_root a.unnamed }
+abbrev pub ghosts-derive_and_fill-D-LogName : goal.ghosts-derive_and_fill-D-LogName
+ghosts-derive_and_fill-D-LogName g a = record { book = list_book a.unnamed; root = list_root a.unnamed }

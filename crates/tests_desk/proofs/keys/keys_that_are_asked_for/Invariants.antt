@@ -7,5 +7,5 @@ ghosts-ask_and_complete-D-DeskName g a = record { workers = workers_of a.unnamed
 abbrev pub ghosts-ask_and_complete-D-Ledger : goal.ghosts-ask_and_complete-D-Ledger
 ghosts-ask_and_complete-D-Ledger g a = record { name = ledger_name a.unnamed; parts = ledger_parts a.unnamed }
 
-abbrev pub ghosts-ask_and_complete-D-ListName : goal.ghosts-ask_and_complete-D-ListName
-ghosts-ask_and_complete-D-ListName g a = record { book = list_book a.unnamed; root = list_root a.unnamed }
+abbrev pub ghosts-ask_and_complete-D-LogName : goal.ghosts-ask_and_complete-D-LogName
+ghosts-ask_and_complete-D-LogName g a = record { book = list_book a.unnamed; root = list_root a.unnamed }

@@ -7,5 +7,5 @@ ghosts-look_for_keys-D-DeskName g a = record { workers = workers_of a.unnamed }
 abbrev pub ghosts-look_for_keys-D-Ledger : goal.ghosts-look_for_keys-D-Ledger
 ghosts-look_for_keys-D-Ledger g a = record { name = ledger_name a.unnamed; parts = ledger_parts a.unnamed }
 
-abbrev pub ghosts-look_for_keys-D-ListName : goal.ghosts-look_for_keys-D-ListName
-ghosts-look_for_keys-D-ListName g a = record { book = list_book a.unnamed; root = list_root a.unnamed }
+abbrev pub ghosts-look_for_keys-D-LogName : goal.ghosts-look_for_keys-D-LogName
+ghosts-look_for_keys-D-LogName g a = record { book = list_book a.unnamed; root = list_root a.unnamed }

@@ -7,8 +7,8 @@ ghosts-both_at-D-DeskName g a = record { workers = workers_of a.unnamed.0 }
 abbrev pub ghosts-both_at-D-Ledger : goal.ghosts-both_at-D-Ledger
 ghosts-both_at-D-Ledger g a = record { name = ledger_name a.unnamed.0; parts = ledger_parts a.unnamed.0 }
 
-abbrev pub ghosts-both_at-D-ListName : goal.ghosts-both_at-D-ListName
-ghosts-both_at-D-ListName g a = record { book = list_book a.unnamed.0; root = list_root a.unnamed.0 }
+abbrev pub ghosts-both_at-D-LogName : goal.ghosts-both_at-D-LogName
+ghosts-both_at-D-LogName g a = record { book = list_book a.unnamed.0; root = list_root a.unnamed.0 }
 
 abbrev pub ghosts-both_at-E-DeskName : goal.ghosts-both_at-E-DeskName
 ghosts-both_at-E-DeskName g a = record { workers = workers_of a.unnamed.1 }
@@ -16,5 +16,5 @@ ghosts-both_at-E-DeskName g a = record { workers = workers_of a.unnamed.1 }
 abbrev pub ghosts-both_at-E-Ledger : goal.ghosts-both_at-E-Ledger
 ghosts-both_at-E-Ledger g a = record { name = ledger_name a.unnamed.1; parts = ledger_parts a.unnamed.1 }
 
-abbrev pub ghosts-both_at-E-ListName : goal.ghosts-both_at-E-ListName
-ghosts-both_at-E-ListName g a = record { book = list_book a.unnamed.1; root = list_root a.unnamed.1 }
+abbrev pub ghosts-both_at-E-LogName : goal.ghosts-both_at-E-LogName
+ghosts-both_at-E-LogName g a = record { book = list_book a.unnamed.1; root = list_root a.unnamed.1 }

@@ -12,6 +12,6 @@ use Rattle.tests_desk.proofs.versions.all_at.Goals as goal
 
 pub for_each_mut-requires-sync-F : goal.for_each_mut-requires-sync-F
 for_each_mut-requires-sync-F g c κs within =
-    let desk = Desk.the_row (param 0 g.row.D) Tally.the_row g.D.DeskName g.D.Ledger g.D.ListName sink.ghosts in
+    let desk = Desk.the_row (param 0 g.row.D) Tally.the_row g.D.DeskName g.D.Ledger g.D.LogName sink.ghosts in
     three_sync _ _ _ _ _ _ (shr_sync _ _ (param 1 g.row.R) (search sendable)) (shr_sync _ _ Global.the_row (search (global.the_sync, sendable)))
     (shr_sync _ _ desk (search (desk_sync, tally.the_send, sendable)))

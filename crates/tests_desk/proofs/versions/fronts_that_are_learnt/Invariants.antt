@@ -7,5 +7,5 @@ ghosts-three_at-D-DeskName g a = record { workers = workers_of a.unnamed }
 abbrev pub ghosts-three_at-D-Ledger : goal.ghosts-three_at-D-Ledger
 ghosts-three_at-D-Ledger g a = record { name = ledger_name a.unnamed; parts = ledger_parts a.unnamed }
 
-abbrev pub ghosts-three_at-D-ListName : goal.ghosts-three_at-D-ListName
-ghosts-three_at-D-ListName g a = record { book = list_book a.unnamed; root = list_root a.unnamed }
+abbrev pub ghosts-three_at-D-LogName : goal.ghosts-three_at-D-LogName
+ghosts-three_at-D-LogName g a = record { book = list_book a.unnamed; root = list_root a.unnamed }

@@ -7,5 +7,5 @@ ghosts-worker_at-D-DeskName g a = record { workers = workers_of a.unnamed }
 abbrev pub ghosts-worker_at-D-Ledger : goal.ghosts-worker_at-D-Ledger
 ghosts-worker_at-D-Ledger g a = record { name = ledger_name a.unnamed; parts = ledger_parts a.unnamed }
 
-abbrev pub ghosts-worker_at-D-ListName : goal.ghosts-worker_at-D-ListName
-ghosts-worker_at-D-ListName g a = record { book = list_book a.unnamed; root = list_root a.unnamed }
+abbrev pub ghosts-worker_at-D-LogName : goal.ghosts-worker_at-D-LogName
+ghosts-worker_at-D-LogName g a = record { book = list_book a.unnamed; root = list_root a.unnamed }

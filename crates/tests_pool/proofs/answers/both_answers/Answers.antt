@@ -20,8 +20,8 @@ use Rattle.tests_pool.proofs.answers.both_answers.Goals as goal
 
 pub join-requires-send-F : goal.join-requires-send-F
 join-requires-send-F g c κs within =
-    let desk = Desk.the_row (param 0 g.row.D) MemorySink.the_row g.D.DeskName g.D.Ledger g.D.ListName sink.ghosts in
-    let passes = Pass.the_row (param 0 g.row.D) g.D.DeskName g.D.Ledger g.D.ListName in
+    let desk = Desk.the_row (param 0 g.row.D) MemorySink.the_row g.D.DeskName g.D.Ledger g.D.LogName sink.ghosts in
+    let passes = Pass.the_row (param 0 g.row.D) g.D.DeskName g.D.Ledger g.D.LogName in
     seven_send _ _ _ _ _ _ _ _ _ _ (shr_send _ _ (param 1 g.row.R) (search sendable)) (shr_send _ _ Barrier.the_row (search (barrier.the_sync, sendable)))
     (shr_send _ _ Global.the_row (search (global.the_sync, sendable))) (shr_send _ _ Service.the_row (search (service.the_sync, sendable)))
     (shr_send _ _ desk (search (desk_sync, memory.the_send, sendable))) (mut_send _ _ passes (search (pass.the_send, sendable)))

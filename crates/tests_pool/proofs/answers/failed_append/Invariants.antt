@@ -7,5 +7,5 @@ ghosts-break_second-D-DeskName g a = record { workers = workers_of a.unnamed }
 abbrev pub ghosts-break_second-D-Ledger : goal.ghosts-break_second-D-Ledger
 ghosts-break_second-D-Ledger g a = record { name = ledger_name a.unnamed; parts = ledger_parts a.unnamed }
 
-abbrev pub ghosts-break_second-D-ListName : goal.ghosts-break_second-D-ListName
-ghosts-break_second-D-ListName g a = record { book = list_book a.unnamed; root = list_root a.unnamed }
+abbrev pub ghosts-break_second-D-LogName : goal.ghosts-break_second-D-LogName
+ghosts-break_second-D-LogName g a = record { book = list_book a.unnamed; root = list_root a.unnamed }

@@ -7,5 +7,5 @@ ghosts-fill-D-DeskName g a = record { workers = workers_of a.unnamed }
 abbrev pub ghosts-fill-D-Ledger : goal.ghosts-fill-D-Ledger
 ghosts-fill-D-Ledger g a = record { name = ledger_name a.unnamed; parts = ledger_parts a.unnamed }
 
-abbrev pub ghosts-fill-D-ListName : goal.ghosts-fill-D-ListName
-ghosts-fill-D-ListName g a = record { book = list_book a.unnamed; root = list_root a.unnamed }
+abbrev pub ghosts-fill-D-LogName : goal.ghosts-fill-D-LogName
+ghosts-fill-D-LogName g a = record { book = list_book a.unnamed; root = list_root a.unnamed }

@@ -7,5 +7,5 @@ ghosts-raised_at-D-DeskName g a = record { workers = workers_of a.unnamed }
 abbrev pub ghosts-raised_at-D-Ledger : goal.ghosts-raised_at-D-Ledger
 ghosts-raised_at-D-Ledger g a = record { name = ledger_name a.unnamed; parts = ledger_parts a.unnamed }
 
-abbrev pub ghosts-raised_at-D-ListName : goal.ghosts-raised_at-D-ListName
-ghosts-raised_at-D-ListName g a = record { book = list_book a.unnamed; root = list_root a.unnamed }
+abbrev pub ghosts-raised_at-D-LogName : goal.ghosts-raised_at-D-LogName
+ghosts-raised_at-D-LogName g a = record { book = list_book a.unnamed; root = list_root a.unnamed }

@@ -7,5 +7,5 @@ ghosts-overtaken_at-D-DeskName g a = record { workers = workers_of a.unnamed }
 abbrev pub ghosts-overtaken_at-D-Ledger : goal.ghosts-overtaken_at-D-Ledger
 ghosts-overtaken_at-D-Ledger g a = record { name = ledger_name a.unnamed; parts = ledger_parts a.unnamed }
 
-abbrev pub ghosts-overtaken_at-D-ListName : goal.ghosts-overtaken_at-D-ListName
-ghosts-overtaken_at-D-ListName g a = record { book = list_book a.unnamed; root = list_root a.unnamed }
+abbrev pub ghosts-overtaken_at-D-LogName : goal.ghosts-overtaken_at-D-LogName
+ghosts-overtaken_at-D-LogName g a = record { book = list_book a.unnamed; root = list_root a.unnamed }

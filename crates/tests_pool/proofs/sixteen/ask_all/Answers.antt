@@ -20,7 +20,7 @@ use Rattle.tests_pool.proofs.sixteen.ask_all.Goals as goal
 
 pub for_each_mut-requires-sync-F : goal.for_each_mut-requires-sync-F
 for_each_mut-requires-sync-F g c κs within =
-    let desk = Desk.the_row (param 0 g.row.D) MemorySink.the_row g.D.DeskName g.D.Ledger g.D.ListName sink.ghosts in
+    let desk = Desk.the_row (param 0 g.row.D) MemorySink.the_row g.D.DeskName g.D.Ledger g.D.LogName sink.ghosts in
     seven_sync _ _ _ _ _ _ _ _ _ _ (shr_sync _ _ (param 1 g.row.R) (search sendable)) (shr_sync _ _ Barrier.the_row (search (barrier.the_sync, sendable)))
     (shr_sync _ _ Told.the_row (search (told.the_sync, sendable))) (shr_sync _ _ Global.the_row (search (global.the_sync, sendable)))
     (shr_sync _ _ Service.the_row (search (service.the_sync, sendable))) (shr_sync _ _ desk (search (desk_sync, memory.the_send, sendable)))

@@ -25,7 +25,7 @@ pub make_room-requires-clause-kept : goal.make_room-requires-clause-kept
 make_room-requires-clause-kept g c =
     let kept = c.self.invariant.0 in
     let same = c.table.ensures.value ∙ c.prepare.ensures.unchanged.0 in
-    let opening : State = opening_state g.D.ListName.root in
+    let opening : State = opening_state g.D.LogName.root in
     let b : RecordedView =
     record {
       table = c.self.inside.journaled.table;
@@ -72,7 +72,7 @@ add-requires-clause-copy g c =
 
 pub invariant_of-self-2 : goal.invariant_of-self-2
 invariant_of-self-2 g c =
-    let opening : State = opening_state g.D.ListName.root in
+    let opening : State = opening_state g.D.LogName.root in
     let b : RecordedView =
     record {
       table = c.self.inside.journaled.table;
@@ -105,7 +105,7 @@ invariant_of-self-2 g c =
 pub returns-clause-recorded : goal.returns-clause-recorded
 unfolding invariant_of-self-2
 returns-clause-recorded g c =
-    let opening : State = opening_state g.D.ListName.root in
+    let opening : State = opening_state g.D.LogName.root in
     let b : RecordedView =
     record {
       table = c.self.inside.journaled.table;

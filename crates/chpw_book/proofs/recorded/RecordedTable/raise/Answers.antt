@@ -22,7 +22,7 @@ pub make_room-requires : goal.make_room-requires
 make_room-requires g c =
     let kept = c.self.invariant.0 in
     let same = c.table-2.ensures.value in
-    let opening : State = opening_state g.D.ListName.root in
+    let opening : State = opening_state g.D.LogName.root in
     let b : RecordedView =
     record {
       table = c.self.inside.journaled.table;
@@ -74,7 +74,7 @@ add-requires-clause-changes g c = rw c.make_room.ensures.same.0 c.self.invariant
 
 pub invariant_of-self-2 : goal.invariant_of-self-2
 invariant_of-self-2 g c =
-    let opening : State = opening_state g.D.ListName.root in
+    let opening : State = opening_state g.D.LogName.root in
     let b : RecordedView =
     record {
       table = c.self.inside.journaled.table;
@@ -104,7 +104,7 @@ invariant_of-self-2 g c =
 pub returns-clause-recorded : goal.returns-clause-recorded
 unfolding invariant_of-self-2
 returns-clause-recorded g c =
-    let opening : State = opening_state g.D.ListName.root in
+    let opening : State = opening_state g.D.LogName.root in
     let b : RecordedView =
     record {
       table = c.self.inside.journaled.table;

@@ -11,6 +11,6 @@ use Rattle.support_bench.proofs.lookup.looking.look_together.Goals as goal
 
 pub for_each_mut-requires-sync-F : goal.for_each_mut-requires-sync-F
 for_each_mut-requires-sync-F g c κs within =
-    let desk = Desk.the_row (param 0 g.row.D) (param 1 g.row.S) g.D.DeskName g.D.Ledger g.D.ListName g.S.JournalSink in
+    let desk = Desk.the_row (param 0 g.row.D) (param 1 g.row.S) g.D.DeskName g.D.Ledger g.D.LogName g.S.JournalSink in
     three_sync _ _ _ _ _ _ (shr_sync _ _ AtomicU64.the_row (search (atomic.the_sync, sendable)))
     (shr_sync _ _ desk (search (desk_sync, sendable))) (shr_sync _ _ Sought.the_row (search (sought.the_sync, sendable)))

@@ -7,7 +7,7 @@ use Rattle.chpw_snapshots.proofs.writer.SnapshotWriter.start.Goals as goal
 
 pub new-requires-clause-rule : goal.new-requires-clause-rule
 new-requires-clause-rule g c =
-    let r = g.D.ListName.root in
+    let r = g.D.LogName.root in
     let v = c.of-first.ensures.value in
     let x = c.of-first.result in
     opens x [] (opening_version r c.args.rows x v.1 v.0 (ap (λ m. m.log) v.3 ∙ c.requires.root.1) (v.2 ∙ sym v.3) c.requires.rows.0)
@@ -18,8 +18,8 @@ publish_as-writer-requires g c next is =
 
 pub invariant_of-result : goal.invariant_of-result
 invariant_of-result g c =
-    let b = g.D.ListName.book in
-    let r = g.D.ListName.root in
+    let b = g.D.LogName.book in
+    let r = g.D.LogName.root in
     let v = c.of-first.ensures.value in
     let x = c.of-first.result in
     let shows : ShowsList x.root.book x.root.log [] x =

@@ -15,8 +15,8 @@ use Rattle.chpw_snapshots.proofs.writer.SnapshotWriter.number_of.Goals as goal
 
 pub unreachable-requires-in_default-number_of : goal.unreachable-requires-in_default-number_of
 unreachable-requires-in_default-number_of g c =
-    let b = g.D.ListName.book in
-    let r = g.D.ListName.root in
+    let b = g.D.LogName.book in
+    let r = g.D.LogName.root in
     let list = c.self.inside.keeper in
     let w = c.in-Some.writer in
     let inv = of_some c.self.inside.writer w (λ w. IsShelved b r (view w.desk.place) w.desk.shown.value list
@@ -30,8 +30,8 @@ unreachable-requires-in_default-number_of g c =
 
 pub returns : goal.returns
 returns g c =
-    let b = g.D.ListName.book in
-    let r = g.D.ListName.root in
+    let b = g.D.LogName.book in
+    let r = g.D.LogName.root in
     let list = c.self.inside.keeper in
     let w = c.in-Some.writer in
     let inv = of_some c.self.inside.writer w (λ w. IsShelved b r (view w.desk.place) w.desk.shown.value list

@@ -13,8 +13,8 @@ use Rattle.chpw_snapshots.proofs.writer.SnapshotWriter.wait.Goals as goal
 
 pub invariant_of-self-in-Ok : goal.invariant_of-self-in-Ok
 invariant_of-self-in-Ok g c =
-    let b = g.D.ListName.book in
-    let r = g.D.ListName.root in
+    let b = g.D.LogName.book in
+    let r = g.D.LogName.root in
     let list = c.self.inside.keeper in
     let w = c.in-Some.writer in
     let inv = of_some c.self.inside.writer w (λ w. IsShelved b r (view w.desk.place) w.desk.shown.value list

@@ -19,8 +19,8 @@ enter_as-requires g c x = looks _ _ x
 
 pub invariant_of-self-in-Ok : goal.invariant_of-self-in-Ok
 invariant_of-self-in-Ok g c =
-    let b = g.D.ListName.book in
-    let r = g.D.ListName.root in
+    let b = g.D.LogName.book in
+    let r = g.D.LogName.root in
     let rd = c.in-Some.reader in
     let is = sym c.take.ensures.value ∙ c.in-Some.is in
     let old = of_some c.self.inside.reader rd (λ q. IsOf b r (view q.place)) is c.self.invariant.0 in
@@ -46,8 +46,8 @@ invariant_of-self-in-Ok g c =
 
 pub returns-else-not-begins-clause-found : goal.returns-else-not-begins-clause-found
 returns-else-not-begins-clause-found g c =
-    let b = g.D.ListName.book in
-    let r = g.D.ListName.root in
+    let b = g.D.LogName.book in
+    let r = g.D.LogName.root in
     let rd = c.in-Some.reader in
     let name = c.args.name.now in
     let is = sym c.take.ensures.value ∙ c.in-Some.is in

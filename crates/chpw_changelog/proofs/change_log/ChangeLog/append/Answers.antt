@@ -11,7 +11,8 @@ invariant_of-self g c =
     let is : pen_after (first_pen g.D.LogName.root) c.self.inside.seen.log ≡ c.replace-pen.result.nib.key =
     sym i.5 ∙ sym (ap (λ p. p.nib.key) c.replace-pen.ensures.value) in
     let a = added (first_pen g.D.LogName.root) c.self.inside.seen.log l.0 c.spent.new.seen.log _ is l.1 l.2 l.3 in
-    let long = ap length a.0 ∙ length-append (changes_in g.D.LogName.root c.self.inside.seen.log) (named (opening_state g.D.LogName.root) c.args.change ∷ []) in (
+    let long = ap length a.0 ∙ length-append (changes_in g.D.LogName.root c.self.inside.seen.log)
+    (named (opening_state g.D.LogName.root) c.args.change ∷ []) in (
       omega (arith, i.0, long),
       c.spent.ensures.book ∙ i.1,
       i.2,

@@ -13,8 +13,8 @@ use Rattle.chpw_snapshots.proofs.writer.SnapshotWriter.publish.Goals as goal
 
 pub publish_as-writer-requires : goal.publish_as-writer-requires
 publish_as-writer-requires g c next is =
-    let b = g.D.ListName.book in
-    let r = g.D.ListName.root in
+    let b = g.D.LogName.book in
+    let r = g.D.LogName.root in
     let list = c.self.inside.keeper in
     let w = c.in-Some-take.writer in
     let inv = of_some c.self.inside.writer w (λ w. IsShelved b r (view w.desk.place) w.desk.shown.value list
@@ -29,8 +29,8 @@ publish_as-writer-requires g c next is =
 
 pub invariant_of-self : goal.invariant_of-self
 invariant_of-self g c =
-    let b = g.D.ListName.book in
-    let r = g.D.ListName.root in
+    let b = g.D.LogName.book in
+    let r = g.D.LogName.root in
     let list = c.self.inside.keeper in
     let w = c.in-Some-take.writer in
     let inv = of_some c.self.inside.writer w (λ w. IsShelved b r (view w.desk.place) w.desk.shown.value list

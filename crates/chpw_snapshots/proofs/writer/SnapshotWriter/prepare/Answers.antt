@@ -14,7 +14,7 @@ number_of-number-requires g c = record { known = (c.requires.next.0, c.requires.
 
 pub wait-requires-clause-shown : goal.wait-requires-clause-shown
 wait-requires-clause-shown g c =
-    let opening = opening_state g.D.ListName.root in
+    let opening = opening_state g.D.LogName.root in
     let change : NumberedKey = record { number = c.number_of-number.result; kvno = c.args.kvno; count = c.args.count } in
     let named_is = named_change opening c.args.name.now change c.number_of-number.ensures.number in
     (named_is.0, subst (λ (k : KeyChange). IsNextVersion opening c.args.self.now.list (Key k)) (sym named_is.1) c.requires.next)
@@ -24,4 +24,4 @@ returns-clause-ok g c =
     let change : NumberedKey = record { number = c.number_of-number.result; kvno = c.args.kvno; count = c.args.count } in
     let waits : KeyChange → Shelved = λ k. record { list = c.args.self.now.list; waiting = Some (Key k) } in
     subst (λ (k : KeyChange). OnOk c.wait.result (c.wait.new.self ≡ waits k)) (named_change
-    (opening_state g.D.ListName.root) c.args.name.now change c.number_of-number.ensures.number).1 c.wait.ensures.ok
+    (opening_state g.D.LogName.root) c.args.name.now change c.number_of-number.ensures.number).1 c.wait.ensures.ok

@@ -14,8 +14,8 @@ enter_as-requires g c x = looks _ _ x
 
 pub returns-in-Ok-clause-later : goal.returns-in-Ok-clause-later
 returns-in-Ok-clause-later g c =
-    let b = g.D.ListName.book in
-    let r = g.D.ListName.root in
+    let b = g.D.LogName.book in
+    let r = g.D.LogName.root in
     let rd = c.in-Some.reader in
     let is = sym c.take.ensures.value ∙ c.in-Some.is in
     let old = of_some c.self.inside.reader rd (λ q. IsOf b r (view q.place)) is c.self.invariant.0 in
