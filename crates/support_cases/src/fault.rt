@@ -1,8 +1,9 @@
-//! Why a case has no answer. It ends the program.
+//! Why a case has no answer.
 
-use std::alloc::AllocError;
+use std::alloc::{AllocError, AllocFailed};
 use std::io;
 
+/// Why a case has no answer.
 #[derive(Clone, Copy, Drop)]
 pub enum Fault {
     /// The line is no case.
@@ -13,6 +14,12 @@ pub enum Fault {
 
 impl From<AllocError> for Fault {
     fn from(_error: AllocError) -> Fault {
+        Fault::Memory
+    }
+}
+
+impl<T: Drop> From<AllocFailed<T>> for Fault {
+    fn from(_error: AllocFailed<T>) -> Fault {
         Fault::Memory
     }
 }

@@ -1,47 +1,28 @@
-//! A small world: realm EXAMPLE.COM, service kadmin/changepw, client alice at 127.0.0.1.
+//! The parts.
 
 use krb_der::{
     Authenticator, Bytes, EncApRepPart, EncKrbPrivPart, EncTicketPart, EncryptionKey, HostAddress,
     KerberosFlags, KerberosTime, KrbError, Microseconds, PrincipalName, SeqNumber, SequenceOf,
     TransitedEncoding,
 };
-use krb_keys::{AES256_CTS_HMAC_SHA1_96, CONFOUNDER_LEN, Key};
-use krb_msgs::ServiceKey;
 use krb_protocol::{ADDR_TYPE_IPV4, KRB_ERROR, NT_PRINCIPAL, NT_SRV_INST, PVNO};
 use std::alloc::{AllocError, Global};
 
+/// The etype of every key here.
+pub const AES256: i32 = 18;
+
 pub const REALM: &[u8] = b"EXAMPLE.COM";
 
-pub const SERVICE: ServiceKey = ServiceKey {
-    kvno: 3,
-    key: Key::Aes256([0x5a; 32]),
-};
-
-pub const SESSION: Key = Key::Aes256([0x33; 32]);
-
-pub const SUBKEY: Key = Key::Aes256([0x44; 32]);
-
-pub const CONFOUNDER: [u8; CONFOUNDER_LEN] = [1; CONFOUNDER_LEN];
-
-pub const PEER: [u8; 4] = [127, 0, 0, 1];
-
-/// The option mutual-required alone.
-pub const OPTIONS: u32 = 0x2000_0000;
-
-/// The flag initial alone.
-const FLAGS: u32 = 0x0040_0000;
-
+/// When the client asks.
 pub const CTIME: KerberosTime = KerberosTime(1_000_100);
 
 pub const CUSEC: Microseconds = Microseconds(1);
 
+/// The flag initial (bit 9) alone.
+const FLAGS: u32 = 0x0040_0000;
+
 pub fn bytes<const TAG: u8>(alloc: Global, text: &[u8]) -> Result<Bytes<TAG>, AllocError> {
     Ok(Bytes::of(Vec::from_slice(alloc, text)?))
-}
-
-/// Bytes as they are printed.
-pub fn text_of(bytes: &[u8]) -> &str {
-    str::from_utf8(bytes).unwrap_or("no UTF-8")
 }
 
 pub fn name(alloc: Global, name_type: i32, parts: &[&[u8]]) -> Result<PrincipalName, AllocError> {
@@ -55,28 +36,33 @@ pub fn name(alloc: Global, name_type: i32, parts: &[&[u8]]) -> Result<PrincipalN
     })
 }
 
+/// A client's name with this component.
 pub fn client(alloc: Global, component: &[u8]) -> Result<PrincipalName, AllocError> {
     name(alloc, NT_PRINCIPAL, &[component])
 }
 
+/// The name of this instance of kadmin.
 pub fn service_name(alloc: Global, instance: &[u8]) -> Result<PrincipalName, AllocError> {
     name(alloc, NT_SRV_INST, &[b"kadmin".as_slice(), instance])
 }
 
+/// A key whose bytes are all this one.
 pub fn key(alloc: Global, byte: u8) -> Result<EncryptionKey, AllocError> {
     Ok(EncryptionKey {
-        keytype: AES256_CTS_HMAC_SHA1_96,
+        keytype: AES256,
         keyvalue: bytes(alloc, &[byte; 32])?,
     })
 }
 
-pub fn address(alloc: Global, last: u8) -> Result<HostAddress, AllocError> {
+/// The address 127.0.0 with this last byte.
+pub fn host_address(alloc: Global, last: u8) -> Result<HostAddress, AllocError> {
     Ok(HostAddress {
         addr_type: ADDR_TYPE_IPV4,
         address: bytes(alloc, &[127, 0, 0, last])?,
     })
 }
 
+/// A ticket's sealed part without its optional fields.
 pub fn ticket_part(alloc: Global) -> Result<EncTicketPart, AllocError> {
     Ok(EncTicketPart {
         flags: KerberosFlags(FLAGS),
@@ -117,7 +103,7 @@ pub fn private_part(alloc: Global, user_data: &[u8]) -> Result<EncKrbPrivPart, A
         timestamp: None,
         usec: None,
         seq_number: Some(SeqNumber(5)),
-        s_address: address(alloc, 1)?,
+        s_address: host_address(alloc, 1)?,
         r_address: None,
     })
 }
