@@ -3,6 +3,7 @@ ghost use Rattle.chpw_messages.specs.Laws.{FramesOpen, PartsOpen};
 ghost use Rattle.chpw_messages.specs.OneOpening.{MessagesOpenOnce};
 ghost use Rattle.chpw_messages.specs.Prefixes.{KrbPrivsFollow, PrefixesOpen};
 ghost use Rattle.chpw_messages.specs.RepliesOpen.{ErrorFramesOpen, PrivateFramesOpen};
+ghost use Rattle.chpw_messages.specs.VersionLaws.{AllStay, ItsOwnStay, MessagesOpenOnceUnder, OthersAddNothing, OthersAreRefused, RequestsAreOfIt};
 ghost use Rattle.chpw_messages.specs.WorkedReplies.{MalformedReply, VersionReply, TooLongReply};
 
 /// The two parts of a request for a password change, made from their records, open to that request, in either version;
@@ -15,6 +16,17 @@ pub fn openings()
 /// A message opens to one answer: one that is refused opens to no request, and one that opens asks one thing.
 pub fn one_opening()
     ensures message { MessagesOpenOnce }
+{}
+
+/// A service that answers requests of RFC 3244 alone answers a message of another version `bad version` and decides
+/// nothing of it, opens one of that version as a service that answers both does, and each message to one answer.
+pub fn versions()
+    ensures refused { OthersAreRefused }
+    ensures requests { RequestsAreOfIt }
+    ensures adds { OthersAddNothing }
+    ensures own { ItsOwnStay }
+    ensures both { AllStay }
+    ensures once { MessagesOpenOnceUnder }
 {}
 
 /// A reply opens, for the client that asked, to the result code, the text and the error code that it was made from.
