@@ -24,12 +24,13 @@ pub struct World {
     pub alone: Alone<MemorySink>,
 }
 
-/// What worlds are started with: the text of a configuration, and the second until which its service
-/// refuses requests.
+/// What worlds are started with: the text of a configuration, the second until which its service refuses requests, and
+/// whether it answers requests of RFC 3244 alone.
 #[derive(Drop)]
 pub struct Setting {
     pub config: String,
     pub quiet_until: i64,
+    pub rfc3244_only: bool,
 }
 
 impl Setting {
@@ -39,6 +40,11 @@ impl Setting {
             return Err(Error::from(ErrorKind::InvalidData));
         };
         let service = Service::of(alloc, &config)?;
+        let service = if self.rfc3244_only {
+            service.rfc3244_only()
+        } else {
+            service
+        };
         let alone = start_alone(alloc, config, self.quiet_until)?;
         Ok(World { service, alone })
     }
