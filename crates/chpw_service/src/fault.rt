@@ -81,7 +81,10 @@ impl fmt::Display for ServeFault<'_> {
             ServeFault::CannotRead(file) => write!(f, "cannot read {file}"),
             ServeFault::Config(fault) => write!(f, "config: {fault}"),
             ServeFault::Shared(file) => {
-                write!(f, "{file}: not started, since other users may read or write it")
+                write!(
+                    f,
+                    "{file}: not started, since other users may read or write it"
+                )
             }
             ServeFault::CannotWrite(file) => write!(f, "cannot write {file}"),
             ServeFault::Journal(fault) => write!(f, "journal: {fault}"),
