@@ -12,6 +12,7 @@ use krb_msgs::{OpenError, ServiceKey, open_ap};
 use std::alloc::{AllocError, Global};
 
 /// What a message from this peer, an IPv4 address, high byte first, opens to, for a service that answers these versions.
+#[tactic(auto, using(crate::proofs::VersionLemmas::holds_refused, crate::proofs::VersionLemmas::holds_opened))]
 pub(crate) fn open_under(
     alloc: Global,
     versions: Versions,
