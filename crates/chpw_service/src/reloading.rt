@@ -10,6 +10,7 @@ use crate::fault::ServeFault;
 use crate::histories::{Opening, ServiceContext, next_opening};
 use crate::notices::Notice;
 use crate::orders::PendingReload;
+use crate::rules::Rules;
 use chpw_book::UnnamedDesk;
 use chpw_control::put_ok;
 use chpw_journal::FileSink;
