@@ -10,19 +10,15 @@ use Rattle.chpw_frame.specs.declared.fault.FrameFault.{FrameFault}
 use Rattle.chpw_frame.specs.declared.fault.FrameFault.TheVariants.{BadLength, BadVersion}
 use Rattle.chpw_frame.specs.Faults as frame
 use Rattle.chpw_frame.specs.Framing.{first_fault, is_whole, request_version, request_versions, version_of}
-use Rattle.chpw_table.specs.declared.times.Moment.{Moment}
-use Rattle.chpw_table.specs.declared.history.Receipt.{Receipt}
-use Rattle.chpw_table.specs.Replies.{Answer, by_error}
-use Rattle.chpw_serve.specs.declared.messages.Seal.{Seal}
+use Rattle.chpw_table.specs.Replies.{by_error}
 use Rattle.chpw_serve.specs.declared.messages.OpenResult as program
 use Rattle.chpw_serve.specs.declared.messages.OpenResult.TheVariants as found
-use Rattle.chpw_serve.specs.Requests.{Opens, Request, opened, refused}
-use Rattle.chpw_serve.specs.Answers.{AnswersOpened}
+use Rattle.chpw_serve.specs.Requests.{Request, opened, refused}
 use Rattle.chpw_messages.specs.declared.versions.Versions.{Versions}
 use Rattle.chpw_messages.specs.declared.versions.Versions.TheVariants.{Both, Rfc3244Only}
 use Rattle.chpw_messages.specs.Holds.{HoldsMessage, HoldsUnder}
-use Rattle.chpw_messages.specs.Opening.{OpensFramed, OpensTo, refused_by}
-use Rattle.chpw_messages.specs.Versions.{OpensUnder, OpensUnless, bad_version, is_of_another, refuses}
+use Rattle.chpw_messages.specs.Opening.{OpensFramed}
+use Rattle.chpw_messages.specs.Versions.{OpensUnless, bad_version, is_of_another, refuses}
 use Rattle.chpw_messages.specs.VersionLaws.{AllStay, ItsOwnStay, MessagesOpenOnceUnder, OthersAddNothing, OthersAreRefused, RequestsAreOfIt}
 use Rattle.chpw_messages.proofs.OneOpeningLemmas.{messages_open_once}
 
@@ -70,9 +66,9 @@ pub requests_are_of_it : RequestsAreOfIt
 requests_are_of_it realm keys peer bytes q h =
     of_it realm keys peer bytes q (is_whole bytes) (version_of bytes == request_version) refl refl h
 
-pub others_add_nothing : OthersAddNothing
-others_add_nothing error_frame private_frame full realm keys peer bytes words reply now old new (refused a) other h answered = answered.0
-others_add_nothing error_frame private_frame full realm keys peer bytes words reply now old new (opened q) other h answered =
+pub others_add_nothing : (full : Type 0) → OthersAddNothing full
+others_add_nothing full error_frame private_frame realm keys peer bytes words reply now old new (refused a) other h answered = answered.0
+others_add_nothing full error_frame private_frame realm keys peer bytes words reply now old new (opened q) other h answered =
     absurd (other (requests_are_of_it realm keys peer bytes q h))
 
 nothing_else : (b : Bool) → (b && false) ≡ false

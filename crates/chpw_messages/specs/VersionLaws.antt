@@ -1,6 +1,6 @@
 -- A service that answers requests of RFC 3244 alone refuses all others, decides none of them, and answers its own as
 -- a service that answers both.
-use Rattle.std.specs.Prelude.{◌≡◌, ◌≢◌, ℕ, List, true, false}
+use Rattle.std.specs.Prelude.{◌≡◌, ◌≢◌, ℕ, List, true}
 use Rattle.krb_msgs.specs.declared.service_keys.ServiceKey.{ServiceKey}
 use Rattle.krb_msgs.specs.OneAnswer.{AreProtocolKeys, IsOne}
 use Rattle.chpw_frame.specs.Framing.{is_whole, request_version, version_of}
@@ -26,16 +26,16 @@ abbrev pub RequestsAreOfIt : Type 0
 RequestsAreOfIt = (realm : List ℕ) (keys : List ServiceKey) (peer bytes : List ℕ) (q : Request)
     → OpensUnder Rfc3244Only realm keys peer bytes (opened q) → version_of bytes ≡ request_version
 
--- so a message of another version adds no entry, and its reply is a KRB-ERROR
-abbrev pub OthersAddNothing : Type 1
-OthersAddNothing = (error_frame : Answer → Moment → List ℕ) (private_frame : Seal → Answer → List ℕ → List ℕ) (full : Type 0)
+-- so an answered message of another version adds no receipt to those of whoever decides, who may be full
+abbrev pub OthersAddNothing : Type 0 → Type 0
+OthersAddNothing full = (error_frame : Answer → Moment → List ℕ) (private_frame : Seal → Answer → List ℕ → List ℕ)
     (realm : List ℕ) (keys : List ServiceKey) (peer bytes words reply : List ℕ) (now : Moment) (old new : List Receipt) (o : Opens)
     → version_of bytes ≢ request_version
     → OpensUnder Rfc3244Only realm keys peer bytes o
     → AnswersOpened error_frame private_frame full o words now old new reply
     → new ≡ old
 
--- a message of that version, or of no length that is its own, opens as it did, and each to a service that answers both
+-- a message of that version opens as to a service that answers both, and to that one each as Opening has it
 abbrev pub ItsOwnStay : Type 0
 ItsOwnStay = (versions : Versions) (realm : List ℕ) (keys : List ServiceKey) (peer bytes : List ℕ) (o : Opens)
     → version_of bytes ≡ request_version
