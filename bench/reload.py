@@ -8,11 +8,12 @@ second all the time. A line for each has how many answers there were, the median
 milliseconds. No answer may be wrong.
 """
 
+import itertools
+import multiprocessing
 import pathlib
 import socket
 import statistics
 import tempfile
-import threading
 import time
 
 import asking
@@ -73,37 +74,59 @@ def ordered(folder, line):
     return text.decode(), (time.perf_counter() - start) * 1_000
 
 
-class Asker(threading.Thread):
-    """Asks until it is told to stop; the times of all answers, and how many were wrong."""
+class Client(multiprocessing.Process):
+    """Asks until it is told to stop; the times of all answers, and how many were wrong. A process of its own, so that it
+    doesn't wait for what other clients compute."""
 
-    def __init__(self, port):
+    def __init__(self):
         super().__init__(daemon=True)
-        self.connection, self.stops, self.times, self.wrong = asking.Connection(port), threading.Event(), [], 0
+        self.stops = multiprocessing.Event()
+        self.receiver, self.sender = multiprocessing.Pipe(duplex=False)
 
     def run(self):
-        number = 0
-        while not self.stops.is_set():
-            number += 1
+        times, wrong = [], 0
+        for spent, is_right in self.answers():
+            times.append(spent)
+            wrong += not is_right
+            if self.stops.is_set():
+                break
+        self.sender.send((times, wrong))
+
+    def result(self):
+        self.stops.set()
+        found = self.receiver.recv()
+        self.join()
+        return found
+
+
+class Asker(Client):
+    """Asks for a password that is too short."""
+
+    def __init__(self, port):
+        super().__init__()
+        self.port = port
+
+    def answers(self):
+        connection = asking.Connection(self.port)
+        for number in itertools.count(1):
             request = asking.request_now("asker", "Ab1", number)
             start = time.perf_counter()
-            self.connection.send(request)
-            reply = self.connection.reply()
-            self.times.append((time.perf_counter() - start) * 1_000)
-            self.wrong += asking.said(request, reply) != TOO_SHORT
+            connection.send(request)
+            reply = connection.reply()
+            yield (time.perf_counter() - start) * 1_000, asking.said(request, reply) == TOO_SHORT
 
 
-class Watcher(threading.Thread):
+class Watcher(Client):
     """Asks for the status, twenty times a second."""
 
     def __init__(self, folder):
-        super().__init__(daemon=True)
-        self.folder, self.stops, self.times, self.wrong = folder, threading.Event(), [], 0
+        super().__init__()
+        self.folder = folder
 
-    def run(self):
-        while not self.stops.is_set():
+    def answers(self):
+        while True:
             text, spent = ordered(self.folder, "status")
-            self.times.append(spent)
-            self.wrong += not text.endswith("\nok\n")
+            yield spent, text.endswith("\nok\n")
             time.sleep(0.05)
 
 
@@ -121,12 +144,10 @@ def measured(report, what, server, folder, work):
     asker.start()
     watcher.start()
     work()
-    for it in (asker, watcher):
-        it.stops.set()
-        it.join()
-    report.tell(f"{what}: wrong answers", (asker.wrong, watcher.wrong), (0, 0))
-    _, longest = told(f"{what}: a password that is too short", asker.times)
-    last, _ = told(f"{what}: status", watcher.times)
+    (asked, wrong), (watched, cut_off) = asker.result(), watcher.result()
+    report.tell(f"{what}: wrong answers", (wrong, cut_off), (0, 0))
+    _, longest = told(f"{what}: a password that is too short", asked)
+    last, _ = told(f"{what}: status", watched)
     return longest, last
 
 

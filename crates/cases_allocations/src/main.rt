@@ -13,7 +13,6 @@
 
 mod calls;
 mod client;
-mod clock;
 mod commands;
 mod deciding;
 mod desks;

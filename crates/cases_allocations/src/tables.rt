@@ -1,14 +1,13 @@
 //! Calls of chpw_rules, chpw_table and chpw_journal, and a table that one thread owns.
 ghost use Rattle.std.specs.Prelude.{◌≤◌, All};
 
-use crate::clock::NOW;
 use crate::deciding::decided;
 use crate::page::Page;
 use crate::seen::{put_history, put_table};
 use crate::stop::{Fell, Stop, beside, called};
 use crate::streams::decided_or_served;
 use crate::workers::Bare;
-use crate::world::{JOURNAL, complete, configured, known, table};
+use crate::world::{JOURNAL, NOW, complete, configured, known, table};
 use chpw_decider::Alone;
 use chpw_journal::{MemorySink, RestoreFault, restore};
 use chpw_rules::Name;

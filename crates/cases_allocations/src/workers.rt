@@ -1,13 +1,12 @@
 //! The deciders of these cases: a table and its journal, a table that one thread owns, a worker at a desk.
 
-use crate::clock::{Counting, NOW, Standing};
 use crate::deciding::Decides;
 use crate::desks::Works;
 use crate::page::Page;
 use crate::seen::{put_alone, put_kept, put_lookup, put_pass, put_receipts};
 use crate::stop::Stop;
 use crate::streams::Serves;
-use crate::world::PEER;
+use crate::world::{NOW, PEER};
 use chpw_book::{AtDesk, DeskName, RaiseFault};
 use chpw_decider::{Alone, Decider};
 use chpw_journal::MemorySink;
@@ -17,6 +16,7 @@ use chpw_serve::{Ended, NoGate, serve_alone, serve_stream};
 use chpw_table::{DecideFault, JournalSink, Opened, RaiseVerdict, Refused, Table, Verdict};
 use std::alloc::Global;
 use std::sync::Wait;
+use support_realm::{Counting, Standing};
 
 /// A table, the sink of its journal, and the request that its last decision returned.
 #[derive(Drop)]
@@ -92,7 +92,7 @@ impl Serves for Alone<MemorySink> {
         written: &mut Vec<u8>,
     ) -> Ended {
         let mut stream = stream;
-        let (clock, words) = (&mut Standing, &mut Counting::new());
+        let (clock, words) = (&mut Standing::at(NOW.seconds), &mut Counting::new());
         serve_alone(
             alloc,
             service,
@@ -119,7 +119,7 @@ impl<D: DeskName, R: Wait> Serves for AtDesk<'_, D, MemorySink, R> {
         written: &mut Vec<u8>,
     ) -> Ended {
         let mut stream = stream;
-        let (clock, words) = (&mut Standing, &mut Counting::new());
+        let (clock, words) = (&mut Standing::at(NOW.seconds), &mut Counting::new());
         let gate = &mut NoGate;
         serve_stream(
             alloc,

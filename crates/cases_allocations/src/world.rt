@@ -3,16 +3,21 @@ ghost use Rattle.std.specs.Prelude.{◌≡◌, true, IfOk};
 ghost use Rattle.chpw_rules.specs.Fitting.{config_fits};
 ghost use Rattle.chpw_rules.specs.Names.{is_name};
 
-use crate::clock::{Counting, NOW};
 use crate::stop::{Stop, called};
 use chpw_client::{LAST_START, LONGEST_PASSWORD, Sent, client_request};
-use chpw_rules::{Config, Items, Name};
-use chpw_table::{Body, Counts, Digest, Moment, Opened, Table};
+use chpw_rules::{Config, Name};
+use chpw_table::{Counts, Digest, Moment, Opened, Table};
 use krb_keys::CONFOUNDER_LEN;
 use std::alloc::Global;
-use support_realm::name;
+use support_realm::{Counting, change, name};
 
 pub const CONFOUNDER: [u8; CONFOUNDER_LEN] = [1; CONFOUNDER_LEN];
+
+/// When everything in these cases is asked and answered.
+pub const NOW: Moment = Moment {
+    seconds: 1_000_100,
+    micros: 0,
+};
 
 /// The client's address.
 pub const PEER: [u8; 4] = [127, 0, 0, 1];
@@ -98,30 +103,14 @@ fn request(
 
 /// Alice's request as it opened, with these microseconds and no keys yet.
 pub fn asked(alloc: Global, cusec: u32) -> Result<Opened, Stop> {
-    let crealm = Items::of(Vec::from_slice(alloc, b"EXAMPLE.COM")?);
     let client = known(alloc, "alice")?;
-    match Digest::of(9, 4, Vec::new(alloc)) {
-        Some(digest) => Ok(opened_of(crealm, client, digest, cusec)),
-        None => Err(Stop::Wrong("no digest")),
-    }
-}
-
-fn opened_of(crealm: Items<u8>, client: Name, digest: Digest, cusec: u32) -> Opened {
-    Opened {
-        crealm,
-        client,
-        initial: true,
-        invalid: false,
-        starts: 0,
-        ends: 2_000_000,
-        ctime: NOW.seconds,
-        cusec,
-        stamp: None,
-        body: Body::Ask {
-            target: None,
-            digest,
-        },
-    }
+    let Some(digest) = Digest::of(9, 4, Vec::new(alloc)) else {
+        return Err(Stop::Wrong("no digest"));
+    };
+    let mut opened = change(alloc, client, cusec, digest)?;
+    opened.ctime = NOW.seconds;
+    opened.ends = 2_000_000;
+    Ok(opened)
 }
 
 /// The request with the keys of its password under the one count that there is.

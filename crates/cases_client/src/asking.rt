@@ -1,14 +1,15 @@
 //! Requests, as a line describes them.
-ghost use Rattle.std.specs.Prelude.{◌≡◌, true, IfOk, IfSome};
+ghost use Rattle.std.specs.Prelude.{◌≡◌, ◌<◌, ◌≤ℤ◌, pos, true, IfOk, IfSome};
+ghost use Rattle.chpw_client.specs.Questions.{latest_second};
 ghost use Rattle.chpw_rules.specs.Names.{is_name};
 
-use crate::clock::{Counting, moment_at};
-use crate::world::no_case;
-use chpw_client::{LONGEST_PASSWORD, Sent, client_request};
+use crate::replying::no_case;
+use chpw_client::{LAST_START, LONGEST_PASSWORD, Sent, client_request};
 use chpw_rules::{Config, Name};
+use chpw_table::Moment;
 use std::alloc::Global;
 use std::io::{self, Error};
-use support_realm::name;
+use support_realm::{Counting, name};
 
 /// What a client asks.
 #[derive(Drop)]
@@ -77,6 +78,21 @@ impl<'a> Question<'a> {
         )
         .map_err(Error::from)
     }
+}
+
+/// The moment at this second, with these microseconds; 0 in place of either that is too large for a request.
+fn moment_at(second: i64, micros: u32) -> Moment
+    ensures start { pos 0 ≤ℤ result.seconds }
+    ensures end { result.seconds ≤ℤ pos latest_second }
+    ensures micros { result.micros < 1000000 }
+{
+    let seconds = if 0 <= second && second <= LAST_START {
+        second
+    } else {
+        0
+    };
+    let micros = if micros < 1_000_000 { micros } else { 0 };
+    Moment { seconds, micros }
 }
 
 /// `N * TEXT` is that text N times, any other text itself.

@@ -1,15 +1,15 @@
 //! The cases, line by line.
 
 use crate::asking::Question;
-use crate::clock::Counting;
 use crate::reading::{changed, cut, told};
-use crate::world::{World, configured, no_case};
+use crate::replying::{configured, no_case, reply_of};
 use chpw_client::Sent;
 use hex::{decode, encode};
 use std::alloc::{AllocError, Global};
 use std::io::{self, Error};
 use std::mem;
 use support_cases::Answers;
+use support_realm::{Counting, Tally, World, newest_kvno};
 
 /// What the lines before have set.
 #[derive(Drop)]
@@ -17,7 +17,7 @@ pub struct Cases {
     base: String,
     /// The client's configuration.
     client: String,
-    world: Option<World>,
+    world: Option<World<Tally>>,
     /// The seconds of client and service.
     asked: i64,
     answered: i64,
@@ -80,7 +80,7 @@ impl Cases {
 
     fn set_world(&mut self, alloc: Global, text: &str) -> io::Result<()> {
         self.set_client(alloc, text)?;
-        let world = World::start(alloc, self.client.as_str())?;
+        let world = World::start(alloc, self.client.as_str(), -1, Tally::new())?;
         drop(mem::replace(&mut self.world, Some(world)));
         drop(mem::replace(&mut self.sent, Vec::new(alloc)));
         self.words = Counting::new();
@@ -126,7 +126,7 @@ impl Cases {
         let Some(world) = &mut self.world else {
             return Err(no_case());
         };
-        let reply = world.reply(alloc, self.answered, sent.message.as_slice())?;
+        let reply = reply_of(alloc, world, self.answered, sent.message.as_slice())?;
         let told = told(alloc, sent, &reply);
         drop(mem::replace(&mut self.reply, reply));
         told
@@ -136,7 +136,7 @@ impl Cases {
         let Some(world) = &self.world else {
             return Err(no_case());
         };
-        let kvno = world.kvno(alloc, name)?;
+        let kvno = newest_kvno(alloc, world.alone.table(), name)?;
         format!(in alloc; "{kvno}").map_err(Error::from)
     }
 

@@ -23,9 +23,8 @@
 
 mod asking;
 mod cases;
-mod clock;
 mod reading;
-mod world;
+mod replying;
 
 use cases::Cases;
 use std::io;

@@ -2,31 +2,44 @@
 use crate::case::{checked, drilled, edited, explained, line_ending, of_bytes, streamed};
 use std::alloc::Global;
 use std::io::{Result, Write};
+use support_cases::Blocks;
 
-/// Runs the cases of a block, and prints its first line and their results. Returns the base of the blocks that follow:
-/// this block's text if it is a `base`, and otherwise the one before.
-pub fn print_block<'a, W: Write>(
-    alloc: Global,
-    out: &mut W,
-    base: &'a str,
-    block: &'a str,
-) -> Result<&'a str> {
-    let (title, body) = block.split_once('\n').unwrap_or((block, ""));
-    let kind = title.split(' ').next().unwrap_or("");
-    writeln!(out, "== {title}")?;
-    match kind {
-        "base" => return Ok(body),
-        "drill" => print_whole(alloc, out, body)?,
-        "drill-cut" => print_drill(alloc, out, body)?,
-        "check" => print_check(alloc, out, body)?,
-        "lines" => print_lines(alloc, out, base, body)?,
-        "streams" => print_streams(alloc, out, base, body)?,
-        "bytes" => print_bytes(alloc, out, body)?,
-        "edits" => print_edits(alloc, out, base, body, false)?,
-        "explained" => print_edits(alloc, out, base, body, true)?,
-        _ => writeln!(out, "no such kind of block")?,
+#[derive(Drop)]
+pub struct Cases {
+    /// The text of the last block `base`.
+    base: String,
+}
+
+impl Cases {
+    pub fn new(alloc: Global) -> Cases {
+        Cases {
+            base: String::new(alloc),
+        }
     }
-    Ok(base)
+}
+
+impl Blocks for Cases {
+    fn print<W: Write>(
+        &mut self,
+        alloc: Global,
+        out: &mut W,
+        kind: &str,
+        body: &str,
+    ) -> Result<bool> {
+        match kind {
+            "base" => self.base = String::from_str(alloc, body)?,
+            "drill" => print_whole(alloc, out, body)?,
+            "drill-cut" => print_drill(alloc, out, body)?,
+            "check" => print_check(alloc, out, body)?,
+            "lines" => print_lines(alloc, out, self.base.as_str(), body)?,
+            "streams" => print_streams(alloc, out, self.base.as_str(), body)?,
+            "bytes" => print_bytes(alloc, out, body)?,
+            "edits" => print_edits(alloc, out, self.base.as_str(), body, false)?,
+            "explained" => print_edits(alloc, out, self.base.as_str(), body, true)?,
+            _ => return Ok(false),
+        }
+        Ok(true)
+    }
 }
 
 // A script whose last line has its newline.

@@ -2,15 +2,25 @@
 use crate::case::{line_answer, rewritten};
 use std::alloc::Global;
 use std::io::{Result, Write};
+use support_cases::Blocks;
 
-/// Runs the cases of a block, and prints its first line and their results.
-pub fn print_block<W: Write>(alloc: Global, out: &mut W, block: &str) -> Result<()> {
-    let (title, body) = block.split_once('\n').unwrap_or((block, ""));
-    writeln!(out, "== {title}")?;
-    match title.split(' ').next().unwrap_or("") {
-        "file" => print_file(alloc, out, body),
-        "made" => print_made(alloc, out, body),
-        _ => writeln!(out, "no such kind of block"),
+#[derive(Drop)]
+pub struct Cases;
+
+impl Blocks for Cases {
+    fn print<W: Write>(
+        &mut self,
+        alloc: Global,
+        out: &mut W,
+        kind: &str,
+        body: &str,
+    ) -> Result<bool> {
+        match kind {
+            "file" => print_file(alloc, out, body)?,
+            "made" => print_made(alloc, out, body)?,
+            _ => return Ok(false),
+        }
+        Ok(true)
     }
 }
 

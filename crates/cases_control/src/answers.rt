@@ -1,10 +1,10 @@
 //! Lines of answers, and their ends.
 
-use crate::fault::Fault;
 use crate::words::{bytes, shown};
 use chpw_control::{ended_ok, put_error, put_line, put_ok};
 use std::alloc::Global;
 use std::str;
+use support_cases::Fault;
 
 /// A line and `ok`.
 pub fn line(alloc: Global, word: &str) -> Result<String, Fault> {

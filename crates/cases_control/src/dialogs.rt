@@ -1,9 +1,9 @@
 //! Connections: what they give at each event, with a space between any two.
 
-use crate::fault::Fault;
 use crate::words::bytes;
 use chpw_control::{Command, ControlFault, Dialog};
 use std::alloc::Global;
+use support_cases::Fault;
 
 /// Bytes, `end` and `late`; for each `-` if it gives nothing.
 pub fn heard(alloc: Global, events: &[&str]) -> Result<String, Fault> {

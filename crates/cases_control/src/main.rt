@@ -3,14 +3,12 @@
 
 mod answers;
 mod dialogs;
-mod fault;
 mod statuses;
 mod words;
 
-use crate::fault::Fault;
 use std::alloc::Global;
 use std::io;
-use support_cases::{Answers, print_answers};
+use support_cases::{Answers, Fault, print_answers};
 
 #[derive(Drop)]
 struct Cases;

@@ -4,11 +4,11 @@ ghost use Rattle.std.specs.Prelude.{◌≡◌, ◌<◌, true, IfOk};
 ghost use Rattle.std.specs.Option.{ForSome};
 ghost use Rattle.chpw_control.specs.Statuses.{AreTold, IsTold};
 
-use crate::fault::Fault;
 use crate::words::{bytes, number, shown};
 use chpw_control::{FollowerState, JournalState, Status, Time, status_answer};
 use std::alloc::Global;
 use std::str;
+use support_cases::Fault;
 
 /// The first second and the last that can be printed.
 const FIRST: i64 = -62_167_219_200;

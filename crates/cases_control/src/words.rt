@@ -1,8 +1,8 @@
 //! Words of a case, and answers as they are printed.
 
-use crate::fault::Fault;
 use std::alloc::Global;
 use std::str;
+use support_cases::Fault;
 
 /// Bytes in hexadecimal; after a `*` how many times they are repeated.
 pub fn bytes(alloc: Global, word: &str) -> Result<Vec<u8>, Fault> {

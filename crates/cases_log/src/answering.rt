@@ -4,13 +4,13 @@ ghost use Rattle.std.specs.Prelude.{◌≡◌, ◌<◌, true};
 ghost use Rattle.chpw_table.specs.Times.{IsMoment};
 
 use crate::events;
-use crate::fault::Fault;
 use crate::making::opened;
 use crate::words::{error_of, maybe_number, number, octets, text_of, verdict_of};
 use chpw_log::{Asked, Held, Line, LineLimit, MessageEvent, write_held, write_line};
 use chpw_table::{LAST_SECOND, Moment};
 use krb_protocol::Refusal;
 use std::alloc::Global;
+use support_cases::Fault;
 
 /// What comes before the result in a line: when, at which worker, from whom.
 #[derive(Clone, Copy, Drop)]

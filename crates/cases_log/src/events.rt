@@ -5,11 +5,11 @@ ghost use Rattle.std.specs.Option.{ForSome};
 ghost use Rattle.chpw_log.specs.Events.{IsQuietTold, IsWholeMoment};
 
 use crate::answering::{is_moment, line_of};
-use crate::fault::Fault;
 use crate::words::number;
 use chpw_log::{ServiceEvent, write_event};
 use chpw_table::Moment;
 use std::alloc::Global;
+use support_cases::Fault;
 
 /// SECONDS MICROS KIND ..
 pub fn happened(alloc: Global, words: &[&str]) -> Result<String, Fault> {

@@ -4,7 +4,6 @@
 
 mod answering;
 mod events;
-mod fault;
 mod making;
 mod words;
 

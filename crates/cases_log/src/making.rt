@@ -1,10 +1,10 @@
 //! Requests from words.
 
-use crate::fault::Fault;
 use crate::words::bytes;
 use chpw_rules::{Items, Name};
 use chpw_table::{Body, Digest, Opened, Target};
 use std::alloc::Global;
+use support_cases::Fault;
 
 /// A request of this client for this target.
 pub fn opened(alloc: Global, client: &str, target: &str) -> Result<Opened, Fault> {

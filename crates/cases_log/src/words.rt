@@ -1,9 +1,9 @@
 //! Words of a case.
 
-use crate::fault::Fault;
 use chpw_table::Verdict;
 use std::alloc::Global;
 use std::str::FromStr;
+use support_cases::Fault;
 
 /// A number in decimal digits.
 pub fn number<N: FromStr>(word: &str) -> Result<N, Fault>

@@ -1,13 +1,12 @@
 //! The records of AP-REQs.
 
+use crate::keys::{OPTIONS, PEER, SERVICE};
 use crate::refusal::Refusal;
-use crate::world::{
-    OPTIONS, PEER, SERVICE, address, authenticator, bytes, client, name, ticket_part,
-};
 use krb_der::{Authenticator, EncTicketPart, EncryptionKey, HostAddress, KerberosTime, SequenceOf};
 use krb_keys::Key;
 use krb_msgs::ServiceKey;
 use std::alloc::{AllocError, Global};
+use support_messages::{authenticator, bytes, client, host_address, name, ticket_part};
 
 /// What an AP-REQ is made from, and the service's keys.
 ///
@@ -89,13 +88,13 @@ fn add_addresses(
 ) -> Result<(), Refusal> {
     match how {
         "none" => {}
-        "127.0.0.2" => addresses.push(address(alloc, 2)?)?,
+        "127.0.0.2" => addresses.push(host_address(alloc, 2)?)?,
         "127.0.0.2 and the peer's" => {
-            addresses.push(address(alloc, 2)?)?;
-            addresses.push(address(alloc, 1)?)?;
+            addresses.push(host_address(alloc, 2)?)?;
+            addresses.push(host_address(alloc, 1)?)?;
         }
         "the peer's under type 3" => {
-            let mut other = address(alloc, 1)?;
+            let mut other = host_address(alloc, 1)?;
             other.addr_type = 3;
             addresses.push(other)?;
         }

@@ -1,14 +1,15 @@
 //! AP-REQs.
 
 use crate::ap_records::{Case, change_case, start_case};
+use crate::keys::{SESSION, text_of};
 use crate::making::ap_req;
 use crate::parts::{change_first, sealed_bytes, sealed_record};
 use crate::refusal::Refusal;
-use crate::world::{REALM, SESSION, bytes, name, service_name, text_of};
 use krb_der::{ApReq, EncryptedData, Ticket, fits, read_ap_req, write_ap_req};
 use krb_keys::{Key, USAGE_AP_REQ_AUTHENTICATOR, USAGE_TICKET};
 use krb_msgs::{ApFault, ApOpened, OpenError, open_ap};
 use std::alloc::{AllocError, Global};
+use support_messages::{REALM, bytes, name, service_name};
 
 /// The answer to an AP-REQ with these changes.
 pub fn answer(alloc: Global, changes: &str) -> Result<String, Refusal> {

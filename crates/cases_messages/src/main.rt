@@ -7,12 +7,12 @@
 
 mod ap_records;
 mod ap_reqs;
+mod keys;
 mod making;
 mod parts;
 mod privates;
 mod refusal;
 mod replies;
-mod world;
 
 use refusal::Refusal;
 use std::alloc::Global;

@@ -3,15 +3,16 @@
 ghost use Rattle.std.specs.Prelude.{◌≡◌, ◌≤◌, true, length, IsTrue};
 ghost use Rattle.krb_codec.specs.Texts.{fits, text};
 
+use crate::keys::CONFOUNDER;
 use crate::refusal::Refusal;
-use crate::world::{CONFOUNDER, REALM};
 use krb_codec::Write;
 use krb_der::{Authenticator, EncApRepPart, EncKrbPrivPart, EncTicketPart, KrbError, text_len};
 use krb_keys::Key;
 use krb_msgs::{ServiceKey, laws, make_ap_rep, make_ap_req, make_error, make_priv, make_ticket};
 use std::alloc::Global;
+use support_messages::REALM;
 
-/// The longest text of a record here.
+/// The longest text of a record in these cases.
 const SHORT: usize = 10_000;
 
 fn is_short<T: Write>(record: &T) -> bool

@@ -1,7 +1,7 @@
 //! Sealed parts that the makers don't produce.
 
+use crate::keys::CONFOUNDER;
 use crate::refusal::Refusal;
-use crate::world::CONFOUNDER;
 use krb_codec::{Write, write_all};
 use krb_der::{Bytes, EncryptedData};
 use krb_keys::{Key, seal};

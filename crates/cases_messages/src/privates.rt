@@ -1,9 +1,9 @@
 //! KRB-PRIVs.
 
+use crate::keys::{SESSION, SUBKEY, text_of};
 use crate::making::krb_priv;
 use crate::parts::{change_first, forged, sealed_bytes, sealed_record};
 use crate::refusal::Refusal;
-use crate::world::{CTIME, CUSEC, REALM, SESSION, SUBKEY, bytes, client, private_part, text_of};
 use krb_der::{
     EncKrbPrivPart, EncryptedData, KerberosFlags, KerberosTime, KrbPriv, Microseconds, SeqNumber,
     fits, read_krb_priv, write_krb_priv,
@@ -11,6 +11,7 @@ use krb_der::{
 use krb_keys::USAGE_KRB_PRIV;
 use krb_msgs::{ApOpened, OpenError, PrivFault, Private, open_priv};
 use std::alloc::{AllocError, Global};
+use support_messages::{CTIME, CUSEC, REALM, bytes, client, private_part};
 
 /// What the AP-REQ before it opened to.
 fn opened(alloc: Global) -> Result<ApOpened, AllocError> {

@@ -1,10 +1,10 @@
 //! Replies: an AP-REP and a KRB-PRIV, or a KRB-ERROR.
 
+use crate::keys::{SESSION, SUBKEY, text_of};
 use crate::making::{ap_rep, krb_error};
 use crate::parts::{change_first, forged, sealed_bytes};
 use crate::privates;
 use crate::refusal::Refusal;
-use crate::world::{CTIME, CUSEC, SESSION, SUBKEY, ap_rep_part, bytes, private_part, text_of};
 use krb_der::{
     ApRep, KerberosTime, KrbError, Microseconds, fits, read_ap_rep, read_krb_error, write_ap_rep,
     write_krb_error,
@@ -12,6 +12,7 @@ use krb_der::{
 use krb_keys::{Key, USAGE_AP_REP_ENC_PART};
 use krb_msgs::{OpenError, Reply, ReplyFault, read_reply};
 use std::alloc::{AllocError, Global};
+use support_messages::{CTIME, CUSEC, ap_rep_part, bytes, private_part};
 
 /// What the client knows, and the bytes of the result that it is sent.
 #[derive(Clone, Copy, Drop)]
@@ -139,7 +140,7 @@ fn start_error(alloc: Global) -> Result<KrbError, Refusal> {
 }
 
 fn error_text(alloc: Global) -> Result<Vec<u8>, Refusal> {
-    let message = crate::world::krb_error(alloc, b"\x00\x03request replayed")?;
+    let message = support_messages::krb_error(alloc, b"\x00\x03request replayed")?;
     let text = krb_error(alloc, &message);
     drop(message);
     text

@@ -3,48 +3,30 @@ ghost use Rattle.std.specs.Prelude.{◌≡◌, true, IfOk};
 ghost use Rattle.chpw_rules.specs.Fitting.{config_fits};
 
 use crate::journal::number;
-use crate::refusal::Refusal;
-use chpw_rules::{Config, Items, KeyBytes, Name, Policy, PrincipalRow, Rules};
+use chpw_rules::{Config, Items, KeyBytes, Name, PrincipalRow};
 use std::alloc::{AllocError, Global};
+use support_cases::Fault;
+use support_realm::config;
 
 /// The configuration with these words, with `; ` between: `NAME KVNO KVNO ..`, a principal with these keys, newest
 /// first, whose bytes are of that number, or, with `!` after it, of another; `depth N`, default 2; `count N`, default
 /// 4096; `realm R`, default EXAMPLE.COM; `entries N`, default 100.
-pub fn config_of(alloc: Global, words: &str) -> Result<Config, Refusal>
+pub fn config_of(alloc: Global, words: &str) -> Result<Config, Fault>
     ensures fits { IfOk result (λ config. config_fits config ≡ true) }
 {
-    let mut config = empty(alloc)?;
+    let mut config = config(alloc, Vec::new(alloc), 4096, 100).map_err(|_| Fault::NoSuchCase)?;
     match put_words(alloc, &mut config, words) {
         Ok(()) if config.fits() => Ok(config),
-        Ok(()) => Err(Refusal::NoSuchCase),
-        Err(refusal) => Err(refusal),
+        Ok(()) => Err(Fault::NoSuchCase),
+        Err(fault) => Err(fault),
     }
-}
-
-fn empty(alloc: Global) -> Result<Config, AllocError> {
-    Ok(Config {
-        realm: bytes(alloc, "EXAMPLE.COM")?,
-        max_entries: 100,
-        service: Items::of(Vec::new(alloc)),
-        policy: Policy {
-            min_length: 6,
-            min_classes: 2,
-            depth: 2,
-            iterations: 4096,
-            set_needs_initial: false,
-        },
-        rules: Rules {
-            list: Items::of(Vec::new(alloc)),
-        },
-        principals: Items::of(Vec::new(alloc)),
-    })
 }
 
 fn bytes(alloc: Global, text: &str) -> Result<Items<u8>, AllocError> {
     Ok(Items::of(Vec::from_slice(alloc, text.as_bytes())?))
 }
 
-fn put_words(alloc: Global, config: &mut Config, words: &str) -> Result<(), Refusal> {
+fn put_words(alloc: Global, config: &mut Config, words: &str) -> Result<(), Fault> {
     let mut rows = Vec::new(alloc);
     for word in words.split("; ") {
         put_word(alloc, config, &mut rows, word)?;
@@ -58,14 +40,14 @@ fn put_word(
     config: &mut Config,
     rows: &mut Vec<PrincipalRow>,
     word: &str,
-) -> Result<(), Refusal> {
+) -> Result<(), Fault> {
     let Some((what, rest)) = word.split_once(' ') else {
-        return Err(Refusal::NoSuchCase);
+        return Err(Fault::NoSuchCase);
     };
     match what {
         "depth" => match u8::try_from(number(rest)?) {
             Ok(depth) => config.policy.depth = depth,
-            Err(_) => return Err(Refusal::NoSuchCase),
+            Err(_) => return Err(Fault::NoSuchCase),
         },
         "count" => config.policy.iterations = number(rest)?,
         "entries" => config.max_entries = number(rest)?,
@@ -75,7 +57,7 @@ fn put_word(
     Ok(())
 }
 
-fn row(alloc: Global, name: &str, kvnos: &str) -> Result<PrincipalRow, Refusal> {
+fn row(alloc: Global, name: &str, kvnos: &str) -> Result<PrincipalRow, Fault> {
     let mut keys = Vec::new(alloc);
     for word in kvnos.split(' ') {
         keys.push(key(word)?)?;
@@ -85,11 +67,11 @@ fn row(alloc: Global, name: &str, kvnos: &str) -> Result<PrincipalRow, Refusal> 
             name,
             keys: Items::of(keys),
         }),
-        None => Err(Refusal::NoSuchCase),
+        None => Err(Fault::NoSuchCase),
     }
 }
 
-fn key(word: &str) -> Result<KeyBytes, Refusal> {
+fn key(word: &str) -> Result<KeyBytes, Fault> {
     let (kvno, is_other) = match word.strip_suffix("!") {
         Some(kvno) => (number(kvno)?, true),
         None => (number(word)?, false),

@@ -1,20 +1,20 @@
 //! A journal's bytes, put together from pieces.
-use crate::refusal::Refusal;
 use chpw_record::{KeyRow, base_bytes, raise_bytes, record_bytes};
 use chpw_rules::Name;
 use std::alloc::Global;
+use support_cases::Fault;
 
 /// The journal with these pieces: `nothing`; `NAME KVNO`, the record of a change, its keys' bytes of that number;
 /// `base NAME KVNO`, that of a base; `raise COUNT`, that of a raise.
-pub fn journal_of(alloc: Global, pieces: &str) -> Result<Vec<u8>, Refusal> {
+pub fn journal_of(alloc: Global, pieces: &str) -> Result<Vec<u8>, Fault> {
     let mut journal = Vec::new(alloc);
     match add_pieces(alloc, &mut journal, pieces) {
         Ok(()) => Ok(journal),
-        Err(refusal) => Err(refusal),
+        Err(fault) => Err(fault),
     }
 }
 
-fn add_pieces(alloc: Global, journal: &mut Vec<u8>, pieces: &str) -> Result<(), Refusal> {
+fn add_pieces(alloc: Global, journal: &mut Vec<u8>, pieces: &str) -> Result<(), Fault> {
     if pieces == "nothing" {
         return Ok(());
     }
@@ -24,13 +24,13 @@ fn add_pieces(alloc: Global, journal: &mut Vec<u8>, pieces: &str) -> Result<(), 
     Ok(())
 }
 
-fn add_piece(alloc: Global, journal: &mut Vec<u8>, piece: &str) -> Result<(), Refusal> {
+fn add_piece(alloc: Global, journal: &mut Vec<u8>, piece: &str) -> Result<(), Fault> {
     match piece.split_once(' ') {
-        None => Err(Refusal::NoSuchCase),
+        None => Err(Fault::NoSuchCase),
         Some(("raise", count)) => {
             journal
                 .extend_from_slice(&raise_bytes(number(count)?))
-                .map_err(Refusal::from)
+                .map_err(Fault::from)
         }
         Some(("base", words)) => add_key(alloc, journal, true, words),
         Some(_) => add_key(alloc, journal, false, piece),
@@ -38,17 +38,12 @@ fn add_piece(alloc: Global, journal: &mut Vec<u8>, piece: &str) -> Result<(), Re
 }
 
 /// Adds a base or a change with `NAME KVNO`.
-fn add_key(
-    alloc: Global,
-    journal: &mut Vec<u8>,
-    is_base: bool,
-    words: &str,
-) -> Result<(), Refusal> {
+fn add_key(alloc: Global, journal: &mut Vec<u8>, is_base: bool, words: &str) -> Result<(), Fault> {
     let Some((name, kvno)) = words.split_once(' ') else {
-        return Err(Refusal::NoSuchCase);
+        return Err(Fault::NoSuchCase);
     };
     let Some(name) = Name::parse(alloc, name)? else {
-        return Err(Refusal::NoSuchCase);
+        return Err(Fault::NoSuchCase);
     };
     let key = key(number(kvno)?);
     let record = if is_base {
@@ -56,7 +51,7 @@ fn add_key(
     } else {
         record_bytes(alloc, &name, &key)?
     };
-    journal.extend_from_slice(&record).map_err(Refusal::from)
+    journal.extend_from_slice(&record).map_err(Fault::from)
 }
 
 fn key(kvno: u32) -> KeyRow {
@@ -70,9 +65,9 @@ fn key(kvno: u32) -> KeyRow {
 }
 
 /// The number that a word spells.
-pub fn number(word: &str) -> Result<u32, Refusal> {
+pub fn number(word: &str) -> Result<u32, Fault> {
     match word.parse::<u32>() {
         Ok(number) => Ok(number),
-        Err(_) => Err(Refusal::NoSuchCase),
+        Err(_) => Err(Fault::NoSuchCase),
     }
 }

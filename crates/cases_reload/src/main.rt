@@ -7,14 +7,12 @@
 
 mod file;
 mod journal;
-mod refusal;
 mod reloading;
 
-use refusal::Refusal;
 use reloading::show_reload;
 use std::alloc::Global;
 use std::io::{self, Error, ErrorKind};
-use support_cases::{Answers, print_answers};
+use support_cases::{Answers, Fault, print_answers};
 
 #[derive(Drop)]
 struct Cases;
@@ -24,8 +22,8 @@ impl Answers for Cases {
         let mut text = Vec::new(alloc);
         match show_reload(alloc, &mut text, case) {
             Ok(()) => String::from_utf8(text).map_err(|_| Error::from(ErrorKind::InvalidData)),
-            Err(Refusal::Memory) => Err(Error::from(ErrorKind::OutOfMemory)),
-            Err(Refusal::NoSuchCase) => String::from_str(alloc, "there is no such case").map_err(
+            Err(Fault::Memory) => Err(Error::from(ErrorKind::OutOfMemory)),
+            Err(Fault::NoSuchCase) => String::from_str(alloc, "there is no such case").map_err(
                 Error::from,
             ),
         }

@@ -2,11 +2,10 @@
 ghost use Rattle.std.specs.Prelude.{◌<◌};
 ghost use Rattle.chpw_table.specs.Times.{IsMoment};
 
-use crate::clock::{Counting, Standing};
 use crate::messages::{Message, no_case, show_reply, text_of};
 use crate::serving::PEER;
+use crate::setting::{Holding, Setting};
 use crate::watched::{Mood, Watched};
-use crate::world::{Holding, Setting, World};
 use chpw_decider::{Alone, Decider};
 use chpw_journal::MemorySink;
 use chpw_messages::Service;
@@ -14,6 +13,7 @@ use chpw_serve::{Messages, NoGate, OpenResult, answer};
 use chpw_table::{Counts, DecideFault, Moment, Opened, Refused, Verdict};
 use std::alloc::{AllocError, Global};
 use std::io;
+use support_realm::{Counting, Standing, World};
 
 /// The moment of each decision in these cases.
 fn now() -> Moment
@@ -154,7 +154,7 @@ fn without_keys(
 fn show_without_keys(
     alloc: Global,
     text: &mut String,
-    world: &mut World,
+    world: &mut World<MemorySink>,
     message: &Message,
 ) -> io::Result<Counts> {
     let (counts, verdict) = counts_and_verdict(alloc, world, message)?;
@@ -168,7 +168,7 @@ fn show_without_keys(
 /// The counts that a decision of a message's request asks for, and its verdict with its password.
 fn counts_and_verdict(
     alloc: Global,
-    world: &mut World,
+    world: &mut World<MemorySink>,
     message: &Message,
 ) -> io::Result<(Counts, &'static str)> {
     let (opened, password) = opened(alloc, &world.service, message)?;
@@ -194,7 +194,7 @@ fn with_keys(
 fn show_with_keys(
     alloc: Global,
     text: &mut String,
-    world: &mut World,
+    world: &mut World<MemorySink>,
     message: &Message,
     counts: &Counts,
 ) -> io::Result<()> {

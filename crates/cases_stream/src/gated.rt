@@ -2,12 +2,13 @@
 
 use crate::messages::Message;
 use crate::serving::{How, ended_text, serve_by, stream_of};
-use crate::world::{Setting, World};
+use crate::setting::Setting;
 use chpw_serve::{Ended, Gate, Observer, Spot};
 use chpw_table::{Event, Moment, Opened, Receipt};
 use krb_protocol::Refusal;
 use std::alloc::Global;
 use std::io;
+use support_realm::World;
 use support_streams::Way;
 
 /// The places that were passed and what was heard there, each with a separator.

@@ -35,18 +35,17 @@
 #![tactic(auto)]
 
 mod cases;
-mod clock;
 mod deciding;
 mod gated;
 mod messages;
 mod repeating;
 mod serving;
+mod setting;
 mod sparing;
 mod varied;
 mod wanting;
 mod watched;
 mod words;
-mod world;
 mod writing;
 
 use cases::Cases;

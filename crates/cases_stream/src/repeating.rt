@@ -2,7 +2,7 @@
 
 use crate::messages::{bytes_of, no_case};
 use crate::serving::{How, Outcome, ended_text, serve_anew};
-use crate::world::{Holding, Setting};
+use crate::setting::{Holding, Setting};
 use hex::encode;
 use std::alloc::Global;
 use std::io;

@@ -1,14 +1,14 @@
 //! Serving streams.
 
-use crate::clock::{Counting, Standing};
 use crate::messages::{Message, no_case, show_reply};
-use crate::world::{Holding, Setting, World};
+use crate::setting::{Holding, Setting};
 use chpw_decider::{Alone, Decider};
 use chpw_frame::{Received, read_tcp, write_tcp};
 use chpw_journal::MemorySink;
 use chpw_serve::{Ended, Gate, Messages, Observer, serve_alone, serve_stream};
 use std::alloc::Global;
 use std::io;
+use support_realm::{Counting, Standing, World};
 use support_streams::{Course, Giver, Taker, Way};
 
 /// The client's address.
@@ -65,7 +65,7 @@ fn writer_of(alloc: Global, how: How) -> Taker {
 }
 
 /// Serves a stream by a table that one thread owns.
-fn serve(alloc: Global, world: &mut World, how: How, stream: &[u8]) -> Outcome {
+fn serve(alloc: Global, world: &mut World<MemorySink>, how: How, stream: &[u8]) -> Outcome {
     let mut reader = reader_of(how, stream);
     let mut writer = writer_of(alloc, how);
     let mut clock = how.clock;
@@ -87,7 +87,7 @@ fn serve(alloc: Global, world: &mut World, how: How, stream: &[u8]) -> Outcome {
     }
 }
 
-/// Serves a stream by any decider and past any gate, over whoever opens and makes messages.
+/// Serves a stream by any decider and past any gate, with any maker of messages.
 pub fn serve_by<M: Messages, D: Decider, G: Gate + Observer>(
     alloc: Global,
     messages: &M,

@@ -3,7 +3,7 @@
 
 use crate::messages::{Message, no_case};
 use crate::serving::{How, serve_anew, served_as, stream_of, stream_of_one};
-use crate::world::Setting;
+use crate::setting::Setting;
 use std::alloc::Global;
 use std::io;
 use std::ops::Range;

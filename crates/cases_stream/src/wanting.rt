@@ -2,12 +2,13 @@
 
 use crate::messages::{Message, no_case};
 use crate::serving::{How, Outcome, ended_text, serve_by, shown_replies, stream_of, with_holding};
+use crate::setting::{Holding, Setting};
 use crate::sparing::Sparing;
 use crate::watched::{Mood, Watched};
-use crate::world::{Holding, Setting, World};
 use chpw_serve::NoGate;
 use std::alloc::Global;
 use std::io;
+use support_realm::World;
 
 /// The replies to these messages, how the stream ended, and what was left unread, with no memory `to decide`, or `to
 /// reply` to what opened.

@@ -2,7 +2,7 @@
 
 use crate::messages::{Message, bytes_of};
 use crate::serving::{How, ended_text, serve_anew, stream_of};
-use crate::world::Setting;
+use crate::setting::Setting;
 use hex::encode;
 use std::alloc::Global;
 use std::io;

@@ -3,19 +3,29 @@ use crate::made::print_made;
 use crate::telling::print_case;
 use std::alloc::Global;
 use std::io::{Result, Write};
+use support_cases::Blocks;
 
-/// Runs the cases of a block, and prints its first line and their results. Its configuration stands before a line `--`,
-/// and its cases after it.
-pub fn print_block<W: Write>(alloc: Global, out: &mut W, block: &str) -> Result<()> {
-    let (title, body) = block.split_once('\n').unwrap_or((block, ""));
-    writeln!(out, "== {title}")?;
-    match title.split(' ').next().unwrap_or("") {
-        "file" => {
-            let (config, cases) = body.split_once("\n--\n").unwrap_or((body, ""));
-            print_cases(alloc, out, config, cases)
+#[derive(Drop)]
+pub struct Cases;
+
+impl Blocks for Cases {
+    // The configuration of a block `file` stands before a line `--`, and its cases after it.
+    fn print<W: Write>(
+        &mut self,
+        alloc: Global,
+        out: &mut W,
+        kind: &str,
+        body: &str,
+    ) -> Result<bool> {
+        match kind {
+            "file" => {
+                let (config, cases) = body.split_once("\n--\n").unwrap_or((body, ""));
+                print_cases(alloc, out, config, cases)?;
+            }
+            "made" => print_lines(alloc, out, body)?,
+            _ => return Ok(false),
         }
-        "made" => print_lines(alloc, out, body),
-        _ => writeln!(out, "no such kind of block"),
+        Ok(true)
     }
 }
 

@@ -1,34 +1,11 @@
 //! Large tables.
 use crate::holding::{Found, found_in, report};
 use crate::telling::{made_configuration, print_likeness};
+use chpw_config_text::write_config;
 use chpw_report::{Form, HeldTable};
 use std::alloc::Global;
-use std::io::{Result, Write};
-
-/// What a made configuration sets beside its principals.
-const SETTINGS: &str = "\
-[service]
-realm = 'EXAMPLE.COM'
-[[service.key]]
-kvno = 3
-etype = 18
-key = '5a5a5a5a5a5a5a5a5a5a5a5a5a5a5a5a5a5a5a5a5a5a5a5a5a5a5a5a5a5a5a5a'
-[policy]
-min_length = 6
-min_classes = 2
-depth = 2
-iterations = 4096
-set_needs_initial = false
-";
-
-/// The keys that each principal has, of version 1.
-const KEYS: &str = "\
-[[principal.key]]
-kvno = 1
-iterations = 4096
-aes128 = '11111111111111111111111111111111'
-aes256 = '2222222222222222222222222222222222222222222222222222222222222222'
-";
+use std::io::{Error, ErrorKind, Result, Write};
+use support_realm::{config, name};
 
 /// Prints, for a line `PRINCIPALS CHANGES`, a configuration with that many principals and a journal with that many
 /// changes of each, the last line of the lines, how many bytes each form has, and whether the configuration that is
@@ -90,11 +67,13 @@ fn last_line(text: &[u8]) -> &str {
 }
 
 fn config_of(alloc: Global, principals: u32) -> Result<String> {
-    let mut text = String::from_str(alloc, SETTINGS)?;
+    let mut names = Vec::new(alloc);
     for number in (0..principals).rev() {
-        write!(text, "[[principal]]\nname = 'client{number:05}'\n{KEYS}")?;
+        let text = format!(in alloc; "client{number:05}")?;
+        names.push(name(alloc, text.as_str())?)?;
     }
-    Ok(text)
+    let config = config(alloc, names, 4096, 1_048_576)?;
+    write_config(alloc, &config).map_err(|_| Error::from(ErrorKind::InvalidInput))
 }
 
 fn journal_of(alloc: Global, principals: u32, changes: u32) -> Result<Vec<u8>> {

@@ -24,12 +24,12 @@ use Rattle.chpw_snapshots.specs.Looking.{LooksUp}
 use Rattle.chpw_book.specs.Passes.{PassView}
 use Rattle.chpw_book.specs.Recorded.{RecordedView, IsLinearized, Enters, Grows, new_recorded}
 
--- what lies under the lock: the table with its history, and the published list
+-- what is under the lock: the table with its history, and the published list
 pub record BookView : Type 0 where
   pub kept : RecordedView
   pub list : List Accepted
 
--- over this table, with no entry yet, for so many workers
+-- over this table, with no entry yet, for this many workers
 abbrev pub new_book : Held → ℕ → Option (List ℕ) → BookView
 new_book t workers told = record { kept = new_recorded t workers told; list = [] }
 

@@ -11,7 +11,7 @@ use Rattle.chpw_journal.specs.Runs.{AreWhole}
 use Rattle.chpw_book.specs.Receipts.{IsNumbered, IsCounted, changes_of, next_entry, receipt_of}
 use Rattle.chpw_book.specs.Passes.{PassView}
 
--- the table, the history, each worker's count, the accepted changes, the ledger's total, and what the sink tells
+-- the table, the history, each worker's count, the accepted changes, the ledger's total, and the sink's known bytes
 pub record RecordedView : Type 0 where
   pub table : Held
   pub history : List Entry
@@ -20,7 +20,7 @@ pub record RecordedView : Type 0 where
   pub total : ℕ
   pub told : Option (List ℕ)
 
--- no entry yet, of so many workers
+-- no entry yet, for this many workers
 abbrev pub new_recorded : Held → ℕ → Option (List ℕ) → RecordedView
 new_recorded t workers told = record { table = t; history = []; counts = replicate workers 0; changes = 0; total = 0; told = told }
 

@@ -10,7 +10,7 @@ use chpw_table::{Entry, Receipt};
 /// not in its place, or, if all are, the position that the first receipt after them names.
 ///
 /// A position has 32 bits, so the history is shorter than 2^32; a table decides at most 1,048,576 events.
-#[tactic(auto, using(crate::proofs::AgreeLemmas::left_whole, crate::proofs::AgreeLemmas::goes_on, crate::proofs::AgreeLemmas::passes_by, crate::proofs::AgreeLemmas::differs_here, crate::proofs::AgreeLemmas::misses_here, crate::proofs::AgreeLemmas::stands_behind, crate::proofs::AgreeLemmas::ends_same))]
+#[tactic(auto, using(crate::proofs::AgreeLemmas::agreeing))]
 pub fn agree(history: &[Entry], worker: u8, receipts: &[Receipt]) -> Option<u32>
     requires few { length history.now < 2 ^ 32 }
     ensures none { IfNone result (receipts.now ≡ calls history.now worker) }

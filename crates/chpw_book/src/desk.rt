@@ -115,9 +115,8 @@ impl<D: DeskName, S: JournalSink> Desk<D, S> {
         note_full(pass, decided)
     }
 
-    /// The same, with the digest completed for this password under the lock, as far as keys are
-    /// missing, so that none are asked for. The request that a refusal hands back may have more of
-    /// them.
+    /// One event with the digest completed for this password under the lock, where keys are missing, so that none are
+    /// asked for. The request that a refusal returns may have more of them.
     #[tactic(auto, using(crate::proofs::CallLemmas::notes_of_deriving))]
     pub fn decide_deriving<R: Wait>(
         &self,

@@ -9,7 +9,7 @@ ghost use Rattle.chpw_book.specs.ShownLaws.{LookupsShowHistories};
 /// raises by one the version that is shown before it, and each change of the count raises the count, so no longer list
 /// shows an older version or a lower count. A lookup after the list shows what a table shows to which the history
 /// leads.
-#[tactic(auto, using(crate::proofs::ChangeLemmas::accepted_on, crate::proofs::ChangeLemmas::changes_counted, crate::proofs::ChangeLemmas::beginnings, crate::proofs::KeptLemmas::kept_list, crate::proofs::KeptLemmas::known_before, crate::proofs::RiseLemmas::versions_rise, chpw_snapshots::proofs::RiseLemmas::no_older, chpw_snapshots::proofs::RiseLemmas::no_lower, crate::proofs::ShownLemmas::histories_shown))]
+#[tactic(auto, using(crate::proofs::LawLemmas::change_laws))]
 pub fn changes()
     ensures adds { EntryAddsItsChange }
     ensures counted { ChangesAreCounted }

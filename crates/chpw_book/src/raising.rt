@@ -23,7 +23,7 @@ use std::alloc::AllocError;
 /// Why no raise was decided, in the order of the tests; nothing has changed.
 #[derive(Clone, Copy, PartialEq, Eq, Debug, Drop)]
 pub enum RaiseFault {
-    /// The table has decided as many events as it may.
+    /// The table has decided as many events as allowed.
     Full,
     /// A growth was refused.
     Memory,
@@ -41,9 +41,8 @@ impl From<AllocError> for RaiseFault {
 }
 
 impl<D: DeskName, S: JournalSink> RecordedTable<D, S> {
-    /// One raise: an entry of the pass's worker at the end, and its receipt in the pass. The count that
-    /// it sets waits on the shelf; putting it there is the last growth before the journal is appended
-    /// to.
+    /// One raise: an entry of the pass's worker at the end, and its receipt in the pass. The count that it sets is
+    /// prepared on the shelf, with the last growth before the journal is appended to.
     ///
     /// `now` has seconds from 0 to `chpw_table::LAST_SECOND`, and `count` is 1 to 16,777,216. After a fault nothing has
     /// changed: `Full`, `Memory`.

@@ -131,7 +131,7 @@ pub struct ServeOptions<'a> {
     ghost some_count: { (count : ℕ) → raise ≡ Some count → (1 ≤ count) × (count ≤ 16777216) },
 }
 
-/// A command for a running service.
+/// Send a command to a running service.
 #[derive(Clone, Copy, Drop)]
 pub enum ControlCommand<'a> {
     /// Report its state.

@@ -101,8 +101,8 @@ fn fills(receipts: &[Receipt], room: Option<u32>) -> bool
     }
 }
 
-// Answers a message of a peer, from memory to memory. The message stands behind its length, one that is too long is
-// its length alone. None where memory ran out.
+// Answers a message of a peer, in memory. The message follows its length; one that is too long is its length alone.
+// None if memory ran out.
 fn reply_to<M: Messages, K: Decider, G: Gate + Observer, C: Clock, X: Words>(
     peer: [u8; 4],
     message: &[u8],

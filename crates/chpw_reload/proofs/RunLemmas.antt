@@ -260,3 +260,14 @@ in_a_row_follow_on s (r ∷ rs) sound h =
     let opens = tables_may_open s [] r.opening (record { sound = sound; each = tt; counts = tt }) h.0 in
     let rest = in_a_row_follow_on (outcome r.opening r.history) rs (histories_stay_sound r.opening r.history opens.sound h.1 h.2) h.3 in
     record { sound = sound; each = (opens.left.keys, opens.sound, h.1, h.2, rest.each); counts = (opens.left.count, rest.counts) }
+
+-- the laws of runs
+pub ruleset run_laws = (
+  runs_stay_sound,
+  used_over_reloads,
+  names_over_reloads,
+  count_over_reloads,
+  quiet_over_reloads,
+  runs_begin,
+  runs_go_on,
+)

@@ -58,7 +58,7 @@ pub fn files()
 /// keys never falls; quiet time and realm stay. A first history is such a run, and one more history, which opens with
 /// the table that was left or with a reload of it, extends it. Histories without a reload between them are runs that
 /// wrote one journal (`chpw_journal::laws`).
-#[tactic(auto, using(crate::proofs::RunLemmas::runs_stay_sound, crate::proofs::RunLemmas::used_over_reloads, crate::proofs::RunLemmas::names_over_reloads, crate::proofs::RunLemmas::count_over_reloads, crate::proofs::RunLemmas::quiet_over_reloads, crate::proofs::RunLemmas::runs_begin, crate::proofs::RunLemmas::runs_go_on))]
+#[tactic(auto, using(crate::proofs::RunLemmas::run_laws))]
 pub fn runs()
     ensures sound { RunsStaySound }
     ensures used { UsedOverReloads }

@@ -41,3 +41,11 @@ texts_all f (b ∷ xs) (suc n) h =
     let rest = texts_all f xs n h in
     let few = rest.0 in
     (omega (arith, few), ap (λ (ys : List ℕ). f b ++ ys) rest.1)
+
+-- what a report goes by, text by text
+pub ruleset reporting = (
+  texts_more,
+  texts_all,
+  appends_none,
+  appends_more,
+)

@@ -1,4 +1,4 @@
--- What is told of the principals that a table holds: a text for each, in the order of their names.
+-- The report of the principals that a table holds: a text for each, in the order of their names.
 use Rattle.std.specs.Prelude.{ℕ, List, [], ◌++◌, length, codes}
 use Rattle.std.specs.List.{flat_map}
 use Rattle.std.specs.Option.{option_map_or}
@@ -48,7 +48,7 @@ abbrev pub told_of : Form → List ℕ → Held → Name → List ℕ
 told_of Lines realm t name = option_map_or (shown_line name) (lookup_of t name) []
 told_of Keys realm t name = option_map_or (keys_lines realm name) (keys_held t.state name) []
 
--- behind the lines for a person: how many principals there are, and how many changes a journal had
+-- after the lines for a person: how many principals there are, and how many changes a journal had
 abbrev pub end_of : Form → ℕ → ℕ → List ℕ
 end_of Lines principals changes =
     codes "principals " ++ decimal principals ++ codes " changes " ++ decimal changes ++ codes "\n"

@@ -24,7 +24,7 @@ pub enum ReportFault {
 /// Writes the report of a table's principals, in the order of their names, with one write for each; after the lines for
 /// a person one with their number and that of the changes of a journal. `realm` is the principals'. It takes no more
 /// memory than a principal's text.
-#[tactic(auto, using(crate::proofs::ReportLemmas::texts_more, crate::proofs::ReportLemmas::texts_all, crate::proofs::ReportLemmas::appends_none, crate::proofs::ReportLemmas::appends_more))]
+#[tactic(auto, using(crate::proofs::ReportLemmas::reporting))]
 pub fn write_report<W: Write>(
     alloc: Global,
     form: Form,

@@ -23,7 +23,7 @@ use Rattle.chpw_serve.specs.InTurn.{InTurn}
 use Rattle.chpw_serve.specs.Serving.{StreamState, TakesAtMostOne, message_too_long}
 use Rattle.chpw_serve.specs.StreamReplies.{Draw, Run, verdict_of, is_full, run_after, replies}
 
--- what a message is answered by a table that one thread has alone
+-- the answer to a message by a table that one thread owns
 abbrev pub AnsweringAlone : {G : Type 0} → (G → Spot → G → Type 0) → (G → Heard → G → Type 0)
     → (Answer → Moment → List ℕ) → (Seal → Answer → List ℕ → List ℕ) → (List ℕ → Opens → Type 0) → List ℕ
     → List ℕ → List ℕ → Moment → Kept → Kept → G → G → List ℕ → Bool → Type 0

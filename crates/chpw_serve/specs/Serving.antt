@@ -17,7 +17,7 @@ use Rattle.chpw_serve.specs.InTurn.{InTurn}
 abbrev pub message_too_long : Answer
 message_too_long = by_error KRB5_KPASSWD_MALFORMED KRB_ERR_FIELD_TOOLONG (codes "message too long")
 
--- the bytes written, if they are known, the clock, the words, and the gate
+-- the bytes written, if they are known, the clock, the words, and what is gate and observer
 pub record Around (C X G : Type 0) : Type 0 where
   pub out : Option (List ℕ)
   pub clock : C

@@ -26,7 +26,7 @@ IsTry full (try.Verdict v) password before now old new = AddsReceipt old new now
 IsTry full (try.Full o) password before now old new = (new ≡ old) × full × (o ≡ before)
 IsTry full (try.Again o) password before now old new = (new ≡ old) × IsCompletedFrom password before o
 
--- what the gate hears of a verdict: the last receipt; if the history is full, the request
+-- what the observer hears of a verdict: the last receipt; if the history is full, the request
 abbrev pub HearsLast : {G : Type 0} → (G → Heard → G → Type 0) → List ℕ → Moment → (Option ℕ → Type 0) → List Receipt → G → G → Type 0
 HearsLast hears peer now made receipts observer later =
     (r : Receipt) × (kvno : Option ℕ) × (slice_get receipts (length receipts - 1) ≡ Some r) × IsKvnoOf made r.entry.event kvno

@@ -1,4 +1,4 @@
-//! What a gate hears of a decision.
+//! What the observer hears of a decision.
 ghost use Rattle.std.specs.Prelude.{◌≡◌, ◌<◌, IfOk, OnErr};
 ghost use Rattle.chpw_table.specs.Times.{IsMoment};
 ghost use Rattle.chpw_serve.specs.Trying.{IsVerdict, HearsVerdict, HearsLast, EndsWithVerdict};

@@ -9,7 +9,7 @@ use krb_protocol::Refusal;
 
 /// What hears what was decided or refused, as a log. `peer` is an IPv4 address, high byte first.
 pub trait Observer {
-    /// Hearing this in the first state, it is in the second.
+    /// Hearing this leads from the first state to the second.
     ghost hears: { Self → Heard → Self → Type 0 };
 
     /// A request from this peer was decided at this moment: this is its receipt. `kvno` is the version of the
@@ -19,8 +19,8 @@ pub trait Observer {
         requires micros { now.micros < 1000000 }
         ensures heard { hears self.old (decision peer now receipt.now kvno) self.new };
 
-    /// A message from this peer was not decided: it didn't open, was too long, or came to a full history,
-    /// and is answered so at this moment. Of the last there is the request.
+    /// A message from this peer was not decided: it didn't open, was too long, or came to a full history, and is
+    /// answered so at this moment. In the last case there is the request.
     fn refused(&mut self, peer: [u8; 4], now: Moment, opened: Option<&Opened>, refusal: &Refusal)
         requires moment { IsMoment now }
         requires micros { now.micros < 1000000 }

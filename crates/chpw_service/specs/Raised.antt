@@ -38,13 +38,13 @@ pub record IsRaise {C : Type 0} (gives : C → Moment → C → Type 0) (opening
   pub noted : IfOk raised (λ verdict. Notes opening mine more now (Raise count verdict))
   pub refused : IfErr raised (λ fault. more ≡ raise_refused_with fault mine)
 
--- it was asked by the first of these passes, and the others are as they were
+-- it was asked by the first of these passes, and the others are unchanged
 abbrev pub IsRaiseOfFirst : {C : Type 0} → (C → Moment → C → Type 0) → State → C → C → List PassView → List PassView → ℕ → Type 0
 IsRaiseOfFirst gives opening before after [] new count = new ≡ []
 IsRaiseOfFirst gives opening before after (mine ∷ others) new count =
     (more : PassView) × (told : RaiseReport) × (new ≡ more ∷ others) × IsRaise gives opening before after mine more count (Some told)
 
--- where it is wanted
+-- if it is asked for
 abbrev pub IsRaisedWhereAsked : {C : Type 0} → (C → Moment → C → Type 0) → State → C → C → List PassView → List PassView → Option ℕ → Type 0
 IsRaisedWhereAsked gives opening before after old new None = new ≡ old
 IsRaisedWhereAsked gives opening before after old new (Some count) = IsRaiseOfFirst gives opening before after old new count

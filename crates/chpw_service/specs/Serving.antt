@@ -19,7 +19,7 @@ abbrev pub versions_asked : Bool → Versions
 versions_asked true = Rfc3244Only
 versions_asked false = Both
 
--- the first pass has as many receipts as a history may have entries, before any message is answered: of a raise
+-- the first pass has as many receipts as a history may have entries, before any message is answered, because of a raise
 abbrev pub is_full_with : List PassView → ℕ → Bool
 is_full_with [] most = false
 is_full_with (p ∷ ps) most = nat_le most (length p.receipts)

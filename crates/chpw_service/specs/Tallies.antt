@@ -28,8 +28,8 @@ changes_a_password (Raise count verdict) = false
 abbrev pub password_changes : List Entry → ℕ
 password_changes history = count_by (λ (e : Entry). changes_a_password e.event) history
 
--- the entries and changes of a history that the one-thread machine replays from the opening to this table, in
--- which what the accepted entries bring in is whole, and each worker's calls are the receipts that its pass has
+-- the entries and changes of a history that the one-thread machine replays from the opening to this table, in which
+-- what the accepted entries add is well-formed, and each worker's calls are the receipts of its pass
 pub record IsTally (opening : State) (workers : ℕ) (passes : List PassView) (tally : Tally) (table : Held) : Type 0 where
   pub history : List Entry
   pub legal : IsLegal opening history

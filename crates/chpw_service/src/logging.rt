@@ -369,7 +369,7 @@ impl Book<'_> {
     }
 }
 
-/// The lines of a log, as a worker's gate writes them. They go to a file or a terminal that the others share, so no
+/// The lines of a log, as a worker's observer writes them. They go to a file or a terminal that the others share, so no
 /// clause says what they hold.
 #[derive(Drop)]
 pub struct LogLines<'l, R> {

@@ -1,4 +1,4 @@
-//! What a worker passes with its messages, and writes into the log.
+//! What hears what came of a worker's messages, and writes it into the log.
 ghost use Rattle.std.specs.Prelude.{◌≡◌, ◌<◌, IfOk, map, vec_len};
 ghost use Rattle.std.specs.List.{range_with_len};
 ghost use Rattle.chpw_table.specs.Times.{IsMoment};
@@ -77,7 +77,7 @@ impl<L: Lines> Observer for Logging<L> {
 
     ghost hears = { λ a h b. (b.worker ≡ a.worker) × InTurn L.takes a.lines (noted a.worker h) b.lines };
 
-    // A raise is no message's.
+    // A raise belongs to no message.
     fn decided(&mut self, peer: [u8; 4], now: Moment, receipt: &Receipt, kvno: Option<u32>) {
         if let Event::Ask { opened, verdict } = &receipt.entry.event {
             tell_failed(&mut self.lines, now, *verdict);

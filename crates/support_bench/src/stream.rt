@@ -2,19 +2,14 @@
 //! one thread owns; `stream read N` reads them and no more. The bytes read and written are printed, and the count of
 //! changes.
 
-mod still;
-
 use crate::no_such;
-use chpw_config::read_config;
-use chpw_decider::{Alone, Decider};
+use chpw_decider::Decider;
 use chpw_frame::{LONGEST_MESSAGE, write_tcp};
 use chpw_journal::MemorySink;
-use chpw_messages::Service;
 use chpw_serve::serve_alone;
-use chpw_table::Table;
 use std::alloc::Global;
 use std::io;
-use still::{Still, Words};
+use support_realm::{Counting, Standing, World};
 
 // The bytes of the journal in these measurements.
 const JOURNAL: usize = 10_000_000;
@@ -22,25 +17,10 @@ const JOURNAL: usize = 10_000_000;
 // The client's address.
 const PEER: [u8; 4] = [127, 0, 0, 1];
 
-// The service and its table.
-#[derive(Drop)]
-struct World {
-    service: Service,
-    alone: Alone<MemorySink>,
-}
-
 // A configuration's service, and its table with no event yet.
-fn start(alloc: Global, text: &str) -> io::Result<World> {
-    let Ok(config) = read_config(alloc, text) else {
-        return Err(no_such());
-    };
+fn start(alloc: Global, text: &str) -> io::Result<World<MemorySink>> {
     let sink = MemorySink::new(alloc, JOURNAL)?;
-    let service = Service::of(alloc, &config)?;
-    let table = Table::start(alloc, config, -1)?;
-    Ok(World {
-        service,
-        alone: Alone::new(alloc, table, sink),
-    })
+    World::start(alloc, text, -1, sink)
 }
 
 // Each message after its length.
@@ -55,7 +35,7 @@ fn stream_of(alloc: Global, messages: &[Vec<u8>]) -> io::Result<Vec<u8>> {
 }
 
 // Serves the stream; the bytes written.
-fn serve(alloc: Global, world: &mut World, stream: &[u8]) -> usize {
+fn serve(alloc: Global, world: &mut World<MemorySink>, stream: &[u8]) -> usize {
     let mut reader = stream;
     let mut written = Vec::new(alloc);
     serve_alone(
@@ -65,14 +45,14 @@ fn serve(alloc: Global, world: &mut World, stream: &[u8]) -> usize {
         &mut reader,
         &mut written,
         &mut world.alone,
-        &mut Still,
-        &mut Words::new(),
+        &mut Standing::at(1_000_100),
+        &mut Counting::new(),
     );
     written.len()
 }
 
 // How many passwords were changed.
-fn changes(world: &World) -> usize {
+fn changes(world: &World<MemorySink>) -> usize {
     let receipts = world.alone.receipts().iter();
     receipts.filter(|r| r.entry.event.is_accepted()).count()
 }
@@ -92,7 +72,7 @@ pub fn measure(
 fn measure_of(
     rt: &(impl Print + AllocGlobal),
     what: &str,
-    world: &mut World,
+    world: &mut World<MemorySink>,
     stream: &[u8],
 ) -> io::Result<()> {
     let written = match what {

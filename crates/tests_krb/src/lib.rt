@@ -5,6 +5,6 @@
 #[cfg(test)]
 mod long_texts;
 #[cfg(test)]
-mod records;
+mod messages;
 #[cfg(test)]
-mod world;
+mod records;

@@ -1,6 +1,5 @@
 //! Long texts, where memory suffices; what fits; and the words of a fault.
 
-use super::world::{self, bytes};
 use krb_der::{
     Bytes, ChangePasswdData, FaultKind, KerberosFlags, KerberosTime, Microseconds, PrincipalName,
     ReadError, SequenceOf, fits, read_change_passwd_data, read_principal_name, text_len,
@@ -9,6 +8,7 @@ use krb_der::{
 use krb_protocol::{MUTUAL_REQUIRED, USE_SESSION_KEY};
 use std::alloc::{AllocError, Global};
 use std::test::Fail;
+use support_messages::{ap_rep_part, bytes};
 
 /// A change of password whose text is 12 bytes longer than the password.
 fn password_of(alloc: Global, length: usize) -> Result<ChangePasswdData, AllocError> {
@@ -56,7 +56,7 @@ fn a_name_of_300_components(rt: HostRuntime) -> Result<(), Fail> {
 
 #[test]
 fn what_fits(rt: HostRuntime) {
-    let mut part = world::reply_part();
+    let mut part = ap_rep_part();
     assert_eq!(rt; text_len(&part), Some(33));
     part.cusec = Microseconds(1_000_000);
     assert!(rt; !fits(&part));

@@ -1,10 +1,11 @@
-//! Records of the world, by their values: each is written, read back, and written to the same text.
+//! Records, by their values: each is written, read back, and written to the same text.
 
-use super::world;
+use super::messages;
 use krb_codec::{Read, Write, read_all, text_len, write_all};
 use std::alloc::Global;
 use std::process::Abort;
 use std::test::Fail;
+use support_messages::{ap_rep_part, private_part};
 
 /// The length is that of the text which another encoder writes (`cases_der` has the texts).
 fn goes_both_ways<T: Read + Write>(
@@ -23,50 +24,70 @@ fn goes_both_ways<T: Read + Write>(
 
 #[test]
 fn checksum(rt: HostRuntime) -> Result<(), Fail> {
-    goes_both_ways(&rt, rt.alloc(), &world::checksum(rt.alloc())?, 12)
+    goes_both_ways(&rt, rt.alloc(), &messages::checksum(rt.alloc())?, 12)
 }
 
 #[test]
 fn whole_enc_ticket_part(rt: HostRuntime) -> Result<(), Fail> {
-    goes_both_ways(&rt, rt.alloc(), &world::whole_ticket_part(rt.alloc())?, 219)
+    goes_both_ways(
+        &rt,
+        rt.alloc(),
+        &messages::whole_ticket_part(rt.alloc())?,
+        219,
+    )
 }
 
 #[test]
 fn authenticator(rt: HostRuntime) -> Result<(), Fail> {
-    goes_both_ways(&rt, rt.alloc(), &world::authenticator(rt.alloc())?, 118)
+    goes_both_ways(
+        &rt,
+        rt.alloc(),
+        &support_messages::authenticator(rt.alloc())?,
+        118,
+    )
 }
 
 #[test]
 fn ap_req(rt: HostRuntime) -> Result<(), Fail> {
-    goes_both_ways(&rt, rt.alloc(), &world::request(rt.alloc())?, 193)
+    goes_both_ways(&rt, rt.alloc(), &messages::request(rt.alloc())?, 193)
 }
 
 #[test]
 fn ap_rep(rt: HostRuntime) -> Result<(), Fail> {
-    goes_both_ways(&rt, rt.alloc(), &world::reply(rt.alloc())?, 67)
+    goes_both_ways(&rt, rt.alloc(), &messages::reply(rt.alloc())?, 67)
 }
 
 #[test]
 fn enc_ap_rep_part(rt: HostRuntime) -> Result<(), Fail> {
-    goes_both_ways(&rt, rt.alloc(), &world::reply_part(), 33)
+    goes_both_ways(&rt, rt.alloc(), &ap_rep_part(), 33)
 }
 
 #[test]
 fn krb_priv(rt: HostRuntime) -> Result<(), Fail> {
-    goes_both_ways(&rt, rt.alloc(), &world::private(rt.alloc())?, 67)
+    goes_both_ways(&rt, rt.alloc(), &messages::private(rt.alloc())?, 67)
 }
 
 #[test]
 fn enc_krb_priv_part(rt: HostRuntime) -> Result<(), Fail> {
-    goes_both_ways(&rt, rt.alloc(), &world::private_part(rt.alloc())?, 48)
+    goes_both_ways(
+        &rt,
+        rt.alloc(),
+        &private_part(rt.alloc(), b"\0\0password changed")?,
+        48,
+    )
 }
 
 #[test]
 fn krb_error(rt: HostRuntime) -> Result<(), Fail> {
-    goes_both_ways(&rt, rt.alloc(), &world::error(rt.alloc())?, 104)
+    goes_both_ways(
+        &rt,
+        rt.alloc(),
+        &support_messages::krb_error(rt.alloc(), b"\0\x01malformed")?,
+        104,
+    )
 }
 
 #[test]
 fn change_passwd_data(rt: HostRuntime) -> Result<(), Fail> {
-    goes_both_ways(&rt, rt.alloc(), &world::change_data(rt.alloc())?, 42)
+    goes_both_ways(&rt, rt.alloc(), &messages::change_data(rt.alloc())?, 42)
 }

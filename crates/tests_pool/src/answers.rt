@@ -26,7 +26,7 @@ const WORDS: [u32; 9] = [1, 2, 3, 4, 5, 6, 7, 8, 9];
 
 pub const ROOM: usize = 1000;
 
-// What a client of this machine prints of a worker's answer to its request.
+// What a client of this machine prints for a worker's answer to its request.
 pub fn answered<D: DeskName, G: Gate + Observer, R: Wait + Abort>(
     rt: &R,
     alloc: Global,
@@ -40,7 +40,7 @@ pub fn answered<D: DeskName, G: Gate + Observer, R: Wait + Abort>(
     answered_at(rt, alloc, service, &mut place, gate, sent)
 }
 
-// The same of a worker at any place.
+// Likewise, for a worker at any decider.
 pub fn answered_at<P: Decider, G: Gate + Observer, R: Abort>(
     rt: &R,
     alloc: Global,

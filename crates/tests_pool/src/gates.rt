@@ -1,4 +1,4 @@
-//! What holds workers: a gate.
+//! A gate that holds workers.
 use chpw_serve::{Gate, Observer, Spot};
 use chpw_table::{Moment, Opened, Receipt};
 use krb_protocol::Refusal;

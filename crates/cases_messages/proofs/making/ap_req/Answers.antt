@@ -5,7 +5,8 @@ use Rattle.krb_der.specs.Types as types
 use Rattle.krb_der.specs.Values.{authenticator_value, enc_ticket_part_value, ticket_value}
 use Rattle.krb_der.specs.declared.ticket.Ticket.{Ticket}
 use Rattle.krb_msgs.specs.Making.{SpellsTicket, ticket_of}
-use Rattle.cases_messages.specs.declared.world.TheConstants.{CONFOUNDER, REALM}
+use Rattle.cases_messages.specs.declared.keys.TheConstants.{CONFOUNDER}
+use Rattle.support_messages.specs.declared.parts.TheConstants.{REALM}
 use Rattle.cases_messages.proofs.making.ap_req.Goals as goal
 
 -- the text of a ticket that fits spells it

@@ -10,6 +10,9 @@ use Rattle.chpw_table.specs.Completing.{completed}
 use Rattle.chpw_table.proofs.AgreementLemmas.{agrees_itself}
 use Rattle.chpw_decider.specs.Deciding.{IsFinal}
 use Rattle.chpw_decider.proofs.CompletingLemmas.{completed_by_none, completed_lacks_nothing, no_need, err_implies}
+use Rattle.chpw_changelog.specs.Pens.{opening_state}
+use Rattle.chpw_table.specs.declared.history.Event.TheVariants.{Ask}
+use Rattle.chpw_book.specs.Calls.{Adds}
 use Rattle.chpw_book.specs.Publishing.{BookView}
 use Rattle.chpw_book.proofs.CallLemmas.{full_at, final_other}
 use Rattle.chpw_book.proofs.book.Book.decide_deriving.Goals as goal
@@ -59,3 +62,20 @@ returns-in_default g c =
       );
       told = c.decide.ensures.told;
     }
+
+-- where no keys are missing the request is as it was
+pub returns-in-Ok-clause-adds : goal.returns-in-Ok-clause-adds
+returns-in-Ok-clause-adds g c = (
+  [],
+  subst (λ (o : Opened). Adds (opening_state g.D.LogName.root) c.args.self.now.kept c.decide.new.self.kept
+      c.args.pass.now c.decide.new.pass c.args.now (Ask o c.in-Ok.verdict))
+      (sym (completed_by_none c.args.password.now c.args.opened)) c.in-Ok.ensures.adds,
+)
+
+pub returns-then-is_err-clause-unchanged : goal.returns-then-is_err-clause-unchanged
+returns-then-is_err-clause-unchanged g c =
+    let same : c.complete.new.self ≡ c.in-Err.refused.opened = search rules in (
+      c.in-Err.ensures.unchanged.0,
+      c.in-Err.ensures.unchanged.1,
+      ([], same ∙ (c.in-Err.ensures.refused.opened ∙ sym (completed_by_none c.args.password.now c.args.opened))),
+    )
