@@ -39,11 +39,12 @@ use std::time::Clock;
 
 /// Serves this many connections on 127.0.0.1, the messages of connection i (from 0) by worker i modulo their number,
 /// one after the other. The configuration is read first, then the seed; with strict modes the start is refused then if
-/// others may read or write its files; then the log is opened if there is one, and the journal is read; then the iteration
-/// count of new keys is raised if that is asked for, and the service listens at the port. A torn tail that was cut off the journal is reported on standard error. Printed are the result of the raise,
-/// `listening on 127.0.0.1:N` before a connection is accepted, when the service manager is told too, and `entries N changes N` for each history: when one is
-/// full, its desk is closed, and the next one opens with the closed table and its used ids. With a control socket it
-/// carries out the commands that come there, and ends when told to stop.
+/// others may read or write its files; then the log is opened if there is one, and the journal is read; then the
+/// iteration count of new keys is raised if that is asked for, and the service listens at the port. A torn tail that
+/// was cut off the journal is reported on standard error. Printed are the result of the raise, `listening on
+/// 127.0.0.1:N` before a connection is accepted, when the service manager is told too, and `entries N changes N` for
+/// each history: when one is full, its desk is closed, and the next one opens with the closed table and its used ids.
+/// With a control socket it carries out the commands that come there, and ends when told to stop.
 pub fn serve<
     'a,
     R: Files<File = File>
