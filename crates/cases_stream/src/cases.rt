@@ -41,6 +41,7 @@ impl Cases {
             setting: Setting {
                 config: String::new(alloc),
                 quiet_until: -1,
+                rfc3244_only: false,
             },
             messages: Vec::new(alloc),
         }
@@ -52,12 +53,13 @@ impl Cases {
         Ok(self.base.push_str("\n")?)
     }
 
-    /// `quiet N`, and `OLD -> NEW`.
+    /// `quiet N`, `of RFC 3244 alone`, and `OLD -> NEW`.
     fn set_world(&mut self, alloc: Global, text: &str) -> Result<(), AllocError> {
         self.setting.quiet_until = match text.strip_prefix("quiet ") {
             Some(second) => second.parse().unwrap_or(-1),
             None => -1,
         };
+        self.setting.rfc3244_only = text == "of RFC 3244 alone";
         let (old, new) = text.split_once(" -> ").unwrap_or(("", ""));
         self.setting.config = replaced(alloc, self.base.as_str(), old, new)?;
         Ok(())

@@ -1,8 +1,9 @@
 //! Cases of the service on one stream, a line each on standard input, with the answer of each on standard output.
 //!
 //! - `| TEXT`: a line of a configuration.
-//! - `world as it is`, `world OLD -> NEW`, `world quiet N`: the following lines are done with that configuration; with
-//!   another text in it; with a service that refuses requests up to the second N.
+//! - `world as it is`, `world OLD -> NEW`, `world quiet N`, `world of RFC 3244 alone`: the following lines are done with
+//!   that configuration; with another text in it; with a service that refuses requests up to the second N; with one
+//!   that answers requests of version 0xff80 alone.
 //! - `message NAME CTIME.CUSEC HEX`: a message, and the authenticator's time in it.
 //! - `served HOW: NAME NAME ..`: these messages are served as one stream by a table that one thread owns. The answer is
 //!   each reply, how the stream ended, how many events there were, and the kvno of each principal.

@@ -9,19 +9,28 @@ use support_realm::{World, newest_kvno};
 /// The bytes of a journal in these cases.
 const JOURNAL: usize = 100_000;
 
-/// What worlds are started with: the text of a configuration, and the second until which its service
-/// refuses requests.
+/// What worlds are started with: the text of a configuration, the second until which its service refuses requests, and
+/// whether it answers requests of RFC 3244 alone.
 #[derive(Drop)]
 pub struct Setting {
     pub config: String,
     pub quiet_until: i64,
+    pub rfc3244_only: bool,
 }
 
 impl Setting {
     /// The configuration's service, and its table with no event yet.
     pub fn start(&self, alloc: Global) -> io::Result<World<MemorySink>> {
         let sink = MemorySink::new(alloc, JOURNAL)?;
-        World::start(alloc, self.config.as_str(), self.quiet_until, sink)
+        let world = World::start(alloc, self.config.as_str(), self.quiet_until, sink)?;
+        if !self.rfc3244_only {
+            return Ok(world);
+        }
+        let World { service, alone } = world;
+        Ok(World {
+            service: service.rfc3244_only(),
+            alone,
+        })
     }
 }
 

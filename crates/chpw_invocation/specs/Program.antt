@@ -58,7 +58,7 @@ key = command (codes "key")
 
 -- serve --config FILE --journal FILE --seed FILE --port N --workers N --connections N [--idle SECONDS]
 -- [--clients N] [--buffers MEBIBYTES] [--raise COUNT] [--log FILE] [--follower SOCKET] [--follower-wait MILLISECONDS]
--- [--control SOCKET] [--udp]
+-- [--control SOCKET] [--udp] [--rfc3244-only] [--strict-modes]
 abbrev pub serve : Shape
 serve = command (codes "serve")
     (required (codes "config")
@@ -76,6 +76,8 @@ serve = command (codes "serve")
     ∷ follower_wait
     ∷ optional (codes "control")
     ∷ flag (codes "udp")
+    ∷ flag (codes "rfc3244-only")
+    ∷ flag (codes "strict-modes")
     ∷ [])
 
 -- control --socket SOCKET COMMAND [FILE]

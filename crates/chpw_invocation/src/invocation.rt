@@ -119,6 +119,10 @@ pub struct ServeOptions<'a> {
     pub control: Option<&'a str>,
     /// Whether messages are accepted over UDP too.
     pub udp: bool,
+    /// Whether requests of RFC 3244 alone are answered, and those of the earlier protocol refused.
+    pub rfc3244_only: bool,
+    /// Whether a start is refused when others may read or write one of its files.
+    pub strict_modes: bool,
     ghost some_workers: { (1 ≤ workers) × (workers ≤ 16) },
     ghost some_idle: { (1 ≤ idle) × (idle ≤ 3600) },
     ghost some_clients: { (1 ≤ clients) × (clients ≤ 65536) },

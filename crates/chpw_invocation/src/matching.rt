@@ -178,6 +178,8 @@ fn serve_of<'a>(options: &ArgMatches<'a>) -> Option<Invocation<'a>>
         follower_wait: follower_wait_of(options)?,
         control: text_of(options, "control"),
         udp: is_given(options, "udp"),
+        rfc3244_only: is_given(options, "rfc3244-only"),
+        strict_modes: is_given(options, "strict-modes"),
     }))
 }
 

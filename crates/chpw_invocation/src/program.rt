@@ -124,6 +124,12 @@ const CONTROL_HELP: &str = "Accept commands of 'control' at this socket [default
 
 const UDP_HELP: &str = "Accept messages over UDP too, at the same port";
 
+const RFC3244_ONLY_HELP: &str =
+    "Refuse requests of the earlier protocol, version 0x0001, as of a bad version";
+
+const STRICT_MODES_HELP: &str =
+    "Don't start if other users may read or write the configuration, the seed, the log or the journal";
+
 const IMPORT: &str = "Convert a keytab's keys to a configuration.";
 
 const IMPORT_MORE: &str = "\
@@ -310,6 +316,8 @@ fn serve<'a>(alloc: Global) -> Result<Command<'a>, AllocError>
         ),
         optional("control", "SOCKET", CONTROL_HELP),
         flag("udp", UDP_HELP),
+        flag("rfc3244-only", RFC3244_ONLY_HELP),
+        flag("strict-modes", STRICT_MODES_HELP),
     ];
     command_with(alloc, "serve", SERVE, SERVE_MORE, &options)
 }

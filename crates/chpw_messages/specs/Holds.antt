@@ -11,6 +11,8 @@ use Rattle.chpw_serve.specs.Requests.{Content, Opens, body_under, password_in}
 use Rattle.chpw_serve.specs.Holding.{IsOpenResult}
 use Rattle.chpw_messages.specs.declared.content.Content as held
 use Rattle.chpw_messages.specs.Opening.{IsContent, OpensParts, OpensTo, stamp_in}
+use Rattle.chpw_messages.specs.declared.versions.Versions.{Versions}
+use Rattle.chpw_messages.specs.Versions.{OpensUnder}
 
 -- this content and stamp, with no keys yet
 abbrev pub IsHeld : Content → Option ℤ → held.Content → Type 0
@@ -31,3 +33,7 @@ HoldsParts realm keys peer version ap_req tail found =
 -- the program has what a message opens to
 abbrev pub HoldsMessage : List ℕ → List ServiceKey → List ℕ → List ℕ → program.OpenResult → Type 0
 HoldsMessage realm keys peer bytes found = (o : Opens) × OpensTo realm keys peer bytes o × IsOpenResult o found
+
+-- likewise, with the rule for versions before
+abbrev pub HoldsUnder : Versions → List ℕ → List ServiceKey → List ℕ → List ℕ → program.OpenResult → Type 0
+HoldsUnder versions realm keys peer bytes found = (o : Opens) × OpensUnder versions realm keys peer bytes o × IsOpenResult o found

@@ -9,5 +9,7 @@ mod opening;
 mod private_reply;
 mod replies;
 mod service;
+mod versions;
 
 pub use service::Service;
+pub use versions::Versions;

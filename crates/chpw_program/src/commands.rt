@@ -16,6 +16,7 @@ use std::alloc::AllocError;
 use std::fs::{File, Files};
 use std::io::Write;
 use std::net::{Net, TcpListener, TcpStream};
+use std::rt::Env;
 use std::sync::Wait;
 use std::thread::Threads;
 use std::time::Clock;
@@ -29,6 +30,7 @@ where
         + Threads
         + Wait
         + Clock
+        + Env
         + Input
         + Print
         + Eprint

@@ -16,8 +16,10 @@ use Rattle.chpw_journal.specs.declared.fault.RestoreFault.TheVariants.{Memory as
 use Rattle.chpw_pool.specs.declared.pool.PoolFault.{PoolFault}
 use Rattle.chpw_pool.specs.declared.pool.PoolFault.TheVariants as pool
 use Rattle.chpw_invocation.specs.declared.invocation.ServeOptions.{ServeOptions}
+use Rattle.chpw_service.specs.declared.shared_files.SharedFiles.{SharedFiles}
+use Rattle.chpw_service.specs.Modes.{first_shared}
 use Rattle.chpw_service.specs.declared.fault.ServeFault.{ServeFault}
-use Rattle.chpw_service.specs.declared.fault.ServeFault.TheVariants.{CannotRead, Config, CannotWrite}
+use Rattle.chpw_service.specs.declared.fault.ServeFault.TheVariants.{CannotRead, Config, Shared, CannotWrite}
 use Rattle.chpw_service.specs.declared.fault.ServeFault.TheVariants.{Journal, CannotListen, CannotListenAt}
 use Rattle.chpw_service.specs.declared.fault.ServeFault.TheVariants.{CannotPrint, Memory, CannotClose}
 use Rattle.chpw_service.specs.declared.fault.LateFault.{LateFault}
@@ -26,6 +28,7 @@ use Rattle.chpw_service.specs.declared.fault.LateFault.TheVariants as late
 abbrev pub line_of : ServeFault → List ℕ
 line_of (CannotRead file) = codes "cannot read " ++ file.now
 line_of (Config fault) = codes "config: " ++ config_text fault
+line_of (Shared file) = file.now ++ codes ": not started, since other users may read or write it"
 line_of (CannotWrite file) = codes "cannot write " ++ file.now
 line_of (Journal fault) = codes "journal: " ++ journal_text fault
 line_of CannotListen = codes "cannot listen"
@@ -71,6 +74,11 @@ IsOfJournal path (CannotWrite file) = file.now ≡ path
 IsOfJournal path (Journal fault) = (fault ≢ NoMemory) × IsOfRecords fault
 IsOfJournal path fault = IsUnread path fault
 
+-- the fault of a start with strict modes: others may read or write one of its files
+abbrev pub IsOfModes : ServeOptions → ServeFault → Type 0
+IsOfModes o (Shared file) = (o.strict_modes ≡ true) × ((shared : SharedFiles) × (first_shared o shared ≡ Some file))
+IsOfModes o fault = ⊥
+
 -- the fault of the log at a path: it can't be made or appended to
 abbrev pub IsUnlogged : List ℕ → ServeFault → Type 0
 IsUnlogged path (CannotWrite file) = file.now ≡ path
@@ -109,8 +117,8 @@ late_fault late.CannotClose = CannotClose
 
 -- a fault of a service with these files
 abbrev pub IsOfService : ServeOptions → ServeFault → Type 0
-IsOfService o fault = IsOfSettings o.config.now fault ⊎ (IsUnread o.seed.now fault
-    ⊎ (IsOfLog o.log fault ⊎ (IsOfJournal o.journal.now fault ⊎ (IsOfControl o.control fault ⊎ IsLate fault))))
+IsOfService o fault = IsOfSettings o.config.now fault ⊎ (IsUnread o.seed.now fault ⊎ (IsOfModes o fault
+    ⊎ (IsOfLog o.log fault ⊎ (IsOfJournal o.journal.now fault ⊎ (IsOfControl o.control fault ⊎ IsLate fault)))))
 
 -- the fault of the service for a pool that ended early
 abbrev pub told_as : PoolFault → ServeFault

@@ -14,6 +14,8 @@ pub enum ServeFault<'a> {
     CannotRead(&'a str),
     /// The configuration has this fault.
     Config(ConfigFault),
+    /// Others may read or write this file, with strict modes: the configuration, the seed, the log or the journal.
+    Shared(&'a str),
     /// The journal's file can't be made, or its torn tail can't be cut off.
     CannotWrite(&'a str),
     /// The journal has this fault.
@@ -78,6 +80,12 @@ impl fmt::Display for ServeFault<'_> {
         match self {
             ServeFault::CannotRead(file) => write!(f, "cannot read {file}"),
             ServeFault::Config(fault) => write!(f, "config: {fault}"),
+            ServeFault::Shared(file) => {
+                write!(
+                    f,
+                    "{file}: not started, since other users may read or write it"
+                )
+            }
             ServeFault::CannotWrite(file) => write!(f, "cannot write {file}"),
             ServeFault::Journal(fault) => write!(f, "journal: {fault}"),
             ServeFault::CannotListen => f.write_str("cannot listen"),

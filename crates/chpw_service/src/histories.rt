@@ -18,10 +18,10 @@ use crate::notices::{Notice, is_first, take_unreported};
 use crate::observers::Logging;
 use crate::orders::{AfterClose, Orders};
 use crate::reloading::reload;
+use crate::rules::Rules;
 use chpw_book::{Desk, DeskName, Pass, StartFault, UnnamedDesk};
 use chpw_invocation::ServeOptions;
 use chpw_journal::FileSink;
-use chpw_messages::Service;
 use chpw_pool::{Engine, MachineClock, NotStarted, run_shift};
 use chpw_serve::Clock as _;
 use chpw_table::{JournalSink, Table};
@@ -31,14 +31,6 @@ use std::net::Net;
 use std::sync::Wait;
 use std::thread::Threads;
 use std::time::Clock;
-
-/// What messages are answered by, until the configuration is reloaded.
-#[derive(Drop)]
-pub struct Rules {
-    pub service: Service,
-    /// The most entries of a history.
-    pub max_entries: u32,
-}
 
 /// What all desks are served with.
 #[derive(Drop)]

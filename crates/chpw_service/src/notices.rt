@@ -18,6 +18,8 @@ pub(crate) enum Notice<'a> {
     Unconfirmed(&'a str),
     /// Others than its owner may read or write this file.
     Shared(&'a str),
+    /// The service manager couldn't be told that the service listens.
+    ManagerNotTold,
     /// The configuration lacks this many principals that the table has.
     Lacked(u64),
     /// Of the journal at this path this many bytes are kept, and a torn tail after them was cut off.
@@ -58,6 +60,9 @@ impl fmt::Display for Notice<'_> {
                 )
             }
             Notice::Shared(file) => write!(f, "{file}: other users may read or write it"),
+            Notice::ManagerNotTold => f.write_str(
+                "NOTIFY_SOCKET: the service manager could not be told that the service is ready",
+            ),
             Notice::Lacked(count) => {
                 write!(
                     f,

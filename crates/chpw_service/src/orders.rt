@@ -5,11 +5,11 @@ use crate::checked_reload::CheckedReload;
 use crate::compacting::{Compaction, begin_compaction};
 use crate::fault::ServeFault;
 use crate::files::{open_file, read_regular, settings};
-use crate::histories::{Rules, ServiceContext};
+use crate::histories::ServiceContext;
+use crate::rules::{Rules, rules_of};
 use chpw_config::explain;
 use chpw_control::Command;
 use chpw_invocation::ServeOptions;
-use chpw_messages::Service;
 use chpw_pool::{BackgroundTask, MachineClock};
 use chpw_reload::{ReloadFault, prepare};
 use chpw_serve::Clock as _;
@@ -130,10 +130,9 @@ fn read_anew<'a, R: Files<File = File> + AllocGlobal>(
         Ok(config) => config,
         Err(fault) => return Err(unset_fault(rt.alloc(), &text, fault)),
     };
-    let Ok(service) = Service::of(rt.alloc(), &config) else {
+    let Ok(rules) = rules_of(rt.alloc(), &config, options) else {
         return Err(PrepareFault::Start(ServeFault::Memory));
     };
-    let max_entries = config.max_entries;
     let journal = match open_file(rt, options.journal) {
         Ok(journal) => journal,
         Err(fault) => return Err(PrepareFault::Start(fault)),
@@ -148,10 +147,7 @@ fn read_anew<'a, R: Files<File = File> + AllocGlobal>(
     Ok(PendingReload {
         renewed: CheckedReload::of(renewal),
         rest,
-        rules: Rules {
-            service,
-            max_entries,
-        },
+        rules,
     })
 }
 

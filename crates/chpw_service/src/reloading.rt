@@ -7,9 +7,10 @@ ghost use Rattle.chpw_service.specs.declared.fault.ServeFault.TheVariants.{Memor
 use crate::answers::{reload_refusal, told};
 use crate::checked_reload::CheckedReload;
 use crate::fault::ServeFault;
-use crate::histories::{Opening, Rules, ServiceContext, next_opening};
+use crate::histories::{Opening, ServiceContext, next_opening};
 use crate::notices::Notice;
 use crate::orders::PendingReload;
+use crate::rules::Rules;
 use chpw_book::UnnamedDesk;
 use chpw_control::put_ok;
 use chpw_journal::FileSink;

@@ -4,7 +4,8 @@ ghost use Rattle.chpw_service.specs.Faults.{IsLate, told_as};
 
 use crate::fault::{LateFault, ServeFault};
 use crate::followed::{ControlTerms, SocketFollower};
-use crate::histories::{Opened, Rules, ServiceContext, serve_histories};
+use crate::histories::{Opened, ServiceContext, serve_histories};
+use crate::rules::Rules;
 use chpw_book::DeskName;
 use chpw_pool::{Follower, Pool, PoolFault, StatusReporter};
 use std::fs::{File, Files};

@@ -13,34 +13,38 @@ use crate::facts::time_of;
 use crate::fault::ServeFault;
 use crate::files::{is_shared, read_seed, read_settings};
 use crate::followed::{ControlTerms, FollowerTerms, JournalLength, journal_length};
-use crate::histories::{Opened, Opening, Rules, ServiceContext, first_opening, start_desk};
+use crate::histories::{Opened, Opening, ServiceContext, first_opening, start_desk};
 use crate::logging::{Log, LogLines, log_of};
 use crate::notices::Notice;
 use crate::observers::{Logging, log_observers};
 use crate::raising::raise_where_asked;
+use crate::rules::{Rules, rules_of};
 use crate::running::{serve_from, told};
+use crate::service_manager::{notify_ready, notify_stopping};
+use crate::shared_files::refuse_shared;
 use crate::starting::open_table;
 use chpw_book::{Desk, DeskName, Pass};
 use chpw_invocation::ServeOptions;
 use chpw_journal::{FileSink, Journal};
-use chpw_messages::Service;
 use chpw_pool::{Engine, MachineClock, PoolOptions};
 use chpw_serve::Clock as _;
 use std::alloc::Global;
 use std::fs::{File, Files};
 use std::marker::Brand;
 use std::net::{Ipv4Addr, Net, TcpListener, TcpStream, UdpSocket};
+use std::rt::Env;
 use std::sync::Wait;
 use std::thread::Threads;
 use std::time::Clock;
 
 /// Serves this many connections on 127.0.0.1, the messages of connection i (from 0) by worker i modulo their number,
-/// one after the other. The configuration is read first, then the seed; then the log is opened if there is one, and the
-/// journal is read; then the iteration count of new keys is raised if that is asked for, and the service listens at the
-/// port. A torn tail that was cut off the journal is reported on standard error. Printed are the result of the raise,
-/// `listening on 127.0.0.1:N` before a connection is accepted, and `entries N changes N` for each history: when one is
-/// full, its desk is closed, and the next one opens with the closed table and its used ids. With a control socket it
-/// carries out the commands that come there, and ends when told to stop.
+/// one after the other. The configuration is read first, then the seed; with strict modes the start is refused then if
+/// others may read or write its files; then the log is opened if there is one, and the journal is read; then the
+/// iteration count of new keys is raised if that is asked for, and the service listens at the port. A torn tail that
+/// was cut off the journal is reported on standard error. Printed are the result of the raise, `listening on
+/// 127.0.0.1:N` before a connection is accepted, when the service manager is told too, and `entries N changes N` for
+/// each history: when one is full, its desk is closed, and the next one opens with the closed table and its used ids.
+/// With a control socket it carries out the commands that come there, and ends when told to stop.
 pub fn serve<
     'a,
     R: Files<File = File>
@@ -48,6 +52,7 @@ pub fn serve<
         + Threads
         + Wait
         + Clock
+        + Env
         + Print
         + Eprint
         + AllocGlobal
@@ -66,6 +71,7 @@ pub fn serve_by<
         + Threads
         + Wait
         + Clock
+        + Env
         + Print
         + Eprint
         + AllocGlobal
@@ -76,11 +82,11 @@ pub fn serve_by<
 {
     let config = read_settings(rt, options.config)?;
     let seed = read_seed(rt, options.seed)?;
+    refuse_shared(rt, &options)?;
     let log = log_of(rt, rt.alloc(), &options)?;
-    let Ok(service) = Service::of(rt.alloc(), &config) else {
+    let Ok(rules) = rules_of(rt.alloc(), &config, &options) else {
         return Err(ServeFault::Memory);
     };
-    let max_entries = config.max_entries;
     let mut clock = MachineClock::new(time);
     let Journal {
         table,
@@ -109,11 +115,8 @@ pub fn serve_by<
         since: time_of(since),
         workers: options.workers,
     };
-    let rules = Rules {
-        service,
-        max_entries,
-    };
     let ended = serve_opened::<Brand, R, T>(rt, time, start, control, rules, opening, &mut clock);
+    notify_stopping(rt);
     take_away(rt, options.control);
     log.end(clock.now());
     ended
@@ -148,6 +151,7 @@ fn serve_opened<
         + Threads
         + Wait
         + Clock
+        + Env
         + Print
         + Eprint
         + AllocGlobal
@@ -196,7 +200,7 @@ fn raise_and_listen<
     'a,
     'l,
     D: DeskName,
-    R: Net<Listener = TcpListener, Stream = TcpStream> + Wait + Print + Eprint + AllocGlobal,
+    R: Net<Listener = TcpListener, Stream = TcpStream> + Wait + Env + Print + Eprint + AllocGlobal,
     T: Clock,
     C: chpw_serve::Clock,
 >(
@@ -223,7 +227,7 @@ fn raise_and_listen<
 fn listening<
     'a,
     'l,
-    R: Net<Listener = TcpListener, Stream = TcpStream> + Wait + Print + Eprint + AllocGlobal,
+    R: Net<Listener = TcpListener, Stream = TcpStream> + Wait + Env + Print + Eprint + AllocGlobal,
 >(rt: &R, start: Start<'l, R>) -> Result<(TcpListener, ServiceContext<'l, R>), ServeFault<'a>>
     ensures workers { IfOk result (λ r. r.1.workers ≡ start.entry.options.now.workers) }
     ensures fault { IfErr result IsLate }
@@ -249,7 +253,10 @@ fn listening<
         options,
     };
     match println!(rt; "listening on 127.0.0.1:{}", options.port) {
-        Ok(()) => Ok((listener, hall)),
+        Ok(()) => {
+            notify_ready(rt, hall.log);
+            Ok((listener, hall))
+        }
         Err(_) => Err(ServeFault::CannotPrint),
     }
 }

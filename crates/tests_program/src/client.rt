@@ -231,6 +231,8 @@ fn serving<'a>(port: u16, connections: u32, log: &'a str) -> ServeOptions<'a> {
         follower_wait: USUAL_FOLLOWER_WAIT,
         control: None,
         udp: false,
+        rfc3244_only: false,
+        strict_modes: false,
     }
 }
 
