@@ -2,8 +2,8 @@
 use Rattle.std.specs.Prelude.{ℕ, List, ◌++◌, codes}
 use Rattle.std.specs.Fmt.{decimal}
 use Rattle.chpw_service.specs.declared.notices.Notice.{Notice}
-use Rattle.chpw_service.specs.declared.notices.Notice.TheVariants.{LogLost, JournalFailed, OutputLost, Expired}
-use Rattle.chpw_service.specs.declared.notices.Notice.TheVariants.{Unconfirmed, Shared, ManagerNotTold, Lacked, TailCut}
+use Rattle.chpw_service.specs.declared.notices.Notice.TheVariants.{LogLost, JournalFailed, OutputLost, Expired, Unconfirmed}
+use Rattle.chpw_service.specs.declared.notices.Notice.TheVariants.{Shared, ManagerNotTold, Lacked, TailCut}
 
 abbrev pub notice_line : Notice → List ℕ
 notice_line (LogLost log) = log.now ++ codes ": a line of the log was lost; further losses are not reported"
