@@ -38,10 +38,10 @@ use std::marker::Model;
 use std::sync::Wait;
 use std::sync::ledger::Share;
 
-/// The table with its history, and the shelf whose versions lookups show beside the lock.
+/// The table with its history, and the writer of the versions that lookups show beside the lock.
 ///
-/// Its type keeps that the published list is the history's accepted changes, and that of the history all
-/// that `IsLinearized` says. A book is taken apart at a close, or when its desk is given up.
+/// Its type keeps `IsPublished`: the published list is the history's accepted changes. The type inside it,
+/// `RecordedTable`, keeps `IsLinearized`. A book is taken apart at a close, or when its desk is given up.
 pub struct Book<D: DeskName, S: JournalSink> {
     pub(crate) recorded: RecordedTable<D, S>,
     pub(crate) shelf: Shelf<D>,
@@ -120,8 +120,8 @@ impl<D: DeskName, S: JournalSink> Book<D, S> {
         self.recorded.history()
     }
 
-    /// The counts under which `decide` would look at keys that the digest lacks, were the history not
-    /// full: each at least 1, ascending, each once; none where it would look at no keys.
+    /// The iteration counts under which `decide` would compare keys and for which the digest has none, if
+    /// the history weren't full: each at least 1, ascending, each once; none if it would compare no keys.
     #[tactic(auto, using(crate::proofs::CallLemmas::lacks_after))]
     pub fn missing(&self, now: Moment, opened: &Opened) -> Counts
         ensures value { result ≡ missing self.now.kept.table.state now opened.now }
@@ -131,12 +131,12 @@ impl<D: DeskName, S: JournalSink> Book<D, S> {
         self.recorded.missing(now, opened)
     }
 
-    /// One event: an entry of the pass's worker at the end, and its receipt in the pass. Where it was
-    /// accepted, its change is published then, and the pass is told of it; this waits for lookups that
-    /// still read what it changes.
+    /// Decides a request: an entry of the pass's worker at the end of the history, and its receipt in the
+    /// pass. If it is accepted, its change is published, and the pass gets the new list of accepted
+    /// changes; this waits for lookups that still read what it changes.
     ///
-    /// `now` has seconds from 0 to `chpw_table::LAST_SECOND`. Refused as `Table::decide` refuses, and
-    /// then nothing has changed: `Full`, `NeedKeys`, `Memory`.
+    /// `now` has seconds from 0 to `chpw_table::LAST_SECOND`. The refusals are those of `Table::decide`,
+    /// `Full`, `NeedKeys` and `Memory`, and after one nothing has changed.
     pub fn decide<R: Wait>(
         &mut self,
         rt: &R,
@@ -159,9 +159,9 @@ impl<D: DeskName, S: JournalSink> Book<D, S> {
         Ok(verdict)
     }
 
-    /// The same, with the digest completed for this password as far as keys are missing, so that none
-    /// are asked for; `salt` is that of `Opened::salt`. The request that a refusal hands back may have
-    /// more of them.
+    /// Decides a request like `decide`, and derives the keys that the digest lacks from this password, so
+    /// that none are asked for: it is refused as `Full` or `Memory`. `salt` is that of `Opened::salt`. The
+    /// request that a refusal hands back may have more keys than it came with.
     pub fn decide_deriving<R: Wait>(
         &mut self,
         rt: &R,
@@ -204,11 +204,12 @@ impl<D: DeskName, S: JournalSink> Book<D, S> {
     }
 
     /// Raises the iteration count of new keys to this one, 1 to 16,777,216: an entry of the pass's
-    /// worker at the end, and its receipt in the pass. Where the count is raised, lookups show it then,
-    /// and the pass is told of it; this waits for lookups that still read what it changes.
+    /// worker at the end of the history, and its receipt in the pass. If the count is raised, lookups show
+    /// it, and the pass gets the new list of accepted changes; this waits for lookups that still read what
+    /// it changes.
     ///
     /// `now` has seconds from 0 to `chpw_table::LAST_SECOND`. Two faults, after which nothing has
-    /// changed: `Full` just where the table is, and `Memory` where it has room and a growth is refused.
+    /// changed: `Full` exactly if the table is full, and `Memory` if it has room and a growth is refused.
     pub fn raise<R: Wait>(
         &mut self,
         rt: &R,
@@ -307,7 +308,7 @@ fn tell<D: DeskName, R: Wait>(rt: &R, shelf: &mut Shelf<D>, pass: &mut Pass<D>, 
     }
 }
 
-// The same after this verdict on a raise.
+// After this verdict on a raise: the change that waits is published, and the pass is told of it.
 fn tell_raise<D: DeskName, R: Wait>(
     rt: &R,
     shelf: &mut Shelf<D>,

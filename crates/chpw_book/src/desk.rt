@@ -74,9 +74,9 @@ impl<D: DeskName, S: JournalSink> Desk<D, S> {
         self.standing.refuse(now, opened)
     }
 
-    /// The counts under which `decide` would now look at keys that the digest lacks, were the history
-    /// not full: each at least 1; none where it would look at no keys. Beside the lock where the request
-    /// is refused anyway, else under it.
+    /// The iteration counts under which `decide` would now compare keys and for which the digest has none,
+    /// if the history weren't full: each at least 1; none if it would compare no keys. It takes the lock
+    /// unless `refuses_anyway`.
     #[tactic(auto, using(crate::proofs::CallLemmas::lacks_none))]
     pub fn missing<R: Wait>(&self, rt: &R, now: Moment, opened: &Opened) -> Counts
         ensures after { LacksAfter (opening_state D.root) now opened.now result }
@@ -91,11 +91,11 @@ impl<D: DeskName, S: JournalSink> Desk<D, S> {
         counts
     }
 
-    /// One event under the lock; its receipt joins the pass. Where the request was accepted, its change
-    /// is published before the lock is given back, and the pass is told of it.
+    /// Decides a request under the lock; its receipt joins the pass. If it is accepted, its change is
+    /// published before the lock is given back, and the pass gets the new list of accepted changes.
     ///
-    /// `now` has seconds from 0 to `chpw_table::LAST_SECOND`. Refused as `Table::decide` refuses, and
-    /// then the pass is as before, but that it notes `Full`.
+    /// `now` has seconds from 0 to `chpw_table::LAST_SECOND`. The refusals are those of `Table::decide`;
+    /// after one the pass is as before, but it notes `Full`.
     #[tactic(auto, using(crate::proofs::CallLemmas::notes_of))]
     pub fn decide<R: Wait>(
         &self,
@@ -117,9 +117,9 @@ impl<D: DeskName, S: JournalSink> Desk<D, S> {
         noted(pass, decided)
     }
 
-    /// The same, with the digest completed for this password under the lock, as far as keys are
-    /// missing, so that none are asked for. The request that a refusal hands back may have more of
-    /// them.
+    /// Decides a request like `decide`, and derives under the lock the keys that the digest lacks, from
+    /// this password, so that none are asked for. The request that a refusal hands back may have more keys
+    /// than it came with.
     #[tactic(auto, using(crate::proofs::CallLemmas::notes_of))]
     pub fn decide_deriving<R: Wait>(
         &self,
@@ -149,11 +149,11 @@ impl<D: DeskName, S: JournalSink> Desk<D, S> {
     }
 
     /// Raises the iteration count of new keys to this one, 1 to 16,777,216, under the lock; the receipt
-    /// joins the pass. Where the count is raised, lookups show it before the lock is given back, and the
-    /// pass is told of it.
+    /// joins the pass. If the count is raised, lookups show it before the lock is given back, and the pass
+    /// gets the new list of accepted changes.
     ///
-    /// `now` has seconds from 0 to `chpw_table::LAST_SECOND`. After a fault the pass is as before, but
-    /// that it notes `Full`.
+    /// `now` has seconds from 0 to `chpw_table::LAST_SECOND`. After a fault the pass is as before, but it
+    /// notes `Full`.
     #[tactic(auto, using(crate::proofs::CallLemmas::notes_of))]
     pub fn raise<R: Wait>(
         &self,
@@ -217,7 +217,7 @@ fn noted<D: DeskName>(
     decided
 }
 
-// The same of a raise.
+// The pass notes that the history was full at a raise.
 fn raise_noted<D: DeskName>(
     pass: &mut Pass<D>,
     raised: Result<RaiseVerdict, RaiseFault>,
