@@ -18,7 +18,7 @@ pub returns-clause-adds : goal.returns-clause-adds
 unfolding invariant_of-self-2
 returns-clause-adds g c =
     let begins : IsPrefix c.args.pass.now.place.told c.has.new.self.list = search rules in
-    adds_next (opening_state g.D.ListName.root) g.D.DeskName.workers c.self.inside.recorded c.decide.new.self _ _ c.tell.new.pass c.has.new.self _ c.tell.new.shelf _ _ (rw c.has.ensures.same c.self.invariant) c.in_ok-verdict.ensures.recorded (invariant_of-self-2 g c) begins c.tell.ensures.pass
+    rw (← c.self.view_is) (adds_next (opening_state g.D.ListName.root) g.D.DeskName.workers c.self.inside.recorded c.decide.new.self _ _ c.tell.new.pass c.has.new.self _ c.tell.new.shelf _ _ (rw c.has.ensures.same c.self.invariant) c.in_ok-verdict.ensures.recorded (invariant_of-self-2 g c) begins c.tell.ensures.pass)
 
 pub returns-in_err-verdict-clause-asks : goal.returns-in_err-verdict-clause-asks
 returns-in_err-verdict-clause-asks g c =
