@@ -91,7 +91,7 @@ def served(server, name, users, stack):
     return Target(name, server.port, users)
 
 
-def measure(cases, versions):
+def measure(cases, versions, rounds=ROUNDS):
     """The targets, measured; the KDC has `versions` of the principals, and kadmind is MIT's alone."""
     realm, most = cases.realm, max(CLIENTS)
     names = sorted(versions)
@@ -110,7 +110,7 @@ def measure(cases, versions):
         stack.enter_context(cases.following(files))
         if realm.KIND == "MIT":
             targets.append(kadmind(realm, alone, groups[2], stack))
-        for clients, _, target in itertools.product(CLIENTS, range(ROUNDS), targets):
+        for clients, _, target in itertools.product(CLIENTS, range(rounds), targets):
             target.round(clients)
         if files.unconfirmed():
             raise RuntimeError("changes were answered before the KDC had them")

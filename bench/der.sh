@@ -10,10 +10,10 @@
 set -euo pipefail
 . "$(dirname "$0")/../interop/command.sh"
 command_line 1 number "$@"
-cd "$(dirname "$0")/../crates/bench"
+cd "$(dirname "$0")/../crates/support_bench"
 export PYTHONPATH=../../bench PYTHONDONTWRITEBYTECODE=1
 rt run <stdin >/dev/null
-exec python3 - out/bench "${1:-7}" <<'END'
+exec python3 - out/support_bench "${1:-7}" <<'END'
 import subprocess
 import sys
 

@@ -1,6 +1,6 @@
 """How long a follower takes from being asked to its answer, in a realm of many principals, and changes a second.
 
-    follower.py PROGRAM mit|heimdal [PRINCIPALS [CHANGES]]
+    follower.py PROGRAM mit|heimdal [PRINCIPALS [CHANGES [ROUNDS]]]
 
 makes the principals in a KDC's database, then writes one record after the other into the journal, syncs it,
 asks over the socket, and measures until the answer is there, from the ask and from the write. Every tenth of
@@ -77,9 +77,9 @@ def measure(cases, files, names, changes):
     return sorted(times), sorted(whole)
 
 
-def rates(cases, versions):
+def rates(cases, versions, rounds):
     """A line for each number of clients; whether kadmind is no faster."""
-    targets = changes.measure(cases, versions)
+    targets = changes.measure(cases, versions, rounds)
     best = {target.name: target.best for target in targets}
     for clients in changes.CLIENTS:
         told = ", ".join(f"{name} {found[clients]:.0f}" for name, found in best.items())
@@ -94,7 +94,8 @@ def spread(times):
 
 def main():
     program, kind = sys.argv[1:3]
-    principals, count = (int(word) for word in (*sys.argv[3:], "10000", "100")[:2])
+    given = [int(word) for word in sys.argv[3:]]
+    principals, count, rounds = given + [10_000, 100, changes.ROUNDS][len(given) :]
     names = [f"client{number:05}" for number in range(principals)]
     with realms.KINDS[kind]({"admin": realms.FIRST}) as realm:
         cases = Cases(realm, program, Passed())
@@ -114,7 +115,7 @@ def main():
             now = dict(files.versions)
         print(f"{realm.KIND}: {principals} principals, a whole pass {passed:.1f} s; {count} changes: median, 99th and longest "
               f"from the ask to the answer {spread(times)}; from the write {spread(whole)}; a sync of this disk takes {flush:.1f} ms")
-        sys.exit(0 if rates(cases, now) else 1)
+        sys.exit(0 if rates(cases, now, rounds) else 1)
 
 
 if __name__ == "__main__":

@@ -14,10 +14,10 @@
 set -euo pipefail
 . "$(dirname "$0")/../interop/command.sh"
 command_line 1 number "$@"
-cd "$(dirname "$0")/../crates/bench"
+cd "$(dirname "$0")/../crates/support_bench"
 export PYTHONPATH=../../bench PYTHONDONTWRITEBYTECODE=1
 log=$(rt run <stdin 2>&1) || { echo "$log" >&2; exit 1; }
-exec python3 - out/bench "${1:-25}" <<'END'
+exec python3 - out/support_bench "${1:-25}" <<'END'
 import hashlib
 import ssl
 import sys

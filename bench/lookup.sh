@@ -11,9 +11,9 @@
 set -euo pipefail
 . "$(dirname "$0")/../interop/command.sh"
 command_line 1 number "$@"
-cd "$(dirname "$0")/../crates/bench"
+cd "$(dirname "$0")/../crates/support_bench"
 rt run <stdin >/dev/null
-exec python3 - out/bench "${1:-5}" <<'END'
+exec python3 - out/support_bench "${1:-5}" <<'END'
 import re
 import subprocess
 import sys

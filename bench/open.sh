@@ -10,11 +10,11 @@
 set -euo pipefail
 . "$(dirname "$0")/../interop/command.sh"
 command_line 1 number "$@"
-cd "$(dirname "$0")/../crates/bench"
+cd "$(dirname "$0")/../crates/support_bench"
 export PYTHONPATH=../../bench PYTHONDONTWRITEBYTECODE=1
 rt run <stdin >/dev/null
-out/bench open it 1 <stdin
-exec python3 - out/bench stdin "${1:-15}" <<'END'
+out/support_bench open it 1 <stdin
+exec python3 - out/support_bench stdin "${1:-15}" <<'END'
 import sys
 
 from timing import spent

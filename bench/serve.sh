@@ -2,7 +2,7 @@
 # usage: bench/serve.sh [ROUNDS [CHANGES]]
 #
 # Changes a second of `serve` on this machine at 4096 iterations: one client and one worker, then four of each. Each client
-# (crates/bench) changes the password of a principal of its own over one connection, and has made its requests before the
+# (crates/support_bench) changes the password of a principal of its own over one connection, and has made its requests before the
 # clock starts. Of ROUNDS rounds (by default 3) of CHANGES changes for each client (by default 500) the best counts. It takes
 # port 48464. The programs are built first if a source has changed.
 #
@@ -17,7 +17,7 @@ cd "$(dirname "$0")/.."
 rounds=${1:-3} changes=${2:-500}
 limit=$((60 + changes / 10))
 (cd crates/chpw_server && rt run -- drill </dev/null >/dev/null)
-(cd crates/bench && rt run <stdin >/dev/null)
+(cd crates/support_bench && rt run <stdin >/dev/null)
 work=$(mktemp -d)
 trap 'rm -rf "$work"' EXIT
 export PYTHONDONTWRITEBYTECODE=1
@@ -45,7 +45,7 @@ round() {
     kill -0 "$service" 2>/dev/null || failed "serve doesn't listen"
     sleep 0.05
   done
-  timeout "$limit" crates/bench/out/bench serve 48464 "$1" "$changes" >"$place/asked" ||
+  timeout "$limit" crates/support_bench/out/support_bench serve 48464 "$1" "$changes" >"$place/asked" ||
     failed "bench failed, or took more than $limit seconds"
   wait "$service" || failed "serve failed, or took more than $limit seconds"
   awk -v changes="$changes" '

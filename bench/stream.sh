@@ -12,14 +12,14 @@
 set -euo pipefail
 . "$(dirname "$0")/../interop/command.sh"
 command_line 1 number "$@"
-cd "$(dirname "$0")/../crates/bench"
+cd "$(dirname "$0")/../crates/support_bench"
 export PYTHONPATH=../../bench:../../interop PYTHONDONTWRITEBYTECODE=1
 room=$(mktemp -d)
 trap 'rm -rf "$room"' EXIT
 rt run <stdin >/dev/null
 python3 ../../bench/stream_input.py 100 1 >"$room/first"
-out/bench stream serve 1 <"$room/first"
-python3 - out/bench "$room" "${1:-5}" <<'END'
+out/support_bench stream serve 1 <"$room/first"
+python3 - out/support_bench "$room" "${1:-5}" <<'END'
 import sys
 
 import stream_input

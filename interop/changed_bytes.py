@@ -2,8 +2,8 @@
 the rules of DER (X.690), with Python's own library alone. Nothing is deciphered: a sealed text opens where it is the one that
 the client made, and no other does.
 
-    python3 interop/changed_bytes.py stream      # answers of crates/stream_cases, by the line
-    python3 interop/changed_bytes.py journal     # answers of crates/journal_cases
+    python3 interop/changed_bytes.py stream      # answers of crates/cases_stream, by the line
+    python3 interop/changed_bytes.py journal     # answers of crates/cases_journal
 """
 
 import changepw_client as client
@@ -153,7 +153,7 @@ def krb_priv(text):
     return pvno, kind, part
 
 
-# The service of crates/stream_cases: its key has etype 18 and kvno 3. Session key and subkey have etype 18.
+# The service of crates/cases_stream: its key has etype 18 and kvno 3. Session key and subkey have etype 18.
 
 
 def ap_fault(text, sealed):
@@ -230,7 +230,7 @@ def stream_answers():
             yield census("left out" if m is None else answer(m, sealed) for m in others)
 
 
-# The journal of crates/journal_cases: three changes of alice, to kvno 2, 3 and 4; bob/admin has kvno 1
+# The journal of crates/cases_journal: three changes of alice, to kvno 2, 3 and 4; bob/admin has kvno 1
 
 
 def record(kvno):

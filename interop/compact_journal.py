@@ -1,5 +1,5 @@
 """What a compact journal has, and what restoring it gives: worked out from docs/PROTOCOL.md, with Python's own library alone.
-Run at the top it prints each line `compact: ..` of crates/journal_cases, and its answer.
+Run at the top it prints each line `compact: ..` of crates/cases_journal, and its answer.
 
 The configuration has alice and bob/admin, each with a key of kvno 1, 48 bytes a1, under 4096 iterations, and keeps
 two keys; each record's key is 48 bytes a2 under 4096 iterations.
@@ -55,7 +55,7 @@ if __name__ == "__main__":
     from command import Parser
 
     Parser(__doc__, None, "a case can't be read").parse_args()
-    with open("crates/journal_cases/stdin", encoding="utf-8") as file:
+    with open("crates/cases_journal/stdin", encoding="utf-8") as file:
         for line in file.read().splitlines():
             if line.startswith("compact: "):
                 print(line)

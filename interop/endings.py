@@ -189,7 +189,7 @@ def keys_brought_in(program):
     alice = [("EXAMPLE.COM", "alice", 3, 18, long), ("EXAMPLE.COM", "alice", 3, 17, short)]
     (program.folder / "keytab").write_bytes(keytab(*alice, ("OTHER.COM", "bob", 1, 17, short)))
     words = ["--keytab", "keytab", "--realm", "EXAMPLE.COM"]
-    left = f"keytab: at {len(keytab(*alice))}: left out: bob@OTHER.COM, kvno 1, etype 17: another realm"
+    left = f"keytab: at {len(keytab(*alice))}: skipped: bob@OTHER.COM, kvno 1, etype 17: another realm"
     program.report.tell("import: a user, and another realm's", words_of(program.ended("import", *words)),
                         (stanza("alice", 3, short, long).split(), left, 0))
     (program.folder / "whole").write_bytes(keytab(*alice))
@@ -246,7 +246,7 @@ def serve(program):
     tell("a record of another kind", "journal: J1 at 1")
     server.journal.unlink()
     server.journal.mkdir()
-    tell("a folder as the journal", f"cannot read {server.journal}", f"{server.journal}: a folder")
+    tell("a folder as the journal", f"cannot read {server.journal}", f"{server.journal}: is a directory")
     server.journal.rmdir()
     server.seed.unlink()
     tell("no seed", f"cannot read {server.seed}", f"{server.seed}: {MISSING}")
@@ -261,7 +261,7 @@ def serve(program):
         program.tell(f"serve: {what}", ("", "\n".join(lines), 1), *other)
 
     tell_of_journal("a journal in no folder", "missing/journal", "cannot write missing/journal",
-                    "missing/journal: no such folder")
+                    "missing/journal: no such directory")
     # what stands at address 0 of a process can't be read
     tell_of_journal("a read that fails", "/proc/self/mem", "journal: J4")
 
@@ -271,7 +271,7 @@ def second_service(program):
     first = program.server("alice")
     first.start(connections=1)
     second = program.server("alice")
-    held = unreadable(second.journal, "another process has it")
+    held = unreadable(second.journal, "in use by another process")
     program.tell("serve: another's journal", held, *second.command(1)[1:])
     first.connect()
     program.report.tell("serve: its last line", first.last_words(), "entries 0 changes 0")

@@ -70,13 +70,13 @@ def full_disk(report, server):
     answers = [change(server, number) for number in range(6)]
     wanted = ["code 0 password changed"] * 3 + ["code 2 journal failed"] * 3
     report.tell("six changes and a disk for three", answers, wanted)
-    failed = f"{server.journal}: journal failed: no change is taken until a restart"
+    failed = f"{server.journal}: journal failed: no change is accepted until a restart"
     report.tell("serve's last line", server.last_words(), f"entries 6 changes 3\n{failed}")
     records, torn = read_journal(server.journal.read_bytes())
     report.tell("in the journal", ([r.kvno for r in records], len(torn)), ([2, 3, 4], 20))
     server.start(connections=1)
     server.connect()
-    told = f"{server.journal}: a torn tail was cut off behind {3 * RECORD} bytes"
+    told = f"{server.journal}: a torn tail was cut off after {3 * RECORD} bytes"
     report.tell("started again", server.last_words(), f"entries 0 changes 0\n{told}")
     size = server.journal.stat().st_size
     report.tell("the journal's bytes, its torn tail cut off", size, 3 * RECORD)
@@ -102,11 +102,11 @@ def raising(report, server):
     resource.setrlimit(resource.RLIMIT_FSIZE, (16, resource.RLIM_INFINITY))
     found = said_at_start(server, 8194, restore_signals=False)
     resource.setrlimit(resource.RLIMIT_FSIZE, (resource.RLIM_INFINITY, resource.RLIM_INFINITY))
-    failed = f"{server.journal}: journal failed: no change is taken until a restart"
+    failed = f"{server.journal}: journal failed: no change is accepted until a restart"
     report.tell("a disk for two", found, (["journal failed"], f"{tally}\n{failed}"))
     torn = raise_record(8194)[:2]
     report.tell("in the journal then", read_journal(server.journal.read_bytes()), (raises, torn))
-    cut = f"{tally}\n{server.journal}: a torn tail was cut off behind 14 bytes"
+    cut = f"{tally}\n{server.journal}: a torn tail was cut off after 14 bytes"
     report.tell("behind it", said_at_start(server, 8194), (["raised 8194"], cut))
 
 

@@ -132,7 +132,7 @@ def restarted(server):
     _, torn = read_journal(left)
     wanted = "entries 0 changes 0"
     if torn:
-        wanted += f"\n{server.journal}: a torn tail was cut off behind {len(left) - len(torn)} bytes"
+        wanted += f"\n{server.journal}: a torn tail was cut off after {len(left) - len(torn)} bytes"
     server.start(connections=1)
     server.connect()
     words = server.last_words()

@@ -11,7 +11,7 @@ requests may be refused.
   beside the former ones (`import`, `reload`), then the KDC gets them (`cpw`), and later the former ones go.
 - The same, the KDC first (`ktadd`). From then on it gives tickets that the service can't read until the reload: bob waits for
   that, and alice's ticket is one of before.
-- A new log, twice, by logrotate and the file in samples/.
+- A new log, twice, by logrotate and the file in packaging/.
 """
 
 import base64
@@ -30,7 +30,7 @@ from report import Report
 from server import Server
 
 HEAD = TOP / "samples/head.toml"
-ROTATION = TOP / "samples/boddrelyn.logrotate"
+ROTATION = TOP / "packaging/boddrelyn.logrotate"
 OLD = "Old-pass1"
 DONE = "Password changed."
 UNKNOWN = "Server error: no such principal"
@@ -212,7 +212,7 @@ def rotated(service, bob):
     rotation = service.folder / "rotation"
     text = ROTATION.read_text()
     for old, new in (("/var/log/boddrelyn/log", str(service.log)), ("su boddrelyn boddrelyn", "su root root"),
-                     ("/usr/local/sbin/chpw_server", str(service.server.program.resolve())),
+                     ("/usr/sbin/chpw_server", str(service.server.program.resolve())),
                      ("/run/boddrelyn/control", str(service.socket))):
         report.tell(f"logrotate: its file has {old}", text.count(old), 1)
         text = text.replace(old, new)

@@ -6,7 +6,7 @@ from follower import Files
 from server import Server
 
 UNCONFIRMED = "not confirmed by the follower"
-TOLD = "a change was answered that the follower has not confirmed, and maybe more"
+TOLD = "a change was answered before the follower confirmed it; more are not reported until it confirms one"
 # seconds in which no further line comes behind the last reply
 SETTLES = 0.1
 # connections: it doesn't end by itself

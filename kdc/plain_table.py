@@ -115,7 +115,7 @@ def main():
     if (fault := restore(versions, kept, data)) is not None:
         sys.exit(f"journal: {fault}")
     if torn := read_journal(data)[1]:
-        print(f"{arguments.journal}: a torn record stands behind {len(data) - len(torn)} bytes", file=sys.stderr)
+        print(f"{arguments.journal}: a torn record begins after {len(data) - len(torn)} bytes", file=sys.stderr)
     if arguments.form == "keys":
         print_keys(versions)
     else:

@@ -1,5 +1,7 @@
 -- One more entry keeps what a book's type says.
-use Rattle.std.proofs.Common.{◌≡◌, ◌≢◌, ℕ, zero, suc, ◌+◌, ◌<◌, ◌≤◌, List, [], ◌∷◌, ◌++◌, length, map, Bool, true, false, ◌==◌, if◌then◌else◌, Option, refl, sym, ◌∙◌, ap, subst, arith, append-nil, length-append, slice_index, slice_set, length-set, add-zero, zero-add}
+use Rattle.std.proofs.Common.{◌≡◌, ◌≢◌, ℕ, zero, suc, ◌+◌, ◌<◌, ◌≤◌, List, [], ◌∷◌, ◌++◌, length, map, Bool}
+use Rattle.std.proofs.Common.{true, false, ◌==◌, if◌then◌else◌, Option, refl, sym, ◌∙◌, ap, subst, arith}
+use Rattle.std.proofs.Common.{append-nil, length-append, slice_index, slice_set, length-set, add-zero, zero-add}
 use Rattle.std.specs.Prelude.{IfSome, All, count_by}
 use Rattle.std.specs.Option.{option_map}
 use Rattle.std.specs.List.{range_with_len}
@@ -25,7 +27,7 @@ use Rattle.chpw_table.specs.Requests.{target_of}
 use Rattle.chpw_journal.specs.Runs.{BringsWhole}
 use Rattle.chpw_journal.proofs.JoinedLemmas.{whole_more}
 use Rattle.chpw_book.specs.Receipts.{IsNumbered, IsCounted, is_of, entries_of, next_entry}
-use Rattle.chpw_book.specs.Stored.{Stored, Replays}
+use Rattle.chpw_book.specs.Recorded.{RecordedView, IsLinearized}
 use Rattle.chpw_book.specs.Wholeness.{NewestIsWhole}
 use Rattle.chpw_book.proofs.WholeLemmas.{brings_whole}
 use Rattle.chpw_decider.proofs.KeepingLemmas.{legal_on, outcome_on, journal_on, journal_goes_on}
@@ -67,14 +69,16 @@ numbers_more es e h n =
 numbered_more : (es : List Entry) (e : Entry) → IsNumbered es → e.number ≡ length (entries_of e.worker es) + 1 → IsNumbered (es ++ e ∷ [])
 numbered_more es e h n w = at (e.worker == w) refl
   where
-    at : (b : Bool) → (e.worker == w) ≡ b → map (λ (x : Entry). x.number) (entries_of w (es ++ e ∷ [])) ≡ range_with_len 1 (length (entries_of w (es ++ e ∷ [])))
+    at : (b : Bool) → (e.worker == w) ≡ b → map (λ (x : Entry). x.number) (entries_of w (es ++ e ∷ []))
+        ≡ range_with_len 1 (length (entries_of w (es ++ e ∷ [])))
     at true is =
         let same : e.worker ≡ w = grind (arith, nat_tests) in
         let number : e.number ≡ length (entries_of w es) + 1 = n ∙ ap (λ v. length (entries_of v es) + 1) same in
         rw (mine_more w es e is) (numbers_more (entries_of w es) e (h w) number)
     at false is = rw (others_stay w es e is) (h w)
 
-count_at : (counts : List ℕ) (es : List Entry) (e : Entry) (w : ℕ) → IsCounted counts es → e.worker < length counts → w < length counts → (b : Bool) → (e.worker == w) ≡ b
+count_at : (counts : List ℕ) (es : List Entry) (e : Entry) (w : ℕ)
+    → IsCounted counts es → e.worker < length counts → w < length counts → (b : Bool) → (e.worker == w) ≡ b
     → slice_index (slice_set counts e.worker (slice_index counts e.worker + 1)) w ≡ length (entries_of w (es ++ e ∷ []))
 count_at counts es e w h l below true is =
     let same : w ≡ e.worker = grind (arith, nat_tests) in
@@ -83,9 +87,11 @@ count_at counts es e w h l below true is =
     ∙ (sym (one_longer (entries_of w es) e) ∙ ap (λ (xs : List Entry). length xs) (sym (mine_more w es e is))))
 count_at counts es e w h l below false is =
     let apart : w ≢ e.worker = grind (arith, nat_tests) in
-    get_or-set_other counts e.worker w (slice_index counts e.worker + 1) 0 apart ∙ (h.counts_are w below ∙ ap (λ (xs : List Entry). length xs) (sym (others_stay w es e is)))
+    get_or-set_other counts e.worker w (slice_index counts e.worker + 1) 0 apart
+    ∙ (h.counts_are w below ∙ ap (λ (xs : List Entry). length xs) (sym (others_stay w es e is)))
 
-counted_more : (counts : List ℕ) (es : List Entry) (e : Entry) → IsCounted counts es → e.worker < length counts → IsCounted (slice_set counts e.worker (slice_index counts e.worker + 1)) (es ++ e ∷ [])
+counted_more : (counts : List ℕ) (es : List Entry) (e : Entry) → IsCounted counts es
+    → e.worker < length counts → IsCounted (slice_set counts e.worker (slice_index counts e.worker + 1)) (es ++ e ∷ [])
 counted_more counts es e h l = record {
   counts_are = λ w below. count_at counts es e w h l (simp length-set at below) (e.worker == w) refl;
   workers =
@@ -102,19 +108,28 @@ count_more : (p : Entry → Bool) (es : List Entry) (e : Entry) → count_by p (
 count_more p es e =
     sum_by-append (λ x. if p x then 1 else 0) es (e ∷ [])
     ∙ (ap (λ n. count_by p es + n) (zero-add (if p e then 1 else 0))
-    ∙ elim (p e) as (λ b. count_by p es + (if b then 1 else 0) ≡ (if b then count_by p es + 1 else count_by p es)) [ true ↦ refl | false ↦ add-zero (count_by p es) ])
+    ∙ elim (p e) as (λ b. count_by p es + (if b then 1 else 0)
+    ≡ (if b then count_by p es + 1 else count_by p es)) [ true ↦ refl | false ↦ add-zero (count_by p es) ])
 
 -- ---- all together
 
-kept_more : (opening : State) (workers : ℕ) (b : Stored) (e : Entry) (t : Held) (n : ℕ) (told : Option (List ℕ))
-    → Replays opening workers b
+kept_more : (opening : State) (workers : ℕ) (b : RecordedView) (e : Entry) (t : Held) (n : ℕ) (told : Option (List ℕ))
+    → IsLinearized opening workers b
     → IsJudged (outcome opening b.history) e.now e.io_failed e.event
     → Agrees t.state (step_entry (outcome opening b.history) e)
     → (is_accepted e.event ≡ true → BringsWhole (outcome opening b.history) e.event)
     → told ≡ option_map (λ xs. xs ++ event_appended (outcome opening b.history) e.event) b.told
     → e.worker < length b.counts → e.number ≡ length (entries_of e.worker b.history) + 1
     → t.events ≡ b.table.events + 1 → n ≡ b.total + 1
-    → Replays opening workers (record { table = t; history = b.history ++ e ∷ []; counts = slice_set b.counts e.worker (slice_index b.counts e.worker + 1); changes = if is_accepted e.event then b.changes + 1 else b.changes; total = n; told = told })
+    → IsLinearized opening workers (record {
+      table = t;
+      history = b.history ++ e ∷ [];
+      counts = slice_set b.counts e.worker (slice_index b.counts e.worker + 1);
+      changes = if is_accepted e.event
+          then b.changes + 1 else b.changes;
+      total = n;
+      told = told;
+    })
 kept_more opening workers b e t n told k decided agrees whole tells below number events total = record {
   legal = legal_on opening b.history e k.legal decided;
   agrees = subst (λ (z : State). Agrees t.state z) (sym (outcome_on opening b.history e)) agrees;
@@ -131,22 +146,29 @@ kept_more opening workers b e t n told k decided agrees whole tells below number
 }
 
 -- an event that the machine judges so, and its entry
-pub kept_event : (opening : State) (workers : ℕ) (b : Stored) (w : ℕ) (now : Moment) (io : Bool) (event : Event) (t : Held) (es : List Entry) (counts : List ℕ) (changes n : ℕ) (told : Option (List ℕ))
-    → Replays opening workers b → IsJudged (outcome opening b.history) now io event → Agrees t.state (step_event (outcome opening b.history) now io event)
+pub kept_event : (opening : State) (workers : ℕ) (b : RecordedView) (w : ℕ) (now : Moment)
+    (io : Bool) (event : Event) (t : Held) (es : List Entry) (counts : List ℕ) (changes n : ℕ) (told : Option (List ℕ))
+    → IsLinearized opening workers b → IsJudged (outcome opening b.history) now io event → Agrees t.state (step_event (outcome opening b.history) now io event)
     → (is_accepted event ≡ true → BringsWhole (outcome opening b.history) event)
     → told ≡ option_map (λ xs. xs ++ event_appended (outcome opening b.history) event) b.told → t.events ≡ b.table.events + 1
     → w < length b.counts → es ≡ b.history ++ next_entry b.history w now io event ∷ []
     → counts ≡ slice_set b.counts w (slice_index b.counts w + 1) → changes ≡ (if is_accepted event then b.changes + 1 else b.changes) → n ≡ b.total + 1
-    → Replays opening workers (record { table = t; history = es; counts = counts; changes = changes; total = n; told = told })
+    → IsLinearized opening workers (record { table = t; history = es; counts = counts; changes = changes; total = n; told = told })
 kept_event opening workers b w now io event t es counts changes n told k judged agrees whole tells events below h c d total =
     rw (h, c, d) (kept_more opening workers b (next_entry b.history w now io event) t n told k judged agrees whole tells below refl events total)
 
 -- a step of the table, and its entry
-pub kept_step : (opening : State) (workers : ℕ) (b : Stored) (w : ℕ) (now : Moment) (o : Opened) (r : Outcome) (t : Held) (es : List Entry) (counts : List ℕ) (changes n : ℕ) (told : Option (List ℕ))
-    → Replays opening workers b → Steps b.table t now o r → ((s : State) → Agrees b.table.state s → told ≡ option_map (λ xs. xs ++ appended s o r.verdict) b.told)
-    → (is_done r.verdict ≡ true → NewestIsWhole (keys_held t.state (target_of o).name)) → w < length b.counts → es ≡ b.history ++ next_entry b.history w now r.io_failed (Ask o r.verdict) ∷ []
+pub kept_step : (opening : State) (workers : ℕ) (b : RecordedView) (w : ℕ) (now : Moment)
+    (o : Opened) (r : Outcome) (t : Held) (es : List Entry) (counts : List ℕ) (changes n : ℕ) (told : Option (List ℕ))
+    → IsLinearized opening workers b → Steps b.table t now o r
+    → ((s : State) → Agrees b.table.state s → told ≡ option_map (λ xs. xs ++ appended s o r.verdict) b.told)
+    → (is_done r.verdict ≡ true → NewestIsWhole (keys_held t.state (target_of o).name))
+    → w < length b.counts → es ≡ b.history ++ next_entry b.history w now r.io_failed (Ask o r.verdict) ∷ []
     → counts ≡ slice_set b.counts w (slice_index b.counts w + 1) → changes ≡ (if is_done r.verdict then b.changes + 1 else b.changes) → n ≡ b.total + 1
-    → Replays opening workers (record { table = t; history = es; counts = counts; changes = changes; total = n; told = told })
+    → IsLinearized opening workers (record { table = t; history = es; counts = counts; changes = changes; total = n; told = told })
 kept_step opening workers b w now o r t es counts changes n told k steps tells newest below h c d total =
     let s : State = outcome opening b.history in
-    kept_event opening workers b w now r.io_failed (Ask o r.verdict) t es counts changes n told k (steps.legal s k.agrees) (steps.agrees s k.agrees) (brings_whole s t.state now o r.io_failed r.verdict (steps.legal s k.agrees) (steps.agrees s k.agrees) newest) (tells s k.agrees) steps.events below h c d total
+    kept_event opening workers b w now r.io_failed (Ask o r.verdict) t es counts changes n told k
+    (steps.legal s k.agrees) (steps.agrees s k.agrees)
+    (brings_whole s t.state now o r.io_failed r.verdict (steps.legal s k.agrees) (steps.agrees s k.agrees) newest)
+    (tells s k.agrees) steps.events below h c d total

@@ -1,5 +1,6 @@
 -- The published list goes on with the history.
-use Rattle.std.proofs.Common.{◌≡◌, ℕ, ◌+◌, ◌^◌, ◌<◌, List, [], ◌∷◌, ◌++◌, ◌≤◌, length, length-append, Bool, true, false, ◌&&◌, ◌||◌, Option, None, refl, sym, ◌∙◌, ap, subst, arith, if◌then◌else◌, append-nil}
+use Rattle.std.proofs.Common.{◌≡◌, ℕ, ◌+◌, ◌^◌, ◌<◌, List, [], ◌∷◌, ◌++◌, ◌≤◌, length, length-append, Bool, true, false}
+use Rattle.std.proofs.Common.{◌&&◌, ◌||◌, Option, None, refl, sym, ◌∙◌, ap, subst, arith, if◌then◌else◌, append-nil}
 use Rattle.std.proofs.lemmas.List.Sums.{count_by-le-length}
 use mathlib.Core.List.{IsPrefix}
 use Rattle.chpw_rules.specs.declared.name.Name.{Name}
@@ -21,13 +22,13 @@ use Rattle.chpw_table.specs.Versions.{Shown, change_by, accepted}
 use Rattle.chpw_table.specs.Agreement.{Agrees}
 use Rattle.chpw_table.specs.Preparing.{IsNextRow}
 use Rattle.chpw_table.proofs.DoneLemmas.{done_key_row, done_whole}
-use Rattle.chpw_versions.specs.Known.{Known, Shelved}
-use Rattle.chpw_changes.proofs.ChangeLemmas.{accepted_on, changes_counted}
-use Rattle.chpw_changes.proofs.KeptLemmas.{kept_list}
-use Rattle.chpw_book.specs.Passes.{Carried}
-use Rattle.chpw_book.specs.Stored.{Stored}
-use Rattle.chpw_book.specs.Calls.{Notes}
-use Rattle.chpw_book.specs.Publishing.{Publishes, Shelves, IsStored, with_waiting, joined, published, told_list}
+use Rattle.chpw_snapshots.specs.Known.{Known, Shelved}
+use Rattle.chpw_book.proofs.ChangeLemmas.{accepted_on, changes_counted}
+use Rattle.chpw_book.proofs.KeptLemmas.{kept_list}
+use Rattle.chpw_book.specs.Passes.{PassView}
+use Rattle.chpw_book.specs.Recorded.{RecordedView}
+use Rattle.chpw_book.specs.Calls.{Adds}
+use Rattle.chpw_book.specs.Publishing.{IsPublished, Shelves, IsRecorded, with_waiting, joined, published, told_list}
 use Rattle.chpw_book.proofs.GrowsLemmas.{one_longer}
 
 -- ---- the change that a row makes
@@ -52,7 +53,8 @@ shorter xs ys p =
     omega (arith, a, same)
 
 -- after an accepted event the pass was told more than it knew
-told_more : (opening : State) (before : List Entry) (e : Entry) (mine more : Known) → IsPrefix mine.told (accepted opening before) → IsPrefix mine.seen (accepted opening before)
+told_more : (opening : State) (before : List Entry) (e : Entry) (mine more : Known)
+    → IsPrefix mine.told (accepted opening before) → IsPrefix mine.seen (accepted opening before)
     → more ≡ told_list (is_accepted e.event) (accepted opening (before ++ e ∷ [])) mine → is_accepted e.event ≡ true
     → (length mine.told < length more.told) × (length mine.seen < length more.told)
 told_more opening before e mine more begins saw is done =
@@ -70,14 +72,16 @@ told_more opening before e mine more begins saw is done =
     (omega (arith, long, one, a), omega (arith, long, one, b))
 
 published_at : (opening : State) (before : List Entry) (e : Entry) (b : State) (broken : Bool) (event : Event) (s t : Shelved)
-    → Publishes opening before b.broken s → Agrees b (outcome opening before) → e.event ≡ event → Shelves b broken event s t
-    → (done : Bool) → is_accepted event ≡ done → Publishes opening (before ++ e ∷ []) broken (published done t)
+    → IsPublished opening before b.broken s → Agrees b (outcome opening before) → e.event ≡ event → Shelves b broken event s t
+    → (done : Bool) → is_accepted event ≡ done → IsPublished opening (before ++ e ∷ []) broken (published done t)
 published_at opening before e b broken event s t p a is h done accepts =
     let list : s.list ++ (if is_accepted event then change_by b event ∷ [] else []) ≡ accepted opening (before ++ e ∷ []) =
     ap (λ (x : Event). s.list ++ (if is_accepted x then change_by b x ∷ [] else [])) (sym is) ∙ kept_list opening b before s.list e a p.list in
     at done accepts (ap (λ (d : Bool). s.list ++ (if d then change_by b event ∷ [] else [])) (sym accepts) ∙ list)
   where
-    at : (done : Bool) → is_accepted event ≡ done → s.list ++ (if done then change_by b event ∷ [] else []) ≡ accepted opening (before ++ e ∷ []) → Publishes opening (before ++ e ∷ []) broken (published done t)
+    at : (done : Bool) → is_accepted event ≡ done
+        → s.list ++ (if done then change_by b event ∷ [] else []) ≡ accepted opening (before ++ e ∷ [])
+        → IsPublished opening (before ++ e ∷ []) broken (published done t)
     at true y list = record {
       list = ap (λ (w : Option Accepted). joined w t.list) (h.waits y) ∙ (ap (λ (xs : List Accepted). xs ++ change_by b event ∷ []) h.list ∙ list);
       free = λ w. refl;
@@ -85,55 +89,60 @@ published_at opening before e b broken event s t p a is h done accepts =
     at false y list = record { list = h.list ∙ (sym (append-nil s.list) ∙ list); free = h.free y }
 
 -- a decision and its publication keep it the history's
-pub published_next : (opening : State) (workers : ℕ) (b later : Stored) (mine mid : Carried) (s t : Shelved) (now : Moment) (event : Event)
-    → Publishes opening b.history b.table.state.broken s → IsStored opening workers b later mine mid s t now event → Publishes opening later.history later.table.state.broken (published (is_accepted event) t)
+pub published_next : (opening : State) (workers : ℕ) (b later : RecordedView) (mine mid : PassView) (s t : Shelved) (now : Moment) (event : Event)
+    → IsPublished opening b.history b.table.state.broken s → IsRecorded opening workers b later mine mid s t now event
+    → IsPublished opening later.history later.table.state.broken (published (is_accepted event) t)
 published_next opening workers b later mine mid s t now event p h =
-    subst (λ (es : List Entry). Publishes opening es later.table.state.broken (published (is_accepted event) t)) (sym h.adds.history)
-    (published_at opening b.history h.adds.entry b.table.state later.table.state.broken event s t p h.replays.0.agrees (ap (λ (e : Entry). e.event) h.adds.entry_is) h.shelves (is_accepted event) refl)
+    subst (λ (es : List Entry). IsPublished opening es later.table.state.broken (published (is_accepted event) t)) (sym h.grows.history)
+    (published_at opening b.history h.entry b.table.state later.table.state.broken event s t p h.linearized.0.agrees
+    (ap (λ (e : Entry). e.event) h.enters.entry_is) h.shelves (is_accepted event) refl)
 
 -- it has room for one more
-pub list_room : (opening : State) (workers : ℕ) (b later : Stored) (mine mid : Carried) (s t : Shelved) (now : Moment) (event : Event)
-    → Publishes opening b.history b.table.state.broken s → IsStored opening workers b later mine mid s t now event → length t.list + 1 < 2 ^ 31
+pub list_room : (opening : State) (workers : ℕ) (b later : RecordedView) (mine mid : PassView) (s t : Shelved) (now : Moment) (event : Event)
+    → IsPublished opening b.history b.table.state.broken s → IsRecorded opening workers b later mine mid s t now event → length t.list + 1 < 2 ^ 31
 list_room opening workers b later mine mid s t now event p h =
     let long : length t.list ≡ length (accepted opening b.history) = ap (λ (xs : List Accepted). length xs) (h.shelves.list ∙ p.list) in
     let counted = changes_counted opening b.history in
     let some = count_by-le-length (λ (e : Entry). is_accepted e.event) b.history in
-    let grown : length later.history ≡ length b.history + 1 = ap (λ (es : List Entry). length es) h.adds.history ∙ one_longer b.history h.adds.entry in
+    let grown : length later.history ≡ length b.history + 1 = ap (λ (es : List Entry). length es) h.grows.history ∙ one_longer b.history h.entry in
     let few = h.few in
     omega (arith, long, counted, some, grown, few)
 
--- all that a call tells its caller
-pub notes_next : (opening : State) (workers : ℕ) (b later : Stored) (mine mid more : Carried) (s t u : Shelved) (now : Moment) (event : Event)
-    → Publishes opening b.history b.table.state.broken s → IsStored opening workers b later mine mid s t now event → Publishes opening later.history later.table.state.broken u
-    → IsPrefix mine.place.told s.list → more ≡ record mid { place = told_list (is_accepted event) u.list mid.place } → Notes opening mine more now event
-notes_next opening workers b later mine mid more s t u now event p h q begins is =
-    let place : more.place ≡ told_list (is_accepted event) (accepted opening (b.history ++ h.adds.entry ∷ [])) mine.place =
-    ap (λ (c : Carried). c.place) is
-    ∙ (ap (λ (xs : List Accepted). told_list (is_accepted event) xs mid.place) (q.list ∙ ap (λ (es : List Entry). accepted opening es) h.adds.history)
-    ∙ ap (λ (k : Known). told_list (is_accepted event) (accepted opening (b.history ++ h.adds.entry ∷ [])) k) h.place) in
+-- all that a call does
+pub adds_next : (opening : State) (workers : ℕ) (b later : RecordedView) (mine mid more : PassView) (s t u : Shelved) (now : Moment) (event : Event)
+    → IsPublished opening b.history b.table.state.broken s → IsRecorded opening workers b later mine mid s t now event
+    → IsPublished opening later.history later.table.state.broken u
+    → IsPrefix mine.place.told s.list → more ≡ record mid { place = told_list (is_accepted event) u.list mid.place } → Adds opening b later mine more now event
+adds_next opening workers b later mine mid more s t u now event p h q begins is =
+    let place : more.place ≡ told_list (is_accepted event) (accepted opening (b.history ++ h.entry ∷ [])) mine.place =
+    ap (λ (c : PassView). c.place) is
+    ∙ (ap (λ (xs : List Accepted). told_list (is_accepted event) xs mid.place) (q.list ∙ ap (λ (es : List Entry). accepted opening es) h.grows.history)
+    ∙ ap (λ (k : Known). told_list (is_accepted event) (accepted opening (b.history ++ h.entry ∷ [])) k) h.place) in
     let told : IsPrefix mine.place.told (accepted opening b.history) = subst (λ (xs : List Accepted). IsPrefix mine.place.told xs) p.list begins in
     let saw : IsPrefix mine.place.seen (accepted opening b.history) = subst (λ (xs : List Accepted). IsPrefix mine.place.seen xs) p.list h.saw in
-    let event_is : h.adds.entry.event ≡ event = ap (λ (e : Entry). e.event) h.adds.entry_is in
-    let place_is : more.place ≡ told_list (is_accepted h.adds.entry.event) (accepted opening (b.history ++ h.adds.entry ∷ [])) mine.place =
-    place ∙ ap (λ (x : Event). told_list (is_accepted x) (accepted opening (b.history ++ h.adds.entry ∷ [])) mine.place) (sym event_is) in
+    let event_is : h.entry.event ≡ event = ap (λ (e : Entry). e.event) h.enters.entry_is in
+    let place_is : more.place ≡ told_list (is_accepted h.entry.event) (accepted opening (b.history ++ h.entry ∷ [])) mine.place =
+    place ∙ ap (λ (x : Event). told_list (is_accepted x) (accepted opening (b.history ++ h.entry ∷ [])) mine.place) (sym event_is) in
     record {
-      before = b.history;
-      entry = h.adds.entry;
-      entry_is = h.adds.entry_is;
-      legal = subst (λ (es : List Entry). IsLegal opening es) h.adds.history h.replays.1.legal;
-      gains = rw is (record { receipts = h.adds.gains.receipts; share = h.adds.gains.share; same = h.adds.gains.same });
-      tells = record {
-        begins = told;
-        saw = saw;
-        tells = place;
-        grows = λ done. told_more opening b.history h.adds.entry mine.place more.place told saw place_is (ap (λ (x : Event). is_accepted x) event_is ∙ done);
+      entry = h.entry;
+      happens = record {
+        enters = rw is (record { entry_is = h.enters.entry_is; receipts = h.enters.receipts; share = h.enters.share; same = h.enters.same });
+        legal = subst (λ (es : List Entry). IsLegal opening es) h.grows.history h.linearized.1.legal;
+        tells = record {
+          begins = told;
+          saw = saw;
+          tells = place;
+          grows = λ done. told_more opening b.history h.entry mine.place more.place told saw place_is (ap (λ (x : Event). is_accepted x) event_is ∙ done);
+        };
       };
+      grows = h.grows;
     }
 
 -- ---- the shelf after a decision
 
 shelves_at : (before : State) (was now : Bool) (o : Opened) (row v : Verdict) (s t : Shelved) → (was ≡ false → s.waiting ≡ None)
-    → (d io : Bool) → is_done row ≡ d → v ≡ (if d && io then Broken else row) → now ≡ (was || io) → t ≡ with_waiting d (change_by before (Ask o Done)) s → Shelves before now (Ask o v) s t
+    → (d io : Bool) → is_done row ≡ d → v ≡ (if d && io then Broken else row)
+    → now ≡ (was || io) → t ≡ with_waiting d (change_by before (Ask o Done)) s → Shelves before now (Ask o v) s t
 shelves_at before was now o row v s t free true io is vi ni ti = record {
   list = ap (λ (x : Shelved). x.list) ti;
   waits = λ h. ap (λ (x : Shelved). x.waiting) ti;
@@ -155,5 +164,6 @@ shelves_at before was now o row v s t free false io is vi ni ti = record {
     at false ni b = refl
 
 pub shelves_next : (before : State) (was now io : Bool) (o : Opened) (row v : Verdict) (s t : Shelved) → (was ≡ false → s.waiting ≡ None)
-    → v ≡ (if is_done row && io then Broken else row) → now ≡ (was || io) → t ≡ with_waiting (is_done row) (change_by before (Ask o Done)) s → Shelves before now (Ask o v) s t
+    → v ≡ (if is_done row && io then Broken else row) → now ≡ (was || io)
+    → t ≡ with_waiting (is_done row) (change_by before (Ask o Done)) s → Shelves before now (Ask o v) s t
 shelves_next before was now io o row v s t free vi ni ti = shelves_at before was now o row v s t free (is_done row) io refl vi ni ti

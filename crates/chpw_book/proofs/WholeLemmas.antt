@@ -5,7 +5,7 @@ use Rattle.chpw_rules.specs.Names.{is_same_name}
 use Rattle.chpw_table.specs.declared.times.Moment.{Moment}
 use Rattle.chpw_table.specs.declared.request.Opened.{Opened}
 use Rattle.chpw_table.specs.declared.verdict.Verdict.{Verdict}
-use Rattle.chpw_table.specs.declared.key.KeyRow.{KeyRow}
+use Rattle.chpw_record.specs.declared.key.KeyRow.{KeyRow}
 use Rattle.chpw_table.specs.declared.history.Event.TheVariants.{Ask}
 use Rattle.chpw_table.specs.State.{State, keys_held, kept_count}
 use Rattle.chpw_table.specs.Requests.{target_of}

@@ -5,7 +5,7 @@ use Rattle.chpw_rules.specs.declared.name.Name.{Name}
 use Rattle.chpw_table.specs.declared.times.Moment.{Moment}
 use Rattle.chpw_table.specs.declared.history.Event.{Event}
 use Rattle.chpw_table.specs.declared.history.Entry.{Entry}
-use Rattle.chpw_table.specs.declared.key.KeyRow.{KeyRow}
+use Rattle.chpw_record.specs.declared.key.KeyRow.{KeyRow}
 use Rattle.chpw_table.specs.declared.table.Principal.{Principal}
 use Rattle.chpw_table.specs.declared.table.Lookup.{Lookup}
 use Rattle.chpw_table.specs.State.{State, keys_held, kept_count, new_count}
@@ -14,51 +14,54 @@ use Rattle.chpw_table.specs.Decision.{newest_kvno}
 use Rattle.chpw_table.specs.History.{is_accepted}
 use Rattle.chpw_table.specs.declared.change.Accepted.{Accepted}
 use Rattle.chpw_table.specs.Versions.{change_by, accepted}
-use Rattle.chpw_fronts.specs.declared.change.NumberedChange.{NumberedChange}
-use Rattle.chpw_fronts.specs.declared.change.NumberedChange.TheVariants.{Key, Count}
-use Rattle.chpw_fronts.specs.Changes.{EndsWith}
-use Rattle.chpw_versions.specs.declared.rows.Row.{Row}
-use Rattle.chpw_versions.specs.Known.{Known, Shelved}
-use Rattle.chpw_versions.specs.Rows.{Rowed}
-use Rattle.chpw_versions.specs.Looking.{LooksUp}
-use Rattle.chpw_book.specs.Passes.{Carried}
-use Rattle.chpw_book.specs.Stored.{Stored, Replays, Adds, new_store}
+use Rattle.chpw_changelog.specs.declared.change.NumberedChange.{NumberedChange}
+use Rattle.chpw_changelog.specs.declared.change.NumberedChange.TheVariants.{Key, Count}
+use Rattle.chpw_changelog.specs.Changes.{EndsWith}
+use Rattle.chpw_snapshots.specs.declared.rows.Row.{Row}
+use Rattle.chpw_snapshots.specs.Known.{Known, Shelved}
+use Rattle.chpw_snapshots.specs.Rows.{Rowed}
+use Rattle.chpw_snapshots.specs.Looking.{LooksUp}
+use Rattle.chpw_book.specs.Passes.{PassView}
+use Rattle.chpw_book.specs.Recorded.{RecordedView, IsLinearized, Enters, Grows, new_recorded}
 
--- what lies under the lock: the table with its history, and the published list
-pub record Booked : Type 0 where
-  pub kept : Stored
+-- what is under the lock: the table with its history, and the published list
+pub record BookView : Type 0 where
+  pub kept : RecordedView
   pub list : List Accepted
 
--- over this table, with no entry yet, for so many workers
-abbrev pub new_book : Held → ℕ → Option (List ℕ) → Booked
-new_book t workers told = record { kept = new_store t workers told; list = [] }
+-- over this table, with no entry yet, for this many workers
+abbrev pub new_book : Held → ℕ → Option (List ℕ) → BookView
+new_book t workers told = record { kept = new_recorded t workers told; list = [] }
 
 -- the published list is the history's accepted changes, and, unless the journal is broken, none waits
-pub record Publishes (opening : State) (history : List Entry) (broken : Bool) (s : Shelved) : Type 0 where
+pub record IsPublished (opening : State) (history : List Entry) (broken : Bool) (s : Shelved) : Type 0 where
   pub list : s.list ≡ accepted opening history
   pub free : broken ≡ false → s.waiting ≡ None
 
--- the change waits, where one is made
+-- the change is prepared, if one is made
 abbrev pub with_waiting : Bool → Accepted → Shelved → Shelved
 with_waiting made c s = if made then record s { waiting = Some c } else s
 
--- an event leaves the published list, and has its change wait where it was accepted; where not, none
--- waits, unless the journal broke
+-- an event leaves the published list, and its change is prepared if it was accepted; otherwise none is, unless the
+-- journal broke
 pub record Shelves (before : State) (broken : Bool) (event : Event) (s t : Shelved) : Type 0 where
   pub list : t.list ≡ s.list
   pub waits : is_accepted event ≡ true → t.waiting ≡ Some (change_by before event)
   pub free : is_accepted event ≡ false → broken ≡ false → t.waiting ≡ None
 
--- an event's entry is stored, and its change waits to be published
-pub record IsStored (opening : State) (workers : ℕ) (before later : Stored) (mine more : Carried) (s t : Shelved) (now : Moment) (event : Event) : Type 0 where
-  pub adds : Adds before later mine more now event
+-- For the proofs: an event's entry is recorded, and its change waits to be published.
+pub record IsRecorded (opening : State) (workers : ℕ)
+    (before later : RecordedView) (mine more : PassView) (s t : Shelved) (now : Moment) (event : Event) : Type 0 where
+  pub entry : Entry
+  pub enters : Enters before.history entry mine more now event
+  pub grows : Grows before later mine.worker entry
   pub place : more.place ≡ mine.place
   pub saw : IsPrefix mine.place.seen s.list
   pub shelves : Shelves before.table.state later.table.state.broken event s t
-  pub replays : Replays opening workers before × Replays opening workers later
+  pub linearized : IsLinearized opening workers before × IsLinearized opening workers later
   pub few : length later.history < 2 ^ 31
 
--- the change that waited has joined the list
+-- the prepared change has joined the list
 abbrev pub joined : Option Accepted → List Accepted → List Accepted
 joined None list = list
 joined (Some c) list = list ++ c ∷ []
@@ -66,13 +69,13 @@ joined (Some c) list = list ++ c ∷ []
 abbrev pub published : Bool → Shelved → Shelved
 published done s = if done then record { list = joined s.waiting s.list; waiting = None } else s
 
--- the pass was told this list after a change of its own
+-- the pass learns this list after a change of its own
 abbrev pub told_list : Bool → List Accepted → Known → Known
 told_list done list k = if done then record k { told = list; own = Some list } else k
 
--- A call whose event was accepted or not, before it that history and after it this one: what the pass
--- was told before begins the accepted changes, and so does what its lookups showed; where the event was
--- accepted, the pass is told them all, its own the last, which are more than it knew, and else nothing.
+-- A call whose event was accepted or not, with this history before it and that one after: what the pass had learnt
+-- begins the accepted changes, and so does what its lookups showed; if the event was accepted, the pass learns them
+-- all, its own the last, which are more than it knew, and otherwise nothing.
 pub record Tells (opening : State) (before later : List Entry) (mine more : Known) (done : Bool) : Type 0 where
   pub begins : IsPrefix mine.told (accepted opening before)
   pub saw : IsPrefix mine.seen (accepted opening before)
@@ -88,8 +91,8 @@ abbrev pub kvno_in : NumberedChange → Option ℕ
 kvno_in (Key key) = Some key.kvno
 kvno_in (Count count) = None
 
--- nothing was told and there is no version; or this is the version in the change with which what was told ends,
--- unless it is empty
+-- nothing was learnt and there is no version; or this is the version in the last change of what was learnt, unless that
+-- is empty
 abbrev pub IsKvnoTold : State → Option (List Accepted) → Option ℕ → Type 0
 IsKvnoTold opening own kvno =
     ((own ≡ None) × (kvno ≡ None))

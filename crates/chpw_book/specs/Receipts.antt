@@ -14,7 +14,7 @@ is_of w e = e.worker == w
 abbrev pub entries_of : ℕ → List Entry → List Entry
 entries_of w history = filter (is_of w) history
 
--- a worker's next entry behind these
+-- a worker's next entry after these
 abbrev pub next_entry : List Entry → ℕ → Moment → Bool → Event → Entry
 next_entry before w now io event = record { worker = w; number = length (entries_of w before) + 1; now = now; io_failed = io; event = event }
 

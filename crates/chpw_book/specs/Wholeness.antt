@@ -1,6 +1,7 @@
--- For the proofs: whether the newest of the keys held of a name is whole, as each key that a table holds is.
+-- For proofs alone: whether the newest of the keys held of a name has the lengths of its type, as each key that a table
+-- holds.
 use Rattle.std.specs.Prelude.{List, [], ◌∷◌, Option, Some, None}
-use Rattle.chpw_table.specs.declared.key.KeyRow.{KeyRow}
+use Rattle.chpw_record.specs.declared.key.KeyRow.{KeyRow}
 use Rattle.chpw_journal.specs.Runs.{IsWholeKey}
 
 abbrev pub FirstIsWhole : List KeyRow → Type 0

@@ -1,4 +1,4 @@
-//! Receipts against the history.
+//! Comparing receipts with the history.
 ghost use Rattle.std.specs.Prelude.{◌≡◌, ◌==◌, ◌≤◌, ◌<◌, ◌^◌, ◌+◌, ◌-◌, length, drop, [], ◌∷◌, if◌then◌else◌, IfSome, IfNone, Decides, MatchBool};
 ghost use Rattle.chpw_table.specs.History.{calls, calls_from, next_basis};
 ghost use Rattle.chpw_book.specs.Differences.{IsFirstApart};
@@ -6,11 +6,11 @@ ghost use Rattle.chpw_book.specs.Differences.{IsFirstApart};
 use crate::history::basis_after;
 use chpw_table::{Entry, Receipt};
 
-/// The first position where these differ from the receipts of the worker's entries: of the first entry
-/// whose receipt is not at its place, or, where all are, the one that the first receipt after them names.
+/// The first position where these differ from the receipts of the worker's entries: of the first entry whose receipt is
+/// not in its place, or, if all are, the position that the first receipt after them names.
 ///
-/// A position has 32 bits, so the history is shorter than 2^32; a table decides 1,048,576 events at most.
-#[tactic(auto, using(crate::proofs::AgreeLemmas::left_whole, crate::proofs::AgreeLemmas::goes_on, crate::proofs::AgreeLemmas::passes_by, crate::proofs::AgreeLemmas::differs_here, crate::proofs::AgreeLemmas::misses_here, crate::proofs::AgreeLemmas::stands_behind, crate::proofs::AgreeLemmas::ends_same))]
+/// A position has 32 bits, so the history is shorter than 2^32; a table decides at most 1,048,576 events.
+#[tactic(auto, using(crate::proofs::AgreeLemmas::agreeing))]
 pub fn agree(history: &[Entry], worker: u8, receipts: &[Receipt]) -> Option<u32>
     requires few { length history.now < 2 ^ 32 }
     ensures none { IfNone result (receipts.now ≡ calls history.now worker) }
@@ -50,7 +50,13 @@ struct Standing {
 // Whether this is the receipt of the entry that stands here.
 fn is_of(receipt: &Receipt, entry: &Entry, standing: Standing) -> bool
     requires room { standing.count < 2 ^ 32 - 1 }
-    ensures same { Decides result (receipt.now ≡ record { worker = entry.entry.now.worker; number = standing.count + 1; position = standing.position; basis = standing.basis; entry = entry.entry.now }) }
+    ensures same { Decides result (receipt.now ≡ record {
+      worker = entry.entry.now.worker;
+      number = standing.count + 1;
+      position = standing.position;
+      basis = standing.basis;
+      entry = entry.entry.now;
+    }) }
 {
     receipt.worker == entry.worker
         && receipt.number == standing.count + 1

@@ -1,8 +1,8 @@
-//! What lies under the lock: the table with its history, and the versions that lookups show.
+//! What is under the lock: the table with its history, and the versions that lookups show.
 ghost use Rattle.std.specs.Prelude.{◌≡◌, ◌+◌, ◌-◌, ◌^◌, ◌<◌, ◌≤◌, [], All, IfOk, IfErr, IfSome, IfNone, OnErr, IsSome, length, map, true, false};
 ghost use Rattle.std.specs.List.{range_with_len};
 ghost use mathlib.Core.List.{IsPrefix};
-ghost use Rattle.chpw_fronts.specs.Pens.{opening_state};
+ghost use Rattle.chpw_changelog.specs.Pens.{opening_state};
 ghost use Rattle.chpw_table.specs.declared.outcome.DecideFault.TheVariants.{Full};
 ghost use Rattle.chpw_rules.specs.Limits.{is_in, iteration_counts};
 ghost use Rattle.chpw_table.specs.declared.history.Event.TheVariants.{Ask, Raise};
@@ -15,8 +15,8 @@ ghost use Rattle.chpw_table.specs.Raising.{is_raised};
 ghost use Rattle.chpw_table.specs.Versions.{accepted};
 ghost use Rattle.chpw_decider.specs.Deciding.{IsCompletedFrom, IsFinal};
 ghost use Rattle.chpw_book.specs.Closing.{IsRefusal, IsWhole, is_full};
-ghost use Rattle.chpw_book.specs.Stored.{Replays, Adds};
-ghost use Rattle.chpw_book.specs.Calls.{Notes, AsksAfter, LacksAfter, IsFirstFault};
+ghost use Rattle.chpw_book.specs.Recorded.{IsLinearized};
+ghost use Rattle.chpw_book.specs.Calls.{Adds, AsksAfter, LacksAfter, IsFirstFault};
 ghost use Rattle.chpw_table.specs.History.{missing};
 ghost use Rattle.chpw_book.specs.Passes.{new_pass};
 ghost use Rattle.chpw_book.specs.Starting.{IsNamed, table_of, workers_of};
@@ -26,12 +26,14 @@ use crate::closing::{BookRefused, CloseFault, Closed};
 use crate::naming::DeskName;
 use crate::pass::Pass;
 use crate::raising::RaiseFault;
+use crate::recorded::RecordedTable;
 use crate::rows::rows_of;
-use crate::store::Store;
 use crate::unnamed::{StartFault, UnnamedDesk};
 use chpw_decider::JournaledTable;
-use chpw_table::{Counts, Entry, JournalSink, Moment, Opened, RaiseVerdict, Refused, Verdict};
-use chpw_versions::Shelf;
+use chpw_snapshots::SnapshotWriter;
+use chpw_table::{
+    Counts, DecideFault, Entry, JournalSink, Moment, Opened, RaiseVerdict, Refused, Verdict,
+};
 use std::alloc::Global;
 use std::marker::Model;
 use std::sync::Wait;
@@ -39,32 +41,30 @@ use std::sync::ledger::Share;
 
 /// The table with its history, and the shelf whose versions lookups show beside the lock.
 ///
-/// Its type keeps that the published list is the history's accepted changes, and that of the history all
-/// that `Replays` says. A book is taken apart at a close, or when its desk is given up.
+/// Its invariant is that the published list is the history's accepted changes, and that the history has all that
+/// `Replays` says. A book is taken apart when its desk is closed or abandoned.
 pub struct Book<D: DeskName, S: JournalSink> {
-    pub(crate) store: Store<D, S>,
-    pub(crate) shelf: Shelf<D>,
+    pub(crate) recorded: RecordedTable<D, S>,
+    pub(crate) shelf: SnapshotWriter<D>,
 }
 
 impl<D: DeskName, S: JournalSink> Model for Book<D, S> {
-    ghost use Rattle.chpw_fronts.specs.Pens.{opening_state};
-    ghost use Rattle.chpw_book.specs.Publishing.{Booked, Publishes};
+    ghost use Rattle.chpw_changelog.specs.Pens.{opening_state};
+    ghost use Rattle.chpw_book.specs.Publishing.{BookView, IsPublished};
 
-    ghost Value = { Booked };
+    ghost Value = { BookView };
 
-    ghost view = { λ b. record { kept = b.store; list = b.shelf.list } };
+    ghost view = { λ b. record { kept = b.recorded; list = b.shelf.list } };
 
     ghost invariant = { λ b.
-        Publishes (opening_state D.root) b.store.history b.store.table.state.broken b.shelf };
+        IsPublished (opening_state D.root) b.recorded.history b.recorded.table.state.broken b.shelf };
 }
 
 impl<D: DeskName, S: JournalSink> Book<D, S> {
-    /// A book with an empty history, and a pass for each of the workers, in their order. None has seen
-    /// or was told a change.
+    /// A book with an empty history, and a pass for each of the workers, in order. None has seen or learnt a change.
     ///
-    /// Two faults: `NoPlaces` where `Shelf::place` gives no place to a worker, and `Memory` where a
-    /// growth is refused: of the rows, the shelf, the passes or the counts, in this order. After a fault
-    /// all that was handed in is gone.
+    /// Two faults: `NoPlaces` if `SnapshotWriter::place` gives no place to a worker, and `Memory` if a growth is refused: of the
+    /// rows, the shelf, the passes or the counts, in this order. After a fault all that was given to it is gone.
     pub(crate) fn start<R: Wait>(
         rt: &R,
         alloc: Global,
@@ -90,9 +90,9 @@ impl<D: DeskName, S: JournalSink> Book<D, S> {
         let rows = rows_of(alloc, &table)?;
         let again = rows_of(alloc, &table)?;
         let root = list.root();
-        let keeper = list.named::<D>();
+        let keeper = list.with_name::<D>();
         let places = usize::from(workers);
-        let mut shelf = Shelf::start(rt, alloc, keeper, &root, rows, again, places)?;
+        let mut shelf = SnapshotWriter::start(rt, alloc, keeper, &root, rows, again, places)?;
         let (totals, all): (_, Share<D>) = blank.open::<D>();
         let passes = match Pass::of_all(alloc, all, &mut shelf, workers) {
             Ok(passes) => passes,
@@ -101,8 +101,8 @@ impl<D: DeskName, S: JournalSink> Book<D, S> {
                 return Err(fault);
             }
         };
-        match Store::start(alloc, totals, JournaledTable::of(table, sink), workers) {
-            Ok(store) => Ok((Book { store, shelf }, passes)),
+        match RecordedTable::start(alloc, totals, JournaledTable::of(table, sink), workers) {
+            Ok(recorded) => Ok((Book { recorded, shelf }, passes)),
             Err(_) => {
                 shelf.end(rt);
                 Err(StartFault::Memory)
@@ -113,29 +113,28 @@ impl<D: DeskName, S: JournalSink> Book<D, S> {
     /// The entries so far.
     pub fn history(&self) -> &[Entry]
         ensures value { result.now ≡ self.now.kept.history }
-        ensures replays { Replays (opening_state D.root) D.workers self.now.kept }
+        ensures linearized { IsLinearized (opening_state D.root) D.workers self.now.kept }
         ensures published { self.now.list ≡ accepted (opening_state D.root) self.now.kept.history }
     {
-        self.store.history()
+        self.recorded.history()
     }
 
-    /// The counts under which `decide` would look at keys that the digest lacks, were the history not
-    /// full: each at least 1, ascending, each once; none where it would look at no keys.
+    /// The counts under which `decide` would look at keys that the digest lacks, if the history were not full: each at
+    /// least 1, ascending, each once; none if it would look at no keys.
     #[tactic(auto, using(crate::proofs::CallLemmas::lacks_after))]
     pub fn missing(&self, now: Moment, opened: &Opened) -> Counts
         ensures value { result ≡ missing self.now.kept.table.state now opened.now }
         ensures after { LacksAfter (opening_state D.root) now opened.now result }
         ensures positive { All (λ n. 1 ≤ n) result }
     {
-        self.store.missing(now, opened)
+        self.recorded.missing(now, opened)
     }
 
-    /// One event: an entry of the pass's worker at the end, and its receipt in the pass. Where it was
-    /// accepted, its change is published then, and the pass is told of it; this waits for lookups that
-    /// still read what it changes.
+    /// One event: an entry of the pass's worker at the end, and its receipt in the pass. If it was accepted, its change
+    /// is then published, and the pass learns it; this waits for lookups that still read what it changes.
     ///
-    /// `now` has seconds from 0 to `chpw_table::LAST_SECOND`. Refused as `Table::decide` refuses, and
-    /// then nothing has changed: `Full`, `NeedKeys`, `Memory`.
+    /// `now` has seconds from 0 to `chpw_table::LAST_SECOND`. Refused as `Table::decide` refuses, with nothing changed:
+    /// `Full`, `NeedKeys`, `Memory`.
     pub fn decide<R: Wait>(
         &mut self,
         rt: &R,
@@ -144,25 +143,22 @@ impl<D: DeskName, S: JournalSink> Book<D, S> {
         opened: Opened,
     ) -> Result<Verdict, Refused>
         requires moment { IsMoment now }
-        ensures adds { IfOk result (λ v.
-            Adds self.old.kept self.new.kept pass.old pass.new now (Ask opened v)) }
+        ensures adds { IfOk result (λ v. Adds (opening_state D.root) self.old.kept self.new.kept
+            pass.old pass.new now (Ask opened v)) }
         ensures refused { IfErr result (λ r. IsRefused self.old.kept.table now opened r) }
         ensures unchanged { OnErr result ((self.new ≡ self.old) × (pass.new ≡ pass.old)) }
-        ensures notes { IfOk result (λ v.
-            Notes (opening_state D.root) pass.old pass.new now (Ask opened v)) }
         ensures asks { IfErr result (λ r. AsksAfter (opening_state D.root) now opened r.fault) }
         ensures told { IsPrefix pass.old.place.told
             (accepted (opening_state D.root) self.old.kept.history) }
     {
         self.shelf.has(pass.told());
-        let verdict = self.store.decide(&mut self.shelf, pass, now, opened)?;
+        let verdict = self.recorded.decide(&mut self.shelf, pass, now, opened)?;
         tell(rt, &mut self.shelf, pass, verdict);
         Ok(verdict)
     }
 
-    /// The same, with the digest completed for this password as far as keys are missing, so that none
-    /// are asked for; `salt` is that of `Opened::salt`. The request that a refusal hands back may have
-    /// more of them.
+    /// One event with the digest completed for this password where keys are missing, so that none are asked for; `salt`
+    /// is that of `Opened::salt`. The request that a refusal returns may have more of them.
     pub fn decide_deriving<R: Wait>(
         &mut self,
         rt: &R,
@@ -174,32 +170,42 @@ impl<D: DeskName, S: JournalSink> Book<D, S> {
     ) -> Result<Verdict, Refused>
         requires moment { IsMoment now }
         requires salt { salt.now ≡ salt_of (target_of opened) }
-        ensures adds { IfOk result (λ v. (counts : _) × Adds self.old.kept self.new.kept
-            pass.old pass.new now (Ask (completed password.now counts opened) v)) }
+        ensures adds { IfOk result (λ v. (counts : _) × Adds (opening_state D.root)
+            self.old.kept self.new.kept pass.old pass.new now
+            (Ask (completed password.now counts opened) v)) }
         ensures never { IfErr result (λ r. IsFinal r.fault) }
         ensures full { IfErr result (λ r.
             r.fault ≡ Full → self.old.kept.table.events ≡ self.old.kept.table.max_entries) }
         ensures unchanged { IfErr result (λ r. (self.new ≡ self.old) × (pass.new ≡ pass.old)
             × IsCompletedFrom password.now opened r.opened) }
-        ensures notes { IfOk result (λ v. (counts : _) × Notes (opening_state D.root)
-            pass.old pass.new now (Ask (completed password.now counts opened) v)) }
         ensures told { IsPrefix pass.old.place.told
             (accepted (opening_state D.root) self.old.kept.history) }
     {
-        self.shelf.has(pass.told());
-        let verdict = self
-            .store
-            .decide_deriving(&mut self.shelf, pass, now, opened, password, salt)?;
-        tell(rt, &mut self.shelf, pass, verdict);
-        Ok(verdict)
+        let refused = match self.decide(rt, pass, now, opened) {
+            Ok(verdict) => return Ok(verdict),
+            Err(refused) => refused,
+        };
+        let Refused { fault, mut opened } = refused;
+        match fault {
+            DecideFault::NeedKeys(counts) => {
+                if opened.complete(password, salt, &counts).is_err() {
+                    return Err(Refused {
+                        fault: DecideFault::Memory,
+                        opened,
+                    });
+                }
+                self.decide(rt, pass, now, opened)
+            }
+            fault => Err(Refused { fault, opened }),
+        }
     }
 
-    /// Raises the iteration count of new keys to this one, 1 to 16,777,216: an entry of the pass's
-    /// worker at the end, and its receipt in the pass. Where the count is raised, lookups show it then,
-    /// and the pass is told of it; this waits for lookups that still read what it changes.
+    /// Raises the iteration count of new keys to this one, 1 to 16,777,216: an entry of the pass's worker at the end,
+    /// and its receipt in the pass. If the count is raised, lookups then show it, and the pass learns it; this waits
+    /// for lookups that still read what it changes.
     ///
-    /// `now` has seconds from 0 to `chpw_table::LAST_SECOND`. Two faults, after which nothing has
-    /// changed: `Full` just where the table is, and `Memory` where it has room and a growth is refused.
+    /// `now` has seconds from 0 to `chpw_table::LAST_SECOND`. Two faults, after which nothing has changed: `Full`
+    /// exactly if the table is full, and `Memory` if it has room and a growth is refused.
     pub fn raise<R: Wait>(
         &mut self,
         rt: &R,
@@ -209,23 +215,21 @@ impl<D: DeskName, S: JournalSink> Book<D, S> {
     ) -> Result<RaiseVerdict, RaiseFault>
         requires moment { IsMoment now }
         requires count { is_in iteration_counts count ≡ true }
-        ensures adds { IfOk result (λ v.
-            Adds self.old.kept self.new.kept pass.old pass.new now (Raise count v)) }
+        ensures adds { IfOk result (λ v. Adds (opening_state D.root) self.old.kept self.new.kept
+            pass.old pass.new now (Raise count v)) }
         ensures first { IfErr result (λ fault. IsFirstFault self.old.kept.table fault) }
         ensures unchanged { OnErr result ((self.new ≡ self.old) × (pass.new ≡ pass.old)) }
-        ensures notes { IfOk result (λ v.
-            Notes (opening_state D.root) pass.old pass.new now (Raise count v)) }
         ensures told { IsPrefix pass.old.place.told
             (accepted (opening_state D.root) self.old.kept.history) }
     {
         self.shelf.has(pass.told());
-        let verdict = self.store.raise(&mut self.shelf, pass, now, count)?;
+        let verdict = self.recorded.raise(&mut self.shelf, pass, now, count)?;
         tell_raise(rt, &mut self.shelf, pass, verdict);
         Ok(verdict)
     }
 
-    /// What is left of the book where these passes are all there and have their workers' receipts; otherwise
-    /// book and passes come back as they were.
+    /// What is left of the book if these passes are complete and have their workers' receipts; otherwise book and
+    /// passes are returned unchanged.
     pub(crate) fn close<R: Wait>(
         self,
         rt: &R,
@@ -238,7 +242,7 @@ impl<D: DeskName, S: JournalSink> Book<D, S> {
         ensures refusal { IfErr result (λ r. IsRefusal self.kept.history (is_full self.kept.table)
             D.workers passes.items r.fault) }
         ensures back { IfErr result (λ r. (r.book ≡ self) × (r.passes.items ≡ passes.items)) }
-        ensures replays { Replays (opening_state D.root) D.workers self.kept }
+        ensures linearized { IsLinearized (opening_state D.root) D.workers self.kept }
     {
         match self.close_fault(passes.as_slice()) {
             None => Ok(self.into_closed(rt)),
@@ -250,15 +254,15 @@ impl<D: DeskName, S: JournalSink> Book<D, S> {
         }
     }
 
-    // Why these passes leave the book open; none where it may be closed.
+    // Why these passes leave the book open; none if it may be closed.
     fn close_fault(&self, passes: &[Pass<D>]) -> Option<CloseFault>
         ensures whole { IfNone result (IsWhole self.now.kept.history
             (is_full self.now.kept.table) D.workers passes.now) }
         ensures refusal { IfSome result (λ fault. IsRefusal self.now.kept.history
             (is_full self.now.kept.table) D.workers passes.now fault) }
-        ensures replays { Replays (opening_state D.root) D.workers self.now.kept }
+        ensures linearized { IsLinearized (opening_state D.root) D.workers self.now.kept }
     {
-        self.store.close_fault(passes)
+        self.recorded.close_fault(passes)
     }
 
     // What is left of it, once no lookup reads.
@@ -266,26 +270,31 @@ impl<D: DeskName, S: JournalSink> Book<D, S> {
         ensures history { result.history.items ≡ self.kept.history }
         ensures table { result.table ≡ self.kept.table }
         ensures told { S.told result.sink ≡ self.kept.told }
-        ensures replays { Replays (opening_state D.root) D.workers self.kept }
+        ensures linearized { IsLinearized (opening_state D.root) D.workers self.kept }
     {
-        let Book { store, shelf } = self;
+        let Book { recorded, shelf } = self;
         shelf.end(rt);
-        store.into_closed()
+        recorded.into_closed()
     }
 
-    /// Lets go of the book, with its history, once no lookup reads.
+    /// Drops the book, with its history, once no lookup reads.
     pub(crate) fn abandon<R: Wait>(self, rt: &R)
     where
         S: Drop,
     {
-        let Book { store, shelf } = self;
+        let Book { recorded, shelf } = self;
         shelf.end(rt);
-        store.abandon();
+        recorded.abandon();
     }
 }
 
-// After this verdict: the change that waits is published, and the pass is told of it.
-fn tell<D: DeskName, R: Wait>(rt: &R, shelf: &mut Shelf<D>, pass: &mut Pass<D>, verdict: Verdict)
+// After this verdict: the prepared change is published, and the pass learns it.
+fn tell<D: DeskName, R: Wait>(
+    rt: &R,
+    shelf: &mut SnapshotWriter<D>,
+    pass: &mut Pass<D>,
+    verdict: Verdict,
+)
     requires waits { is_done verdict ≡ true → IsSome shelf.old.waiting }
     requires room { length shelf.old.list + 1 < 2 ^ 31 }
     requires told { IsPrefix pass.old.place.told shelf.old.list }
@@ -300,10 +309,10 @@ fn tell<D: DeskName, R: Wait>(rt: &R, shelf: &mut Shelf<D>, pass: &mut Pass<D>, 
     }
 }
 
-// The same after this verdict on a raise.
+// After this verdict on a raise: the prepared change is published, and the pass learns it.
 fn tell_raise<D: DeskName, R: Wait>(
     rt: &R,
-    shelf: &mut Shelf<D>,
+    shelf: &mut SnapshotWriter<D>,
     pass: &mut Pass<D>,
     verdict: RaiseVerdict,
 )

@@ -1,8 +1,8 @@
 //! One decision of the table, with its entry.
 ghost use Rattle.std.specs.Prelude.{◌≡◌, ◌<◌, IfOk, IfErr, OnOk, OnErr, true, length, vec_len, vec_capacity};
 ghost use mathlib.Core.List.{IsPrefix};
-ghost use Rattle.chpw_table.specs.declared.outcome.DecideFault.TheVariants.{Full, Memory};
-ghost use Rattle.chpw_fronts.specs.Pens.{opening_state};
+ghost use Rattle.chpw_table.specs.declared.outcome.DecideFault.TheVariants.{Memory};
+ghost use Rattle.chpw_changelog.specs.Pens.{opening_state};
 ghost use Rattle.chpw_table.specs.declared.history.Event.TheVariants.{Ask};
 ghost use Rattle.chpw_table.specs.declared.verdict.Verdict.TheVariants.{Done};
 ghost use Rattle.chpw_table.specs.State.{keys_held};
@@ -12,50 +12,48 @@ ghost use Rattle.chpw_table.specs.Agreement.{Agrees};
 ghost use Rattle.chpw_table.specs.Preparing.{IsReady};
 ghost use Rattle.chpw_table.specs.Times.{IsMoment};
 ghost use Rattle.chpw_table.specs.Requests.{target_of};
-ghost use Rattle.chpw_table.specs.Completing.{salt_of, completed};
 ghost use Rattle.chpw_table.specs.Refusals.{IsRefused};
 ghost use Rattle.chpw_table.specs.Verdicts.{is_done};
-ghost use Rattle.chpw_decider.specs.Deciding.{IsCompletedFrom, IsFinal};
 ghost use Rattle.chpw_journal.specs.Runs.{IsWholeKey};
-ghost use Rattle.chpw_book.specs.Stored.{Replays};
-ghost use Rattle.chpw_book.specs.Publishing.{IsStored, Publishes, with_waiting};
+ghost use Rattle.chpw_book.specs.Recorded.{IsLinearized};
+ghost use Rattle.chpw_book.specs.Publishing.{IsRecorded, IsPublished, with_waiting};
 ghost use Rattle.chpw_book.specs.Wholeness.{FirstIsWhole, NewestIsWhole};
 
 use crate::naming::DeskName;
 use crate::pass::Pass;
-use crate::store::Store;
+use crate::recorded::RecordedTable;
 use chpw_decider::JournaledTable;
 use chpw_rules::Name;
+use chpw_snapshots::SnapshotWriter;
 use chpw_table::{
     Body, DecideFault, Entry, Event, JournalSink, KeyRow, Moment, Opened, Outcome, Prepared,
     Receipt, Refused, Table, Verdict,
 };
-use chpw_versions::Shelf;
 use std::alloc::AllocError;
 
-impl<D: DeskName, S: JournalSink> Store<D, S> {
+impl<D: DeskName, S: JournalSink> RecordedTable<D, S> {
     /// One event: an entry of the pass's worker at the end, and its receipt in the pass. The change
     /// that it makes waits on the shelf; putting it there is the last growth before the journal is
     /// appended to.
     ///
-    /// `now` has seconds from 0 to `chpw_table::LAST_SECOND`. Refused as `Table::decide` refuses, and
-    /// then nothing has changed: `Full`, `NeedKeys`, `Memory`.
+    /// `now` has seconds from 0 to `chpw_table::LAST_SECOND`. Refused as `Table::decide` refuses, with nothing changed:
+    /// `Full`, `NeedKeys`, `Memory`.
     pub(crate) fn decide(
         &mut self,
-        shelf: &mut Shelf<D>,
+        shelf: &mut SnapshotWriter<D>,
         pass: &mut Pass<D>,
         now: Moment,
         opened: Opened,
     ) -> Result<Verdict, Refused>
         requires moment { IsMoment now }
-        requires publishes { Publishes (opening_state D.root) self.old.history
+        requires published { IsPublished (opening_state D.root) self.old.history
             self.old.table.state.broken shelf.old }
-        ensures stored { IfOk result (λ v. IsStored (opening_state D.root) D.workers self.old self.new
+        ensures recorded { IfOk result (λ v. IsRecorded (opening_state D.root) D.workers self.old self.new
             pass.old pass.new shelf.old shelf.new now (Ask opened v)) }
         ensures refused { IfErr result (λ r. IsRefused self.old.table now opened r) }
         ensures unchanged { OnErr result
             ((self.new ≡ self.old) × (pass.new ≡ pass.old) × (shelf.new ≡ shelf.old)) }
-        ensures replays { Replays (opening_state D.root) D.workers self.old }
+        ensures linearized { IsLinearized (opening_state D.root) D.workers self.old }
     {
         let prepared = prepare(&mut self.journaled, shelf, pass, now, opened)?;
         let Ok(copy) = make_room(
@@ -82,57 +80,13 @@ impl<D: DeskName, S: JournalSink> Store<D, S> {
             .add(&mut pass.calls, now, io_failed, event, copy);
         Ok(verdict)
     }
-
-    /// The same, with the digest completed for this password as far as keys are missing, so that none
-    /// are asked for; `salt` is that of `Opened::salt`. The request that a refusal hands back may have
-    /// more of them.
-    pub(crate) fn decide_deriving(
-        &mut self,
-        shelf: &mut Shelf<D>,
-        pass: &mut Pass<D>,
-        now: Moment,
-        opened: Opened,
-        password: &[u8],
-        salt: &[u8],
-    ) -> Result<Verdict, Refused>
-        requires moment { IsMoment now }
-        requires salt { salt.now ≡ salt_of (target_of opened) }
-        requires publishes { Publishes (opening_state D.root) self.old.history
-            self.old.table.state.broken shelf.old }
-        ensures stored { IfOk result (λ v. (counts : _) × IsStored (opening_state D.root) D.workers
-            self.old self.new pass.old pass.new shelf.old shelf.new now
-            (Ask (completed password.now counts opened) v)) }
-        ensures never { IfErr result (λ r. IsFinal r.fault) }
-        ensures full { IfErr result (λ r.
-            r.fault ≡ Full → self.old.table.events ≡ self.old.table.max_entries) }
-        ensures unchanged { IfErr result (λ r. (self.new ≡ self.old) × (pass.new ≡ pass.old)
-            × (shelf.new ≡ shelf.old) × IsCompletedFrom password.now opened r.opened) }
-    {
-        let refused = match self.decide(shelf, pass, now, opened) {
-            Ok(verdict) => return Ok(verdict),
-            Err(refused) => refused,
-        };
-        let Refused { fault, mut opened } = refused;
-        match fault {
-            DecideFault::NeedKeys(counts) => {
-                if opened.complete(password, salt, &counts).is_err() {
-                    return Err(Refused {
-                        fault: DecideFault::Memory,
-                        opened,
-                    });
-                }
-                self.decide(shelf, pass, now, opened)
-            }
-            fault => Err(Refused { fault, opened }),
-        }
-    }
 }
 
-// Prepares a step for a pass whose lookups showed nothing but what the shelf published; else memory is
-// wanting, since the pass's reader can't enter.
+// Prepares a step for a pass whose lookups showed only what the shelf published; otherwise refused for want of memory,
+// since the pass's reader can't enter.
 fn prepare<D: DeskName, S: JournalSink>(
     journaled: &mut JournaledTable<S>,
-    shelf: &Shelf<D>,
+    shelf: &SnapshotWriter<D>,
     pass: &mut Pass<D>,
     now: Moment,
     opened: Opened,
@@ -154,7 +108,7 @@ fn prepare<D: DeskName, S: JournalSink>(
     }
 }
 
-// Where the request was accepted: reads the newest key of its target, which is whole as each key that a
+// If the request was accepted: reads the newest key of its target, which has the lengths of its type as each key that a
 // table holds.
 fn read_newest(table: &Table, opened: &Opened, verdict: Verdict)
     ensures whole { is_done verdict ≡ true
@@ -169,7 +123,7 @@ fn read_newest(table: &Table, opened: &Opened, verdict: Verdict)
     }
 }
 
-// The first of some keys is whole.
+// The first of some keys has the lengths of its type.
 fn read_first(keys: &[KeyRow])
     ensures whole { FirstIsWhole keys.now }
 {
@@ -191,7 +145,7 @@ fn read_bytes<const N: usize>(bytes: &[u8; N])
     ensures length { length bytes.now ≡ N }
 {}
 
-// Whose password was to be new.
+// The principal whose password was to be changed.
 fn target_name(opened: &Opened) -> &Name
     ensures value { result.now ≡ (target_of opened.now).name }
 {
@@ -204,19 +158,19 @@ fn target_name(opened: &Opened) -> &Name
     }
 }
 
-// All growths of a step that was prepared: a place in both lists, a copy of the request, and the change
-// that waits on the shelf, which is the last before the journal is appended to.
+// All growths of a prepared step: room in both lists, a copy of the request, and the change on the shelf, which is the
+// last before the journal is appended to.
 fn make_room<D: DeskName>(
     entries: &mut Vec<Entry>,
     receipts: &mut Vec<Receipt>,
-    shelf: &mut Shelf<D>,
+    shelf: &mut SnapshotWriter<D>,
     table: &Table,
     prepared: &Prepared,
 ) -> Result<Opened, AllocError>
     requires ready { IsReady table.now prepared.now }
     requires kept { (es : _) × IsLegal (opening_state D.root) es
         × Agrees table.now.state (outcome (opening_state D.root) es)
-        × Publishes (opening_state D.root) es table.now.state.broken shelf.old }
+        × IsPublished (opening_state D.root) es table.now.state.broken shelf.old }
     ensures same { (entries.new.items ≡ entries.old.items)
         × (receipts.new.items ≡ receipts.old.items) }
     ensures room { OnOk result ((vec_len entries.new < vec_capacity entries.new)

@@ -1,8 +1,8 @@
-//! The lock round the book, and what lies beside it.
+//! The lock around the book, and what is beside it.
 ghost use Rattle.std.specs.Prelude.{◌≡◌, ◌-◌, ◌^◌, ◌<◌, ◌≤◌, [], All, IfOk, IfErr, IfSome, OnOk, OnErr, map, false, true};
 ghost use mathlib.Core.List.{IsPrefix};
 ghost use Rattle.std.specs.List.{range_with_len};
-ghost use Rattle.chpw_fronts.specs.Pens.{opening_state, opening_table};
+ghost use Rattle.chpw_changelog.specs.Pens.{opening_state, opening_table};
 ghost use Rattle.chpw_rules.specs.Limits.{is_in, iteration_counts};
 ghost use Rattle.chpw_table.specs.declared.history.Event.TheVariants.{Ask, Raise};
 ghost use Rattle.chpw_table.specs.Times.{IsMoment};
@@ -13,7 +13,7 @@ ghost use Rattle.chpw_decider.specs.Deciding.{IsCompletedFrom, IsFinal};
 ghost use Rattle.chpw_book.specs.Passes.{refused_with, raise_refused_with, new_pass};
 ghost use Rattle.chpw_book.specs.Calls.{Notes, AsksAfter, LacksAfter};
 ghost use Rattle.chpw_book.specs.Starting.{IsNamed, table_of, workers_of};
-ghost use Rattle.chpw_versions.specs.Looking.{LooksUp};
+ghost use Rattle.chpw_snapshots.specs.Looking.{LooksUp};
 
 use crate::book::Book;
 use crate::naming::DeskName;
@@ -22,29 +22,27 @@ use crate::raising::RaiseFault;
 use crate::standing::OpeningRules;
 use crate::unnamed::{StartFault, UnnamedDesk};
 use chpw_rules::Name;
+use chpw_snapshots::NotEntered;
 use chpw_table::{
     Counts, DecideFault, JournalSink, Lookup, Moment, Opened, RaiseVerdict, Refused, Verdict,
 };
-use chpw_versions::NotEntered;
 use std::alloc::Global;
 use std::sync::{Mutex, MutexGuard, Wait};
 
-/// A book that several workers decide at, each with a pass of its own. A desk is closed
-/// (`Desk::close`) or given up (`Desk::abandon`).
+/// A book at which several workers decide, each with a pass of its own. A desk is closed (`Desk::close`) or abandoned
+/// (`Desk::abandon`).
 pub struct Desk<D: DeskName, S: JournalSink> {
     pub(crate) book: Mutex<Book<D, S>>,
-    // Beside the lock, since no event changes it.
+    // Beside the lock, since no event changes them.
     pub(crate) standing: OpeningRules<D>,
 }
 
 impl<D: DeskName, S: JournalSink> Desk<D, S> {
-    /// A desk with an empty history, and a pass for each of its workers, in their order. None has seen
-    /// or was told a change.
+    /// A desk with an empty history, and a pass for each of its workers, in order. None has seen or learnt a change.
     ///
-    /// A sink that tells has told nothing; fewer than 2^64 - 1 of its appends have failed, or the
-    /// table is broken. `NoPlaces` where no place is given to a worker; `Memory` where a growth is
-    /// refused: of the standing rules, the rows, the shelf, the passes or the history. After a fault all
-    /// that was handed in is gone.
+    /// The sink's known bytes are none; fewer than 2^64 - 1 of its appends have failed, or the table is broken.
+    /// `NoPlaces` if a worker gets no place; `Memory` if a growth is refused: of the standing rules, the rows, the
+    /// shelf, the passes or the history. After a fault all that was given to it is gone.
     pub fn start<R: Wait>(
         rt: &R,
         alloc: Global,
@@ -66,17 +64,17 @@ impl<D: DeskName, S: JournalSink> Desk<D, S> {
         Ok((Desk { book, standing }, passes))
     }
 
-    /// Whether `decide` at this moment, whatever was decided before, refuses the request before it looks
-    /// at keys. It takes no lock and waits for nobody.
+    /// Whether `decide` at this moment, whatever was decided before, refuses the request before it looks at keys. It
+    /// takes no lock and waits for nobody.
     pub fn refuses_anyway(&self, now: Moment, opened: &Opened) -> bool
         ensures value { result ≡ refused_anyway (opening_state D.root).fixed now opened.now }
     {
         self.standing.refuse(now, opened)
     }
 
-    /// The counts under which `decide` would now look at keys that the digest lacks, were the history
-    /// not full: each at least 1; none where it would look at no keys. Beside the lock where the request
-    /// is refused anyway, else under it.
+    /// The counts under which `decide` would now look at keys that the digest lacks, if the history were not full: each
+    /// at least 1; none if it would look at no keys. It takes no lock if the request is refused anyway, and otherwise
+    /// does.
     #[tactic(auto, using(crate::proofs::CallLemmas::lacks_none))]
     pub fn missing<R: Wait>(&self, rt: &R, now: Moment, opened: &Opened) -> Counts
         ensures after { LacksAfter (opening_state D.root) now opened.now result }
@@ -91,11 +89,12 @@ impl<D: DeskName, S: JournalSink> Desk<D, S> {
         counts
     }
 
-    /// One event under the lock; its receipt joins the pass. Where the request was accepted, its change
-    /// is published before the lock is given back, and the pass is told of it.
+    /// One event under the lock; its receipt joins the pass. If the request was accepted, its change is published
+    /// before the lock is released, and the pass learns it.
     ///
     /// `now` has seconds from 0 to `chpw_table::LAST_SECOND`. Refused as `Table::decide` refuses, and
     /// then the pass is as before, but that it notes `Full`.
+    #[tactic(auto, using(crate::proofs::CallLemmas::notes_of_ask))]
     pub fn decide<R: Wait>(
         &self,
         rt: &R,
@@ -113,12 +112,12 @@ impl<D: DeskName, S: JournalSink> Desk<D, S> {
         let mut book = self.book.lock(rt);
         let decided = book.decide(rt, pass, now, opened);
         MutexGuard::unlock(book);
-        noted(pass, decided)
+        note_full(pass, decided)
     }
 
-    /// The same, with the digest completed for this password under the lock, as far as keys are
-    /// missing, so that none are asked for. The request that a refusal hands back may have more of
-    /// them.
+    /// One event with the digest completed for this password under the lock, where keys are missing, so that none are
+    /// asked for. The request that a refusal returns may have more of them.
+    #[tactic(auto, using(crate::proofs::CallLemmas::notes_of_deriving))]
     pub fn decide_deriving<R: Wait>(
         &self,
         rt: &R,
@@ -143,15 +142,15 @@ impl<D: DeskName, S: JournalSink> Desk<D, S> {
         let mut book = self.book.lock(rt);
         let decided = book.decide_deriving(rt, pass, now, opened, password, salt.as_slice());
         MutexGuard::unlock(book);
-        noted(pass, decided)
+        note_full(pass, decided)
     }
 
-    /// Raises the iteration count of new keys to this one, 1 to 16,777,216, under the lock; the receipt
-    /// joins the pass. Where the count is raised, lookups show it before the lock is given back, and the
-    /// pass is told of it.
+    /// Raises the iteration count of new keys to this one, 1 to 16,777,216, under the lock; the receipt joins the pass.
+    /// If the count is raised, lookups show it before the lock is released, and the pass learns it.
     ///
     /// `now` has seconds from 0 to `chpw_table::LAST_SECOND`. After a fault the pass is as before, but
     /// that it notes `Full`.
+    #[tactic(auto, using(crate::proofs::CallLemmas::notes_of_raise))]
     pub fn raise<R: Wait>(
         &self,
         rt: &R,
@@ -171,9 +170,9 @@ impl<D: DeskName, S: JournalSink> Desk<D, S> {
         raise_noted(pass, raised)
     }
 
-    /// What a table shows of a name after some list of accepted changes that begins with all that the
-    /// pass has seen and was told; none for an unknown name. It takes no lock and waits for nobody. The
-    /// counts are at least 1. After `NotEntered` the pass is as before.
+    /// What a table shows of a name after some list of accepted changes that begins with all that the pass has seen and
+    /// learnt; none for an unknown name. It takes no lock and waits for nobody. The counts are at least 1. After
+    /// `NotEntered` the pass is unchanged.
     pub fn lookup(&self, pass: &mut Pass<D>, name: &Name) -> Result<Option<Lookup>, NotEntered>
         ensures found { IfOk result (λ found. LooksUp (opening_table D.root) pass.old.place
             pass.new.place name.now found) }
@@ -183,7 +182,7 @@ impl<D: DeskName, S: JournalSink> Desk<D, S> {
         pass.lookup(name)
     }
 
-    /// Gives the desk up without a close, once no lookup reads.
+    /// Abandons the desk without closing it, once no lookup reads.
     pub fn abandon<R: Wait>(self, rt: &R)
     where
         S: Drop,
@@ -194,7 +193,7 @@ impl<D: DeskName, S: JournalSink> Desk<D, S> {
 }
 
 // The pass notes that the history was full.
-fn noted<D: DeskName>(
+fn note_full<D: DeskName>(
     pass: &mut Pass<D>,
     decided: Result<Verdict, Refused>,
 ) -> Result<Verdict, Refused>
@@ -214,7 +213,7 @@ fn noted<D: DeskName>(
     decided
 }
 
-// The same of a raise.
+// The pass notes that the history was full, for a raise.
 fn raise_noted<D: DeskName>(
     pass: &mut Pass<D>,
     raised: Result<RaiseVerdict, RaiseFault>,

@@ -109,7 +109,7 @@ fn count_call(counts: &mut Vec<u32>, worker: u8) -> u32
     counts[worker]
 }
 
-/// The accepted entries, one more after an accepted one.
+/// The number of accepted entries, one more after an accepted one.
 pub(crate) fn basis_after(basis: u32, entry: &Entry) -> u32
     requires room { basis < 2 ^ 32 - 1 }
     ensures value { result ≡ next_basis basis entry.entry.now }
@@ -121,7 +121,7 @@ pub(crate) fn basis_after(basis: u32, entry: &Entry) -> u32
     }
 }
 
-// Puts one at the end, where there is room.
+// Adds one at the end, for which there is room.
 fn put<T: Drop>(list: &mut Vec<T>, item: T)
     requires room { vec_len list.old < vec_capacity list.old }
     ensures value { list.new.items ≡ list.old.items ++ item ∷ [] }

@@ -9,12 +9,13 @@ mod closing;
 mod deciding;
 mod desk;
 mod history;
+pub mod laws;
 mod naming;
 mod pass;
 mod raising;
+mod recorded;
 mod rows;
 mod standing;
-mod store;
 mod unnamed;
 
 pub use agreeing::agree;

@@ -2,7 +2,7 @@
 ghost use Rattle.std.specs.Prelude.{◌≡◌, ◌<◌, IfOk, IfErr, OnOk, OnErr, vec_len, vec_capacity, true};
 ghost use mathlib.Core.List.{IsPrefix};
 ghost use Rattle.chpw_rules.specs.Limits.{is_in, iteration_counts};
-ghost use Rattle.chpw_fronts.specs.Pens.{opening_state};
+ghost use Rattle.chpw_changelog.specs.Pens.{opening_state};
 ghost use Rattle.chpw_table.specs.declared.change.Accepted.TheVariants.{Count};
 ghost use Rattle.chpw_table.specs.declared.history.Event.TheVariants.{Raise};
 ghost use Rattle.chpw_table.specs.History.{IsLegal, outcome};
@@ -10,20 +10,20 @@ ghost use Rattle.chpw_table.specs.Agreement.{Agrees};
 ghost use Rattle.chpw_table.specs.Raising.{would_raise};
 ghost use Rattle.chpw_table.specs.Times.{IsMoment};
 ghost use Rattle.chpw_book.specs.Calls.{IsFirstFault};
-ghost use Rattle.chpw_book.specs.Stored.{Replays};
-ghost use Rattle.chpw_book.specs.Publishing.{IsStored, Publishes, with_waiting};
+ghost use Rattle.chpw_book.specs.Recorded.{IsLinearized};
+ghost use Rattle.chpw_book.specs.Publishing.{IsRecorded, IsPublished, with_waiting};
 
 use crate::naming::DeskName;
 use crate::pass::Pass;
-use crate::store::Store;
+use crate::recorded::RecordedTable;
+use chpw_snapshots::SnapshotWriter;
 use chpw_table::{Entry, Event, JournalSink, Moment, RaiseVerdict, Receipt, Table};
-use chpw_versions::Shelf;
 use std::alloc::AllocError;
 
 /// Why no raise was decided, in the order of the tests; nothing has changed.
 #[derive(Clone, Copy, PartialEq, Eq, Debug, Drop)]
 pub enum RaiseFault {
-    /// The table has decided as many events as it may.
+    /// The table has decided as many events as allowed.
     Full,
     /// A growth was refused.
     Memory,
@@ -40,30 +40,29 @@ impl From<AllocError> for RaiseFault {
     }
 }
 
-impl<D: DeskName, S: JournalSink> Store<D, S> {
-    /// One raise: an entry of the pass's worker at the end, and its receipt in the pass. The count that
-    /// it sets waits on the shelf; putting it there is the last growth before the journal is appended
-    /// to.
+impl<D: DeskName, S: JournalSink> RecordedTable<D, S> {
+    /// One raise: an entry of the pass's worker at the end, and its receipt in the pass. The count that it sets is
+    /// prepared on the shelf, with the last growth before the journal is appended to.
     ///
-    /// `now` has seconds from 0 to `chpw_table::LAST_SECOND`, and `count` is 1 to 16,777,216. After a
-    /// fault nothing has changed: `Full`, `Memory`.
+    /// `now` has seconds from 0 to `chpw_table::LAST_SECOND`, and `count` is 1 to 16,777,216. After a fault nothing has
+    /// changed: `Full`, `Memory`.
     pub(crate) fn raise(
         &mut self,
-        shelf: &mut Shelf<D>,
+        shelf: &mut SnapshotWriter<D>,
         pass: &mut Pass<D>,
         now: Moment,
         count: u32,
     ) -> Result<RaiseVerdict, RaiseFault>
         requires moment { IsMoment now }
         requires count { is_in iteration_counts count ≡ true }
-        requires publishes { Publishes (opening_state D.root) self.old.history
+        requires published { IsPublished (opening_state D.root) self.old.history
             self.old.table.state.broken shelf.old }
-        ensures stored { IfOk result (λ v. IsStored (opening_state D.root) D.workers self.old self.new
+        ensures recorded { IfOk result (λ v. IsRecorded (opening_state D.root) D.workers self.old self.new
             pass.old pass.new shelf.old shelf.new now (Raise count v)) }
         ensures first { IfErr result (λ fault. IsFirstFault self.old.table fault) }
         ensures unchanged { OnErr result
             ((self.new ≡ self.old) × (pass.new ≡ pass.old) × (shelf.new ≡ shelf.old)) }
-        ensures replays { Replays (opening_state D.root) D.workers self.old }
+        ensures linearized { IsLinearized (opening_state D.root) D.workers self.old }
     {
         has_room(self.journaled.table(), shelf, pass)?;
         make_room(
@@ -85,11 +84,11 @@ impl<D: DeskName, S: JournalSink> Store<D, S> {
     }
 }
 
-// Whether there is room for one event more, by a pass whose lookups showed nothing but what the shelf
-// published; else memory is wanting, since the pass's reader can't enter.
+// Whether there is room for one more event, by a pass whose lookups showed only what the shelf published; otherwise
+// refused for want of memory, since the pass's reader can't enter.
 fn has_room<D: DeskName>(
     table: &Table,
-    shelf: &Shelf<D>,
+    shelf: &SnapshotWriter<D>,
     pass: &mut Pass<D>,
 ) -> Result<(), RaiseFault>
     ensures room { OnOk result (table.now.events < table.now.max_entries) }
@@ -107,20 +106,19 @@ fn has_room<D: DeskName>(
     }
 }
 
-// All growths of a raise for which there is room: a place in both lists, and, where it is accepted unless
-// its append fails, the change that waits on the shelf, which is the last before the journal is appended
-// to.
+// All growths of a raise for which there is room: room in both lists, and, if it is accepted unless its append fails,
+// the change on the shelf, which is the last before the journal is appended to.
 fn make_room<D: DeskName>(
     entries: &mut Vec<Entry>,
     receipts: &mut Vec<Receipt>,
-    shelf: &mut Shelf<D>,
+    shelf: &mut SnapshotWriter<D>,
     table: &Table,
     count: u32,
 ) -> Result<(), RaiseFault>
     requires room { table.now.events < table.now.max_entries }
     requires kept { (es : _) × IsLegal (opening_state D.root) es
         × Agrees table.now.state (outcome (opening_state D.root) es)
-        × Publishes (opening_state D.root) es table.now.state.broken shelf.old }
+        × IsPublished (opening_state D.root) es table.now.state.broken shelf.old }
     ensures same { (entries.new.items ≡ entries.old.items)
         × (receipts.new.items ≡ receipts.old.items) }
     ensures places { OnOk result ((vec_len entries.new < vec_capacity entries.new)

@@ -2,12 +2,12 @@
 ghost use Rattle.std.specs.Prelude.{◌≡◌, ◌≤◌, ◌<◌, ◌^◌, All, IfOk, OnOk, map, max};
 ghost use Rattle.std.specs.List.Sorted.{IsStrictlySortedBy};
 ghost use Rattle.chpw_rules.specs.Names.{name_cmp};
-ghost use Rattle.chpw_versions.specs.Rows.{names_of_rows, HasPositive, IsPositive};
+ghost use Rattle.chpw_snapshots.specs.Rows.{names_of_rows, HasPositive, IsPositive};
 ghost use Rattle.chpw_book.specs.Publishing.{row_showing, row_under, table_rows};
 
 use chpw_rules::Name;
+use chpw_snapshots::{Row, Rows};
 use chpw_table::{Lookup, Table};
-use chpw_versions::{Row, Rows};
 use std::alloc::{AllocError, Global};
 
 /// What the table shows of each of its names.
@@ -32,7 +32,7 @@ fn all_rows(alloc: Global, table: &Table) -> Result<Vec<Row>, AllocError>
     let mut place = 0u32;
     while let Some((name, shown)) = table.row_at(place) {
         rows.push(row_of(name, shown)?)?;
-        // More names than that no memory holds.
+        // No memory holds more names than that.
         let Some(next) = place.checked_add(1) else {
             return Err(AllocError);
         };

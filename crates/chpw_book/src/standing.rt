@@ -1,6 +1,6 @@
 //! What a desk refuses beside its lock.
 ghost use Rattle.std.specs.Prelude.{◌≡◌};
-ghost use Rattle.chpw_fronts.specs.Pens.{opening_state, opening_table};
+ghost use Rattle.chpw_changelog.specs.Pens.{opening_state, opening_table};
 ghost use Rattle.chpw_table.specs.Standing.{refused_anyway};
 
 use crate::naming::DeskName;

@@ -5,13 +5,14 @@ use Rattle.std.specs.List.{list_all}
 use Rattle.std.proofs.lemmas.Bool.{leb-true}
 use Rattle.std.proofs.lemmas.Int.{ints}
 use Rattle.krb_keys.specs.KeyUsages.{usage_ticket, usage_ap_req_authenticator, usage_krb_priv}
-use Rattle.krb_elements.specs.Shapes.{Value, ◌&◌, flags, general_string}
-use Rattle.krb_elements.specs.Texts.{each_is, fits, is_in_range, text}
-use Rattle.krb_elements.proofs.CompleteLemmas.{and_both, and_true, one_value}
-use Rattle.krb_elements.proofs.TextLemmas.{text_spells}
+use Rattle.krb_codec.specs.Shapes.{Value, ◌&◌, flags, general_string}
+use Rattle.krb_codec.specs.Texts.{each_is, fits, is_in_range, text}
+use Rattle.krb_codec.proofs.CompleteLemmas.{and_both, and_true, one_value}
+use Rattle.krb_codec.proofs.TextLemmas.{text_spells}
 use Rattle.krb_protocol.specs.Numbers as protocol
 use Rattle.krb_der.specs.Types as types
-use Rattle.krb_der.specs.Values.{ap_req_value, authenticator_value, change_passwd_data_value, enc_krb_priv_part_value, enc_ticket_part_value, krb_priv_value, principal_name_value, ticket_value}
+use Rattle.krb_der.specs.Values.{ap_req_value, authenticator_value, change_passwd_data_value, enc_krb_priv_part_value}
+use Rattle.krb_der.specs.Values.{enc_ticket_part_value, krb_priv_value, principal_name_value, ticket_value}
 use Rattle.krb_der.specs.declared.ticket.Ticket.{Ticket}
 use Rattle.krb_msgs.specs.Lengths.{longest_each}
 use Rattle.krb_msgs.specs.Making.{SpellsTicket, ap_req_of, priv_of, word_bytes}
@@ -24,7 +25,8 @@ use Rattle.chpw_rules.specs.Limits.{component_counts, is_in}
 use Rattle.chpw_rules.specs.Names.{is_component, is_name}
 use Rattle.chpw_rules.specs.declared.name.Name.{Name}
 use Rattle.chpw_client.specs.Questions.{IsAskable, Question}
-use Rattle.chpw_client.specs.Requests.{ap_req_text, authenticator, bit, change, longest_ap_req, longest_krb_priv, principal, priv_text, private_part, ticket, ticket_part, ticket_text, user_data}
+use Rattle.chpw_client.specs.Requests.{ap_req_text, authenticator, bit, change, longest_ap_req, longest_krb_priv}
+use Rattle.chpw_client.specs.Requests.{principal, priv_text, private_part, ticket, ticket_part, ticket_text, user_data}
 use Rattle.chpw_client.specs.Words.{drawn_key}
 use Rattle.chpw_client.specs.declared.drawing.Drawing.{Drawing}
 use Rattle.chpw_client.proofs.LengthLemmas.{close_fits, closest, texts_are_close}
@@ -155,7 +157,8 @@ authenticator_short q w ask sizes =
 -- with any ticket that the ticket's text spells
 pub ap_req_fits : (q : Question) (w : Drawing) (t : Ticket) → IsAskable q → HasSizes w
     → SpellsTicket (ticket_text q w) t
-    → fits types.ap_req (ap_req_value (ap_req_of t (bit protocol.mutual_required) (authenticator q w) (drawn_key w.session) (word_bytes w.authenticator))) ≡ true
+    → fits types.ap_req (ap_req_value (ap_req_of t
+    (bit protocol.mutual_required) (authenticator q w) (drawn_key w.session) (word_bytes w.authenticator))) ≡ true
 ap_req_fits q w t ask sizes spelled =
     let close = ticket_close q w ask sizes in
     let long = texts_are_close types.ticket (ticket_value (ticket q w)) (omega (arith, close)) in
@@ -176,12 +179,14 @@ ap_req_short q w t ask sizes spelled =
     let short = authenticator_short q w ask sizes in
     let len = sealed_length (drawn_key w.session) usage_ap_req_authenticator (word_bytes w.authenticator) types.authenticator v
     (sixteen w.authenticator sizes.authenticator) refl in
-    let all = texts_are_close types.ap_req (ap_req_value (ap_req_of t (bit protocol.mutual_required) (authenticator q w) (drawn_key w.session) (word_bytes w.authenticator)))
+    let all = texts_are_close types.ap_req (ap_req_value (ap_req_of t
+    (bit protocol.mutual_required) (authenticator q w) (drawn_key w.session) (word_bytes w.authenticator)))
     (omega (arith, close, short, len)) in
     omega (arith, all, close, short, len)
 
 pub ap_req_some : (q : Question) (w : Drawing) (t : Ticket) → 0 < length (ap_req_text t q w)
-ap_req_some q w t = some_text types.ap_req (ap_req_value (ap_req_of t (bit protocol.mutual_required) (authenticator q w) (drawn_key w.session) (word_bytes w.authenticator))) refl
+ap_req_some q w t = some_text types.ap_req (ap_req_value (ap_req_of t
+    (bit protocol.mutual_required) (authenticator q w) (drawn_key w.session) (word_bytes w.authenticator))) refl
 
 -- ---- the KRB-PRIV
 

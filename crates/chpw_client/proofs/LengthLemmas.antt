@@ -2,10 +2,11 @@
 use Rattle.std.proofs.Common.{◌≡◌, ℕ, ◌+◌, ◌≤◌, ◌<◌, true, List, [], ◌∷◌, length, Option, Some, None, ap, arith, length-append}
 use Rattle.std.specs.List.{flat_map}
 use Rattle.std.proofs.lemmas.List.Concat.{flat_map-cons}
-use Rattle.krb_elements.specs.Shapes.{Primitive, integer, sequence_number, octets, bits, time, Shape, primitive, tagged, many, further, nothing, field, option, Meaning, Value}
-use Rattle.krb_elements.specs.Grammar.{IsLength}
-use Rattle.krb_elements.specs.Texts.{element, fits, is_in_range, length_octets, longest_text, optional_text, text}
-use Rattle.krb_elements.proofs.TextLemmas.{length_spelled}
+use Rattle.krb_codec.specs.Shapes.{Primitive, integer, sequence_number, octets, bits, time, Shape}
+use Rattle.krb_codec.specs.Shapes.{primitive, tagged, many, further, nothing, field, option, Meaning, Value}
+use Rattle.krb_codec.specs.Grammar.{IsLength}
+use Rattle.krb_codec.specs.Texts.{element, fits, is_in_range, length_octets, longest_text, optional_text, text}
+use Rattle.krb_codec.proofs.TextLemmas.{length_spelled}
 use Rattle.krb_msgs.specs.Lengths.{longest_each, longest_optional}
 use Rattle.krb_msgs.proofs.LengthLemmas.{short_texts_fit, texts_are_short}
 

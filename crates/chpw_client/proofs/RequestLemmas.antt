@@ -1,7 +1,7 @@
 -- The texts of a request are those of its records.
 use Rattle.std.proofs.Common.{◌≡◌, ◌∙◌, ℕ, true, List, refl, sym, subst}
-use Rattle.krb_elements.specs.Texts.{fits, text}
-use Rattle.krb_elements.proofs.TextLemmas.{text_spells}
+use Rattle.krb_codec.specs.Texts.{fits, text}
+use Rattle.krb_codec.proofs.TextLemmas.{text_spells}
 use Rattle.krb_der.specs.Types as types
 use Rattle.krb_der.specs.Values.{ap_req_value, krb_priv_value, ticket_value}
 use Rattle.krb_der.specs.declared.authenticator.Authenticator.{Authenticator}

@@ -1,4 +1,4 @@
--- The service key of a configuration that a client takes.
+-- The service key of a configuration that a client uses.
 use Rattle.std.specs.Prelude.{◌≡◌, List, [], ◌∷◌, Some}
 use Rattle.krb_keys.specs.Keys.{key_of}
 use Rattle.krb_msgs.specs.declared.service_keys.ServiceKey.{ServiceKey}

@@ -8,7 +8,7 @@ use Rattle.chpw_frame.specs.Framing.{ap_of, first_fault, reply_versions, tail_of
 use Rattle.chpw_frame.specs.declared.fault.FrameFault.{FrameFault}
 use Rattle.chpw_client.specs.declared.request.Sent.{Sent}
 
--- the error code of a KRB-ERROR
+-- the error code of a KRB-ERROR in words
 abbrev pub error_words : Option ℤ → List ℕ
 error_words None = []
 error_words (Some error) = codes " error " ++ signed_decimal error
@@ -22,17 +22,17 @@ line_of r = codes "code " ++ decimal r.code ++ error_words r.error ++ codes " " 
 abbrev pub status_of : Reply → ℕ
 status_of r = if r.code == 0 && is_none r.error then 0 else 1
 
--- what the parts of a reply say to the client that sent a request
+-- what the parts of a reply say to the client that sent the request
 abbrev pub Says : Sent → List ℕ → Result Reply ReplyFault → Type 0
 Says sent reply = OpensReply sent.session sent.subkey sent.ctime sent.cusec (ap_of reply)
     (tail_of reply)
 
--- a reply that can't be cut into its parts, or whose parts say nothing
+-- a reply that can't be split into its parts, or whose parts have a fault
 abbrev pub IsUnread : Sent → List ℕ → Type 0
 IsUnread sent reply = ((fault : FrameFault) × (first_fault reply_versions true reply ≡ Some fault))
     ⊎ ((fault : ReplyFault) × Says sent reply (Err fault))
 
--- what a client makes of a reply: nothing of one that can't be read, and else a line and a status
+-- the result of a reply: none if it can't be read, otherwise a line and a status
 abbrev pub IsLine : Sent → List ℕ → Option (List ℕ × ℕ) → Type 0
 IsLine sent reply None = IsUnread sent reply
 IsLine sent reply (Some told) = (first_fault reply_versions true reply ≡ None)

@@ -14,11 +14,11 @@ pub record Question : Type 0 where
   pub now : Moment
   pub client : Name
   pub password : List ℕ
-  -- whose password it is, where that isn't the client's
+  -- whose password it is, if not the client's
   pub target : Option Name
   -- whether the ticket is flagged initial
   pub initial : Bool
-  -- whether it is asked in the earlier protocol
+  -- whether it asks in the earlier protocol
   pub old : Bool
 
 abbrev pub question_of : Asked → Question
@@ -42,7 +42,7 @@ pub record IsAskable (q : Question) : Type 0 where
   pub kvno : q.service.kvno < 2 ^ 32
   pub client : is_name q.client ≡ true
   pub target : IfSome q.target (λ n. is_name n ≡ true)
-  -- which has no target
+  -- the earlier protocol has no target
   pub own : q.old ≡ true → q.target ≡ None
   pub password : length q.password ≤ 60000
   pub start : pos 0 ≤ℤ q.now.seconds

@@ -1,8 +1,8 @@
--- The request that a client sends (RFC 3244 section 2): an AP-REQ with a ticket of its own making,
--- and a KRB-PRIV with the new password. In the earlier protocol the new password is user-data itself
+-- The request that a client sends (RFC 3244 section 2): an AP-REQ with a ticket of its own making, and a KRB-PRIV with
+-- the new password. In the earlier protocol the user-data is the new password itself
 -- (draft-ietf-cat-kerb-chg-password-02 section 3).
 use Rattle.std.specs.Prelude.{◌≡◌, ◌^◌, ◌-◌, ℕ, ◌+ℤ◌, pos, List, [], Some, None, option_map, if◌then◌else◌}
-use Rattle.krb_elements.specs.Texts.{text}
+use Rattle.krb_codec.specs.Texts.{text}
 use Rattle.krb_protocol.specs.Numbers as protocol
 use Rattle.krb_der.specs.Types as types
 use Rattle.krb_der.specs.Values.{ap_req_value, change_passwd_data_value, krb_priv_value, ticket_value}
@@ -90,7 +90,7 @@ ticket q w = ticket_of q.realm (ticket_part q w) q.service (word_bytes w.ticket)
 abbrev pub ticket_text : Question → Drawing → List ℕ
 ticket_text q w = text types.ticket (ticket_value (ticket q w))
 
--- with this ticket, and mutual authentication asked for
+-- with this ticket and the option mutual-required
 abbrev pub ap_req_text : Ticket → Question → Drawing → List ℕ
 ap_req_text t q w = text types.ap_req (ap_req_value (ap_req_of t (bit protocol.mutual_required)
     (authenticator q w) (drawn_key w.session) (word_bytes w.authenticator)))
@@ -99,8 +99,8 @@ abbrev pub priv_text : Question → Drawing → List ℕ
 priv_text q w = text types.krb_priv (krb_priv_value
     (priv_of (private_part q) (drawn_key w.subkey) (word_bytes w.private)))
 
--- The most bytes of the two, of the longest names, realm and password: with six more they are no
--- longer than a message.
+-- The most bytes of both, with the longest names, realm and password: with six more they are no longer than a message
+-- may be.
 abbrev pub longest_ap_req : ℕ
 longest_ap_req = 3700
 

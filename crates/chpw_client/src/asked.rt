@@ -3,7 +3,7 @@ use chpw_rules::Name;
 use chpw_table::Moment;
 use krb_msgs::ServiceKey;
 
-/// What a client asks, and with what it makes its ticket.
+/// What a client asks, and what it makes its ticket with.
 #[derive(Clone, Copy, Drop)]
 pub(crate) struct Asked<'a> {
     /// The realm of client, target and service.
@@ -15,7 +15,7 @@ pub(crate) struct Asked<'a> {
     pub client: &'a Name,
     /// The new password.
     pub password: &'a [u8],
-    /// Whose password it is; absent: the client's.
+    /// Whose password it is; if absent, the client's.
     pub target: Option<&'a Name>,
     /// Whether the ticket is flagged initial.
     pub initial: bool,

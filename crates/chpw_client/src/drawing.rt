@@ -1,13 +1,13 @@
 //! The random words of a request.
 ghost use Rattle.std.specs.Prelude.{◌≡◌, ◌++◌};
 ghost use Rattle.krb_msgs.specs.Making.{word_bytes};
-ghost use Rattle.chpw_answer.specs.InTurn.{InTurn};
+ghost use Rattle.chpw_serve.specs.InTurn.{InTurn};
 ghost use Rattle.chpw_client.specs.Words.{words_of};
 
 use chpw_serve::Words;
 use krb_msgs::word_bytes;
 
-/// The words of a request: of 8 words a key, of 4 a confounder.
+/// The words of a request: 8 words for a key, 4 for a confounder.
 #[derive(Clone, Copy, Drop)]
 pub(crate) struct Drawing {
     pub session: [u32; 8],
@@ -64,13 +64,13 @@ fn next_eight<X: Words>(words: &mut X) -> [u32; 8]
 pub(crate) fn key_bytes(words: [u32; 8]) -> [u8; 32]
     ensures value { result ≡ word_bytes words }
 {
-    joined(
+    join_halves(
         word_bytes([words[0], words[1], words[2], words[3]]),
         word_bytes([words[4], words[5], words[6], words[7]]),
     )
 }
 
-fn joined(first: [u8; 16], second: [u8; 16]) -> [u8; 32]
+fn join_halves(first: [u8; 16], second: [u8; 16]) -> [u8; 32]
     ensures value { result ≡ first ++ second }
 {
     let mut bytes = [0; 32];

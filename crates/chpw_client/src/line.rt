@@ -7,8 +7,8 @@ use chpw_frame::split_reply;
 use krb_msgs::{OpenError, Reply, read_reply};
 use std::alloc::{AllocError, Global};
 
-/// What is printed of the reply to a request, and the exit status: `code C TEXT` or `code C error E
-/// TEXT`, and 0 only for code 0 in a sealed reply. `None` where the reply can't be read.
+/// What is printed for the reply to a request, and the exit status: `code C TEXT` or `code C error E TEXT`, and 0 only
+/// for code 0 in a sealed reply. `None` if the reply can't be read.
 pub fn client_line(
     alloc: Global,
     sent: &Sent,

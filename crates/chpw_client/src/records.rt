@@ -1,9 +1,11 @@
 //! The records of a request.
 ghost use Rattle.std.specs.Prelude.{◌≡◌, IfOk};
-ghost use Rattle.krb_elements.specs.Texts.{text};
+ghost use Rattle.krb_codec.specs.Texts.{text};
 ghost use Rattle.krb_der.specs.Types.{change_passwd_data};
 ghost use Rattle.krb_der.specs.Values.{change_passwd_data_value};
-ghost use Rattle.chpw_client.specs.Requests.{authenticator as authenticator_of, change, principal as principal_of, private_part as private_part_of, sent_key as sent_key_of, ticket_part as ticket_part_of, user_data as user_data_of};
+ghost use Rattle.chpw_client.specs.Requests.{authenticator as authenticator_of, change, principal as principal_of};
+ghost use Rattle.chpw_client.specs.Requests.{private_part as private_part_of, sent_key as sent_key_of};
+ghost use Rattle.chpw_client.specs.Requests.{ticket_part as ticket_part_of, user_data as user_data_of};
 ghost use Rattle.chpw_client.specs.Questions.{IsAskable, question_of};
 
 use crate::asked::Asked;
@@ -15,7 +17,7 @@ use krb_der::{
     SeqNumber, SequenceOf, TransitedEncoding, write_change_passwd_data,
 };
 use krb_keys::AES256_CTS_HMAC_SHA1_96;
-use krb_msgs::{copied, priv_part};
+use krb_msgs::{copy_bytes, priv_part};
 use krb_protocol::{NT_PRINCIPAL, PVNO, TICKET_INITIAL};
 use std::alloc::{AllocError, Global};
 
@@ -30,7 +32,7 @@ fn components(alloc: Global, parts: &[Items<u8>]) -> Result<Vec<GeneralString>, 
 {
     let mut copies = Vec::with_capacity(alloc, parts.len())?;
     for part in parts {
-        copies.push(copied(alloc, part.as_slice())?)?;
+        copies.push(copy_bytes(alloc, part.as_slice())?)?;
     }
     Ok(copies)
 }
@@ -49,7 +51,7 @@ fn sent_key(alloc: Global, words: [u32; 8]) -> Result<EncryptionKey, AllocError>
 {
     Ok(EncryptionKey {
         keytype: AES256_CTS_HMAC_SHA1_96,
-        keyvalue: copied(alloc, &key_bytes(words))?,
+        keyvalue: copy_bytes(alloc, &key_bytes(words))?,
     })
 }
 
@@ -65,11 +67,11 @@ pub(crate) fn ticket_part(
     Ok(EncTicketPart {
         flags: KerberosFlags(if asked.initial { INITIAL } else { 0 }),
         key: sent_key(alloc, words.session)?,
-        crealm: copied(alloc, asked.realm)?,
+        crealm: copy_bytes(alloc, asked.realm)?,
         cname: principal(alloc, asked.client)?,
         transited: TransitedEncoding {
             tr_type: 0,
-            contents: copied(alloc, &[])?,
+            contents: copy_bytes(alloc, &[])?,
         },
         authtime: KerberosTime(asked.now.seconds),
         starttime: None,
@@ -90,7 +92,7 @@ pub(crate) fn authenticator(
 {
     Ok(Authenticator {
         authenticator_vno: PVNO,
-        crealm: copied(alloc, asked.realm)?,
+        crealm: copy_bytes(alloc, asked.realm)?,
         cname: principal(alloc, asked.client)?,
         cksum: None,
         cusec: Microseconds(asked.now.micros),
@@ -105,7 +107,7 @@ pub(crate) fn authenticator(
 fn change_data(alloc: Global, asked: &Asked<'_>) -> Result<ChangePasswdData, AllocError>
     ensures value { IfOk result (λ d. d ≡ change (question_of asked.entry.now)) }
 {
-    let newpasswd = copied(alloc, asked.password)?;
+    let newpasswd = copy_bytes(alloc, asked.password)?;
     match asked.target {
         None => Ok(ChangePasswdData {
             newpasswd,
@@ -115,7 +117,7 @@ fn change_data(alloc: Global, asked: &Asked<'_>) -> Result<ChangePasswdData, All
         Some(target) => Ok(ChangePasswdData {
             newpasswd,
             targname: Some(principal(alloc, target)?),
-            targrealm: Some(copied(alloc, asked.realm)?),
+            targrealm: Some(copy_bytes(alloc, asked.realm)?),
         }),
     }
 }
@@ -135,7 +137,7 @@ fn user_data(alloc: Global, asked: &Asked<'_>) -> Result<OctetString, AllocError
     ensures value { IfOk result (λ bytes. bytes ≡ user_data_of (question_of asked.entry.now)) }
 {
     if asked.old {
-        copied(alloc, asked.password)
+        copy_bytes(alloc, asked.password)
     } else {
         Ok(Bytes::of(change_text(alloc, asked)?))
     }

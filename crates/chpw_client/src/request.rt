@@ -3,7 +3,7 @@ ghost use Rattle.std.specs.Prelude.{◌≡◌, ◌≤◌, ◌<◌, ◌≤ℤ◌,
 ghost use Rattle.std.specs.List.{list_all};
 ghost use Rattle.chpw_rules.specs.Fitting.{config_fits, service_key_fits};
 ghost use Rattle.chpw_rules.specs.Names.{is_name};
-ghost use Rattle.chpw_answer.specs.InTurn.{InTurn};
+ghost use Rattle.chpw_serve.specs.InTurn.{InTurn};
 ghost use Rattle.chpw_client.specs.Requests.{IsRequest};
 ghost use Rattle.chpw_client.specs.Questions.{IsAskable, latest_second, question_of};
 ghost use Rattle.chpw_client.specs.Configured.{IsFirstKey};
@@ -41,16 +41,14 @@ pub struct Sent {
     pub cusec: Microseconds,
 }
 
-/// The request of a client to change its own password, or to set a target's (RFC 3244 section 2);
-/// where it is `old`, in the earlier protocol, which has no target
-/// (draft-ietf-cat-kerb-chg-password-02 section 3).
+/// The request of a client to change its own password, or to set a target's (RFC 3244 section 2); if it is `old`, in
+/// the earlier protocol, which has no target (draft-ietf-cat-kerb-chg-password-02 section 3).
 ///
-/// The ticket is sealed under the configuration's first service key. Session key and subkey (etype
-/// 18), then the confounders of ticket, authenticator and KRB-PRIV, are words drawn in this order,
-/// low byte first. authtime, ctime and cusec are the moment, whose seconds are 0 to [`LAST_START`] and
-/// microseconds below 1,000,000; endtime is an hour later. The configuration fits and has a service
-/// key, the names have 1 to 8 components of 1 to 128 bytes, and the password has at most
-/// [`LONGEST_PASSWORD`] bytes: such a request fits into one message, so an error means that memory
+/// The ticket is sealed under the configuration's first service key. Session key and subkey (etype 18), then the
+/// confounders of ticket, authenticator and KRB-PRIV, are words drawn in this order, low byte first. authtime, ctime
+/// and cusec are the moment, whose seconds are 0 to [`LAST_START`] and microseconds below 1,000,000; endtime is an hour
+/// later. The configuration fits and has a service key, the names have 1 to 8 components of 1 to 128 bytes, and the
+/// password has at most [`LONGEST_PASSWORD`] bytes: such a request fits into one message, so an error means that memory
 /// ran out.
 pub fn client_request<X: Words>(
     alloc: Global,

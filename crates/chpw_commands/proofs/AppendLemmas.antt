@@ -1,21 +1,25 @@
 -- Whether the append of a request failed, from what the request's sink tells.
-use Rattle.std.proofs.Common.{◌≡◌, ℕ, ◌+◌, ◌<◌, List, [], ◌∷◌, ◌++◌, length, Bool, true, false, ◌&&◌, ◌||◌, not, if◌then◌else◌, Option, Some, None, refl, sym, ◌∙◌, ap, arith, length-append}
+use Rattle.std.proofs.Common.{◌≡◌, ℕ, ◌+◌, ◌<◌, List, [], ◌∷◌, ◌++◌, length, Bool, true, false, ◌&&◌, ◌||◌}
+use Rattle.std.proofs.Common.{not, if◌then◌else◌, Option, Some, None, refl, sym, ◌∙◌, ap, arith, length-append}
 use Rattle.std.specs.Prelude.{option_map}
 use Rattle.chpw_table.specs.declared.times.Moment.{Moment}
 use Rattle.chpw_table.specs.declared.request.Opened.{Opened}
 use Rattle.chpw_table.specs.declared.verdict.Verdict.{Verdict}
-use Rattle.chpw_table.specs.declared.verdict.Verdict.TheVariants.{Skew, Replay, NotYet, Expired, BadPrivate, BadBody, Denied, NeedInitial, Unknown, Short, Classes, Reused, LastVersion, Broken, Done}
+use Rattle.chpw_table.specs.declared.verdict.Verdict.TheVariants.{Skew, Replay, NotYet, Expired, BadPrivate}
+use Rattle.chpw_table.specs.declared.verdict.Verdict.TheVariants.{BadBody, Denied, NeedInitial, Unknown, Short}
+use Rattle.chpw_table.specs.declared.verdict.Verdict.TheVariants.{Classes, Reused, LastVersion, Broken, Done}
 use Rattle.chpw_table.specs.State.{State}
 use Rattle.chpw_table.specs.Verdicts.{is_done, is_broken}
 use Rattle.chpw_table.specs.Entering.{with_append}
 use Rattle.chpw_table.specs.Decision.{verdict}
 use Rattle.chpw_table.specs.History.{IsDecided}
-use Rattle.chpw_table.specs.declared.key.KeyRow.{KeyRow}
+use Rattle.chpw_record.specs.declared.key.KeyRow.{KeyRow}
 use Rattle.chpw_rules.specs.declared.name.Name.{Name}
 use Rattle.std.specs.Int.{w16, to_be_bytes}
 use Rattle.chpw_table.specs.Requests.{target_of}
 use Rattle.chpw_table.specs.Step.{new_key}
-use Rattle.chpw_table.specs.Journal.{appended, record_bytes, change_bytes}
+use Rattle.chpw_record.specs.Records.{key_text, record_bytes}
+use Rattle.chpw_table.specs.Journal.{appended}
 use Rattle.chpw_table.proofs.AppendLemmas.{verdict_written}
 use Rattle.chpw_commands.specs.declared.drill.sink.RequestSink.{RequestSink}
 
@@ -32,7 +36,7 @@ not_empty [] ys h = cc
 not_empty (x ∷ xs) ys h = cc
 
 not_recorded : (b : Bool) (name : Name) (k : KeyRow) → [] ≡ (if b then record_bytes name k else []) → b ≡ false
-not_recorded true name k h = absurd (not_empty (to_be_bytes w16 (length (change_bytes name k))) _ h)
+not_recorded true name k h = absurd (not_empty (to_be_bytes w16 (length (key_text 1 name k))) _ h)
 not_recorded false name k h = refl
 
 -- only a broken journal answers so where no append fails
@@ -50,7 +54,8 @@ only_end false = record { holds = λ h. h }
 only_broken : (s : State) (now : Moment) (o : Opened) → BrokenOnly s.broken (verdict s now o false)
 only_broken s now o =
     only s.broken _ Skew _ refl (only s.broken _ Replay _ refl (only s.broken _ NotYet _ refl (only s.broken _ Expired _ refl (only s.broken _ BadPrivate _ refl
-    (only s.broken _ BadBody _ refl (only s.broken _ Denied _ refl (only s.broken _ NeedInitial _ refl (only s.broken _ Unknown _ refl (only s.broken _ Short _ refl
+    (only s.broken _ BadBody _ refl (only s.broken _ Denied _ refl
+    (only s.broken _ NeedInitial _ refl (only s.broken _ Unknown _ refl (only s.broken _ Short _ refl
     (only s.broken _ Classes _ refl (only s.broken _ Reused _ refl (only s.broken _ LastVersion _ refl (only_end s.broken)))))))))))))
 
 abbrev pub nothing : List ℕ
@@ -67,7 +72,8 @@ pub io_failing : (b : Bool) (xs : List ℕ) → (if b then Some nothing else Non
 io_failing true xs e = cc
 io_failing false xs e = cc
 
-io_of_row : (s : State) (now : Moment) (o : Opened) (io : Bool) (v : Verdict) → IsDecided s now o io v → is_done v ≡ false → (b : Bool) → is_done (verdict s now o false) ≡ b → io ≡ b
+io_of_row : (s : State) (now : Moment) (o : Opened) (io : Bool) (v : Verdict)
+    → IsDecided s now o io v → is_done v ≡ false → (b : Bool) → is_done (verdict s now o false) ≡ b → io ≡ b
 io_of_row s now o true v d e true f = refl
 io_of_row s now o false v d e false f = refl
 io_of_row s now o false v d e true f = cc (d.verdict_is, ap is_done d.verdict_is)
@@ -87,4 +93,5 @@ pub io_is : (fails io : Bool) (k : RequestSink) (s : State) (now : Moment) (o : 
     io ≡ (fails && is_done (verdict s now o false))
 io_is false io k s now o v d h e = io_taken k.fails k.failed io e h
 io_is true io k s now o v d h e =
-    io_of_row s now o io v d (not_recorded (is_done v) (target_of o).name (new_key s o) (io_failing k.fails (appended s o v) e)) (is_done (verdict s now o false)) refl
+    io_of_row s now o io v d (not_recorded (is_done v)
+    (target_of o).name (new_key s o) (io_failing k.fails (appended s o v) e)) (is_done (verdict s now o false)) refl

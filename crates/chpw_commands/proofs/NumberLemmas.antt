@@ -16,7 +16,8 @@ keep_if_over true value high h = grind (arith, nat_tests, common_steps)
 keep_if_over false value high h = refl
 
 -- where the digits so far are past the limit, so are all
-pub over_high : (digits : List ℕ) (n high : ℕ) (rest : List ℕ) → 1 ≤ length rest → value_from n rest ≡ value_from 0 digits → high < 10 * n + (get_or rest 0 0 - 48) →
+pub over_high : (digits : List ℕ) (n high : ℕ) (rest : List ℕ)
+    → 1 ≤ length rest → value_from n rest ≡ value_from 0 digits → high < 10 * n + (get_or rest 0 0 - 48) →
     None ≡ keep_if (list_all is_ascii_digit digits && nat_le (value_from 0 digits) high) (value_from 0 digits)
 over_high digits n high [] h e over = absurd (omega arith)
 over_high digits n high (d ∷ rest) h e over =

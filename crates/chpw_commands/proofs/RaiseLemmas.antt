@@ -7,7 +7,8 @@ use Rattle.chpw_table.specs.declared.raising.RaiseVerdict.{RaiseVerdict}
 use Rattle.chpw_table.specs.declared.raising.RaiseVerdict.TheVariants.{NotHigher, Broken, Raised}
 use Rattle.chpw_table.specs.State.{State, new_count}
 use Rattle.chpw_table.specs.Raising.{raise_verdict, is_raised, step_raise, IsRaise}
-use Rattle.chpw_table.specs.Journal.{raise_appended, raise_bytes}
+use Rattle.chpw_record.specs.Records.{raise_bytes}
+use Rattle.chpw_table.specs.Journal.{raise_appended}
 use Rattle.chpw_table.specs.Agreement.{Held, Agrees}
 use Rattle.chpw_commands.specs.declared.drill.printed.Response.{Response}
 use Rattle.chpw_commands.specs.declared.drill.printed.Response.TheVariants.{Told, Full}
@@ -41,7 +42,8 @@ io_is : (fails io : Bool) (k : RequestSink) (s : State) (count : ℕ) (v : Raise
     io ≡ (fails && is_raised (raise_verdict s count false))
 io_is false io k s count v d h e = io_taken k.fails k.failed io e h
 io_is true io k s count v d h e =
-    io_of_row (nat_le count (new_count s)) s.broken io v d.verdict_is d.append (not_recorded (is_raised v) count (io_failing k.fails (raise_appended count v) e))
+    io_of_row (nat_le count (new_count s)) s.broken io v d.verdict_is d.append (not_recorded (is_raised v) count
+    (io_failing k.fails (raise_appended count v) e))
 
 module _ (d : Drill) (now : Moment) (count : ℕ) (x : Raise) (k : RequestSink) (t : Held)
     (legal : (s : State) → Agrees d.table.state s → IsRaise s count x.io_failed x.verdict)
@@ -57,7 +59,8 @@ module _ (d : Drill) (now : Moment) (count : ℕ) (x : Raise) (k : RequestSink) 
   low = rw (← r.events, ← r.max_entries) room
 
   pub told_is : Told x.verdict ≡ response_to_raise m count
-  told_is = rw (is_below m.events m.max_entries low) (ap (λ (v : RaiseVerdict). Told v) ((legal m.state r.state).verdict_is ∙ ap (λ (b : Bool). raise_verdict m.state count b) same_io))
+  told_is = rw (is_below m.events m.max_entries low) (ap (λ (v : RaiseVerdict). Told v)
+      ((legal m.state r.state).verdict_is ∙ ap (λ (b : Bool). raise_verdict m.state count b) same_io))
 
   pub raised_runs : t.events ≡ d.table.events + 1 → t.max_entries ≡ d.table.max_entries
       → Runs (record { table = t; realm = d.realm; fails = d.fails && not x.io_failed }) (machine_raised m now count)

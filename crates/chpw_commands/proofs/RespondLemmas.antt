@@ -1,5 +1,6 @@
 -- What the machine answers, from what the table decided.
-use Rattle.std.proofs.Common.{◌≡◌, ◌≢◌, ℕ, ◌+◌, ◌<◌, List, [], ◌∷◌, ◌++◌, Bool, true, false, ◌&&◌, not, if◌then◌else◌, Option, Some, None, refl, sym, ◌∙◌, ap, subst, arith}
+use Rattle.std.proofs.Common.{◌≡◌, ◌≢◌, ℕ, ◌+◌, ◌<◌, List, [], ◌∷◌, ◌++◌, Bool, true, false, ◌&&◌, not}
+use Rattle.std.proofs.Common.{if◌then◌else◌, Option, Some, None, refl, sym, ◌∙◌, ap, subst, arith}
 use Rattle.std.specs.Prelude.{◌==◌, option_map}
 use Rattle.std.proofs.lemmas.Bool.Decides.{nat_tests}
 use Rattle.chpw_table.specs.declared.verdict.Verdict.{Verdict}
@@ -39,7 +40,8 @@ module _ (d : Drill) (a : Asked) (x : Outcome) (k : RequestSink) (t : Held) (c :
   said_is =
       let here : IsDecided m.state a.now a.opened x.io_failed x.verdict = c.legal m.state r.state in
       let low : m.events < m.max_entries = rw (← r.events, ← r.max_entries) c.room in
-      rw (is_below m.events m.max_entries low, here.derived) (ap (λ (v : Verdict). Said v) (here.verdict_is ∙ ap (λ (b : Bool). verdict m.state a.now a.opened b) same_io))
+      rw (is_below m.events m.max_entries low, here.derived)
+      (ap (λ (v : Verdict). Said v) (here.verdict_is ∙ ap (λ (b : Bool). verdict m.state a.now a.opened b) same_io))
 
   pub runs_on : Runs (record { table = t; realm = d.realm; fails = d.fails && not x.io_failed }) (machine_after (response_to m a) m a)
   runs_on =
@@ -65,7 +67,11 @@ module _ (d : Drill) (a : Asked) (m : Machine) (r : Runs d m) where
   refused_is (fault.NeedKeys given) x first e =
       let low : m.events < m.max_entries = rw (← r.events, ← r.max_entries) first.0 in
       let this : x ≡ Need given = cc in
-      rw (is_below m.events m.max_entries low, needed (missing m.state a.now a.opened) (verdict m.state a.now a.opened (append_fails m a)) first.1) (this ∙ ap (λ (ns : List ℕ). Need ns) first.2)
+      rw (
+        is_below m.events m.max_entries low,
+        needed (missing m.state a.now a.opened)
+            (verdict m.state a.now a.opened (append_fails m a)) first.1,
+      ) (this ∙ ap (λ (ns : List ℕ). Need ns) first.2)
   refused_is fault.Memory x first e = cc
 
   stays : (f : DecideFault) (x : Response) → refusal_of f ≡ Some x → machine_after x m a ≡ m
@@ -73,7 +79,8 @@ module _ (d : Drill) (a : Asked) (m : Machine) (r : Runs d m) where
   stays (fault.NeedKeys given) x e = let this : x ≡ Need given = cc in rw this refl
   stays fault.Memory x e = cc
 
-  pub refused_runs : (f : DecideFault) (x : Response) → IsFirst d.table (missing m.state a.now a.opened) f → refusal_of f ≡ Some x → Runs d (machine_after (response_to m a) m a)
+  pub refused_runs : (f : DecideFault) (x : Response) → IsFirst d.table (missing m.state a.now a.opened) f
+      → refusal_of f ≡ Some x → Runs d (machine_after (response_to m a) m a)
   refused_runs f x first e =
       let same : machine_after (response_to m a) m a ≡ m = ap (λ (y : Response). machine_after y m a) (sym (refused_is f x first e)) ∙ stays f x e in
       rw same r

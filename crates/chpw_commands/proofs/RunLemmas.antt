@@ -1,5 +1,6 @@
 -- A script's run, line by line.
-use Rattle.std.proofs.Common.{◌≡◌, ℕ, ◌+◌, ◌<◌, List, [], ◌∷◌, ◌++◌, length, get_or, drop, map, Bor, Option, Some, None, refl, sym, ◌∙◌, ap, append_assoc, add-one}
+use Rattle.std.proofs.Common.{◌≡◌, ℕ, ◌+◌, ◌<◌, List, [], ◌∷◌, ◌++◌, length, get_or, drop, map}
+use Rattle.std.proofs.Common.{Bor, Option, Some, None, refl, sym, ◌∙◌, ap, append_assoc, add-one}
 use Rattle.std.proofs.Math.Seq.{drop-cons}
 use Rattle.std.proofs.lemmas.List.{append-nil}
 use Rattle.chpw_commands.specs.declared.drill.Drilled.{Drilled}
@@ -34,7 +35,8 @@ after_turn : (s : Stage) (n : ℕ) (line : List ℕ) (lines : List (List ℕ)) (
     drilled_from s n (line ∷ lines) ≡ behind u.output (drilled_from u.stage (n + 1) lines)
 after_turn s n line lines u e = rw e refl
 
-module _ (d : Drilled) (stage : ProgramStage) (n i : ℕ) (none : Bor (List ℕ)) (lines : List (Bor (List ℕ))) (output : List ℕ) (some : i < length lines) (c : Stands d stage n (map (λ l. l.now) (drop i lines)) output) where
+module _ (d : Drilled) (stage : ProgramStage) (n i : ℕ) (none : Bor (List ℕ)) (lines : List (Bor (List ℕ)))
+    (output : List ℕ) (some : i < length lines) (c : Stands d stage n (map (λ l. l.now) (drop i lines)) output) where
   abbrev pub line : List ℕ
   line = (get_or lines i none).now
 
@@ -56,7 +58,8 @@ module _ (d : Drilled) (stage : ProgramStage) (n i : ℕ) (none : Bor (List ℕ)
 
   pub ends_bad : ((s : Stage) → Follows stage s → IsTurn None (turn s line)) → record { output = output; bad = Some (n + 1) } ≡ d
   ends_bad h =
-      let this : drilled_from here.place (n + 1) (line ∷ rest) ≡ record { output = []; bad = Some (n + 1) } = rw (none_turn _ (h here.place here.follows)) refl in
+      let this : drilled_from here.place (n + 1) (line ∷ rest) ≡ record { output = []; bad = Some (n + 1) } =
+      rw (none_turn _ (h here.place here.follows)) refl in
       rw (here.whole, this, append-nil) refl
 
 pub ends : (d : Drilled) (stage : ProgramStage) (n : ℕ) (output : List ℕ) → Stands d stage n [] output → record { output = output; bad = None } ≡ d

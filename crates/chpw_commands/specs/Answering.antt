@@ -13,7 +13,7 @@ IsAnswer d (Err fault.Memory) = Unit {0}
 IsAnswer d (Err fault.Read) = Unit {0}
 IsAnswer d (Err fault.Write) = Unit {0}
 
--- what is printed stands behind what the writer held
+-- what is printed follows what the writer held
 abbrev pub IsWritten : {T : Type 0} → Drilled → Result T DrillFault → Option (List ℕ)
     → Option (List ℕ) → Type 0
 IsWritten d (Ok x) old new = Appends old new d.output

@@ -1,5 +1,6 @@
--- The line `ask` of a drill script, the two forms.
-use Rattle.std.specs.Prelude.{ℕ, Bool, true, false, ◌&&◌, nat_le, if◌then◌else◌, List, [], ◌∷◌, length, map, replicate, Option, Some, None, option_map, pos, bytes_eq, codes}
+-- The two forms of the line `ask` of a drill script.
+use Rattle.std.specs.Prelude.{ℕ, Bool, true, false, ◌&&◌, nat_le, if◌then◌else◌, List, [], ◌∷◌, length}
+use Rattle.std.specs.Prelude.{map, replicate, Option, Some, None, option_map, pos, bytes_eq, codes}
 use Rattle.krb_keys.specs.declared.key.Key.{Key}
 use Rattle.krb_keys.specs.declared.key.Key.TheVariants.{Aes128, Aes256}
 use Rattle.chpw_rules.specs.declared.limits.Limits.{Limits}
@@ -47,7 +48,7 @@ flags_of word =
     else if bytes_eq word (codes "iv") then Some (record { initial = true; invalid = true })
     else None
 
--- TARGET, or - where it is absent
+-- TARGET, or - if it is absent
 abbrev pub target_in : List ℕ → List ℕ → Option (Option Target)
 target_in realm word =
     if bytes_eq word (codes "-") then Some None
@@ -86,7 +87,7 @@ body_of realm [] = None
 body_of realm (word ∷ []) = bad_body_of word
 body_of realm (word ∷ other ∷ words) = ask_of realm (word ∷ other ∷ words)
 
--- the request of these parts; there is no timestamp in the KRB-PRIV
+-- the request with these parts; there is no timestamp in the KRB-PRIV
 abbrev pub opened_of : Target → Times → Flags → Body → Opened
 opened_of client times flags body = record {
   crealm = client.realm;

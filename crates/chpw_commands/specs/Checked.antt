@@ -1,4 +1,4 @@
--- The command `check`: what is found in a file, its line, and the status.
+-- The command `check`: its line about a file, and the status.
 use Rattle.std.specs.Prelude.{ℕ, List, ◌++◌, length, Result, Ok, Err, codes, if◌then◌else◌}
 use Rattle.std.specs.Fmt.{decimal}
 use Rattle.std.specs.Str.{is_utf8}
@@ -30,7 +30,7 @@ abbrev pub status_of : Result Config ConfigFault → ℕ
 status_of (Ok c) = 0
 status_of (Err fault) = 1
 
--- a check ends early for these alone
+-- the only faults with which a check ends early
 abbrev pub IsCheckFault : DrillFault → Type 0
 IsCheckFault drill.Memory = Unit {0}
 IsCheckFault drill.Write = Unit {0}

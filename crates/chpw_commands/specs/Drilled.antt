@@ -10,11 +10,11 @@ use Rattle.chpw_commands.specs.Words.{◌>>=◌}
 use Rattle.chpw_commands.specs.Lines.{line_of}
 use Rattle.chpw_commands.specs.Stages.{Stage, start, realm_at, Turn, silent, turn_line}
 
--- lines stand between newlines; what stands behind the last newline is one too
+-- lines are separated by newlines; what follows the last newline is one too
 abbrev pub lines_of : List ℕ → List (List ℕ)
 lines_of script = slice_split (λ b. b == 10) script
 
--- an empty line is skipped; none where the line is bad
+-- an empty line is skipped; none if the line is bad
 abbrev pub turn : Stage → List ℕ → Option Turn
 turn stage [] = Some (silent stage)
 turn stage (b ∷ bs) = line_of (realm_at stage) (b ∷ bs) >>= turn_line stage

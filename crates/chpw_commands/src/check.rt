@@ -18,12 +18,10 @@ const GOOD: u8 = 0;
 /// The status of one with a fault.
 const FAULTY: u8 = 1;
 
-/// Writes one line on the text of a configuration, and gives the status: 0, and how many
-/// principals, rules and service keys there are; or 1, and the first fault. A text that isn't
-/// UTF-8 isn't TOML.
+/// Writes one line about the text of a configuration, and returns the status: 0, with the numbers of principals, rules
+/// and service keys; or 1, with the first fault. A text that isn't UTF-8 isn't TOML.
 ///
-/// `Memory` where a growth was refused, and nothing is written then; `Write` where the write
-/// failed.
+/// `Memory` if a growth was refused, and nothing is written then; `Write` if the write failed.
 pub fn run_check<W: Write>(alloc: Global, text: &[u8], writer: &mut W) -> Result<u8, DrillFault>
     ensures status { IfOk result (λ status. status ≡ status_of (checked text.now)) }
     ensures written { IfOk result (λ _.
@@ -31,7 +29,7 @@ pub fn run_check<W: Write>(alloc: Global, text: &[u8], writer: &mut W) -> Result
     ensures faults { IfErr result IsCheckFault }
     ensures unchanged { result ≡ Err Memory → writer.new ≡ writer.old }
 {
-    let Ok((line, status)) = found(alloc, text) else {
+    let Ok((line, status)) = check_line(alloc, text) else {
         return Err(DrillFault::Memory);
     };
     match writer.write_all(line.as_bytes()) {
@@ -40,7 +38,7 @@ pub fn run_check<W: Write>(alloc: Global, text: &[u8], writer: &mut W) -> Result
     }
 }
 
-/// What is wrong with the text of a configuration, in words for a person; none where nothing is.
+/// What is wrong with the text of a configuration, in words; none if nothing is.
 pub fn explain_check(alloc: Global, text: &[u8]) -> Result<Option<String>, AllocError>
     ensures status { IfOk result (λ words.
         status_of (checked text.now) ≡ (if is_some words then 1 else 0)) }
@@ -62,8 +60,8 @@ fn in_words(alloc: Global, text: &[u8], fault: ConfigFault) -> Result<String, Al
     }
 }
 
-// The line of what is found, and the status.
-fn found(alloc: Global, text: &[u8]) -> Result<(String, u8), AllocError>
+// The line about the text, and the status.
+fn check_line(alloc: Global, text: &[u8]) -> Result<(String, u8), AllocError>
     ensures line { IfOk result (λ r. string_bytes r.0 ≡ line_of_check (checked text.now)) }
     ensures status { IfOk result (λ r. r.1 ≡ status_of (checked text.now)) }
 {

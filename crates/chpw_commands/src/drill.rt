@@ -50,13 +50,11 @@ impl fmt::Display for DrillFault {
     }
 }
 
-/// Runs the script that the reader gives, and writes what it prints. The script is read whole
-/// before its first line runs, in no more than 16,777,216 reads, and what it prints is written once
-/// it has ended.
+/// Runs the script that the reader gives, and writes what it prints. The script is read to its end before its first
+/// line runs, in at most 16,777,216 reads, and what it prints is written once it has ended.
 ///
-/// `Line` for the first bad line; what the lines before it print is written then. `Read` where a
-/// read failed or there were too many and `Memory` where a growth was refused, and nothing is
-/// written then; `Write` where the write failed.
+/// `Line` for the first bad line; what the lines before it print is written then. `Read` if a read failed or there were
+/// too many and `Memory` if a growth was refused, and nothing is written then; `Write` if the write failed.
 pub fn run_drill<R: Read, W: Write>(
     alloc: Global,
     reader: &mut R,

@@ -15,15 +15,21 @@ use Rattle.chpw_config.specs.declared.fault.Part.TheVariants.{Service, ServiceKe
 use Rattle.chpw_config.specs.declared.fault.Location.{Location}
 use Rattle.chpw_config.specs.Faults.{UnlessMemory, location, placed}
 use Rattle.chpw_config.specs.declared.fault.ConfigError.{ConfigError}
-use Rattle.chpw_rules.specs.Fitting.{are_distinct, config_fits, is_same_principal, is_same_service_key, key_fits, kvnos_descend, policy_fits, principal_fits, principals_fit, rule_fits, rules_fit, service_fits, service_key_fits}
+use Rattle.chpw_rules.specs.Fitting.{are_distinct, config_fits, is_same_principal, is_same_service_key}
+use Rattle.chpw_rules.specs.Fitting.{key_fits, kvnos_descend, policy_fits, principal_fits, principals_fit}
+use Rattle.chpw_rules.specs.Fitting.{rule_fits, rules_fit, service_fits, service_key_fits}
 use Rattle.chpw_config.specs.Kinds.{a_flag, a_hex_key, a_list, a_name, a_number, a_table, a_target, a_text, item_count, optional}
-use Rattle.chpw_rules.specs.Limits.{is_in, realm_lengths, entry_counts, kvnos, iteration_counts, min_lengths, min_class_counts, depths, etypes, key_length, service_key_counts, key_counts, rule_counts, principal_counts, aes128_length, aes256_length}
+use Rattle.chpw_rules.specs.Limits.{is_in, realm_lengths, entry_counts, kvnos, iteration_counts, min_lengths}
+use Rattle.chpw_rules.specs.Limits.{min_class_counts, depths, etypes, key_length, service_key_counts}
+use Rattle.chpw_rules.specs.Limits.{key_counts, rule_counts, principal_counts, aes128_length, aes256_length}
 use Rattle.chpw_rules.specs.Names.{is_name, is_same_name}
 use Rattle.chpw_config.specs.Rows.{comes_after, key_row, names_of, once, policy_of, principal_row, rule_row, service_row, step_down, walk}
 use Rattle.chpw_config.specs.Settings.{settings}
 use Rattle.chpw_rules.proofs.DistinctLemmas.{none_again_last}
 use Rattle.chpw_config.proofs.KvnoLemmas.{kvnos_descend_more}
-use Rattle.chpw_config.proofs.GivesLemmas.{Gives, gives_any, gives_hex_key, gives_list, gives_name, gives_number, gives_ok, gives_once, gives_optional, gives_key, gives_target, gives_tested, gives_text, gives_then, gives_walk, gives_walk_length}
+use Rattle.chpw_config.proofs.GivesLemmas.{Gives, gives_any, gives_hex_key, gives_list, gives_name, gives_number}
+use Rattle.chpw_config.proofs.GivesLemmas.{gives_ok, gives_once, gives_optional, gives_key, gives_target}
+use Rattle.chpw_config.proofs.GivesLemmas.{gives_tested, gives_text, gives_then, gives_walk, gives_walk_length}
 
 all_more : {A : Type 0} (p : A → Bool) (xs : List A) (a : A) → list_all p xs ≡ true → p a ≡ true → list_all p (xs ++ a ∷ []) ≡ true
 all_more p xs a all here = rw (list_all-append p xs (a ∷ []), all, here)
@@ -185,16 +191,20 @@ settings_fit file =
     gives_key at (codes "service") a_table file _ (λ v. gives_any (a_table v)) (λ service _.
     gives_key at (codes "realm") (a_text realm_lengths) service _ (gives_text realm_lengths) (λ realm in_lengths.
     gives_then (optional at (codes "max_entries") (a_number entry_counts) entry_counts.high service) _
-    (gives_optional {P = λ n. is_in entry_counts n ≡ true} at (codes "max_entries") (a_number entry_counts) entry_counts.high service refl (gives_number entry_counts)) (λ max_entries in_entries.
+    (gives_optional {P = λ n. is_in entry_counts n ≡ true} at (codes "max_entries")
+    (a_number entry_counts) entry_counts.high service refl (gives_number entry_counts)) (λ max_entries in_entries.
     gives_key (location ServiceKey 0) (codes "key") (a_list service_key_counts) service _ (gives_list service_key_counts) (λ key_items in_counts.
     gives_then (walk service_row [] key_items) _ (service_keys_fit key_items in_counts) (λ service_keys served.
     gives_key (location PolicyPart 0) (codes "policy") a_table file _ (λ v. gives_any (a_table v)) (λ policy_table _.
     gives_then (policy_of policy_table) _ (policy_of_fits policy_table) (λ policy policy_fit.
     gives_then (optional (location RulePart 0) (codes "rule") (a_list rule_counts) no_items file) _
-    (gives_optional {P = λ items. is_in rule_counts (item_count items) ≡ true} (location RulePart 0) (codes "rule") (a_list rule_counts) no_items file refl (gives_list rule_counts)) (λ rule_items in_rules.
+    (gives_optional {P = λ items. is_in rule_counts (item_count items) ≡ true} (location RulePart 0)
+    (codes "rule") (a_list rule_counts) no_items file refl (gives_list rule_counts)) (λ rule_items in_rules.
     gives_then (walk rule_row [] rule_items) _ (rules_fit_all rule_items in_rules) (λ rules rules_ok.
     gives_then (optional (location Principal 0) (codes "principal") (a_list principal_counts) no_items file) _
-    (gives_optional {P = λ items. is_in principal_counts (item_count items) ≡ true} (location Principal 0) (codes "principal") (a_list principal_counts) no_items file refl (gives_list principal_counts)) (λ principal_items in_principals.
+    (gives_optional {P = λ items. is_in principal_counts (item_count items) ≡ true} (location Principal 0)
+    (codes "principal") (a_list principal_counts) no_items file refl (gives_list principal_counts))
+    (λ principal_items in_principals.
     gives_then (walk principal_row [] principal_items) _ (principals_fit_all principal_items in_principals) (λ principals principals_ok.
     gives_ok Served (config_of realm max_entries service_keys policy rules principals)
     (rw (in_lengths, in_entries, served.1, policy_fit, rules_ok, principals_ok), served.0))))))))))))

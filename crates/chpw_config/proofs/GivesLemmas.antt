@@ -1,5 +1,6 @@
 -- What a step gives where it has no fault.
-use Rattle.std.proofs.Common.{◌≡◌, ℕ, ◌+◌, ℤ, pos, negsuc, Bool, true, false, List, [], ◌∷◌, ◌++◌, length, Option, Some, None, Result, Ok, Err, if◌then◌else◌, refl, arith, length-append, ◌==◌, codes, inl, inr}
+use Rattle.std.proofs.Common.{◌≡◌, ℕ, ◌+◌, ℤ, pos, negsuc, Bool, true, false, List, [], ◌∷◌, ◌++◌, length, Option, Some}
+use Rattle.std.proofs.Common.{None, Result, Ok, Err, if◌then◌else◌, refl, arith, length-append, ◌==◌, codes, inl, inr}
 use Rattle.std.specs.List.{list_any}
 use Rattle.std.specs.Option.{ok_or}
 use Rattle.std.specs.Str.{bytes_eq}
@@ -12,7 +13,9 @@ use Rattle.chpw_config.specs.declared.fault.ConfigFault.{ConfigFault}
 use Rattle.chpw_config.specs.declared.fault.Location.{Location}
 use Rattle.chpw_rules.specs.declared.limits.Limits.{Limits}
 use Rattle.chpw_config.specs.Faults.{◌>>=◌, fault_at, placed}
-use Rattle.chpw_config.specs.Kinds.{of_kind, within, whole_number, a_number, a_text, a_list, a_name, a_target, a_hex_key, spelled_name, spelled_target, decoded, if_present, required, optional, item_count}
+use Rattle.chpw_config.specs.Kinds.{of_kind, within, whole_number, a_number, a_text, a_list}
+use Rattle.chpw_config.specs.Kinds.{a_name, a_target, a_hex_key, spelled_name, spelled_target}
+use Rattle.chpw_config.specs.Kinds.{decoded, if_present, required, optional, item_count}
 use Rattle.chpw_rules.specs.Limits.{is_in}
 use Rattle.chpw_rules.specs.Fitting.{target_fits}
 use Rattle.chpw_rules.specs.Names.{is_name, name_from, parts_of}
@@ -92,7 +95,8 @@ gives_text limits value =
 
 pub gives_list : (limits : Limits) (value : Data) → Gives (a_list limits value) (λ items. is_in limits (item_count items) ≡ true)
 gives_list limits value =
-    gives_of_kind (as_array value) (λ items. within limits (item_count items) items) (λ items. gives_tested (is_in limits (item_count items)) items OutOfRange (λ h. h))
+    gives_of_kind (as_array value) (λ items. within limits (item_count items) items)
+    (λ items. gives_tested (is_in limits (item_count items)) items OutOfRange (λ h. h))
 
 gives_spelled : (text : List ℕ) → Gives (spelled_name text) (λ name. is_name name ≡ true)
 gives_spelled text =
@@ -107,9 +111,11 @@ gives_name value = gives_of_kind (as_str value) spelled_name gives_spelled
 pub gives_target : (value : Data) → Gives (a_target value) (λ target. target_fits target ≡ true)
 gives_target value =
     gives_of_kind (as_str value) spelled_target (λ text.
-    elim (bytes_eq text (codes "*")) as (λ star. Gives (if star then Ok None else (spelled_name text >>= (λ name. Ok (Some name)))) (λ target. target_fits target ≡ true)) [
+    elim (bytes_eq text (codes "*")) as (λ star. Gives (if star
+    then Ok None else (spelled_name text >>= (λ name. Ok (Some name)))) (λ target. target_fits target ≡ true)) [
       | true ↦ gives_ok (λ target. target_fits target ≡ true) None refl
-      | false ↦ gives_then (spelled_name text) (λ name. Ok (Some name)) (gives_spelled text) (λ name fits. gives_ok (λ target. target_fits target ≡ true) (Some name) fits)
+      | false ↦ gives_then (spelled_name text) (λ name. Ok (Some name))
+          (gives_spelled text) (λ name fits. gives_ok (λ target. target_fits target ≡ true) (Some name) fits)
     ])
 
 gives_decoded : {E : Type 0} (size : ℕ) (r : Result (List ℕ) E) → Gives (decoded size r) (λ key. (length key == size) ≡ true)

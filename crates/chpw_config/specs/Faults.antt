@@ -1,5 +1,4 @@
--- How the first fault of a configuration is found: of the steps in a row, the first that fails
--- answers.
+-- How the first fault of a configuration is found: the first of several steps that fails gives the answer.
 use Rattle.std.specs.Prelude.{◌≡◌, ℕ, List, ◌++◌, Result, Ok, Err, codes}
 use Rattle.std.specs.Fmt.{decimal}
 use Rattle.chpw_config.specs.declared.fault.ConfigFaultKind.{ConfigFaultKind}
@@ -11,7 +10,7 @@ use Rattle.chpw_config.specs.declared.fault.ConfigFault.{ConfigFault}
 use Rattle.chpw_config.specs.declared.fault.ConfigError.{ConfigError}
 use Rattle.chpw_config.specs.declared.fault.ConfigError.TheVariants.{Fault, Memory}
 
--- a step, and the steps after it where it has no fault
+-- a step, and then the steps after it if it has no fault
 infixl 10 ◌>>=◌
 abbrev pub ◌>>=◌ : {A B E : Type 0} → Result A E → (A → Result B E) → Result B E
 Ok a >>= next = next a

@@ -1,6 +1,5 @@
--- What a key of the configuration may hold: for each kind of value, which data are of it (else
--- WrongKind), which texts are hexadecimal (else BadHex), which values are within the limits (else
--- OutOfRange).
+-- What a key of the configuration may hold: for each kind of value, which data are of it (else WrongKind), which texts
+-- are hexadecimal (else BadHex), and which values are within the limits (else OutOfRange).
 use Rattle.std.specs.Prelude.{ℕ, suc, ℤ, pos, negsuc, Bool, ◌==◌, List, length, codes, bytes_eq, Option, Some, None, Result, Ok, Err, if◌then◌else◌}
 use Rattle.std.specs.Option.{ok_or}
 use Rattle.hex.specs.Hex.{decode_of}
@@ -15,12 +14,12 @@ use Rattle.chpw_config.specs.Faults.{fault_at, placed, ◌>>=◌}
 use Rattle.chpw_rules.specs.Limits.{is_in}
 use Rattle.chpw_rules.specs.Names.{name_of}
 
--- a value of this kind, then read; where it is of another
+-- a value of this kind, which is then read; otherwise the fault
 abbrev pub of_kind : {B A : Type 0} → Option B → (B → Result A ConfigFaultKind) → Result A ConfigFaultKind
 of_kind None read = Err WrongKind
 of_kind (Some b) read = read b
 
--- a value, where its number is within the limits
+-- a value, if its number is within the limits
 abbrev pub within : {A : Type 0} → Limits → ℕ → A → Result A ConfigFaultKind
 within limits number a = if is_in limits number then Ok a else Err OutOfRange
 
@@ -40,7 +39,7 @@ a_flag value = of_kind (as_bool value) Ok
 abbrev pub any_text : Data → Result (List ℕ) ConfigFaultKind
 any_text value = of_kind (as_str value) Ok
 
--- a text of so many bytes
+-- a text whose number of bytes is within the limits
 abbrev pub a_text : Limits → Data → Result (List ℕ) ConfigFaultKind
 a_text limits value = of_kind (as_str value) (λ text. within limits (length text) text)
 
@@ -60,7 +59,7 @@ spelled_target text =
 abbrev pub a_target : Data → Result (Option Name) ConfigFaultKind
 a_target value = of_kind (as_str value) spelled_target
 
--- so many bytes, two hexadecimal digits for each
+-- this many bytes, two hexadecimal digits for each
 abbrev pub decoded : {E : Type 0} → ℕ → Result (List ℕ) E → Result (List ℕ) ConfigFaultKind
 decoded size (Err _) = Err BadHex
 decoded size (Ok bytes) = if length bytes == size then Ok bytes else Err OutOfRange
@@ -72,7 +71,7 @@ a_hex_key size value = of_kind (as_str value) (λ text. decoded size (decode_of 
 abbrev pub a_table : Data → Result Members ConfigFaultKind
 a_table value = of_kind (as_table value) Ok
 
--- a list of so many elements
+-- how many elements a list has
 abbrev pub item_count : Items → ℕ
 item_count no_items = 0
 item_count (item _ items) = suc (item_count items)
@@ -80,16 +79,16 @@ item_count (item _ items) = suc (item_count items)
 abbrev pub a_list : Limits → Data → Result Items ConfigFaultKind
 a_list limits value = of_kind (as_array value) (λ items. within limits (item_count items) items)
 
--- the value at a key that has to be there
+-- the value of a required key
 abbrev pub present : Location → List ℕ → Members → Result Data ConfigFault
 present at key members = ok_or (get_member key members) (fault_at at MissingKey)
 
--- a key that has to be there, of this kind
+-- a required key of this kind
 abbrev pub required : {A : Type 0} → Location → List ℕ → (Data → Result A ConfigFaultKind) → Members
     → Result A ConfigFault
 required at key kind members = present at key members >>= (λ value. placed at (kind value))
 
--- a key of this kind that may be left out
+-- an optional key of this kind
 abbrev pub if_present : {A : Type 0} → Location → (Data → Result A ConfigFaultKind) → A → Option Data
     → Result A ConfigFault
 if_present at kind default None = Ok default

@@ -17,16 +17,17 @@ use Rattle.chpw_config.specs.Faults.{location, fault_at, placed, ◌>>=◌}
 use Rattle.chpw_rules.specs.Fitting.{is_same_service_key}
 use Rattle.chpw_rules.specs.Names.{is_same_name}
 use Rattle.chpw_config.specs.Kinds.{a_number, a_flag, a_name, a_target, a_hex_key, a_table, a_list, required}
-use Rattle.chpw_rules.specs.Limits.{kvnos, iteration_counts, min_lengths, min_class_counts, depths, etypes, key_length, key_counts, aes128_length, aes256_length}
+use Rattle.chpw_rules.specs.Limits.{kvnos, iteration_counts, min_lengths, min_class_counts, depths}
+use Rattle.chpw_rules.specs.Limits.{etypes, key_length, key_counts, aes128_length, aes256_length}
 
--- a list's elements one after the other, each read in sight of those before it
+-- a list's elements one after the other, each read with those before it known
 abbrev pub walk : {A : Type 0} → (List A → Data → Result A ConfigFault) → List A → Items
     → Result (List A) ConfigFault
 walk read before no_items = Ok before
 walk read before (item value items) =
     read before value >>= (λ a. walk read (before ++ a ∷ []) items)
 
--- an element that is the same as none before it
+-- an element that repeats none before it
 abbrev pub once : {A : Type 0} → Location → (A → A → Bool) → List A → A → Result A ConfigFault
 once at same before a = if list_any (same a) before then Err (fault_at at Duplicate) else Ok a
 

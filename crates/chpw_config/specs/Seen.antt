@@ -1,4 +1,4 @@
--- A set of texts that stands for the names which they spell.
+-- A set of texts that represents the names which they spell.
 use Rattle.std.specs.Prelude.{◌≡◌, ℕ, List, Some}
 use Rattle.std.specs.Borrow.{Bor}
 use Rattle.std.specs.BTreeSet.{BTreeSet, contains}
@@ -13,7 +13,7 @@ use Rattle.chpw_rules.specs.Names.{is_same_name, name_of}
 abbrev pub text_cmp : Bor (List ℕ) → Bor (List ℕ) → Ordering
 text_cmp s t = slice_cmp nat_cmp s.now t.now
 
--- of the texts that spell a name, the set has just those that spell one of these names
+-- of the texts that spell a name, the set has exactly those that spell one of these names
 abbrev pub Knows : BTreeSet (Bor (List ℕ)) → List Name → Type 0
 Knows texts names = (text : Bor (List ℕ)) (name : Name) → name_of text.now ≡ Some name
     → contains text_cmp texts text ≡ list_any (is_same_name name) names

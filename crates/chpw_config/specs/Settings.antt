@@ -1,5 +1,4 @@
--- The configuration that a file sets, or the first fault in it: the parts are walked in the order
--- of these lines.
+-- The configuration that a file sets, or the first fault in it: the parts are read in the order of these lines.
 use Rattle.std.specs.Prelude.{ℕ, List, [], codes, Option, Some, None, Result, Ok, Err}
 use Rattle.toml.specs.Data.{Members, no_items}
 use Rattle.toml.specs.Parse.{parse_document}

@@ -1,5 +1,4 @@
-//! What is wrong with a configuration, in words for a person: the part by its place and its name,
-//! the key, and what it must be.
+//! What is wrong with a configuration, in words: the part by its place and its name, the key, and what it must be.
 use crate::fault::{ConfigError, ConfigFault, ConfigFaultKind, Location, Part};
 use crate::reading::DEFAULT_ENTRIES;
 use chpw_rules::{
@@ -10,10 +9,10 @@ use chpw_rules::{
 use std::alloc::{AllocError, Global};
 use toml::{Table, Value};
 
-/// The first fault of a configuration's text in words, such as
-/// `principal 3 "alice", key 2: iterations must be 1 to 16777216`. Places are counted from 1.
+/// The first fault of a configuration's text in words, such as `principal 3 "alice", key 2: iterations must be 1 to
+/// 16777216`. Places are counted from 1.
 ///
-/// Of a text that isn't TOML it is the `toml` crate's message, with line and column.
+/// For a text that isn't TOML it is the `toml` crate's message, with line and column.
 pub fn explain(alloc: Global, text: &str, fault: ConfigFault) -> Result<String, AllocError> {
     match toml::table_from_str(alloc, text) {
         Ok(file) => explain_part(alloc, &file, fault),
@@ -38,7 +37,7 @@ enum Holds {
     Name,
     // A name, or `*`.
     Target,
-    // So many bytes, in hexadecimal.
+    // This many bytes, in hexadecimal.
     Bytes(usize),
     // The bytes of a key of the table's encryption type.
     AesKey,
@@ -140,14 +139,14 @@ fn list_fault(
             Some(elements) if counts.allow(elements.len()) => return Ok(None),
             Some(_) => {
                 let counts = range_text(alloc, counts)?;
-                format!(in alloc; " must stand {} times", counts.as_str())?
+                format!(in alloc; " must appear {} times", counts.as_str())?
             }
         },
     };
     Ok(Some(format!(in alloc; "{header}{}", wrong.as_str())?))
 }
 
-// What is wrong with an element of a list; where its keys are right, it stood `again`.
+// What is wrong with an element of a list; if its keys are right, it repeats an earlier one (`again`).
 fn explain_element(
     alloc: Global,
     word: &str,
@@ -161,7 +160,7 @@ fn explain_element(
     explain_table(alloc, place.as_str(), value, keys, again)
 }
 
-// A word and the place from 1, with the name of what stands there, if it has one.
+// A word and the place from 1, with the name of the element there, if it has one.
 fn place_text(
     alloc: Global,
     word: &str,
@@ -178,7 +177,7 @@ fn place_text(
     }
 }
 
-// What is wrong with a table; where its keys are right, it stood `again`.
+// What is wrong with a table; if its keys are right, it repeats an earlier one (`again`).
 fn explain_table(
     alloc: Global,
     place: &str,
@@ -329,7 +328,7 @@ fn kind_text(holds: Holds) -> &'static str {
     }
 }
 
-// What a key's value must be within.
+// The limits of a key's value.
 fn limits_text(alloc: Global, table: &Table, holds: Holds) -> Result<String, AllocError> {
     match holds {
         Holds::Number(limits) => range_text(alloc, limits),
@@ -346,7 +345,7 @@ fn limits_text(alloc: Global, table: &Table, holds: Holds) -> Result<String, All
     }
 }
 
-// A range of two numbers, or of more.
+// A range of exactly two numbers, or of more.
 fn range_text(alloc: Global, limits: Limits) -> Result<String, AllocError> {
     let Limits { low, high } = limits;
     if high.checked_sub(low) == Some(1) {
@@ -364,7 +363,7 @@ fn name_text(alloc: Global, or_else: &str) -> Result<String, AllocError> {
     format!(in alloc; "{counts} components of {lengths} bytes with / between them{or_else}")
 }
 
-// So many bytes in hexadecimal.
+// This many bytes in hexadecimal.
 fn digits_text(alloc: Global, size: usize) -> Result<String, AllocError> {
     let digits = size.saturating_mul(2);
     format!(in alloc; "{digits} hexadecimal digits")

@@ -5,8 +5,8 @@ use std::alloc::{AllocError, AllocFailed};
 use std::fmt;
 use thiserror::Error;
 
-/// What is wrong. Of one key, `MissingKey`, `WrongKind`, `BadHex` and `OutOfRange` are looked for
-/// in this order. A kind is displayed as its code, `C1` to `C6`.
+/// What is wrong. For one key, `MissingKey`, `WrongKind`, `BadHex` and `OutOfRange` are checked in this order. A kind
+/// is displayed as its code, `C1` to `C6`.
 #[derive(Clone, Copy, Debug, Drop)]
 pub enum ConfigFaultKind {
     /// The file isn't TOML.
@@ -133,7 +133,7 @@ impl fmt::Display for ConfigFault {
     }
 }
 
-/// Where a fault is found, and where the keys of a table are read (`keys`).
+/// The part and index at which a fault is found, and at which the keys of a table are read (`keys`).
 #[derive(Clone, Copy, Drop)]
 pub struct Location {
     pub part: Part,
@@ -143,12 +143,14 @@ pub struct Location {
 impl Location {
     ghost use Rattle.chpw_config.specs.Faults.{fault_at, location};
 
+    /// The element of this index, from 0, in the part's list.
     pub fn of(part: Part, index: usize) -> Location
         ensures value { result ≡ location part index }
     {
         Location { part, index }
     }
 
+    /// The fault of this kind, found here.
     pub fn fault(self, kind: ConfigFaultKind) -> ConfigFault
         ensures value { result ≡ fault_at self kind }
     {

@@ -21,7 +21,7 @@ pub struct Named<'a> {
     pub text: &'a str,
 }
 
-// The value of a key, where there is one.
+// The value of a key, if it is present.
 fn get<'a>(table: &'a Table, key: &str) -> Option<&'a Value>
     ensures value { option_map (λ v. view v.now) result
         ≡ get_member key.now (table_view table.now) }
@@ -30,8 +30,8 @@ fn get<'a>(table: &'a Table, key: &str) -> Option<&'a Value>
 }
 
 impl Location {
-    // The value of a key that has to be there.
-    fn present<'a>(self, table: &'a Table, key: &str) -> Result<&'a Value, ConfigFault>
+    // The value of a required key.
+    fn required_value<'a>(self, table: &'a Table, key: &str) -> Result<&'a Value, ConfigFault>
         ensures value { MatchResult result
             (λ value. present self key.now (table_view table.now) ≡ Ok (view value.now))
             (λ fault. present self key.now (table_view table.now) ≡ Err fault) }
@@ -48,7 +48,7 @@ impl Location {
             (λ text. required self key.now any_text (table_view table.now) ≡ Ok text.now)
             (λ fault. required self key.now any_text (table_view table.now) ≡ Err fault) }
     {
-        let value = self.present(table, key)?;
+        let value = self.required_value(table, key)?;
         value.as_str().ok_or(self.fault(ConfigFaultKind::WrongKind))
     }
 
@@ -57,7 +57,7 @@ impl Location {
         ensures value { result ≡ required self key.now (a_number limits) (table_view table.now) }
         ensures high { IfOk result (λ number. number ≤ limits.high) }
     {
-        let value = self.present(table, key)?;
+        let value = self.required_value(table, key)?;
         a_number(value, limits).map_err(|kind| self.fault(kind))
     }
 
@@ -65,7 +65,7 @@ impl Location {
     pub fn flag(self, table: &Table, key: &str) -> Result<bool, ConfigFault>
         ensures value { result ≡ required self key.now a_flag (table_view table.now) }
     {
-        let value = self.present(table, key)?;
+        let value = self.required_value(table, key)?;
         a_flag(value).map_err(|kind| self.fault(kind))
     }
 
@@ -76,7 +76,7 @@ impl Location {
             ≡ Ok (table_view inner.now))
             (λ fault. required self key.now a_table (table_view table.now) ≡ Err fault) }
     {
-        let value = self.present(table, key)?;
+        let value = self.required_value(table, key)?;
         a_table(value).map_err(|kind| self.fault(kind))
     }
 
@@ -118,7 +118,7 @@ impl Location {
         }
     }
 
-    /// A text of so many bytes.
+    /// A text whose number of bytes is within the limits.
     pub fn text<'a>(
         self,
         table: &'a Table,
@@ -129,7 +129,7 @@ impl Location {
             (λ text. required self key.now (a_text lengths) (table_view table.now) ≡ Ok text.now)
             (λ fault. required self key.now (a_text lengths) (table_view table.now) ≡ Err fault) }
     {
-        let value = self.present(table, key)?;
+        let value = self.required_value(table, key)?;
         a_text(value, lengths).map_err(|kind| self.fault(kind))
     }
 
@@ -154,7 +154,7 @@ impl Location {
         }
     }
 
-    /// A list of so many elements.
+    /// A list whose number of elements is within the limits.
     pub fn list<'a>(
         self,
         table: &'a Table,
@@ -166,11 +166,11 @@ impl Location {
             ≡ Ok (items_view list.now))
             (λ fault. required self key.now (a_list counts) (table_view table.now) ≡ Err fault) }
     {
-        let value = self.present(table, key)?;
+        let value = self.required_value(table, key)?;
         a_list(value, counts).map_err(|kind| self.fault(kind))
     }
 
-    /// A whole number within the limits, or the default where the key is missing.
+    /// A whole number within the limits, or the default if the key is missing.
     pub fn number_or(
         self,
         table: &Table,
@@ -188,7 +188,7 @@ impl Location {
         }
     }
 
-    /// A list of so many elements, or none where the key is missing.
+    /// A list whose number of elements is within the limits, or an empty one if the key is missing.
     pub fn list_or_none<'a>(
         self,
         table: &'a Table,

@@ -28,7 +28,7 @@ pub fn a_flag(value: &Value) -> Result<bool, ConfigFaultKind>
     value.as_bool().ok_or(ConfigFaultKind::WrongKind)
 }
 
-/// A text of so many bytes.
+/// A text whose number of bytes is within the limits.
 pub fn a_text<'a>(value: &'a Value, limits: Limits) -> Result<&'a str, ConfigFaultKind>
     ensures value { MatchResult result
         (λ text. a_text limits (view value.now) ≡ Ok text.now)
@@ -50,7 +50,7 @@ pub fn a_table(value: &Value) -> Result<&Table, ConfigFaultKind>
     value.as_table().ok_or(ConfigFaultKind::WrongKind)
 }
 
-/// A list of so many elements.
+/// A list whose number of elements is within the limits.
 #[tactic(auto, using(crate::proofs::KindLemmas::item_count_of_view))]
 pub fn a_list<'a>(value: &'a Value, limits: Limits) -> Result<&'a [Value], ConfigFaultKind>
     ensures value { MatchResult result

@@ -21,7 +21,7 @@ use std::alloc::Global;
 use std::collections::BTreeSet;
 use toml::{Table, Value};
 
-/// How many events a history may have where a file doesn't say.
+/// The most events of a history if a file doesn't say.
 pub(crate) const DEFAULT_ENTRIES: usize = ENTRY_COUNTS.high;
 
 fn read_policy(table: &Table) -> Result<Policy, ConfigFault>
@@ -213,10 +213,10 @@ fn read_settings(alloc: Global, file: &Table) -> Result<Config, ConfigError>
 
 /// The configuration that the text of a file sets, or the first fault in it.
 ///
-/// A text that `toml` refuses is `NotToml` of the file. Then the parts are walked: the service,
-/// its keys, the policy, the rules, the principals, each followed by its keys; within a table its
-/// keys in the order of `docs/CONFIGURATION.md`. A key may be missing, of the wrong kind, not
-/// hexadecimal, or out of range; these are looked for in this order. `Memory` may come anywhere.
+/// A text that `toml` refuses is `NotToml` of the file. Then the parts are read: the service, its keys, the policy, the
+/// rules, the principals, each followed by its keys; within a table its keys in the order of docs/ADMIN.md. A key may
+/// be missing, of the wrong kind, not hexadecimal, or out of range; these are checked in this order. `Memory` may come
+/// anywhere.
 pub fn read_config(alloc: Global, text: &str) -> Result<Config, ConfigError>
     ensures value { UnlessMemory result (settings_of text.now) }
     ensures fits { IfOk result (λ config. IsTrue (config_fits config)) }

@@ -1,4 +1,4 @@
-//! The names read so far, for a search among many.
+//! The names read so far, in a sorted set, so that reading stays fast with many.
 ghost use Rattle.std.specs.Prelude.{◌≡◌, ◌++◌, ◌∷◌, [], not, List, Some, IfOk};
 ghost use Rattle.std.specs.List.{list_any};
 ghost use Rattle.chpw_rules.specs.declared.name.Name.{Name};
@@ -15,7 +15,7 @@ pub fn no_names<'a>(alloc: Global) -> BTreeSet<&'a str>
     BTreeSet::new(alloc)
 }
 
-/// Adds a text that spells a name, and tells whether the name is new.
+/// Adds a text that spells a name; whether the name is new.
 pub fn add_name<'a>(seen: &mut BTreeSet<&'a str>, text: &'a str) -> Result<bool, AllocError>
     ensures value { (names : List Name) (name : Name) → Knows seen.old names
         → name_of text.now ≡ Some name

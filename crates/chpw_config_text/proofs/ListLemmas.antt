@@ -1,5 +1,6 @@
 -- A list is read as it is written, element by element.
-use Rattle.std.proofs.Common.{◌≡◌, ◌∙◌, sym, ℕ, suc, ◌+◌, true, false, not, ◌&&◌, ◌==◌, List, [], ◌∷◌, ◌++◌, length, map, Result, Ok, refl, ap, append-nil, append_assoc}
+use Rattle.std.proofs.Common.{◌≡◌, ◌∙◌, sym, ℕ, suc, ◌+◌, true, false, not, ◌&&◌, ◌==◌, List, []}
+use Rattle.std.proofs.Common.{◌∷◌, ◌++◌, length, map, Result, Ok, refl, ap, append-nil, append_assoc}
 use Rattle.std.specs.List.{list_all, list_any}
 use Rattle.std.proofs.lemmas.Bool.{and_parts, not-true}
 use Rattle.toml.specs.Data.{Data}
@@ -9,7 +10,8 @@ use Rattle.chpw_rules.specs.declared.limits.Limits.{Limits}
 use Rattle.chpw_rules.specs.declared.config.KeyBytes.{KeyBytes}
 use Rattle.chpw_rules.specs.declared.config.PrincipalRow.{PrincipalRow}
 use Rattle.chpw_rules.specs.declared.config.ServiceRow.{ServiceRow}
-use Rattle.chpw_rules.specs.Fitting.{descend_from, is_same_principal, is_same_service_key, key_fits, kvnos_descend, none_again, principal_fits, rule_fits, service_key_fits}
+use Rattle.chpw_rules.specs.Fitting.{descend_from, is_same_principal, is_same_service_key, key_fits}
+use Rattle.chpw_rules.specs.Fitting.{kvnos_descend, none_again, principal_fits, rule_fits, service_key_fits}
 use Rattle.chpw_rules.specs.Limits.{is_in, key_counts}
 use Rattle.chpw_rules.specs.Names.{is_name, is_same_name}
 use Rattle.chpw_config.specs.declared.fault.ConfigFault.{ConfigFault}
@@ -73,16 +75,16 @@ comes_after_end [] newer kvno = refl
 comes_after_end (_ ∷ []) newer kvno = refl
 comes_after_end (_ ∷ next ∷ before) newer kvno = comes_after_end (next ∷ before) newer kvno
 
-keys_read_behind : (at : Location) (before : List KeyBytes) (newer : KeyBytes) (keys : List KeyBytes)
+keys_read_after : (at : Location) (before : List KeyBytes) (newer : KeyBytes) (keys : List KeyBytes)
     → list_all key_fits keys ≡ true → list_all is_typed_key keys ≡ true → descend_from newer.kvno keys ≡ true
     → AreRead (key_row at) key_of (before ++ newer ∷ []) keys
-keys_read_behind at before newer [] fit typed down = tt
-keys_read_behind at before newer (key ∷ keys) fit typed down =
+keys_read_after at before newer [] fit typed down = tt
+keys_read_after at before newer (key ∷ keys) fit typed down =
     let (fits, more_fit) = and_parts (key_fits key) (list_all key_fits keys) fit in
     let (here, more_typed) = and_parts (is_typed_key key) (list_all is_typed_key keys) typed in
     let (step, more_down) = and_parts (key.kvno + 1 == newer.kvno) (descend_from key.kvno keys) down in (
       key_read at (before ++ newer ∷ []) key fits here (comes_after_end before newer key.kvno ∙ step),
-      keys_read_behind at (before ++ newer ∷ []) key keys more_fit more_typed more_down,
+      keys_read_after at (before ++ newer ∷ []) key keys more_fit more_typed more_down,
     )
 
 pub keys_read : (at : Location) (keys : List KeyBytes) → list_all key_fits keys ≡ true → list_all is_typed_key keys ≡ true
@@ -91,7 +93,7 @@ keys_read at [] fit typed down = tt
 keys_read at (key ∷ keys) fit typed down =
     let (fits, more_fit) = and_parts (key_fits key) (list_all key_fits keys) fit in
     let (here, more_typed) = and_parts (is_typed_key key) (list_all is_typed_key keys) typed in
-    (key_read at [] key fits here refl, keys_read_behind at [] key keys more_fit more_typed down)
+    (key_read at [] key fits here refl, keys_read_after at [] key keys more_fit more_typed down)
 
 -- no row before has the name
 named_anew : (row : PrincipalRow) (before : List PrincipalRow)

@@ -49,7 +49,8 @@ service_key_read before row fits bytes new =
 pub policy_read : (policy : Policy) → policy_fits policy ≡ true
     → policy_of (policy_table_of policy) ≡ Ok policy
 policy_read policy fits =
-    let (front, in_counts) = and_parts (is_in min_lengths policy.min_length && is_in min_class_counts policy.min_classes && is_in depths policy.depth) (is_in iteration_counts policy.iterations) fits in
+    let (front, in_counts) = and_parts (is_in min_lengths policy.min_length && is_in min_class_counts policy.min_classes
+    && is_in depths policy.depth) (is_in iteration_counts policy.iterations) fits in
     let (first, in_depths) = and_parts (is_in min_lengths policy.min_length && is_in min_class_counts policy.min_classes) (is_in depths policy.depth) front in
     let (in_lengths, in_classes) = and_parts (is_in min_lengths policy.min_length) (is_in min_class_counts policy.min_classes) first in
     rw (in_lengths, in_classes, in_depths, in_counts)
@@ -65,7 +66,9 @@ pub key_read : (at : Location) (before : List KeyBytes) (key : KeyBytes) → key
     → comes_after before key.kvno ≡ true → key_row at before (key_of key) ≡ Ok key
 key_read at before key fits typed after =
     let (in_kvnos, in_counts) = and_parts (is_in kvnos key.kvno) (is_in iteration_counts key.iterations) fits in
-    let (front, long256) = and_parts (are_bytes key.aes128 && (length key.aes128 == aes128_length) && are_bytes key.aes256) (length key.aes256 == aes256_length) typed in
+    let (front, long256) =
+    and_parts (are_bytes key.aes128 && (length key.aes128 == aes128_length) && are_bytes key.aes256)
+    (length key.aes256 == aes256_length) typed in
     let (front128, bytes256) = and_parts (are_bytes key.aes128 && (length key.aes128 == aes128_length)) (are_bytes key.aes256) front in
     let (bytes128, long128) = and_parts (are_bytes key.aes128) (length key.aes128 == aes128_length) front128 in
     rw (in_kvnos, after, in_counts, hex_read aes128_length key.aes128 bytes128 long128, hex_read aes256_length key.aes256 bytes256 long256)

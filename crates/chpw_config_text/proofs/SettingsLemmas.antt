@@ -9,7 +9,9 @@ use Rattle.chpw_rules.specs.declared.config.Config.{Config}
 use Rattle.chpw_rules.specs.declared.config.PrincipalRow.{PrincipalRow}
 use Rattle.chpw_rules.specs.declared.config.ServiceRow.{ServiceRow}
 use Rattle.chpw_rules.specs.declared.rules.Rule.{Rule}
-use Rattle.chpw_rules.specs.Fitting.{are_distinct, config_fits, is_same_principal, is_same_service_key, policy_fits, principal_fits, principals_fit, rule_fits, rules_fit, service_fits, service_key_fits}
+use Rattle.chpw_rules.specs.Fitting.{are_distinct, config_fits, is_same_principal}
+use Rattle.chpw_rules.specs.Fitting.{is_same_service_key, policy_fits, principal_fits, principals_fit}
+use Rattle.chpw_rules.specs.Fitting.{rule_fits, rules_fit, service_fits, service_key_fits}
 use Rattle.chpw_rules.specs.Limits.{entry_counts, is_in, principal_counts, realm_lengths, rule_counts, service_key_counts}
 use Rattle.chpw_config.specs.Rows.{principal_row, rule_row, service_row, walk}
 use Rattle.chpw_config.specs.Settings.{settings, of_table, settings_of}
@@ -23,7 +25,8 @@ use Rattle.chpw_config_text.proofs.RowLemmas.{policy_read}
 services_walk : (rows : List ServiceRow) → service_fits rows ≡ true → list_all is_typed_service_key rows ≡ true
     → walk service_row [] (items_of (map service_key_of rows)) ≡ Ok rows
 services_walk rows fits typed =
-    let (front, distinct) = and_parts (nat_le (length rows) service_key_counts.high && list_all service_key_fits rows) (are_distinct is_same_service_key rows) fits in
+    let (front, distinct) = and_parts (nat_le (length rows) service_key_counts.high && list_all service_key_fits rows)
+    (are_distinct is_same_service_key rows) fits in
     let (_, fit) = and_parts (nat_le (length rows) service_key_counts.high) (list_all service_key_fits rows) front in
     walk_read service_row service_key_of [] rows (service_keys_read [] rows fit typed distinct)
 
@@ -55,12 +58,22 @@ principals_counted rows fits =
 settings_read : (config : Config) → config_fits config ≡ true → 1 ≤ length config.service → is_writable config ≡ true
     → is_typed config ≡ true → settings (members_of config) ≡ Ok config
 settings_read config fits some writable typed =
-    let (to_rules, people) = and_parts (is_in realm_lengths (length config.realm) && is_in entry_counts config.max_entries && service_fits config.service && policy_fits config.policy && rules_fit config.rules.list) (principals_fit config.principals) fits in
-    let (to_policy, rules) = and_parts (is_in realm_lengths (length config.realm) && is_in entry_counts config.max_entries && service_fits config.service && policy_fits config.policy) (rules_fit config.rules.list) to_rules in
-    let (to_service, policy) = and_parts (is_in realm_lengths (length config.realm) && is_in entry_counts config.max_entries && service_fits config.service) (policy_fits config.policy) to_policy in
-    let (to_entries, service) = and_parts (is_in realm_lengths (length config.realm) && is_in entry_counts config.max_entries) (service_fits config.service) to_service in
+    let (to_rules, people) =
+    and_parts (is_in realm_lengths (length config.realm) && is_in entry_counts config.max_entries
+    && service_fits config.service && policy_fits config.policy && rules_fit config.rules.list)
+    (principals_fit config.principals) fits in
+    let (to_policy, rules) =
+    and_parts (is_in realm_lengths (length config.realm) && is_in entry_counts config.max_entries
+    && service_fits config.service && policy_fits config.policy) (rules_fit config.rules.list) to_rules in
+    let (to_service, policy) =
+    and_parts (is_in realm_lengths (length config.realm) && is_in entry_counts config.max_entries
+    && service_fits config.service) (policy_fits config.policy) to_policy in
+    let (to_entries, service) =
+    and_parts (is_in realm_lengths (length config.realm) && is_in entry_counts config.max_entries)
+    (service_fits config.service) to_service in
     let (in_lengths, in_entries) = and_parts (is_in realm_lengths (length config.realm)) (is_in entry_counts config.max_entries) to_entries in
-    let (texts, people_writable) = and_parts (is_utf8 config.realm && list_all is_writable_rule config.rules.list) (list_all is_writable_principal config.principals) writable in
+    let (texts, people_writable) = and_parts (is_utf8 config.realm && list_all is_writable_rule config.rules.list)
+    (list_all is_writable_principal config.principals) writable in
     let (_, rules_writable) = and_parts (is_utf8 config.realm) (list_all is_writable_rule config.rules.list) texts in
     let (service_typed, people_typed) = and_parts (list_all is_typed_service_key config.service) (list_all is_typed_principal config.principals) typed in
     let (rules_counted, _) = and_parts (is_in rule_counts (length config.rules.list)) (list_all rule_fits config.rules.list) rules in

@@ -1,5 +1,6 @@
 -- The texts of names and keys.
-use Rattle.std.proofs.Common.{◌≡◌, ◌∙◌, ℕ, zero, suc, ◌+◌, ◌<◌, true, false, nat_lt, List, [], ◌∷◌, ◌++◌, length, get_or, take, refl, arith, append_assoc, inl, inr}
+use Rattle.std.proofs.Common.{◌≡◌, ◌∙◌, ℕ, zero, suc, ◌+◌, ◌<◌, true, false, nat_lt, List, [], ◌∷◌}
+use Rattle.std.proofs.Common.{◌++◌, length, get_or, take, refl, arith, append_assoc, inl, inr}
 use native.Mathlib.Numerals.{unary_clauses}
 use Rattle.std.specs.List.{join_with_byte}
 use Rattle.std.specs.Str.{IsUtf8, is_utf8}
@@ -43,12 +44,12 @@ pub join_first : (parts : List (List ℕ)) (i : ℕ) (d : List ℕ) → i ≡ 0 
 join_first [] i d none within = absurd (omega arith)
 join_first (first ∷ parts) i d none within = rw none
 
-join_behind : (first : List ℕ) (parts : List (List ℕ)) (i : ℕ) (d : List ℕ) → i < length parts
+join_after : (first : List ℕ) (parts : List (List ℕ)) (i : ℕ) (d : List ℕ) → i < length parts
     → join_with_byte 47 (first ∷ take (i + 1) parts) ≡ (join_with_byte 47 (first ∷ take i parts) ++ 47 ∷ []) ++ get_or parts i d
-join_behind first parts i d within = rw (take_more parts i d within) (join_more 47 first (take i parts) (get_or parts i d) ∙ simp append_assoc)
+join_after first parts i d within = rw (take_more parts i d within) (join_more 47 first (take i parts) (get_or parts i d) ∙ simp append_assoc)
 
 pub join_next : (parts : List (List ℕ)) (i : ℕ) (d : List ℕ) → 0 < i → i < length parts
     → join_with_byte 47 (take (i + 1) parts) ≡ (join_with_byte 47 (take i parts) ++ 47 ∷ []) ++ get_or parts i d
 join_next [] i d some within = absurd (omega arith)
 join_next (first ∷ parts) zero d some within = absurd (omega arith)
-join_next (first ∷ parts) (suc i) d some within = simp unary_clauses (simp unary_clauses at (join_behind first parts i d (omega arith)))
+join_next (first ∷ parts) (suc i) d some within = simp unary_clauses (simp unary_clauses at (join_after first parts i d (omega arith)))

@@ -1,4 +1,4 @@
--- For proofs: a member put into its place among others.
+-- For proofs alone: a member put into its place among others.
 use Rattle.std.specs.Prelude.{ℕ, List}
 use Rattle.std.specs.Cmp.Lexicographic.{slice_cmp}
 use Rattle.std.specs.Ordering.{match_ordering, nat_cmp}

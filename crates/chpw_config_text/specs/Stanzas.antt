@@ -1,4 +1,4 @@
--- The TOML table of service keys and principals alone. A list that is empty isn't written.
+-- The TOML table of service keys and principals alone. An empty list isn't written.
 use Rattle.std.specs.Prelude.{List, [], ◌∷◌, codes}
 use Rattle.toml.specs.Data.{table, Members, no_members, member}
 use Rattle.chpw_rules.specs.declared.config.PrincipalRow.{PrincipalRow}

@@ -1,6 +1,5 @@
--- The TOML table that a configuration is written as, with the keys of `docs/CONFIGURATION.md`. The
--- members of a table stand in the order of their keys, as a `toml::Table` has them, and not in the
--- order in which a file is read.
+-- The TOML table that a configuration is written as, with the keys of docs/ADMIN.md. The members of a table are in the
+-- order of their keys, as in a `toml::Table`, and not in the order in which a file is read.
 use Rattle.std.specs.Prelude.{ℕ, pos, List, codes, map, Option, Some, None}
 use Rattle.std.specs.List.{join_with_byte}
 use Rattle.hex.specs.Hex.{encode_lower}
@@ -18,11 +17,11 @@ use Rattle.chpw_rules.specs.declared.config.ServiceRow.{ServiceRow}
 abbrev pub number : ℕ → Data
 number n = integer (pos n)
 
--- bytes in hexadecimal digits of lower case
+-- bytes in lower-case hexadecimal digits
 abbrev pub hexadecimal : List ℕ → Data
 hexadecimal bytes = string (encode_lower bytes)
 
--- a list, each element written so
+-- a list, each element written by this function
 abbrev pub list_of : {A : Type 0} → (A → Data) → List A → Data
 list_of written rows = array (items_of (map written rows))
 

@@ -1,5 +1,5 @@
--- For proofs: what the types say of a configuration's keys. Each is made of bytes, and those of a
--- principal have their lengths.
+-- For proofs alone: what the types say of a configuration's keys. Each consists of bytes, and those of a principal have
+-- their lengths.
 use Rattle.std.specs.Prelude.{ℕ, Bool, ◌&&◌, ◌==◌, nat_lt, List, length}
 use Rattle.std.specs.List.{list_all}
 use Rattle.chpw_rules.specs.declared.config.Config.{Config}

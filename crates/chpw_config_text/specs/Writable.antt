@@ -1,5 +1,5 @@
--- Which configurations a file can set: those whose texts are UTF-8, whose names' components have no
--- `/`, and no rule of which has the name `*` alone for its target, since that is everyone in a file.
+-- Which configurations a file can set: those whose texts are UTF-8, whose names' components have no `/`, and without a
+-- rule whose target is the name `*` alone, since that means everyone in a file.
 use Rattle.std.specs.Prelude.{ℕ, Bool, true, false, not, ◌&&◌, ◌==◌, ◌≡◌, List, codes, bytes_eq, Option, Some, None, Result, Ok, Err}
 use Rattle.std.specs.List.{list_all, list_any}
 use Rattle.std.specs.Str.{is_utf8}
@@ -36,7 +36,7 @@ is_writable config =
     && list_all is_writable_rule config.rules.list
     && list_all is_writable_principal config.principals
 
--- what can be written is, and what can't is refused as such, unless memory runs out
+-- what can be written is written, and what can't is refused as such, unless memory runs out
 abbrev pub JustWritable : {A : Type 0} → Result A WriteFault → Bool → Type 0
 JustWritable (Ok _) writable = writable ≡ true
 JustWritable (Err Unwritable) writable = writable ≡ false

@@ -47,7 +47,7 @@ impl Fields {
     }
 }
 
-/// A key's bytes, as hexadecimal digits of lower case.
+/// A key's bytes, as lower-case hexadecimal digits.
 pub fn hexadecimal(alloc: Global, key: &[u8]) -> Result<Value, AllocError>
     ensures value { IfOk result (λ value. view value ≡ hexadecimal key.now) }
     ensures typed { are_bytes key.now ≡ true }

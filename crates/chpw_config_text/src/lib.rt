@@ -1,4 +1,4 @@
-//! A configuration, written as the text of its file.
+//! Writes a configuration as the text of its TOML file.
 #![tactic(auto)]
 
 mod fault;

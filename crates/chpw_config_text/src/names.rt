@@ -8,7 +8,7 @@ use crate::fault::WriteFault;
 use chpw_rules::Name;
 use std::alloc::Global;
 
-/// The text that the bytes are in UTF-8.
+/// The bytes as text, if they are UTF-8.
 pub fn text(bytes: &[u8]) -> Result<&str, WriteFault>
     ensures value { IfOk result (λ text. text.now ≡ bytes.now) }
     ensures just { JustWritable result (is_utf8 bytes.now) }
@@ -31,7 +31,7 @@ fn part_text(part: &[u8]) -> Result<&str, WriteFault>
     Ok(text)
 }
 
-/// Whether a file can say the name: each component is UTF-8 and has no `/`.
+/// Whether a file can express the name: each component is UTF-8 and has no `/`.
 pub fn can_be_written(name: &Name) -> bool
     ensures value { result ≡ is_writable_name name.now }
 {
@@ -41,7 +41,7 @@ pub fn can_be_written(name: &Name) -> bool
         .all(|part| part_can_be_written(part.as_slice()))
 }
 
-// Whether a file can say a component.
+// Whether a file can express a component.
 fn part_can_be_written(part: &[u8]) -> bool
     ensures value { result ≡ is_writable_part part.now }
 {

@@ -47,11 +47,10 @@ fn stanza_table(
     Ok(fields.table)
 }
 
-/// Writes service keys and principals as a configuration's file has them, `[[principal]]` and
-/// `[[service.key]]`, and nothing else: behind the other tables they make up a file. Of none the text is
-/// empty.
+/// Writes service keys and principals as a configuration's file has them, `[[principal]]` and `[[service.key]]`, and
+/// nothing else: after the other tables they complete a file. With none the text is empty.
 ///
-/// Rows that are out of their limits are written too, and aren't read. `Memory` may come anywhere.
+/// Rows that are out of their limits are written too, but can't be read. `Memory` may come anywhere.
 pub fn write_stanzas(
     alloc: Global,
     service: &[ServiceRow],
@@ -66,7 +65,7 @@ pub fn write_stanzas(
     let stanzas = stanza_table(alloc, service, principals)?;
     match toml::table_to_string(alloc, &stanzas) {
         Ok(text) => Ok(text),
-        // The table has no dates, so that only memory can be lacking.
+        // The table has no dates, so only memory can be missing.
         Err(_) => Err(WriteFault::Memory),
     }
 }

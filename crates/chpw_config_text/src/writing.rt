@@ -63,11 +63,11 @@ fn file_table(alloc: Global, config: &Config) -> Result<Table, WriteFault>
     Ok(fields.table)
 }
 
-/// Writes a configuration as the text of a file that sets it: keys in hexadecimal digits of lower
-/// case, names with `/` between their components. The keys of a table are in alphabetical order.
+/// Writes a configuration as the text of a file that sets it: keys in lower-case hexadecimal digits, names with `/`
+/// between their components. The keys of a table are in alphabetical order.
 ///
-/// A configuration that is out of its limits is written too, and its text isn't read. The realm is
-/// looked at first, then the rules, then the principals. `Memory` may come anywhere.
+/// A configuration that is out of its limits is written too, but its text can't be read. The realm is checked first,
+/// then the rules, then the principals. `Memory` may come anywhere.
 pub fn write_config(alloc: Global, config: &Config) -> Result<String, WriteFault>
     ensures reads { IfOk result (λ text. IsTrue (config_fits config.now)
         → 1 ≤ length config.now.service → settings_of (string_bytes text) ≡ Ok config.now) }
@@ -78,7 +78,7 @@ pub fn write_config(alloc: Global, config: &Config) -> Result<String, WriteFault
     let file = file_table(alloc, config)?;
     match toml::table_to_string(alloc, &file) {
         Ok(text) => Ok(text),
-        // The table has no dates, so that only memory can be lacking.
+        // The table has no dates, so only memory can be missing.
         Err(_) => Err(WriteFault::Memory),
     }
 }

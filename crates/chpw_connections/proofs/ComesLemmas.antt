@@ -2,15 +2,17 @@
 use Rattle.std.proofs.Common.{◌≡◌, ℕ, List, take, refl, ◌∙◌, arith, Option, Some, None}
 use Rattle.std.proofs.lemmas.List.{take_all, length-take}
 use Rattle.slab.specs.Slab.{Slab, get}
-use Rattle.chpw_connections.specs.Messages.{wanted_behind}
-use Rattle.chpw_connections.specs.Stages.{Stage, reading, queued, answering, confirming, writing, lingering, abandoned, ended, Event, came, after, count_after, since_after, stage, wanted_by, IsRoomFor, IsRoomBehind, Goes}
+use Rattle.chpw_connections.specs.Messages.{wanted_after}
+use Rattle.chpw_connections.specs.Stages.{Stage, reading, queued, answering, confirming, writing}
+use Rattle.chpw_connections.specs.Stages.{lingering, abandoned, ended, Event, came, after, count_after}
+use Rattle.chpw_connections.specs.Stages.{since_after, stage, wanted_by, IsRoomFor, IsRoomBehind, Goes}
 use Rattle.chpw_connections.specs.Sets.{Comes, wanted_of}
 use Rattle.chpw_connections.specs.Room.{HappensWithRoom}
 use Rattle.chpw_connections.specs.declared.connection.Connection.{Connection}
 use Rattle.chpw_connections.specs.declared.connection.Incoming.{Incoming}
 use Rattle.chpw_connections.specs.declared.connection.Phase.{Phase}
 use Rattle.chpw_connections.specs.declared.connection.Phase.TheVariants as phase
-use Rattle.chpw_connections.specs.declared.room.Candidates.{Candidates}
+use Rattle.chpw_connections.specs.declared.room.EvictionRule.{EvictionRule}
 
 -- one event does to a stage what the other does
 record Same (now count since : ℕ) (s : Stage) (e f : Event) : Type 0 where
@@ -56,16 +58,17 @@ take_again n l = take_all n (take n l) (grind (arith, length-take))
 
 wanted_same : (now count since : ℕ) (s : Stage) (more : List ℕ) → Same now count since s (came (take (wanted_by s) more)) (came more)
 wanted_same now count since (reading b) more =
-    let e = take_again (wanted_behind b) more in
+    let e = take_again (wanted_after b) more in
     record {
       stage_too = rw e refl;
       count_too = refl;
       since_too = rw e refl;
-      room_too = room_same now (take (wanted_behind b) more) more;
+      room_too = room_same now (take (wanted_after b) more) more;
     }
 wanted_same now count since (queued m) more = record { stage_too = refl; count_too = refl; since_too = refl; room_too = room_same now (take 0 more) more }
 wanted_same now count since answering more = record { stage_too = refl; count_too = refl; since_too = refl; room_too = room_same now (take 0 more) more }
-wanted_same now count since (confirming r l m) more = record { stage_too = refl; count_too = refl; since_too = refl; room_too = room_same now (take 0 more) more }
+wanted_same now count since (confirming r l m) more =
+    record { stage_too = refl; count_too = refl; since_too = refl; room_too = room_same now (take 0 more) more }
 wanted_same now count since (writing w l) more = record { stage_too = refl; count_too = refl; since_too = refl; room_too = room_same now (take 0 more) more }
 wanted_same now count since lingering more = record { stage_too = refl; count_too = refl; since_too = refl; room_too = room_same now (take 0 more) more }
 wanted_same now count since abandoned more = record { stage_too = refl; count_too = refl; since_too = refl; room_too = room_same now (take 0 more) more }
@@ -77,7 +80,7 @@ wanted_comes now (Some c) None more comes = absurd comes
 wanted_comes now (Some c) (Some d) more comes =
     goes_too now c d (came (take (wanted_by (stage c)) more)) (came more) (wanted_same now c.answered c.since (stage c) more) comes
 
-pub wanted_happens : (who : Candidates) (now : ℕ) (old new : Slab Connection) (slot : ℕ) (more : List ℕ)
+pub wanted_happens : (who : EvictionRule) (now : ℕ) (old new : Slab Connection) (slot : ℕ) (more : List ℕ)
     → HappensWithRoom who now old new slot (came (wanted_of (get old slot) more)) → HappensWithRoom who now old new slot (came more)
 wanted_happens who now old new slot more happens = record {
   here = wanted_comes now (get old slot) (get new slot) more happens.here;

@@ -1,5 +1,6 @@
 -- What the ends of those that give way would let go of.
-use Rattle.std.proofs.Common.{◌≡◌, ◌≢◌, ℕ, zero, suc, ◌+◌, ◌<◌, ◌≤◌, List, [], ◌∷◌, length, take, refl, sym, ◌∙◌, ap, arith, Bool, true, false, ◌&&◌, nat_lt, not, cond, Option, Some, None, get_or}
+use Rattle.std.proofs.Common.{◌≡◌, ◌≢◌, ℕ, zero, suc, ◌+◌, ◌<◌, ◌≤◌, List, [], ◌∷◌, length, take, refl, sym, ◌∙◌}
+use Rattle.std.proofs.Common.{ap, arith, Bool, true, false, ◌&&◌, nat_lt, not, cond, Option, Some, None, get_or}
 use Rattle.std.specs.List.{sum_by}
 use Rattle.std.proofs.Math.Logic.{⊎_elim}
 use Rattle.std.proofs.lemmas.Bool.{cases_lt}
@@ -10,17 +11,19 @@ use Rattle.slab.specs.Slab.{Slab, get}
 use Rattle.chpw_connections.specs.Stages.{failed, stage, stage_of, ended}
 use Rattle.chpw_connections.specs.Holding.{held_by, held_at, held_in, begun_of}
 use Rattle.chpw_connections.specs.Sets.{waits, Comes, Happens}
-use Rattle.chpw_connections.specs.Room.{is_held_back, is_among, gives_way, gives_way_at, gives_way_since, given_at, given_in, staying_besides, has_room_besides, IsLongestBesides, NobodyWaitsBesides}
+use Rattle.chpw_connections.specs.Room.{is_held_back, is_among, gives_way, gives_way_at}
+use Rattle.chpw_connections.specs.Room.{gives_way_since, given_at, given_in, staying_besides}
+use Rattle.chpw_connections.specs.Room.{has_room_besides, IsLongestBesides, NobodyWaitsBesides}
 use Rattle.chpw_connections.specs.declared.connection.Phase.{Phase}
 use Rattle.chpw_connections.specs.declared.connection.Phase.TheVariants as phase
 use Rattle.chpw_connections.specs.declared.connection.Connection.{Connection}
-use Rattle.chpw_connections.specs.declared.room.Candidates.{Candidates}
+use Rattle.chpw_connections.specs.declared.room.EvictionRule.{EvictionRule}
 use Rattle.chpw_connections.proofs.CountLemmas.{below_next}
 use Rattle.chpw_connections.proofs.HeldLemmas.{changed_sum}
 use Rattle.chpw_connections.proofs.RoomLemmas.{waits_from, ends_waiting, and_left, besides_other, besides_same}
 
 -- what is let go of was held
-pub given_le : (who : Candidates) (o : Option Connection) → given_at who o ≤ held_at o
+pub given_le : (who : EvictionRule) (o : Option Connection) → given_at who o ≤ held_at o
 given_le who None = omega arith
 given_le who (Some c) = by_test (gives_way who c)
   where
@@ -29,22 +32,22 @@ given_le who (Some c) = by_test (gives_way who c)
     by_test false = omega arith
 
 -- how many of the slots below this one
-abbrev pub given_below : Candidates → Slab Connection → ℕ → ℕ
+abbrev pub given_below : EvictionRule → Slab Connection → ℕ → ℕ
 given_below who slots n = sum_by (given_at who) (take n slots.slots)
 
-pub given_next : (who : Candidates) (slots : Slab Connection) (n : ℕ) → given_below who slots (n + 1) ≡ given_below who slots n + given_at who (get slots n)
+pub given_next : (who : EvictionRule) (slots : Slab Connection) (n : ℕ) → given_below who slots (n + 1) ≡ given_below who slots n + given_at who (get slots n)
 given_next who slots n = below_next (given_at who) slots n refl
 
-pub given_all : (who : Candidates) (slots : Slab Connection) (n : ℕ) → length slots.slots ≤ n → given_below who slots n ≡ given_in who slots
+pub given_all : (who : EvictionRule) (slots : Slab Connection) (n : ℕ) → length slots.slots ≤ n → given_below who slots n ≡ given_in who slots
 given_all who slots n few = ap (sum_by (given_at who)) (take_all n slots.slots few)
 
-pub given_below_le : (who : Candidates) (slots : Slab Connection) (n : ℕ) → given_below who slots n ≤ given_in who slots
+pub given_below_le : (who : EvictionRule) (slots : Slab Connection) (n : ℕ) → given_below who slots n ≤ given_in who slots
 given_below_le who slots n = sum_by-take-le (given_at who) slots.slots n
 
-pub given_in_le : (who : Candidates) (slots : Slab Connection) → given_in who slots ≤ held_in slots
+pub given_in_le : (who : EvictionRule) (slots : Slab Connection) → given_in who slots ≤ held_in slots
 given_in_le who slots = sum_by-le-sum_by (given_at who) held_at slots.slots (given_le who)
 
-pub given_here_le : (who : Candidates) (slots : Slab Connection) (slot : ℕ) → given_at who (get slots slot) ≤ given_in who slots
+pub given_here_le : (who : EvictionRule) (slots : Slab Connection) (slot : ℕ) → given_at who (get slots slot) ≤ given_in who slots
 given_here_le who slots slot =
     ⊎_elim
     (λ (lt : slot < length slots.slots). get_or-le-sum_by (given_at who) slots.slots slot None lt)
@@ -65,7 +68,7 @@ one_sum f d none (x ∷ xs) zero others =
 one_sum f d none (x ∷ xs) (suc i) others =
     omega (arith, sum_by-cons f x xs, others 0 (λ e. absurd (cc)), one_sum f d none xs i (λ j differs. others (suc j) (λ e. differs (cc))))
 
-gives_none : (who : Candidates) (o : Option Connection) → gives_way_since who o ≡ None → given_at who o ≡ 0
+gives_none : (who : EvictionRule) (o : Option Connection) → gives_way_since who o ≡ None → given_at who o ≡ 0
 gives_none who None is = refl
 gives_none who (Some c) is = by_test (gives_way who c) is
   where
@@ -73,14 +76,14 @@ gives_none who (Some c) is = by_test (gives_way who c) is
     by_test true e = absurd cc
     by_test false e = refl
 
-pub nobody_gives : (who : Candidates) (slots : Slab Connection) (slot : ℕ) → NobodyWaitsBesides slots (Some slot) who
+pub nobody_gives : (who : EvictionRule) (slots : Slab Connection) (slot : ℕ) → NobodyWaitsBesides slots (Some slot) who
     → given_in who slots ≡ given_at who (get slots slot)
 nobody_gives who slots slot nobody =
     one_sum (given_at who) None refl slots.slots slot
     (λ j differs. gives_none who (get slots j) (sym (besides_other slots who slot j differs) ∙ nobody j))
 
 -- then all is held that would stay
-pub nobody_room : (most : ℕ) (who : Candidates) (slots : Slab Connection) (slot count : ℕ) → NobodyWaitsBesides slots (Some slot) who
+pub nobody_room : (most : ℕ) (who : EvictionRule) (slots : Slab Connection) (slot count : ℕ) → NobodyWaitsBesides slots (Some slot) who
     → has_room_besides most who slots slot count ≡ true → held_in slots + count ≤ most
 nobody_room most who slots slot count nobody enough =
     let all = nobody_gives who slots slot nobody in
@@ -88,7 +91,7 @@ nobody_room most who slots slot count nobody enough =
     grind (arith, nat_tests)
 
 -- who gives way lets go of all that it holds, and that is something
-gives_held : (who : Candidates) (o : Option Connection) → gives_way_at who o ≡ true → (given_at who o ≡ held_at o) × (0 < held_at o)
+gives_held : (who : EvictionRule) (o : Option Connection) → gives_way_at who o ≡ true → (given_at who o ≡ held_at o) × (0 < held_at o)
 gives_held who None is = absurd cc
 gives_held who (Some c) is = (
   ap (λ (t : Bool). cond t (held_by c.phase) 0) is,
@@ -110,7 +113,7 @@ ended_empty phase.Lingering e = refl
 ended_empty phase.Abandoned e = refl
 ended_empty phase.Ended e = refl
 
-lets_go : (who : Candidates) (old new : Option Connection) → gives_way_at who old ≡ true → Comes 0 failed old new
+lets_go : (who : EvictionRule) (old new : Option Connection) → gives_way_at who old ≡ true → Comes 0 failed old new
     → (held_at new ≡ 0) × (given_at who new ≡ 0)
 lets_go who None new is comes = absurd cc
 lets_go who (Some c) None is comes = absurd comes
@@ -122,7 +125,7 @@ lets_go who (Some c) (Some d) is comes =
     (none, omega arith)
 
 -- one that gives way is ended: less is held, and as much would stay
-module _ (who : Candidates) (mid new : Slab Connection) (slot other : ℕ) (is : IsLongestBesides mid (Some slot) who other)
+module _ (who : EvictionRule) (mid new : Slab Connection) (slot other : ℕ) (is : IsLongestBesides mid (Some slot) who other)
     (happens : Happens 0 mid new other failed) where
   apart : other ≢ slot
   apart = λ same. absurd (let none = besides_same mid who slot other same in let found = is.1 in cc)
@@ -148,7 +151,7 @@ module _ (who : Candidates) (mid new : Slab Connection) (slot other : ℕ) (is :
       let here : given_at who (get new slot) ≡ given_at who (get mid slot) = ap (given_at who) (happens.others slot (λ e. apart (sym e))) in
       omega (arith, held_less, given_less, here, given_here_le who new slot, given_in_le who new)
 
-pub room_stays : (most : ℕ) (who : Candidates) (count : ℕ) (mid new : Slab Connection) (slot other : ℕ) → IsLongestBesides mid (Some slot) who other
+pub room_stays : (most : ℕ) (who : EvictionRule) (count : ℕ) (mid new : Slab Connection) (slot other : ℕ) → IsLongestBesides mid (Some slot) who other
     → Happens 0 mid new other failed → has_room_besides most who mid slot count ≡ true → has_room_besides most who new slot count ≡ true
 room_stays most who count mid new slot other is happens enough =
     ap (λ (k : ℕ). not (nat_lt most (k + count))) (stays_same who mid new slot other is happens) ∙ enough

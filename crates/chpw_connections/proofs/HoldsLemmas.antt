@@ -1,5 +1,7 @@
 -- Whatever happens to a connection, its slot stands in its worker's queue while its message waits.
-use Rattle.std.proofs.Common.{◌≡◌, ◌≢◌, ℕ, zero, suc, ◌+◌, ◌<◌, ◌≤◌, ◌%◌, List, [], ◌∷◌, ◌++◌, length, drop, refl, sym, ◌∙◌, ap, ap₂, subst, arith, Bool, true, false, ◌&&◌, not, cond, ◌==◌, nat_lt, Option, Some, None, is_some, option_map, get_or, IfSome, IfNone, MatchOption}
+use Rattle.std.proofs.Common.{◌≡◌, ◌≢◌, ℕ, zero, suc, ◌+◌, ◌<◌, ◌≤◌, ◌%◌, List, [], ◌∷◌, ◌++◌, length, drop, refl}
+use Rattle.std.proofs.Common.{sym, ◌∙◌, ap, ap₂, subst, arith, Bool, true, false, ◌&&◌, not, cond, ◌==◌, nat_lt}
+use Rattle.std.proofs.Common.{Option, Some, None, is_some, option_map, get_or, IfSome, IfNone, MatchOption}
 use Rattle.std.proofs.Math.Logic.{⊎_elim}
 use Rattle.std.proofs.lemmas.Bool.{cases_eq, cases_lt}
 use Rattle.std.proofs.lemmas.List.{get_or_past}
@@ -7,15 +9,18 @@ use Rattle.std.proofs.lemmas.List.Sums.{sum_by-cons}
 use Rattle.std.specs.List.{count_by}
 use Rattle.std.proofs.lemmas.Bool.Decides.{nat_tests}
 use Rattle.slab.specs.Slab.{Slab, get, slab_len, Updates}
-use Rattle.chpw_connections.specs.Stages.{Stage, reading, queued, answering, confirming, writing, lingering, abandoned, ended, Event, came, taken, replied, deferred, unanswered, released, wrote, closed, failed, after, stage, is_over, received}
+use Rattle.chpw_connections.specs.Stages.{Stage, reading, queued, answering, confirming, writing, lingering}
+use Rattle.chpw_connections.specs.Stages.{abandoned, ended, Event, came, taken, replied, deferred, unanswered}
+use Rattle.chpw_connections.specs.Stages.{released, wrote, closed, failed, after, stage, is_over, received}
 use Rattle.chpw_connections.specs.Holding.{held_by, begun_of}
-use Rattle.chpw_connections.specs.Messages.{wanted_behind}
+use Rattle.chpw_connections.specs.Messages.{wanted_after}
 use Rattle.chpw_connections.specs.Sets.{queued_by, queued_at, Comes, Happens, waits, waits_since, is_ended, is_ended_in, IsLongest}
 use Rattle.chpw_connections.specs.Room.{gives_way_since, is_held_back, is_among, IsLongestBesides}
 use Rattle.chpw_connections.specs.Waiting.{queue_in, waits_for, times, times_for, Holds, Becomes, Leaves, without, is_newly_queued}
 use Rattle.chpw_connections.specs.declared.connection.Connection.{Connection}
-use Rattle.chpw_connections.specs.declared.room.Candidates.{Candidates}
-use Rattle.chpw_connections.proofs.QueueLemmas.{number, times_head, times_behind, times_push_same, times_push_other, times_without, times_without_other, without_none, without_head}
+use Rattle.chpw_connections.specs.declared.room.EvictionRule.{EvictionRule}
+use Rattle.chpw_connections.proofs.QueueLemmas.{number, times_head, times_after, times_push_same, times_push_other}
+use Rattle.chpw_connections.proofs.QueueLemmas.{times_without, times_without_other, without_none, without_head}
 
 -- what neither brings a message to a queue nor takes it out
 abbrev pub is_quiet : Event → Bool
@@ -115,7 +120,7 @@ read_none false b is = refl
 
 came_kept : (count : ℕ) (s : Stage) (more : List ℕ) → is_newly_queued (queued_by s) (queued_by (after count s (came more))) ≡ false
     → queued_by (after count s (came more)) ≡ queued_by s
-came_kept count (reading b) more is = read_none (wanted_behind (b ++ received b more) == 0) (b ++ received b more) is
+came_kept count (reading b) more is = read_none (wanted_after (b ++ received b more) == 0) (b ++ received b more) is
 came_kept count (queued m) more is = refl
 came_kept count answering more is = refl
 came_kept count (confirming w l m) more is = refl
@@ -204,8 +209,10 @@ module _ (queues after_queues : List (List ℕ)) (old new : Slab Connection) (sl
   holds_both = λ worker s.
       subst (λ (n : ℕ). times s (queue_in after_queues worker) ≡ times_for worker (waits_for n (get new s))) (sym len) (
       ⊎_elim
-      (λ (same : s ≡ slot). subst (λ (j : ℕ). times j (queue_in after_queues worker) ≡ times_for worker (waits_for (length queues) (get new j))) (sym same) (here worker))
-      (λ (differs : s ≢ slot). apart worker s differs ∙ h worker s ∙ ap (λ (o : Option Connection). times_for worker (waits_for (length queues) o)) (sym (others s differs)))
+      (λ (same : s ≡ slot). subst (λ (j : ℕ). times j (queue_in after_queues worker)
+      ≡ times_for worker (waits_for (length queues) (get new j))) (sym same) (here worker))
+      (λ (differs : s ≢ slot). apart worker s differs ∙ h worker s
+      ∙ ap (λ (o : Option Connection). times_for worker (waits_for (length queues) o)) (sym (others s differs)))
       (cases_eq s slot)
       )
 
@@ -274,7 +281,7 @@ pub longest_not_queued : (slots : Slab Connection) (slot : ℕ) → IsLongest sl
 longest_not_queued slots slot is = client_none (get slots slot) is.0 is.1
 
 -- who gives way waits for its client
-gives_waits : (who : Candidates) (o : Option Connection) (since : ℕ) → gives_way_since who o ≡ Some since → (s : ℕ) × (waits_since o ≡ Some s)
+gives_waits : (who : EvictionRule) (o : Option Connection) (since : ℕ) → gives_way_since who o ≡ Some since → (s : ℕ) × (waits_since o ≡ Some s)
 gives_waits who None since is = absurd cc
 gives_waits who (Some c) since is =
     (c.since, by_tests (waits (stage c)) (nat_lt 0 (held_by c.phase) && (not (is_held_back c) && is_among who c)) is)
@@ -283,7 +290,7 @@ gives_waits who (Some c) since is =
     by_tests true b e = refl
     by_tests false b e = absurd cc
 
-pub longest_besides_not_queued : (slots : Slab Connection) (besides : ℕ) (who : Candidates) (slot : ℕ) → IsLongestBesides slots (Some besides) who slot
+pub longest_besides_not_queued : (slots : Slab Connection) (besides : ℕ) (who : EvictionRule) (slot : ℕ) → IsLongestBesides slots (Some besides) who slot
     → queued_at (get slots slot) ≡ None
 longest_besides_not_queued slots besides who slot is = by_test (slot == besides) is.1
   where
@@ -428,7 +435,7 @@ holds_taken queues after_queues now old new worker slot front becomes happens h 
     ⊎_elim
     (λ (same : w ≡ worker).
     subst (λ (j : ℕ). times other (queue_in after_queues j) ≡ times other (queue_in queues j)) (sym same)
-    (ap (times other) becomes.here ∙ sym (times_behind other slot rest (λ e. differs (sym e))) ∙ ap (times other) (sym front)))
+    (ap (times other) becomes.here ∙ sym (times_after other slot rest (λ e. differs (sym e))) ∙ ap (times other) (sym front)))
     (λ (apart : w ≢ worker). ap (times other) (becomes.others w apart))
     (cases_eq w worker))
     (λ w. here w ∙ ap (times_for w) (sym (taken_for (length queues) now (get old slot) (get new slot) happens.here)))

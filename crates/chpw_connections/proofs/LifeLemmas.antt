@@ -1,19 +1,22 @@
 -- Whatever happens to a connection, its messages and replies stay in order.
-use Rattle.std.proofs.Common.{◌≡◌, ℕ, ◌+◌, ◌<◌, ◌≤◌, List, [], ◌∷◌, ◌++◌, length, take, drop, sym, ◌∙◌, ap, subst, refl, arith, Bool, true, false, ◌==◌, cond, append_assoc}
+use Rattle.std.proofs.Common.{◌≡◌, ℕ, ◌+◌, ◌<◌, ◌≤◌, List, [], ◌∷◌, ◌++◌, length, take, drop, sym, ◌∙◌}
+use Rattle.std.proofs.Common.{ap, subst, refl, arith, Bool, true, false, ◌==◌, cond, append_assoc}
 use Rattle.std.proofs.Math.Logic.{⊎_elim}
 use Rattle.std.proofs.lemmas.Bool.{cases_lt}
 use Rattle.std.proofs.lemmas.Bool.Decides.{nat_tests}
 use Rattle.std.proofs.lemmas.List.{take-append-drop, length-append, append-nil}
 use Rattle.std.proofs.lemmas.List.Elements.{All-append, All-cons}
 use Rattle.std.proofs.lemmas.List.{nil_from_length}
-use Rattle.chpw_connections.specs.Messages.{wanted_behind, IsPiece}
-use Rattle.chpw_connections.specs.Stages.{Stage, reading, queued, answering, confirming, writing, lingering, abandoned, ended, Event, came, taken, replied, deferred, unanswered, released, wrote, closed, failed, received, read_to, written_to, is_over, is_last_reply}
+use Rattle.chpw_connections.specs.Messages.{wanted_after, IsPiece}
+use Rattle.chpw_connections.specs.Stages.{Stage, reading, queued, answering, confirming, writing, lingering, abandoned}
+use Rattle.chpw_connections.specs.Stages.{ended, Event, came, taken, replied, deferred, unanswered, released, wrote}
+use Rattle.chpw_connections.specs.Stages.{closed, failed, received, read_to, written_to, is_over, is_last_reply}
 use Rattle.chpw_connections.specs.Lives.{Life, accepted, behind, life, joined, IsOrderly, Orderly, Final}
 use Rattle.chpw_connections.proofs.PieceLemmas.{piece_is_whole}
 
 -- what waits is a whole message, and what is read isn't yet
 abbrev IsWaiting : Stage → Type 0
-IsWaiting (reading bytes) = 0 < wanted_behind bytes
+IsWaiting (reading bytes) = 0 < wanted_after bytes
 IsWaiting (queued message) = IsPiece message
 IsWaiting stage = Unit {0}
 
@@ -46,15 +49,15 @@ same c h r w n s o =
     rw (append-nil c, append-nil h, append-nil r, append-nil w) o
 
 -- a fact for either place behind more bytes
-read_cases : (P : Stage → Type 0) (all : List ℕ) → (wanted_behind all ≡ 0 → P (queued all)) → (0 < wanted_behind all → P (reading all)) → P (read_to all)
+read_cases : (P : Stage → Type 0) (all : List ℕ) → (wanted_after all ≡ 0 → P (queued all)) → (0 < wanted_after all → P (reading all)) → P (read_to all)
 read_cases P all whole part =
     ⊎_elim
-    (λ (some : 0 < wanted_behind all). let e : (wanted_behind all == 0) ≡ false = grind (arith, nat_tests) in
+    (λ (some : 0 < wanted_after all). let e : (wanted_after all == 0) ≡ false = grind (arith, nat_tests) in
     subst (λ (t : Bool). P (cond t (queued all) (reading all))) (sym e) (part some))
-    (λ (none : wanted_behind all ≤ 0). let zero : wanted_behind all ≡ 0 = omega arith in
-    let e : (wanted_behind all == 0) ≡ true = grind (arith, nat_tests) in
+    (λ (none : wanted_after all ≤ 0). let zero : wanted_after all ≡ 0 = omega arith in
+    let e : (wanted_after all == 0) ≡ true = grind (arith, nat_tests) in
     subst (λ (t : Bool). P (cond t (queued all) (reading all))) (sym e) (whole zero))
-    (cases_lt 0 (wanted_behind all))
+    (cases_lt 0 (wanted_after all))
 
 -- more bytes of a message
 reads : (c : List ℕ) (h r : List (List ℕ)) (w : List ℕ) (n : ℕ) (b more : List ℕ) → Holds (made c h r w n (reading b))
@@ -233,7 +236,9 @@ writes c h r w n left last k o =
     p.replies ∙ (ap (λ (l : List ℕ). w ++ l) (p.unwritten ∙ sym (take-append-drop k left)) ∙ sym (append_assoc w (take k left) (drop k left))) in
     let P : Stage → Type 0 = λ s. Holds (made c h r (w ++ take k left) n s) in
     let whole_out : is_over (drop k left) ≡ true → drop k left ≡ [] = λ is. nil_from_length (drop k left) (grind (arith, nat_tests)) in
-    let step : P (written_to (drop k left) last) = bool_cases (λ t. P (cond t (cond last lingering (reading [])) (writing (drop k left) last))) (is_over (drop k left))
+    let step : P (written_to (drop k left) last) =
+    bool_cases (λ t. P (cond t (cond last lingering (reading [])) (writing (drop k left) last)))
+    (is_over (drop k left))
     (λ is. bool_cases (λ t. (t ≡ false → n ≡ length r) → P (cond t lingering (reading []))) last
     (λ ends count. record {
       orderly = record {
@@ -387,7 +392,8 @@ keeps_at c h r w n answering closed o = same c h r w n answering o
 keeps_at c h r w n answering taken o = same c h r w n answering o
 keeps_at c h r w n answering (wrote k) o = same c h r w n answering o
 keeps_at c h r w n (confirming reply last mark) released o = releases c h r w n reply last mark o
-keeps_at c h r w n (confirming reply last mark) failed o = ends c h r w n (confirming reply last mark) o (let a = o.orderly.answered in (omega arith, omega arith))
+keeps_at c h r w n (confirming reply last mark) failed o =
+    ends c h r w n (confirming reply last mark) o (let a = o.orderly.answered in (omega arith, omega arith))
 keeps_at c h r w n (confirming reply last mark) (came more) o = same c h r w n (confirming reply last mark) o
 keeps_at c h r w n (confirming reply last mark) closed o = same c h r w n (confirming reply last mark) o
 keeps_at c h r w n (confirming reply last mark) taken o = same c h r w n (confirming reply last mark) o

@@ -1,5 +1,6 @@
 -- The order in which the slots of a queue are taken.
-use Rattle.std.proofs.Common.{◌≡◌, ℕ, List, [], ◌∷◌, ◌++◌, take, drop, refl, sym, ◌∙◌, ap, subst, Bool, true, false, cond, inl, inr, append_assoc, take-append-drop}
+use Rattle.std.proofs.Common.{◌≡◌, ℕ, List, [], ◌∷◌, ◌++◌, take, drop, refl, sym, ◌∙◌, ap, subst}
+use Rattle.std.proofs.Common.{Bool, true, false, cond, inl, inr, append_assoc, take-append-drop}
 use Rattle.std.specs.List.{filter}
 use Rattle.chpw_connections.specs.Orders.{Step, joins, takes, keeps, Run, behind_step, run, empty_queue, Picks, FirstInFirstOut}
 
@@ -35,9 +36,9 @@ picks_filter test (x ∷ q) ys p =
     by_test false stays goes = goes
 
 -- behind those that were taken
-picks_behind : (test : ℕ → Bool) (taken q ys : List ℕ) → Picks (taken ++ q) ys → Picks (taken ++ filter test q) ys
-picks_behind test [] q ys p = picks_filter test q ys p
-picks_behind test (x ∷ taken) q ys p = picks_front x (taken ++ q) (taken ++ filter test q) (λ zs r. picks_behind test taken q zs r) ys p
+picks_after : (test : ℕ → Bool) (taken q ys : List ℕ) → Picks (taken ++ q) ys → Picks (taken ++ filter test q) ys
+picks_after test [] q ys p = picks_filter test q ys p
+picks_after test (x ∷ taken) q ys p = picks_front x (taken ++ q) (taken ++ filter test q) (λ zs r. picks_after test taken q zs r) ys p
 
 step_keeps : (r : Run) (s : Step) → Picks (r.taken ++ r.queue) r.joined → Picks ((behind_step r s).taken ++ (behind_step r s).queue) (behind_step r s).joined
 step_keeps r (joins slot) p =
@@ -46,7 +47,7 @@ step_keeps r takes p =
     let e : (r.taken ++ take 1 r.queue) ++ drop 1 r.queue ≡ r.taken ++ r.queue =
     append_assoc r.taken (take 1 r.queue) (drop 1 r.queue) ∙ ap (λ (l : List ℕ). r.taken ++ l) (take-append-drop 1 r.queue) in
     subst (λ (l : List ℕ). Picks l r.joined) (sym e) p
-step_keeps r (keeps test) p = picks_behind test r.taken r.queue r.joined p
+step_keeps r (keeps test) p = picks_after test r.taken r.queue r.joined p
 
 run_keeps : (r : Run) (steps : List Step) → Picks (r.taken ++ r.queue) r.joined → Picks ((run r steps).taken ++ (run r steps).queue) (run r steps).joined
 run_keeps r [] p = p

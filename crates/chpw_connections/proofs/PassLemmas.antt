@@ -1,5 +1,6 @@
 -- Whose time is up.
-use Rattle.std.proofs.Common.{◌≡◌, ◌≢◌, ℕ, ◌+◌, ◌<◌, ◌≤◌, List, [], ◌∷◌, length, refl, sym, ◌∙◌, ap, subst, arith, Bool, true, false, not, ◌&&◌, cond, ◌==◌, nat_lt, None, Option, MatchBool, below_more, le_refl}
+use Rattle.std.proofs.Common.{◌≡◌, ◌≢◌, ℕ, ◌+◌, ◌<◌, ◌≤◌, List, [], ◌∷◌, length, refl, sym, ◌∙◌, ap, subst, arith, Bool}
+use Rattle.std.proofs.Common.{true, false, not, ◌&&◌, cond, ◌==◌, nat_lt, None, Option, MatchBool, below_more, le_refl}
 use Rattle.std.specs.List.{filter}
 use Rattle.std.proofs.Math.Logic.{⊎_elim}
 use Rattle.std.proofs.lemmas.Bool.{cases_eq, cases_lt}
@@ -9,11 +10,11 @@ use Rattle.std.proofs.lemmas.List.Elements.{filter_agree}
 use Rattle.slab.specs.Slab.{Slab, get}
 use Rattle.chpw_connections.specs.Sets.{Passes, is_late_in}
 use Rattle.chpw_connections.specs.Waiting.{queue_in, without, in_time, Leaves}
-use Rattle.chpw_connections.specs.declared.bounds.Bounds.{Bounds}
+use Rattle.chpw_connections.specs.declared.limits.ConnectionLimits.{ConnectionLimits}
 use Rattle.chpw_connections.specs.declared.connection.Connection.{Connection}
 
 -- below this slot each was looked at, and from it on none
-pub record PassedBelow (b : Bounds) (now : ℕ) (old new : Slab Connection) (n : ℕ) : Type 0 where
+pub record PassedBelow (b : ConnectionLimits) (now : ℕ) (old new : Slab Connection) (n : ℕ) : Type 0 where
   pub below : (k : ℕ) → k < n → Passes b now (get old k) (get new k)
   pub above : (k : ℕ) → n ≤ k → get new k ≡ get old k
 
@@ -106,7 +107,7 @@ left_next late n q is = filter_agree (λ x. not (nat_lt x n && late x)) (λ x. n
         (cases_eq x n)
 
 -- behind the last slot none is late
-pub left_last : (b : Bounds) (now : ℕ) (slots : Slab Connection) (n : ℕ) (q : List ℕ) → length slots.slots ≤ n
+pub left_last : (b : ConnectionLimits) (now : ℕ) (slots : Slab Connection) (n : ℕ) (q : List ℕ) → length slots.slots ≤ n
     → left_below (λ slot. is_late_in b now (get slots slot)) n q ≡ in_time b now slots q
 left_last b now slots n q few = filter_agree (λ x. not (nat_lt x n && late x)) (λ x. not (late x)) tests q
   where
@@ -124,7 +125,7 @@ left_last b now slots n q few = filter_agree (λ x. not (nat_lt x n && late x)) 
         (cases_lt x n)
 
 -- the queues behind one more slot
-pub left_step : (b b' : Bounds) (now n : ℕ) (old mid : Slab Connection) (queues mid_queues new_queues : List (List ℕ)) → b' ≡ b
+pub left_step : (b b' : ConnectionLimits) (now n : ℕ) (old mid : Slab Connection) (queues mid_queues new_queues : List (List ℕ)) → b' ≡ b
     → get mid n ≡ get old n
     → ((worker : ℕ) → queue_in mid_queues worker ≡ left_below (λ slot. is_late_in b now (get old slot)) n (queue_in queues worker))
     → MatchBool (is_late_in b' now (get mid n)) (Leaves mid_queues new_queues n) (new_queues ≡ mid_queues)
@@ -136,7 +137,7 @@ left_step b b' now n old mid queues mid_queues new_queues same here left goes wo
     late slot = is_late_in b now (get old slot)
 
     is : is_late_in b' now (get mid n) ≡ late n
-    is = ap (λ (c : Bounds). is_late_in c now (get mid n)) same ∙ ap (is_late_in b now) here
+    is = ap (λ (c : ConnectionLimits). is_late_in c now (get mid n)) same ∙ ap (is_late_in b now) here
 
     by_test : (t : Bool) → late n ≡ t → MatchBool t (Leaves mid_queues new_queues n) (new_queues ≡ mid_queues)
         → queue_in new_queues worker ≡ left_below late (n + 1) (queue_in queues worker)
@@ -146,13 +147,13 @@ left_step b b' now n old mid queues mid_queues new_queues same here left goes wo
         ap (λ (q : List (List ℕ)). queue_in q worker) stay ∙ left worker ∙ left_next late n (queue_in queues worker) e
 
 -- and the connections
-pub passed_next : (b b' : Bounds) (now n : ℕ) (old mid new : Slab Connection) → b' ≡ b → PassedBelow b now old mid n
+pub passed_next : (b b' : ConnectionLimits) (now n : ℕ) (old mid new : Slab Connection) → b' ≡ b → PassedBelow b now old mid n
     → Passes b' now (get mid n) (get new n) → ((k : ℕ) → k ≢ n → get new k ≡ get mid k) → PassedBelow b now old new (n + 1)
 passed_next b b' now n old mid new same passed passes others = record {
   below = below_more (λ k. Passes b now (get old k) (get new k)) n
       (λ k lt. let differs : k ≢ n = omega arith in
       subst (λ (o : Option Connection). Passes b now (get old k) o) (sym (others k differs)) (passed.below k lt))
       (subst (λ (o : Option Connection). Passes b now o (get new n)) (passed.above n (le_refl n))
-      (subst (λ (c : Bounds). Passes c now (get mid n) (get new n)) same passes));
+      (subst (λ (c : ConnectionLimits). Passes c now (get mid n) (get new n)) same passes));
   above = λ k le. let differs : k ≢ n = omega arith in let past : n ≤ k = omega arith in others k differs ∙ passed.above k past;
 }

@@ -6,15 +6,15 @@ use Rattle.std.proofs.lemmas.Bool.Decides.{nat_tests}
 use Rattle.std.proofs.lemmas.List.{take_all, length-take, length-drop, length-append, take-append-le}
 use Rattle.std.specs.Int.{from_be_bytes, w32}
 use Rattle.chpw_frame.specs.Stream.{message, too_long, next_piece, stated_length, longest}
-use Rattle.chpw_connections.specs.Messages.{wanted_behind, IsPiece}
+use Rattle.chpw_connections.specs.Messages.{wanted_after, IsPiece}
 
-pub wanted_short : (b : List ℕ) → length b < 4 → wanted_behind b ≡ 4 - length b
+pub wanted_short : (b : List ℕ) → length b < 4 → wanted_after b ≡ 4 - length b
 wanted_short b h = grind (arith, nat_tests)
 
-pub wanted_long : (b : List ℕ) → 4 ≤ length b → longest < stated_length b → wanted_behind b ≡ 0
+pub wanted_long : (b : List ℕ) → 4 ≤ length b → longest < stated_length b → wanted_after b ≡ 0
 wanted_long b h k = grind (arith, nat_tests)
 
-pub wanted_whole : (b : List ℕ) → 4 ≤ length b → stated_length b ≤ longest → wanted_behind b ≡ 4 + stated_length b - length b
+pub wanted_whole : (b : List ℕ) → 4 ≤ length b → stated_length b ≤ longest → wanted_after b ≡ 4 + stated_length b - length b
 wanted_whole b h k = grind (arith, nat_tests)
 
 pub next_long : (b : List ℕ) → 4 ≤ length b → longest < stated_length b → next_piece b ≡ too_long
@@ -35,7 +35,7 @@ whole_piece all four short len =
     inl (next_whole all four short le ∙ ap message (take_all (stated_length all) (drop 4 all) rest))
 
 -- a piece that began with less than a length
-piece_of_length : (b all : List ℕ) → length b < 4 → length all ≤ length b + wanted_behind b → wanted_behind all ≡ 0 → IsPiece all
+piece_of_length : (b all : List ℕ) → length b < 4 → length all ≤ length b + wanted_after b → wanted_after all ≡ 0 → IsPiece all
 piece_of_length b all few len none =
     let most : length all ≤ 4 = omega (arith, wanted_short b few) in
     ⊎_elim
@@ -49,8 +49,8 @@ piece_of_length b all few len none =
     (cases_lt (length all) 4)
 
 -- and one that began with its length
-piece_of_body : (b all : List ℕ) → 4 ≤ length b → 0 < wanted_behind b → length b ≤ length all → length all ≤ length b + wanted_behind b
-    → stated_length all ≡ stated_length b → wanted_behind all ≡ 0 → IsPiece all
+piece_of_body : (b all : List ℕ) → 4 ≤ length b → 0 < wanted_after b → length b ≤ length all → length all ≤ length b + wanted_after b
+    → stated_length all ≡ stated_length b → wanted_after all ≡ 0 → IsPiece all
 piece_of_body b all four some grows len same none =
     ⊎_elim
     (λ (long : longest < stated_length b). absurd (omega (arith, wanted_long b four long)))
@@ -61,12 +61,12 @@ piece_of_body b all four some grows len same none =
     (cases_lt longest (stated_length b))
 
 -- just what is wanted behind a message that isn't whole makes it a piece, or it isn't whole yet
-pub piece_is_whole : (b more : List ℕ) → 0 < wanted_behind b
-    → wanted_behind (b ++ take (wanted_behind b) more) ≡ 0 → IsPiece (b ++ take (wanted_behind b) more)
+pub piece_is_whole : (b more : List ℕ) → 0 < wanted_after b
+    → wanted_after (b ++ take (wanted_after b) more) ≡ 0 → IsPiece (b ++ take (wanted_after b) more)
 piece_is_whole b more some none =
-    let part = take (wanted_behind b) more in
+    let part = take (wanted_after b) more in
     let len : length (b ++ part) ≡ length b + length part = length-append b part in
-    let few : length part ≤ wanted_behind b = omega (arith, length-take (wanted_behind b) more) in
+    let few : length part ≤ wanted_after b = omega (arith, length-take (wanted_after b) more) in
     ⊎_elim
     (λ (short : length b < 4). piece_of_length b (b ++ part) short (omega arith) none)
     (λ (four : 4 ≤ length b). piece_of_body b (b ++ part) four some (omega arith) (omega arith) (stated_front b part four) none)

@@ -1,5 +1,6 @@
 -- Queues of slots, one for each worker.
-use Rattle.std.proofs.Common.{◌≡◌, ◌≢◌, ℕ, zero, suc, ◌+◌, ◌<◌, List, [], ◌∷◌, ◌++◌, length, get_or, set, map, refl, sym, ◌∙◌, ap, subst, arith, Bool, true, false, not, cond, ◌==◌}
+use Rattle.std.proofs.Common.{◌≡◌, ◌≢◌, ℕ, zero, suc, ◌+◌, ◌<◌, List, [], ◌∷◌, ◌++◌, length, get_or, set}
+use Rattle.std.proofs.Common.{map, refl, sym, ◌∙◌, ap, subst, arith, Bool, true, false, not, cond, ◌==◌}
 use Rattle.std.proofs.Math.Logic.{⊎_elim}
 use Rattle.std.proofs.lemmas.Bool.{cases_eq}
 use Rattle.std.proofs.lemmas.Bool.Decides.{nat_tests}
@@ -46,14 +47,14 @@ times_cons slot x q = sum_by-cons (counts slot) x q
 pub times_head : (slot : ℕ) (q : List ℕ) → times slot (slot ∷ q) ≡ 1 + times slot q
 times_head slot q = omega (arith, times_cons slot slot q, one_same slot slot refl)
 
-pub times_behind : (slot x : ℕ) (q : List ℕ) → x ≢ slot → times slot (x ∷ q) ≡ times slot q
-times_behind slot x q differs = omega (arith, times_cons slot x q, one_other slot x differs)
+pub times_after : (slot x : ℕ) (q : List ℕ) → x ≢ slot → times slot (x ∷ q) ≡ times slot q
+times_after slot x q differs = omega (arith, times_cons slot x q, one_other slot x differs)
 
 pub times_push_same : (slot : ℕ) (q : List ℕ) → times slot (q ++ slot ∷ []) ≡ times slot q + 1
 times_push_same slot q = omega (arith, sum_by-append (counts slot) q (slot ∷ []), times_head slot [])
 
 pub times_push_other : (slot x : ℕ) (q : List ℕ) → x ≢ slot → times slot (q ++ x ∷ []) ≡ times slot q
-times_push_other slot x q differs = omega (arith, sum_by-append (counts slot) q (x ∷ []), times_behind slot x [] differs)
+times_push_other slot x q differs = omega (arith, sum_by-append (counts slot) q (x ∷ []), times_after slot x [] differs)
 
 -- a slot that is taken out, where it stood in front or not
 without_same : (slot x : ℕ) (q : List ℕ) → x ≡ slot → without slot (x ∷ q) ≡ without slot q
@@ -72,7 +73,7 @@ times_without slot [] = refl
 times_without slot (x ∷ q) =
     ⊎_elim
     (λ (same : x ≡ slot). ap (times slot) (without_same slot x q same) ∙ times_without slot q)
-    (λ (differs : x ≢ slot). ap (times slot) (without_other slot x q differs) ∙ times_behind slot x (without slot q) differs ∙ times_without slot q)
+    (λ (differs : x ≢ slot). ap (times slot) (without_other slot x q differs) ∙ times_after slot x (without slot q) differs ∙ times_without slot q)
     (cases_eq x slot)
 
 -- the others stand as they stood
@@ -82,7 +83,7 @@ times_without_other slot other (x ∷ q) differs =
     ⊎_elim
     (λ (same : x ≡ slot).
     let apart : x ≢ other = λ e. differs (sym e ∙ same) in
-    ap (times other) (without_same slot x q same) ∙ times_without_other slot other q differs ∙ sym (times_behind other x q apart))
+    ap (times other) (without_same slot x q same) ∙ times_without_other slot other q differs ∙ sym (times_after other x q apart))
     (λ (apart : x ≢ slot).
     ap (times other) (without_other slot x q apart) ∙
     omega (arith, times_cons other x (without slot q), times_cons other x q, times_without_other slot other q differs))
@@ -95,7 +96,7 @@ without_none slot (x ∷ q) none =
     ⊎_elim
     (λ (same : x ≡ slot). absurd (omega (arith, times_cons slot x q, one_same slot x same)))
     (λ (differs : x ≢ slot).
-    without_other slot x q differs ∙ ap (λ (l : List ℕ). x ∷ l) (without_none slot q (sym (times_behind slot x q differs) ∙ none)))
+    without_other slot x q differs ∙ ap (λ (l : List ℕ). x ∷ l) (without_none slot q (sym (times_after slot x q differs) ∙ none)))
     (cases_eq x slot)
 
 -- and the one in front leaves the rest, where it stands nowhere else

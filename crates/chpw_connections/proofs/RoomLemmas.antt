@@ -1,5 +1,6 @@
 -- Who is put out to make room.
-use Rattle.std.proofs.Common.{◌≡◌, ◌≢◌, ℕ, ◌≤◌, refl, sym, ◌∙◌, ap, subst, arith, Bool, true, false, ◌==◌, ◌&&◌, not, nat_lt, cond, Option, Some, None, inl, inr}
+use Rattle.std.proofs.Common.{◌≡◌, ◌≢◌, ℕ, ◌≤◌, refl, sym, ◌∙◌, ap, subst, arith, Bool, true}
+use Rattle.std.proofs.Common.{false, ◌==◌, ◌&&◌, not, nat_lt, cond, Option, Some, None, inl, inr}
 use Rattle.std.proofs.Math.Logic.{⊎_elim}
 use Rattle.std.proofs.lemmas.Bool.{cases_eq}
 use Rattle.std.proofs.lemmas.Bool.Decides.{nat_tests}
@@ -7,12 +8,13 @@ use Rattle.slab.specs.Slab.{Slab, get}
 use Rattle.chpw_connections.specs.Stages.{Stage, reading, queued, answering, confirming, writing, lingering, abandoned, ended, Event, failed, after, stage}
 use Rattle.chpw_connections.specs.Holding.{held_by, begun_of}
 use Rattle.chpw_connections.specs.Sets.{waits, Comes, Happens}
-use Rattle.chpw_connections.specs.Room.{is_held_back, is_among, gives_way, gives_way_at, gives_way_since, waits_besides, IsLongestBesides, PutsOut, LongestFirst, MakesRoom, HappensWithRoom}
+use Rattle.chpw_connections.specs.Room.{is_held_back, is_among, gives_way, gives_way_at, gives_way_since, waits_besides}
+use Rattle.chpw_connections.specs.Room.{IsLongestBesides, PutsOut, LongestFirst, MakesRoom, HappensWithRoom}
 use Rattle.chpw_connections.specs.declared.connection.Connection.{Connection}
-use Rattle.chpw_connections.specs.declared.room.Candidates.{Candidates}
+use Rattle.chpw_connections.specs.declared.room.EvictionRule.{EvictionRule}
 
 -- what gives way since a moment gives way
-pub waits_from : (who : Candidates) (o : Option Connection) (since : ℕ) → gives_way_since who o ≡ Some since → gives_way_at who o ≡ true
+pub waits_from : (who : EvictionRule) (o : Option Connection) (since : ℕ) → gives_way_since who o ≡ Some since → gives_way_at who o ≡ true
 waits_from who None since is = absurd cc
 waits_from who (Some c) since is = by_test (gives_way who c) is
   where
@@ -25,12 +27,12 @@ and_left true b e = refl
 and_left false b e = e
 
 -- the slot that room is made for is left out, and no other
-pub besides_other : (slots : Slab Connection) (who : Candidates) (b k : ℕ) → k ≢ b → waits_besides slots (Some b) who k ≡ gives_way_since who (get slots k)
+pub besides_other : (slots : Slab Connection) (who : EvictionRule) (b k : ℕ) → k ≢ b → waits_besides slots (Some b) who k ≡ gives_way_since who (get slots k)
 besides_other slots who b k differs =
     let e : (k == b) ≡ false = grind (arith, nat_tests) in
     ap (λ (t : Bool). cond t None (gives_way_since who (get slots k))) e
 
-pub besides_same : (slots : Slab Connection) (who : Candidates) (b k : ℕ) → k ≡ b → waits_besides slots (Some b) who k ≡ None
+pub besides_same : (slots : Slab Connection) (who : EvictionRule) (b k : ℕ) → k ≡ b → waits_besides slots (Some b) who k ≡ None
 besides_same slots who b k same =
     let e : (k == b) ≡ true = grind (arith, nat_tests) in
     ap (λ (t : Bool). cond t None (gives_way_since who (get slots k))) e
@@ -46,7 +48,7 @@ ends_waiting count lingering is = refl
 ends_waiting count abandoned is = absurd cc
 ends_waiting count ended is = absurd cc
 
-pub out_waits_not : (who : Candidates) (old new : Option Connection) → gives_way_at who old ≡ true → Comes 0 failed old new → gives_way_at who new ≡ false
+pub out_waits_not : (who : EvictionRule) (old new : Option Connection) → gives_way_at who old ≡ true → Comes 0 failed old new → gives_way_at who new ≡ false
 out_waits_not who None new is comes = absurd cc
 out_waits_not who (Some c) None is comes = absurd comes
 out_waits_not who (Some c) (Some d) is comes =
@@ -55,18 +57,19 @@ out_waits_not who (Some c) (Some d) is comes =
     ap (λ (b : Bool). b && (nat_lt 0 (held_by d.phase) && (not (is_held_back d) && is_among who d))) over
 
 -- who waits was not put out before
-was_before : (who : Candidates) (old mid : Option Connection) → PutsOut who old mid → gives_way_at who mid ≡ true → mid ≡ old
+was_before : (who : EvictionRule) (old mid : Option Connection) → PutsOut who old mid → gives_way_at who mid ≡ true → mid ≡ old
 was_before who old mid (inl same) is = same
 was_before who old mid (inr out) is = absurd (let not = out_waits_not who old mid out.0 out.1 in cc)
 
-puts_out_next : (who : Candidates) (old mid new : Option Connection) → PutsOut who old mid → gives_way_at who mid ≡ true → Comes 0 failed mid new → PutsOut who old new
+puts_out_next : (who : EvictionRule) (old mid new : Option Connection)
+    → PutsOut who old mid → gives_way_at who mid ≡ true → Comes 0 failed mid new → PutsOut who old new
 puts_out_next who old mid new out is comes =
     inr (subst (λ (o : Option Connection). (gives_way_at who o ≡ true) × Comes 0 failed o new) (was_before who old mid out is) (is, comes))
 
-puts_out_same : (who : Candidates) (old mid new : Option Connection) → PutsOut who old mid → new ≡ mid → PutsOut who old new
+puts_out_same : (who : EvictionRule) (old mid new : Option Connection) → PutsOut who old mid → new ≡ mid → PutsOut who old new
 puts_out_same who old mid new out same = subst (λ (o : Option Connection). PutsOut who old o) (sym same) out
 
-pub room_start : (who : Candidates) (s : Slab Connection) (slot : ℕ) → MakesRoom who s s slot
+pub room_start : (who : EvictionRule) (s : Slab Connection) (slot : ℕ) → MakesRoom who s s slot
 room_start who s slot = record {
   here = refl;
   others = λ other differs. inl refl;
@@ -74,7 +77,7 @@ room_start who s slot = record {
 }
 
 -- one more is put out, who has waited the longest
-module _ (who : Candidates) (old mid new : Slab Connection) (slot other since : ℕ) (made : MakesRoom who old mid slot) (apart : other ≢ slot)
+module _ (who : EvictionRule) (old mid new : Slab Connection) (slot other since : ℕ) (made : MakesRoom who old mid slot) (apart : other ≢ slot)
     (is : gives_way_since who (get mid other) ≡ Some since)
     (longest : (k s : ℕ) → k ≢ slot → gives_way_since who (get mid k) ≡ Some s → since ≤ s) (happens : Happens 0 mid new other failed) where
   waited : gives_way_at who (get mid other) ≡ true
@@ -118,7 +121,7 @@ module _ (who : Candidates) (old mid new : Slab Connection) (slot other since : 
     order = order_next;
   }
 
-pub room_next : (who : Candidates) (old mid new : Slab Connection) (slot other : ℕ) → MakesRoom who old mid slot → IsLongestBesides mid (Some slot) who other
+pub room_next : (who : EvictionRule) (old mid new : Slab Connection) (slot other : ℕ) → MakesRoom who old mid slot → IsLongestBesides mid (Some slot) who other
     → Happens 0 mid new other failed → MakesRoom who old new slot
 room_next who old mid new slot other made is happens =
     let apart : other ≢ slot = λ same. absurd (let none = besides_same mid who slot other same in let found = is.1 in cc) in
@@ -126,7 +129,7 @@ room_next who old mid new slot other made is happens =
     (λ k s differs at. is.2 k s (besides_other mid who slot k differs ∙ at)) happens
 
 -- and then the event happens
-pub happens_with_room : (who : Candidates) (now : ℕ) (old mid new : Slab Connection) (slot : ℕ) (event : Event) → MakesRoom who old mid slot
+pub happens_with_room : (who : EvictionRule) (now : ℕ) (old mid new : Slab Connection) (slot : ℕ) (event : Event) → MakesRoom who old mid slot
     → Happens now mid new slot event → HappensWithRoom who now old new slot event
 happens_with_room who now old mid new slot event made happens = record {
   here = subst (λ (o : Option Connection). Comes now event o (get new slot)) made.here happens.here;

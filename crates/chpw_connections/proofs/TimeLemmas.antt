@@ -4,10 +4,10 @@ use Rattle.std.proofs.lemmas.Bool.Decides.{nat_tests}
 use Rattle.chpw_connections.specs.Stages.{Stage, reading, queued, answering, confirming, writing, lingering, abandoned, ended, failed, after, stage}
 use Rattle.chpw_connections.specs.Sets.{time_of, is_late, is_late_at, Passes, Comes}
 use Rattle.chpw_connections.specs.Times.{is_timed, EndsInTime, AllEndInTime, AllGoOnByTheirWorker, AllGoOnReleased, NoneStays}
-use Rattle.chpw_connections.specs.declared.bounds.Bounds.{Bounds}
+use Rattle.chpw_connections.specs.declared.limits.ConnectionLimits.{ConnectionLimits}
 use Rattle.chpw_connections.specs.declared.connection.Connection.{Connection}
 
-has_time : (b : Bounds) (s : Stage) → is_timed s ≡ true → (most : ℕ) × (time_of b s ≡ Some most)
+has_time : (b : ConnectionLimits) (s : Stage) → is_timed s ≡ true → (most : ℕ) × (time_of b s ≡ Some most)
 has_time b (reading bytes) is = (b.idle, refl)
 has_time b (queued message) is = (b.wait, refl)
 has_time b answering is = absurd cc
@@ -27,7 +27,7 @@ timed_ends count lingering is = refl
 timed_ends count abandoned is = absurd cc
 timed_ends count ended is = absurd cc
 
-module _ (b : Bounds) (c : Connection) (is : is_timed (stage c) ≡ true) (most : ℕ) (time : time_of b (stage c) ≡ Some most) where
+module _ (b : ConnectionLimits) (c : Connection) (is : is_timed (stage c) ≡ true) (most : ℕ) (time : time_of b (stage c) ≡ Some most) where
   late_then : (now : ℕ) → c.since + most ≤ now → is_late b now c ≡ true
   late_then now then =
       let enough : most ≤ now - c.since = omega arith in

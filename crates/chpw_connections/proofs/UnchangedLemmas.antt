@@ -2,8 +2,10 @@
 use Rattle.std.proofs.Common.{◌≡◌, ℕ, List, [], ◌∷◌, ◌++◌, take, drop, refl, sym, ◌∙◌, ap, Bool, true, false, cond, ◌==◌, arith, All}
 use Rattle.std.proofs.lemmas.List.{append-nil}
 use Rattle.std.proofs.lemmas.List.Elements.{All-append, All-cons}
-use Rattle.chpw_connections.specs.Messages.{wanted_behind}
-use Rattle.chpw_connections.specs.Stages.{Stage, reading, queued, answering, confirming, writing, lingering, abandoned, ended, Event, came, taken, replied, deferred, unanswered, released, wrote, closed, failed, received, is_over}
+use Rattle.chpw_connections.specs.Messages.{wanted_after}
+use Rattle.chpw_connections.specs.Stages.{Stage, reading, queued, answering, confirming, writing, lingering}
+use Rattle.chpw_connections.specs.Stages.{abandoned, ended, Event, came, taken, replied, deferred}
+use Rattle.chpw_connections.specs.Stages.{unanswered, released, wrote, closed, failed, received, is_over}
 use Rattle.chpw_connections.specs.Lives.{Life, accepted, behind, life}
 use Rattle.chpw_connections.specs.Unchanged.{settled, settle, is_ordinary, ordinary, seen, seen_all, ChangesNoAnswer, SeesOrdinary}
 
@@ -30,7 +32,7 @@ settled_written false last left = refl
 step : (c : List ℕ) (h r : List (List ℕ)) (w : List ℕ) (n : ℕ) (s : Stage) (e : Event)
     → settle (behind (made c h r w n s) e) ≡ life (settle (made c h r w n s)) (seen s e)
 step c h r w n (reading b) (came more) =
-    ap (made (c ++ received b more) (h ++ []) (r ++ []) (w ++ []) n) (settled_read (wanted_behind (b ++ received b more) == 0) (b ++ received b more))
+    ap (made (c ++ received b more) (h ++ []) (r ++ []) (w ++ []) n) (settled_read (wanted_after (b ++ received b more) == 0) (b ++ received b more))
 step c h r w n (reading b) taken = refl
 step c h r w n (reading b) (replied reply' last') = refl
 step c h r w n (reading b) (deferred reply' last' mark') = refl

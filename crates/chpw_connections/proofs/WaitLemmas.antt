@@ -8,16 +8,17 @@ use Rattle.slab.specs.Slab.{Slab, get}
 use Rattle.chpw_connections.specs.Sets.{waits_since, earlier}
 use Rattle.chpw_connections.specs.Room.{gives_way_since, waits_besides, IsLongestBesides, NobodyWaitsBesides}
 use Rattle.chpw_connections.specs.declared.connection.Connection.{Connection}
-use Rattle.chpw_connections.specs.declared.room.Candidates.{Candidates}
+use Rattle.chpw_connections.specs.declared.room.EvictionRule.{EvictionRule}
 
 -- of the slots below a number
-abbrev pub IsLongestBelow : Slab Connection → Option ℕ → Candidates → Option (ℕ × ℕ) → ℕ → Type 0
+abbrev pub IsLongestBelow : Slab Connection → Option ℕ → EvictionRule → Option (ℕ × ℕ) → ℕ → Type 0
 IsLongestBelow slots besides who None n = (k : ℕ) → k < n → waits_besides slots besides who k ≡ None
 IsLongestBelow slots besides who (Some p) n = (waits_besides slots besides who p.1 ≡ Some p.0)
     × ((k s : ℕ) → k < n → waits_besides slots besides who k ≡ Some s → p.0 ≤ s)
 
 -- the next slot
-pub longest_next : (slots : Slab Connection) (besides : Option ℕ) (who : Candidates) (longest : Option (ℕ × ℕ)) (n : ℕ) (w : Option ℕ) → waits_besides slots besides who n ≡ w
+pub longest_next : (slots : Slab Connection) (besides : Option ℕ)
+    (who : EvictionRule) (longest : Option (ℕ × ℕ)) (n : ℕ) (w : Option ℕ) → waits_besides slots besides who n ≡ w
     → IsLongestBelow slots besides who longest n → IsLongestBelow slots besides who (earlier longest n w) (n + 1)
 longest_next slots besides who None n None is below = below_more (λ k. waits_besides slots besides who k ≡ None) n below is
 longest_next slots besides who (Some p) n None is below = (
@@ -51,7 +52,8 @@ longest_next slots besides who (Some p) n (Some since) is below =
     (cases_lt since p.0)
 
 -- past the last slot there is nobody
-past_none : (slots : Slab Connection) (besides : Option ℕ) (who : Candidates) (n k : ℕ) → length slots.slots ≤ n → n ≤ k → waits_besides slots besides who k ≡ None
+past_none : (slots : Slab Connection) (besides : Option ℕ) (who : EvictionRule) (n k : ℕ)
+    → length slots.slots ≤ n → n ≤ k → waits_besides slots besides who k ≡ None
 past_none slots None who n k few past = ap waits_since (get_or_past slots.slots k None (omega arith))
 past_none slots (Some b) who n k few past = by_test (k == b)
   where
@@ -60,7 +62,7 @@ past_none slots (Some b) who n k few past = by_test (k == b)
     by_test false = ap (gives_way_since who) (get_or_past slots.slots k None (omega arith))
 
 -- of all slots
-pub longest_of_all : (slots : Slab Connection) (besides : Option ℕ) (who : Candidates) (p : ℕ × ℕ) (n : ℕ) → length slots.slots ≤ n
+pub longest_of_all : (slots : Slab Connection) (besides : Option ℕ) (who : EvictionRule) (p : ℕ × ℕ) (n : ℕ) → length slots.slots ≤ n
     → IsLongestBelow slots besides who (Some p) n → IsLongestBesides slots besides who p.1
 longest_of_all slots besides who p n few below = (
   p.0,
@@ -72,7 +74,8 @@ longest_of_all slots besides who p n few below = (
       (cases_lt k n)),
 )
 
-pub nobody_of_all : (slots : Slab Connection) (besides : Option ℕ) (who : Candidates) (n : ℕ) → length slots.slots ≤ n → IsLongestBelow slots besides who None n
+pub nobody_of_all : (slots : Slab Connection) (besides : Option ℕ) (who : EvictionRule) (n : ℕ)
+    → length slots.slots ≤ n → IsLongestBelow slots besides who None n
     → NobodyWaitsBesides slots besides who
 nobody_of_all slots besides who n few below k =
     ⊎_elim (λ (lt : k < n). below k lt) (λ (past : n ≤ k). past_none slots besides who n k few past) (cases_lt k n)

@@ -1,4 +1,4 @@
--- Replies that wait until their changes are confirmed: until the KDC has so many bytes of the journal, or for so long.
+-- Replies that wait until their changes are confirmed: until the KDC has the journal up to their mark, or for a time.
 use Rattle.std.specs.Prelude.{◌≡◌, ℕ, ◌-◌, ◌<◌, List, Option, Some, None, Bool, true, false, nat_le, if◌then◌else◌, IfSome, MatchBool}
 use Rattle.slab.specs.Slab.{Slab, get}
 use Rattle.chpw_connections.specs.Stages.{Stage, confirming, released, stage}
@@ -19,21 +19,21 @@ abbrev pub is_confirmed_in : ℕ → Option Connection → Bool
 is_confirmed_in mark None = false
 is_confirmed_in mark (Some c) = is_confirmed mark (stage c)
 
--- the KDC has so many bytes of the journal: a reply that waits for no more is released, and another connection stays
+-- the KDC has this many bytes of the journal: a reply that needs no more is released, and another connection stays
 abbrev pub Confirms : ℕ → ℕ → Option Connection → Option Connection → Type 0
 Confirms mark now old new = MatchBool (is_confirmed_in mark old) (Comes now released old new) (new ≡ old)
 
--- how many bytes of the journal its reply waits for, if it does
+-- the mark that its reply waits for, if it does
 abbrev pub mark_of : Stage → Option ℕ
 mark_of (confirming reply last mark) = Some mark
 mark_of s = None
 
--- the same, where it has waited for so long
+-- that mark, if the reply has waited for this long
 abbrev pub overdue_in : ℕ → ℕ → Option Connection → Option ℕ
 overdue_in wait now None = None
 overdue_in wait now (Some c) = if nat_le wait (now - c.since) then mark_of (stage c) else None
 
--- the first one that has waited for so long, of this peer and for so many bytes, is released
+-- the first one that has waited for this long, with this peer and mark, is released
 pub record ReleasesOverdue (wait now : ℕ) (old new : Slab Connection) (peer : List ℕ) (mark : ℕ) : Type 0 where
   pub slot : ℕ
   pub overdue : overdue_in wait now (get old slot) ≡ Some mark
@@ -41,6 +41,6 @@ pub record ReleasesOverdue (wait now : ℕ) (old new : Slab Connection) (peer : 
   pub first : (other : ℕ) → other < slot → overdue_in wait now (get old other) ≡ None
   pub happens : Happens now old new slot released
 
--- none has waited for so long
+-- none has waited for this long
 abbrev pub NoneIsOverdue : ℕ → ℕ → Slab Connection → Type 0
 NoneIsOverdue wait now slots = (slot : ℕ) → overdue_in wait now (get slots slot) ≡ None

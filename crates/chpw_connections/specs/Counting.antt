@@ -6,7 +6,7 @@ use Rattle.chpw_connections.specs.declared.connection.Connection.{Connection}
 use Rattle.chpw_connections.specs.declared.counting.Counted.{Counted}
 use Rattle.chpw_connections.specs.declared.counting.Counted.TheVariants as counted
 
--- those whose message a worker answers, be they gone or not, are counted together, and so are those that end
+-- those whose message a worker answers, gone or not, are counted together, and so are those that end
 abbrev pub is_counted : Counted → Stage → Bool
 is_counted counted.Reading (reading bytes) = true
 is_counted counted.Waiting (queued message) = true

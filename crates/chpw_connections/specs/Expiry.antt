@@ -1,19 +1,19 @@
--- How many messages were dropped since they had waited too long for their workers.
+-- How many messages were dropped because they had waited too long for their workers.
 use Rattle.std.specs.Prelude.{ℕ, ◌+◌, min, Option, Bool, ◌&&◌, is_some, count_by, if◌then◌else◌}
 use Rattle.slab.specs.Slab.{Slab}
 use Rattle.chpw_connections.specs.Sets.{queued_at, is_late_in}
-use Rattle.chpw_connections.specs.declared.bounds.Bounds.{Bounds}
+use Rattle.chpw_connections.specs.declared.limits.ConnectionLimits.{ConnectionLimits}
 use Rattle.chpw_connections.specs.declared.connection.Connection.{Connection}
 
 -- its message waits for a worker, and has waited too long
-abbrev pub is_dropped_in : Bounds → ℕ → Option Connection → Bool
+abbrev pub is_dropped_in : ConnectionLimits → ℕ → Option Connection → Bool
 is_dropped_in b now o = is_late_in b now o && is_some (queued_at o)
 
--- how many of the connections that is
-abbrev pub dropped_in : Bounds → ℕ → Slab Connection → ℕ
+-- how many such connections there are
+abbrev pub dropped_in : ConnectionLimits → ℕ → Slab Connection → ℕ
 dropped_in b now slots = count_by (is_dropped_in b now) slots.slots
 
--- so many more, as far as 32 bits go
+-- this many more, up to 32 bits
 abbrev pub and_more : ℕ → ℕ → ℕ
 and_more more n = min (n + more) 4294967295
 

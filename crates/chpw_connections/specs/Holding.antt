@@ -4,10 +4,10 @@ use Rattle.slab.specs.Slab.{Slab}
 use Rattle.chpw_connections.specs.declared.connection.Phase.{Phase}
 use Rattle.chpw_connections.specs.declared.connection.Phase.TheVariants as phase
 use Rattle.chpw_connections.specs.declared.connection.Connection.{Connection}
-use Rattle.chpw_connections.specs.Messages.{whole_behind}
+use Rattle.chpw_connections.specs.Messages.{whole_after}
 
--- those that there is room for, of the message that it reads; those of its message, or of its whole reply, which is let go
--- once all of it is out
+-- of a message that it reads, the bytes that there is room for; those of its waiting message, or of its whole reply,
+-- which is dropped once all of it is out
 abbrev pub held_by : Phase → ℕ
 held_by (phase.Reading incoming) = incoming.room
 held_by (phase.Queued message) = length message.items
@@ -28,7 +28,7 @@ held_in slots = sum_by held_at slots.slots
 
 -- how many bytes its message has, as far as its length has come, or its reply
 abbrev pub size_by : Phase → ℕ
-size_by (phase.Reading incoming) = whole_behind incoming.received.items
+size_by (phase.Reading incoming) = whole_after incoming.received.items
 size_by (phase.Queued message) = length message.items
 size_by phase.Answering = 0
 size_by (phase.Confirming waiting) = length waiting.reply.items
@@ -37,8 +37,8 @@ size_by phase.Lingering = 0
 size_by phase.Abandoned = 0
 size_by phase.Ended = 0
 
--- how many bytes more it holds once the next ones of its message are read: of its length there is room for four bytes, and
--- from its next byte on for the whole message
+-- how many more bytes it holds once the next ones of its message are read: of its length there is room for four bytes,
+-- and from its next byte on for the whole message
 abbrev pub growth_by : Phase → ℕ
 growth_by p = size_by p - held_by p
 
@@ -46,7 +46,7 @@ abbrev pub growth_at : Option Connection → ℕ
 growth_at None = 0
 growth_at (Some c) = growth_by c.phase
 
--- since when it has been on its way: a message since there has been room for as much of it as there is now
+-- since when it has been under way: a message since there has been as much room for it as now
 abbrev pub begun_by : Phase → ℕ → ℕ
 begun_by (phase.Reading incoming) since = incoming.begun
 begun_by p since = since

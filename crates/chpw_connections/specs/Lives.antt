@@ -1,18 +1,20 @@
--- The whole life of a connection: what came of it, what went to workers, what they replied, what was written.
+-- The whole life of a connection: what came, what went to workers, what they replied, what was written.
 use Rattle.std.specs.Prelude.{◌≡◌, ℕ, ◌+◌, ◌≤◌, List, [], ◌∷◌, ◌++◌, length, take, All}
 use Rattle.chpw_connections.specs.Messages.{IsPiece}
-use Rattle.chpw_connections.specs.Stages.{Stage, reading, queued, answering, confirming, writing, lingering, abandoned, ended, Event, came, taken, replied, deferred, wrote, received, count_after, after}
+use Rattle.chpw_connections.specs.Stages.{Stage, reading, queued, answering, confirming, writing}
+use Rattle.chpw_connections.specs.Stages.{lingering, abandoned, ended, Event, came, taken}
+use Rattle.chpw_connections.specs.Stages.{replied, deferred, wrote, received, count_after, after}
 
 pub record Life : Type 0 where
   pub came : List ℕ
   pub handed : List (List ℕ)
   pub replies : List (List ℕ)
   pub written : List ℕ
-  -- the replies behind which it goes on
+  -- the replies after which it goes on
   pub count : ℕ
   pub stage : Stage
 
--- one that was accepted just now
+-- one that was accepted at this moment
 abbrev pub accepted : Life
 accepted = record { came = []; handed = []; replies = []; written = []; count = 0; stage = reading [] }
 
@@ -37,7 +39,7 @@ abbrev pub written_by : Stage → Event → List ℕ
 written_by (writing left last) (wrote n) = take n left
 written_by stage event = []
 
--- what is behind an event
+-- the life after an event
 abbrev pub behind : Life → Event → Life
 behind l e = record {
   came = l.came ++ came_by l.stage e;
@@ -56,7 +58,7 @@ abbrev pub joined : List (List ℕ) → List ℕ
 joined [] = []
 joined (x ∷ xs) = x ++ joined xs
 
--- what came and wasn't handed on: of a connection that goes on what it reads or what waits
+-- what came and wasn't handed on: if the connection goes on, what it reads or what waits
 abbrev pub IsHeld : Stage → List ℕ → Type 0
 IsHeld (reading bytes) rest = rest ≡ bytes
 IsHeld (queued message) rest = rest ≡ message
@@ -64,7 +66,7 @@ IsHeld abandoned rest = Unit {0}
 IsHeld ended rest = Unit {0}
 IsHeld stage rest = rest ≡ []
 
--- what was replied and isn't written: of a connection that goes on what it writes, and a reply that isn't confirmed
+-- what was replied and isn't written: if the connection goes on, what it writes, and a reply that isn't confirmed
 abbrev pub IsLeft : Stage → List ℕ → Type 0
 IsLeft (confirming reply last mark) rest = rest ≡ reply
 IsLeft (writing left last) rest = rest ≡ left
@@ -72,7 +74,7 @@ IsLeft abandoned rest = Unit {0}
 IsLeft ended rest = Unit {0}
 IsLeft stage rest = rest ≡ []
 
--- as many replies as messages, but for the one that is being answered, or was when the connection ended
+-- as many replies as messages, except the one that is being answered, or was when the connection ended
 abbrev pub AreAnswered : Stage → ℕ → ℕ → Type 0
 AreAnswered answering handed replies = handed ≡ replies + 1
 AreAnswered abandoned handed replies = handed ≡ replies + 1
@@ -97,6 +99,6 @@ pub record IsOrderly (l : Life) : Type 0 where
 abbrev pub Orderly : Type 0
 Orderly = (events : List Event) → IsOrderly (life accepted events)
 
--- behind its end nothing is handed on and nothing written
+-- after its end nothing is handed on and nothing written
 abbrev pub Final : Type 0
 Final = (l : Life) (events : List Event) → l.stage ≡ ended → life l events ≡ l

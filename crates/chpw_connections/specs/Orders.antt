@@ -1,14 +1,14 @@
 -- The order in which the slots of a queue are taken.
 use Rattle.std.specs.Prelude.{◌≡◌, ℕ, List, [], ◌∷◌, ◌++◌, take, drop, filter, Bool, ◌⊎◌}
 
--- What happens to a queue: a slot joins it at its end, its first one is taken, and some leave it, so that only those
--- stay that pass a test.
+-- What happens to a queue: a slot joins it at its end, its first one is taken, or some leave it, so that those stay
+-- that pass a test.
 pub data Step : Type 0 where
   joins : ℕ → Step
   takes : Step
   keeps : (ℕ → Bool) → Step
 
--- what joined it, what was taken from it, and what stands in it, each from the first to the last
+-- what joined it, what was taken from it, and what is in it, each from the first to the last
 pub record Run : Type 0 where
   pub joined : List ℕ
   pub taken : List ℕ
@@ -32,6 +32,6 @@ Picks [] ys = Unit {0}
 Picks (x ∷ xs) [] = ⊥
 Picks (x ∷ xs) (y ∷ ys) = ((x ≡ y) × Picks xs ys) ⊎ Picks (x ∷ xs) ys
 
--- whatever happens to a queue, what was taken from it and then what stands in it came in this order
+-- whatever happens to a queue, what was taken from it and then what is in it came in this order
 abbrev pub FirstInFirstOut : Type 0
 FirstInFirstOut = (steps : List Step) → Picks ((run empty_queue steps).taken ++ (run empty_queue steps).queue) (run empty_queue steps).joined

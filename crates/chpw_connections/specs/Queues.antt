@@ -8,7 +8,7 @@ use Rattle.chpw_connections.specs.Stages.{failed}
 use Rattle.chpw_connections.specs.Sets.{Happens, is_late_in}
 use Rattle.chpw_connections.specs.declared.set.Connections.{Connections}
 
--- the queues of all workers: the slots whose messages wait, the first to be taken first
+-- the queues of all workers: the slots whose messages wait, the next one first
 abbrev pub queues_of : Connections → List (List ℕ)
 queues_of c = lists_of c.queues
 
@@ -24,7 +24,7 @@ queue_of c worker = queue_in (queues_of c) worker
 abbrev pub EachWaits : Connections → Type 0
 EachWaits c = (worker slot : ℕ) → times slot (queue_of c worker) ≡ times_for worker (waits_for (workers_of c) (get (slots_of c) slot))
 
--- the first message of a worker's queue has waited too long: its connection ends, and the queue loses just its slot, and
+-- the first message of a worker's queue has waited too long: its connection ends, the queue loses exactly its slot, and
 -- one more is counted
 pub record DropsLate (now : ℕ) (old new : Connections) (worker : ℕ) : Type 0 where
   pub slot : ℕ

@@ -1,12 +1,12 @@
--- That a connection which reads a message wants something.
+-- A connection that reads a message wants some bytes.
 use Rattle.std.specs.Prelude.{Bool, true, nat_lt, nat_le, length}
-use Rattle.chpw_connections.specs.Messages.{wanted_behind}
+use Rattle.chpw_connections.specs.Messages.{wanted_after}
 use Rattle.chpw_connections.specs.declared.connection.Phase.{Phase}
 use Rattle.chpw_connections.specs.declared.connection.Phase.TheVariants as phase
 
 -- the message that it reads isn't whole
 abbrev pub is_unfinished : Phase → Bool
-is_unfinished (phase.Reading incoming) = nat_lt 0 (wanted_behind incoming.received.items)
+is_unfinished (phase.Reading incoming) = nat_lt 0 (wanted_after incoming.received.items)
 is_unfinished (phase.Queued message) = true
 is_unfinished phase.Answering = true
 is_unfinished (phase.Confirming waiting) = true
@@ -15,7 +15,7 @@ is_unfinished phase.Lingering = true
 is_unfinished phase.Abandoned = true
 is_unfinished phase.Ended = true
 
--- what has come of the message that it reads fits into the room that there is for it
+-- what has come of the message that it reads fits into its room
 abbrev pub is_covered : Phase → Bool
 is_covered (phase.Reading incoming) = nat_le (length incoming.received.items) incoming.room
 is_covered (phase.Queued message) = true

@@ -1,11 +1,12 @@
 -- What happens to the connections of a set. Slots are numbers, and moments milliseconds.
-use Rattle.std.specs.Prelude.{◌≡◌, ◌≢◌, ℕ, ◌≤◌, List, Option, Some, None, Bool, true, false, IsSomeAnd, MatchOption, MatchBool, if◌then◌else◌, nat_le, ◌-◌, [], option_map, take}
+use Rattle.std.specs.Prelude.{◌≡◌, ◌≢◌, ℕ, ◌≤◌, List, Option, Some, None, Bool, true, false, IsSomeAnd}
+use Rattle.std.specs.Prelude.{MatchOption, MatchBool, if◌then◌else◌, nat_le, ◌-◌, [], option_map, take}
 use Rattle.slab.specs.Slab.{Slab, get, slab_len}
 use Rattle.chpw_connections.specs.Stages.{Stage, reading, queued, answering, writing, lingering, ended, Event, failed, stage, Goes, wanted_by, left_of}
-use Rattle.chpw_connections.specs.declared.bounds.Bounds.{Bounds}
+use Rattle.chpw_connections.specs.declared.limits.ConnectionLimits.{ConnectionLimits}
 use Rattle.chpw_connections.specs.declared.connection.Connection.{Connection}
 
--- it waits for its client: for a whole message, for its reply to be taken, or for its end
+-- it waits for its client: for a whole message, for its reply to be read, or for its end
 abbrev pub waits : Stage → Bool
 waits (reading bytes) = true
 waits (writing left last) = true
@@ -31,11 +32,11 @@ earlier longest slot None = longest
 earlier None slot (Some since) = Some (since, slot)
 earlier (Some l) slot (Some since) = if nat_le l.0 since then Some l else Some (since, slot)
 
--- the event happened to the connection in this slot, where there is one
+-- the event happened to the connection in this slot, if there is one
 abbrev pub Comes : ℕ → Event → Option Connection → Option Connection → Type 0
 Comes now event old new = MatchOption old (new ≡ None) (λ c. IsSomeAnd new (λ d. Goes now c d event))
 
--- and the others are as they were
+-- the event happened in this slot, and the others are unchanged
 pub record Happens (now : ℕ) (old new : Slab Connection) (slot : ℕ) (event : Event) : Type 0 where
   pub here : Comes now event (get old slot) (get new slot)
   pub others : (other : ℕ) → other ≢ slot → get new other ≡ get old other
@@ -67,8 +68,8 @@ abbrev pub queued_at : Option Connection → Option (List ℕ)
 queued_at None = None
 queued_at (Some c) = queued_by (stage c)
 
--- how long each stage may last; a message that a worker has isn't hurried, nor is a reply that waits for a confirmation
-abbrev pub time_of : Bounds → Stage → Option ℕ
+-- how long each stage may last; a message that a worker has is not timed, nor is a reply that waits for a confirmation
+abbrev pub time_of : ConnectionLimits → Stage → Option ℕ
 time_of b (reading bytes) = Some b.idle
 time_of b (writing left last) = Some b.idle
 time_of b lingering = Some b.linger
@@ -80,15 +81,15 @@ is_late_at None waited = false
 is_late_at (Some most) waited = nat_le most waited
 
 -- its time is up
-abbrev pub is_late : Bounds → ℕ → Connection → Bool
+abbrev pub is_late : ConnectionLimits → ℕ → Connection → Bool
 is_late b now c = is_late_at (time_of b (stage c)) (now - c.since)
 
-abbrev pub is_late_in : Bounds → ℕ → Option Connection → Bool
+abbrev pub is_late_in : ConnectionLimits → ℕ → Option Connection → Bool
 is_late_in b now None = false
 is_late_in b now (Some c) = is_late b now c
 
 -- a connection whose time is up ends, and another stays
-abbrev pub Passes : Bounds → ℕ → Option Connection → Option Connection → Type 0
+abbrev pub Passes : ConnectionLimits → ℕ → Option Connection → Option Connection → Type 0
 Passes b now old new = MatchBool (is_late_in b now old) (Comes 0 failed old new) (new ≡ old)
 
 abbrev pub is_lingering : Stage → Bool
@@ -124,11 +125,11 @@ abbrev pub is_answering_in : Option Connection → Bool
 is_answering_in None = false
 is_answering_in (Some c) = is_answering (stage c)
 
--- of the bytes that come those that are wanted
+-- of the bytes that come, those that are wanted
 abbrev pub wanted_of : Option Connection → List ℕ → List ℕ
 wanted_of o bytes = take (wanted_at o) bytes
 
--- a connection that was accepted just now, with this number
+-- a connection that was accepted at this moment, with this number
 pub record IsNew (peer : List ℕ) (now number : ℕ) (old new : Slab Connection) (slot : ℕ) : Type 0 where
   pub free : get old slot ≡ None
   pub here : IsSomeAnd (get new slot) (λ c. (stage c ≡ reading []) × (c.peer ≡ peer) × (c.number ≡ number) × (c.since ≡ now) × (c.answered ≡ 0))

@@ -1,14 +1,14 @@
--- Where a connection is, and what happens to it. Moments are milliseconds.
+-- The stage of a connection, and what happens to it. Moments are milliseconds.
 use Rattle.std.specs.Prelude.{◌≡◌, ℕ, ◌+◌, ◌==◌, List, [], ◌++◌, length, take, drop, Bool, nat_le, ◌||◌, if◌then◌else◌}
-use Rattle.chpw_connections.specs.Messages.{wanted_behind, whole_behind}
+use Rattle.chpw_connections.specs.Messages.{wanted_after, whole_after}
 use Rattle.chpw_connections.specs.declared.connection.Incoming.{Incoming}
 use Rattle.chpw_connections.specs.declared.connection.Phase.{Phase}
 use Rattle.chpw_connections.specs.declared.connection.Phase.TheVariants as phase
 use Rattle.chpw_connections.specs.declared.connection.Connection.{Connection}
 
--- It reads these bytes of its next message; this message waits for a worker; a worker answers it; this reply, behind
--- which the connection ends or not, waits until its change is confirmed: until the KDC has so many bytes of the journal;
--- these bytes of its reply are left to write, behind which the connection ends or not; its last reply is out; it is gone
+-- It reads these bytes of its next message; this message waits for a worker; a worker answers it; this reply, after
+-- which the connection ends or not, waits until its change is confirmed, until the KDC has the journal up to this mark;
+-- these bytes of its reply are left to write, after which the connection ends or not; its last reply is out; it is gone
 -- while a worker still answers; it has ended
 pub data Stage : Type 0 where
   reading : List ℕ → Stage
@@ -20,9 +20,9 @@ pub data Stage : Type 0 where
   abandoned : Stage
   ended : Stage
 
--- bytes came; its message went to a worker; the worker's reply, maybe the last, is to be written; it is to be written
--- once the KDC has so many bytes of the journal; the worker has none; its change is confirmed, or isn't waited for any
--- longer; so many bytes were written; the client closed its side, and all was read; it can't go on
+-- bytes came; its message went to a worker; the worker's reply, possibly the last, is to be written; it is to be
+-- written once the KDC has the journal up to a mark; the worker has none; its change is confirmed, or no longer waited
+-- for; this many bytes were written; the client closed its side, and all was read; it can't go on
 pub data Event : Type 0 where
   came : List ℕ → Event
   taken : Event
@@ -34,18 +34,18 @@ pub data Event : Type 0 where
   closed : Event
   failed : Event
 
--- of the bytes that come no more are read than are wanted
+-- of the bytes that come, no more are read than are wanted
 abbrev pub received : List ℕ → List ℕ → List ℕ
-received bytes more = take (wanted_behind bytes) more
+received bytes more = take (wanted_after bytes) more
 
--- a message that is whole waits for a worker
+-- a complete message waits for a worker
 abbrev pub read_to : List ℕ → Stage
-read_to bytes = if wanted_behind bytes == 0 then queued bytes else reading bytes
+read_to bytes = if wanted_after bytes == 0 then queued bytes else reading bytes
 
 abbrev pub is_over : List ℕ → Bool
 is_over bytes = length bytes == 0
 
--- behind a whole reply the next message is read; behind the last one nothing
+-- after a whole reply the next message is read; after the last one nothing
 abbrev pub written_to : List ℕ → Bool → Stage
 written_to left last =
     if is_over left then (if last then lingering else reading []) else writing left last
@@ -54,7 +54,7 @@ written_to left last =
 abbrev pub is_last_reply : ℕ → Bool → Bool
 is_last_reply count last = last || nat_le 65535 count
 
--- the stage after an event, behind so many replies
+-- the stage after an event, when there were this many replies
 abbrev pub after : ℕ → Stage → Event → Stage
 after count (reading bytes) (came more) = read_to (bytes ++ received bytes more)
 after count (reading bytes) closed = ended
@@ -78,7 +78,7 @@ after count stage event = stage
 
 -- how many bytes may be read
 abbrev pub wanted_by : Stage → ℕ
-wanted_by (reading bytes) = wanted_behind bytes
+wanted_by (reading bytes) = wanted_after bytes
 wanted_by stage = 0
 
 -- what is left to write
@@ -86,17 +86,17 @@ abbrev pub left_of : Stage → List ℕ
 left_of (writing left last) = left
 left_of stage = []
 
--- the replies behind which it goes on
+-- the replies after which it goes on
 abbrev pub count_after : ℕ → Stage → Event → ℕ
 count_after count answering (replied reply last) = if is_last_reply count last then count else count + 1
 count_after count answering (deferred reply last mark) = if is_last_reply count last then count else count + 1
 count_after count stage event = count
 
--- since when it waits: a message for its worker from its last byte on, a reply for its confirmation from when it is there,
--- and for its client from its first byte on, the next message from the reply's last
+-- since when it waits: a message for its worker from its last byte on, a reply for its confirmation from when it was
+-- made, and for its client from its first byte on, the next message from the reply's last byte on
 abbrev pub since_after : ℕ → ℕ → Stage → Event → ℕ
 since_after now since (reading bytes) (came more) =
-    if wanted_behind (bytes ++ received bytes more) == 0 then now else since
+    if wanted_after (bytes ++ received bytes more) == 0 then now else since
 since_after now since answering (replied reply last) = now
 since_after now since answering (deferred reply last mark) = now
 since_after now since answering unanswered = now
@@ -117,10 +117,10 @@ stage_of phase.Ended = ended
 abbrev pub stage : Connection → Stage
 stage c = stage_of c.phase
 
--- How much room there is for a message that is read, and since when: none before something has come; then for all that its
--- length says, as far as that had come before. Where that is more than before, there is from now on.
+-- How much room there is for a message that is read, and since when: none before something has come; then for all that
+-- its length says, as far as that had come before. If that is more than before, it counts from now on.
 abbrev pub IsRoomFor : ℕ → Event → Phase → Incoming → Type 0
-IsRoomFor now (came more) (phase.Reading i) j = (j.room ≡ whole_behind i.received.items) × (j.begun ≡ (if j.room == i.room then i.begun else now))
+IsRoomFor now (came more) (phase.Reading i) j = (j.room ≡ whole_after i.received.items) × (j.begun ≡ (if j.room == i.room then i.begun else now))
 IsRoomFor now event (phase.Reading i) j = j ≡ i
 IsRoomFor now event old j = j.room ≡ 0
 
@@ -128,7 +128,7 @@ abbrev pub IsRoomBehind : ℕ → Event → Phase → Phase → Type 0
 IsRoomBehind now event old (phase.Reading j) = IsRoomFor now event old j
 IsRoomBehind now event old new = Unit {0}
 
--- the same connection, after an event at this moment
+-- the connection after an event at this moment
 pub record Goes (now : ℕ) (old new : Connection) (event : Event) : Type 0 where
   pub stage_is : stage new ≡ after old.answered (stage old) event
   pub count_is : new.answered ≡ count_after old.answered (stage old) event

@@ -1,12 +1,12 @@
--- That nothing is left that nothing can end. Moments are numbers here, of which there is no last.
+-- No connection stays that nothing can end. Moments are numbers here, of which there is no last.
 use Rattle.std.specs.Prelude.{◌≡◌, ℕ, ◌+◌, ◌≤◌, ◌⊎◌, List, Option, Some, Bool, true, false, IsSomeAnd}
 use Rattle.chpw_connections.specs.Stages.{Stage, answering, confirming, abandoned, ended, replied, deferred, unanswered, released, after, stage}
 use Rattle.chpw_connections.specs.Sets.{time_of, is_late, Passes}
 use Rattle.chpw_connections.specs.Confirming.{is_confirming}
-use Rattle.chpw_connections.specs.declared.bounds.Bounds.{Bounds}
+use Rattle.chpw_connections.specs.declared.limits.ConnectionLimits.{ConnectionLimits}
 use Rattle.chpw_connections.specs.declared.connection.Connection.{Connection}
 
--- only so long may it last: no worker has its message, its reply waits for no confirmation, and it hasn't ended
+-- the stage is timed: no worker has its message, its reply waits for no confirmation, and it hasn't ended
 abbrev pub is_timed : Stage → Bool
 is_timed answering = false
 is_timed (confirming reply last mark) = false
@@ -14,14 +14,14 @@ is_timed abandoned = false
 is_timed ended = false
 is_timed s = true
 
--- a worker has its message, be it gone or not
+-- a worker has its message, gone or not
 abbrev pub is_with_worker : Stage → Bool
 is_with_worker answering = true
 is_with_worker abandoned = true
 is_with_worker s = false
 
--- so long behind the moment since which it waits its time is up, and stays so, and whoever passes then ends it
-pub record EndsInTime (b : Bounds) (c : Connection) : Type 0 where
+-- from some time after the moment since which it waits, its time is up, and stays so, and `pass` then ends it
+pub record EndsInTime (b : ConnectionLimits) (c : Connection) : Type 0 where
   pub most : ℕ
   pub time : time_of b (stage c) ≡ Some most
   pub late : (now : ℕ) → c.since + most ≤ now → is_late b now c ≡ true
@@ -29,23 +29,23 @@ pub record EndsInTime (b : Bounds) (c : Connection) : Type 0 where
 
 -- each connection that waits for no worker's reply and for no confirmation ends in time
 abbrev pub AllEndInTime : Type 0
-AllEndInTime = (b : Bounds) (c : Connection) → is_timed (stage c) ≡ true → EndsInTime b c
+AllEndInTime = (b : ConnectionLimits) (c : Connection) → is_timed (stage c) ≡ true → EndsInTime b c
 
--- it has only so long from then on, or its reply waits for a confirmation, or it has ended
+-- it is timed from then on, or its reply waits for a confirmation, or it has ended
 abbrev pub GoesOn : Stage → Type 0
 GoesOn s = (is_timed s ≡ true) ⊎ (is_confirming s ≡ true) ⊎ (s ≡ ended)
 
--- one that a worker has goes on by the worker's reply, be it deferred or not, and by the word that there is none
+-- one that a worker has goes on by the worker's reply, deferred or not, and by the word that there is none
 abbrev pub AllGoOnByTheirWorker : Type 0
 AllGoOnByTheirWorker = (count : ℕ) (s : Stage) → is_with_worker s ≡ true
     → ((reply : List ℕ) (last : Bool) → GoesOn (after count s (replied reply last)))
     × ((reply : List ℕ) (last : Bool) (mark : ℕ) → GoesOn (after count s (deferred reply last mark)))
     × GoesOn (after count s unanswered)
 
--- one whose reply waits for a confirmation has only so long, once it is released
+-- one whose reply waits for a confirmation is timed once it is released
 abbrev pub AllGoOnReleased : Type 0
 AllGoOnReleased = (count : ℕ) (s : Stage) → is_confirming s ≡ true → is_timed (after count s released) ≡ true
 
--- and there is no other one, but those that have ended
+-- there is no other one, except those that have ended
 abbrev pub NoneStays : Type 0
 NoneStays = (s : Stage) → (is_timed s ≡ true) ⊎ (is_with_worker s ≡ true) ⊎ (is_confirming s ≡ true) ⊎ (s ≡ ended)

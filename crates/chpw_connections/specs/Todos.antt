@@ -1,13 +1,13 @@
 -- What is to be done for a connection.
 use Rattle.std.specs.Prelude.{Option, Some, None}
-use Rattle.chpw_connections.specs.Messages.{wanted_behind}
+use Rattle.chpw_connections.specs.Messages.{wanted_after}
 use Rattle.chpw_connections.specs.Stages.{Stage, reading, queued, answering, confirming, writing, lingering, abandoned, ended, stage}
 use Rattle.chpw_connections.specs.declared.connection.Connection.{Connection}
 use Rattle.chpw_connections.specs.declared.todo.Todo.{Todo}
 use Rattle.chpw_connections.specs.declared.todo.Todo.TheVariants as todo
 
 abbrev pub todo_at : Stage → Todo
-todo_at (reading bytes) = todo.Read (wanted_behind bytes)
+todo_at (reading bytes) = todo.Read (wanted_after bytes)
 todo_at (writing left last) = todo.Write
 todo_at lingering = todo.Linger
 todo_at ended = todo.Close

@@ -11,20 +11,20 @@ ghost use Rattle.chpw_connections.specs.Held.{slots_of, accepted_by, removed_by,
 
 use crate::set::Connections;
 
-/// A reply that was let go before its change was confirmed.
+/// A reply that was released before its change was confirmed.
 #[derive(Clone, Copy, PartialEq, Eq, Debug, Drop)]
 pub struct Unconfirmed {
-    /// Whose it is: an IPv4 address, high byte first.
+    /// The peer: an IPv4 address, high byte first.
     pub peer: [u8; 4],
-    /// How many bytes the journal had behind the change.
+    /// The bytes of the journal after the change.
     pub mark: u64,
 }
 
 impl Connections {
-    /// A worker's reply to the message that it took, which is to be written once its change is confirmed: once the KDC has
-    /// `mark` bytes of the journal (`confirm`), or the reply has waited for too long (`overdue`). Behind the last reply the
-    /// connection ends. Room is made for it as `answer` makes it; without room for it it isn't sent, and the connection
-    /// ends. For a connection that no worker answers, or that is gone, no room is made: the reply is let go.
+    /// A worker's reply to the message that it took, to be written once its change is confirmed: once the KDC has
+    /// `mark` bytes of the journal (`confirm`), or the reply has waited too long (`overdue`). After the last reply the
+    /// connection ends. Room is made for it as `answer` does; without room it isn't sent, and the connection ends. For
+    /// a connection that no worker answers, or that is gone, no room is made: the reply is dropped.
     #[tactic(auto, using(crate::proofs::RoomLemmas::happens_with_room))]
     pub fn defer(&mut self, slot: usize, reply: Vec<u8>, is_last: bool, mark: u64, now: u64)
         ensures happens { HappensWithRoom (for_reply now) now (slots_of self.old) (slots_of self.new) slot (deferred reply.items is_last mark)
@@ -49,8 +49,8 @@ impl Connections {
         }
     }
 
-    /// The KDC has `mark` bytes of the journal: the replies that wait for no more are to be written now, and their slots
-    /// to be looked at. The other connections stay as they are.
+    /// The KDC has `mark` bytes of the journal: the replies that need no more are to be written now, and their slots
+    /// are noted. The other connections stay unchanged.
     pub fn confirm(&mut self, mark: u64, now: u64)
         ensures confirmed { (slot : ℕ) → Confirms mark now (get (slots_of self.old) slot) (get (slots_of self.new) slot) }
         ensures counts { Counts self.new (accepted_by self.old) (removed_by self.old) }
@@ -63,7 +63,7 @@ impl Connections {
         }
     }
 
-    // The same for the connection in a slot.
+    // Confirms the reply in a slot.
     fn confirm_slot(&mut self, slot: usize, mark: u64, now: u64)
         ensures confirmed { Confirms mark now (get (slots_of self.old) slot) (get (slots_of self.new) slot) }
         ensures others { (other : ℕ) → other ≢ slot → get (slots_of self.new) other ≡ get (slots_of self.old) other }
@@ -77,9 +77,9 @@ impl Connections {
         }
     }
 
-    /// The first reply that has waited for its confirmation for `wait` milliseconds or longer is to be written now, and its
-    /// slot to be looked at: whose it is, and which confirmation it waited for. None where there is no such reply. With a
-    /// `wait` of 0 it is the first of all that wait.
+    /// The first reply that has waited for its confirmation for `wait` milliseconds or longer is to be written now, and
+    /// its slot is noted: its peer, and the mark that it waited for. None if there is no such reply. With a `wait` of 0
+    /// it is the first of all that wait.
     pub fn overdue(&mut self, wait: u64, now: u64) -> Option<Unconfirmed>
         ensures some { IfSome result (λ u. ReleasesOverdue wait now (slots_of self.old) (slots_of self.new) u.peer u.mark) }
         ensures none { IfNone result (NoneIsOverdue wait now (slots_of self.old)) }
@@ -95,7 +95,7 @@ impl Connections {
         Some(Unconfirmed { peer, mark })
     }
 
-    // The first slot whose reply has waited for so long, and how many bytes of the journal it waits for.
+    // The first slot whose reply has waited for `wait`, and its mark.
     fn first_overdue(&self, wait: u64, now: u64) -> Option<(usize, u64)>
         ensures some { IfSome result (λ found. overdue_in wait now (get (slots_of self.now) found.0) ≡ Some found.1) }
         ensures first { IfSome result (λ found. (other : ℕ) → other < found.0 → overdue_in wait now (get (slots_of self.now) other) ≡ None) }
@@ -109,14 +109,14 @@ impl Connections {
         None
     }
 
-    // How many bytes of the journal the reply in a slot waits for, if it has waited for so long.
+    // The mark of the reply in a slot, if it has waited for `wait`.
     fn overdue_mark(&self, slot: usize, wait: u64, now: u64) -> Option<u64>
         ensures value { result ≡ overdue_in wait now (get (slots_of self.now) slot) }
     {
         self.slots.get(slot)?.overdue(wait, now)
     }
 
-    // Whether the reply in a slot waits until the KDC has no more bytes of the journal than so many.
+    // Whether the reply in a slot waits for no more than `mark` bytes of the journal.
     fn is_confirmed(&self, slot: usize, mark: u64) -> bool
         ensures value { result ≡ is_confirmed_in mark (get (slots_of self.now) slot) }
     {

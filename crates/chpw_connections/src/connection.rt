@@ -1,10 +1,10 @@
 //! What happens to one connection, from its accept to its end.
 ghost use Rattle.std.specs.Prelude.{◌≡◌, ◌==◌, if◌then◌else◌, ◌+◌, ◌≤◌, [], length, IfSome, IfNone, Some, None, IfOk, OnOk, OnErr, take, true, nat_lt};
-ghost use Rattle.chpw_connections.specs.Messages.{wanted_behind as wanted_of, whole_behind as whole_of};
+ghost use Rattle.chpw_connections.specs.Messages.{wanted_after as wanted_of, whole_after as whole_of};
 ghost use Rattle.chpw_connections.specs.Reading.{is_unfinished, is_covered};
 
-use crate::bounds::Bounds;
-use crate::room::Candidates;
+use crate::limits::ConnectionLimits;
+use crate::room::EvictionRule;
 use chpw_frame::LONGEST_MESSAGE;
 use std::alloc::{AllocError, Global};
 use std::mem;
@@ -15,7 +15,7 @@ pub const MAX_MESSAGES: u32 = 65_536;
 /// The bytes of a message's length.
 const HEADER: usize = 4;
 
-/// Where a connection is.
+/// The stage of a connection.
 #[derive(Drop)]
 pub(crate) enum Phase {
     /// It reads its next message.
@@ -28,7 +28,7 @@ pub(crate) enum Phase {
     Confirming(Deferred),
     /// This reply is being written.
     Writing(Outgoing),
-    /// Its last reply is out, and what still comes is let go.
+    /// Its last reply is out, and what still comes is discarded.
     Lingering,
     /// It is gone, and a worker still answers its message.
     Abandoned,
@@ -40,14 +40,15 @@ pub(crate) enum Phase {
 #[derive(Drop)]
 pub(crate) struct Incoming {
     pub received: Vec<u8>,
-    /// How many bytes there is room for: four from the first byte of its length on, and all of it from the next one on.
+    /// The bytes that there is room for: four from the first byte of its length on, and all of the message from the
+    /// next byte on.
     pub room: usize,
-    /// The moment since which there is as much room as that.
+    /// The moment since which there is that much room.
     pub begun: u64,
 }
 
 impl Incoming {
-    /// One of which nothing has come.
+    /// A message of which nothing has come.
     fn new(alloc: Global) -> Incoming
         ensures nothing { (result.received.items ≡ []) × (result.room ≡ 0) }
     {
@@ -63,23 +64,23 @@ impl Incoming {
 #[derive(Drop)]
 pub(crate) struct Deferred {
     pub reply: Vec<u8>,
-    /// Whether the connection ends behind it.
+    /// Whether the connection ends after it.
     pub is_last: bool,
-    /// How many bytes the journal had behind the change.
+    /// The bytes of the journal after the change.
     pub mark: u64,
 }
 
-/// A reply, of which so many bytes are out.
+/// A reply, and how many of its bytes are out.
 #[derive(Drop)]
 pub(crate) struct Outgoing {
     pub reply: Vec<u8>,
     pub written: usize,
-    /// Whether the connection ends behind it.
+    /// Whether the connection ends after it.
     pub is_last: bool,
 }
 
-/// A connection. `since` is the moment of its accept, of its last whole message, of its last reply, or of that one's
-/// release, in milliseconds; `answered` counts the replies behind which it goes on.
+/// A connection. `since` is the moment of its accept, of its last whole message, of its last reply, or of that reply's
+/// release, in milliseconds; `answered` counts the replies after which it goes on.
 #[derive(Drop)]
 pub(crate) struct Connection {
     pub number: u32,
@@ -87,21 +88,23 @@ pub(crate) struct Connection {
     pub since: u64,
     pub answered: u32,
     pub phase: Phase,
-    // Where it reads a message, that isn't whole.
+    // While it reads a message, that isn't whole.
     ghost unfinished: { is_unfinished phase ≡ true },
-    // What has come of it is no more than it holds.
+    // What has come of a message is no more than it holds.
     ghost covered: { is_covered phase ≡ true },
 }
 
 impl Connection {
     ghost use Rattle.chpw_connections.specs.Holding.{held_by, size_by, growth_by, begun_of};
-    ghost use Rattle.chpw_connections.specs.Stages.{stage, stage_of, after, is_last_reply, reading, queued, Goes, came, taken, replied, deferred, unanswered, released, wrote, closed, failed, wanted_by, left_of};
+    ghost use Rattle.chpw_connections.specs.Stages.{stage, stage_of, after, is_last_reply, reading, queued};
+    ghost use Rattle.chpw_connections.specs.Stages.{Goes, came, taken, replied, deferred, unanswered};
+    ghost use Rattle.chpw_connections.specs.Stages.{released, wrote, closed, failed, wanted_by, left_of};
     ghost use Rattle.chpw_connections.specs.Sets.{waits, is_late, queued_by};
     ghost use Rattle.chpw_connections.specs.Confirming.{is_confirmed as is_confirmed_by, overdue_in};
     ghost use Rattle.chpw_connections.specs.Waiting.{is_newly_queued};
     ghost use Rattle.chpw_connections.specs.Room.{gives_way as gives_way_of, is_among as is_among_of};
 
-    /// One that was accepted just now.
+    /// A connection that was accepted at this moment.
     pub fn accepted(alloc: Global, number: u32, peer: [u8; 4], now: u64) -> Connection
         ensures stage { stage result ≡ reading [] }
         ensures number { result.number ≡ number }
@@ -119,18 +122,18 @@ impl Connection {
         }
     }
 
-    /// How many bytes of its message are still to come, as far as that is known: of a message whose length isn't
-    /// whole those of the length.
+    /// How many bytes of its message are still to come, as far as is known: until its length is complete, those of the
+    /// length.
     pub fn wanted(&self) -> usize
         ensures value { result ≡ wanted_by (stage self.now) }
     {
         match &self.phase {
-            Phase::Reading(incoming) => wanted_behind(&incoming.received),
+            Phase::Reading(incoming) => wanted_after(&incoming.received),
             _ => 0,
         }
     }
 
-    /// How many bytes it holds, of its message or of its reply, or has room for, of a message that it reads.
+    /// How many bytes it holds, of its message or its reply, or has room for, of a message that it reads.
     pub fn held(&self) -> usize
         ensures value { result ≡ held_by self.now.phase }
     {
@@ -148,7 +151,7 @@ impl Connection {
         ensures value { result ≡ size_by self.now.phase }
     {
         match &self.phase {
-            Phase::Reading(incoming) => whole_behind(&incoming.received),
+            Phase::Reading(incoming) => whole_after(&incoming.received),
             Phase::Queued(message) => message.len(),
             Phase::Confirming(deferred) => deferred.reply.len(),
             Phase::Writing(outgoing) => outgoing.reply.len(),
@@ -156,15 +159,15 @@ impl Connection {
         }
     }
 
-    /// How many bytes more it holds once the next ones of its message are read.
+    /// How many more bytes it will hold once the next ones of its message are read.
     pub fn growth(&self) -> usize
         ensures value { result ≡ growth_by self.now.phase }
     {
         self.size().saturating_sub(self.held())
     }
 
-    /// Bytes came, of which those count that are wanted. Where the message is whole then, it is queued; whether it is.
-    /// Without memory for them the connection has ended.
+    /// Bytes came, of which those count that are wanted. If the message is complete then, it is queued; the answer says
+    /// so. Without memory for them the connection has ended.
     #[tactic(auto, using(crate::proofs::ReadingLemmas::no_more_than_whole, crate::proofs::ReadingLemmas::covered_by))]
     pub fn receive(&mut self, bytes: &[u8], now: u64) -> Result<bool, AllocError>
         ensures goes { OnOk result (Goes now self.old self.new (came bytes.now)) }
@@ -181,11 +184,11 @@ impl Connection {
                     begun,
                 },
             ) => {
-                let room = whole_behind(&received);
+                let room = whole_after(&received);
                 let begun = begun_with(room, before, begun, now);
-                let fitting = at_most(bytes, wanted_behind(&received));
+                let fitting = at_most(bytes, wanted_after(&received));
                 received.extend_from_slice(fitting)?;
-                if wanted_behind(&received) == 0 {
+                if wanted_after(&received) == 0 {
                     self.since = now;
                     self.phase = Phase::Queued(received);
                     return Ok(true);
@@ -220,7 +223,7 @@ impl Connection {
         }
     }
 
-    /// The worker's reply is to be written; behind the last one the connection ends.
+    /// The worker's reply is to be written; after the last one the connection ends.
     pub fn answer(&mut self, reply: Vec<u8>, is_last: bool, now: u64)
         ensures goes { Goes now self.old self.new (replied reply.items is_last) }
         ensures held { held_by self.new.phase ≤ held_by self.old.phase + length reply.items }
@@ -241,7 +244,7 @@ impl Connection {
     }
 
     /// The worker's reply is to be written once its change is confirmed: once the KDC has `mark` bytes of the journal.
-    /// Behind the last one the connection ends.
+    /// After the last one the connection ends.
     pub fn defer(&mut self, reply: Vec<u8>, is_last: bool, mark: u64, now: u64)
         ensures goes { Goes now self.old self.new (deferred reply.items is_last mark) }
         ensures held { held_by self.new.phase ≤ held_by self.old.phase + length reply.items }
@@ -261,7 +264,7 @@ impl Connection {
         }
     }
 
-    // Counts a reply where the connection goes on behind it; whether it is the last one.
+    // Counts a reply after which the connection goes on; whether it is the last one.
     fn count_reply(&mut self, is_last: bool) -> bool
         ensures value { result ≡ is_last_reply self.old.answered is_last }
         ensures count { self.new.answered ≡ (if is_last_reply self.old.answered is_last then self.old.answered else self.old.answered + 1) }
@@ -277,7 +280,7 @@ impl Connection {
         is_last
     }
 
-    /// The change of its reply is confirmed, or isn't waited for any longer: the reply is to be written.
+    /// The change of its reply is confirmed, or no longer waited for: the reply is to be written.
     pub fn release(&mut self, now: u64)
         ensures goes { Goes now self.old self.new released }
         ensures held { held_by self.new.phase ≤ held_by self.old.phase }
@@ -295,7 +298,7 @@ impl Connection {
         }
     }
 
-    /// Whether its reply waits until the KDC has no more bytes of the journal than so many.
+    /// Whether its reply waits for no more than `mark` bytes of the journal.
     pub fn is_confirmed(&self, mark: u64) -> bool
         ensures value { result ≡ is_confirmed_by mark (stage self.now) }
     {
@@ -305,7 +308,7 @@ impl Connection {
         }
     }
 
-    /// How many bytes of the journal its reply waits for, if it has waited for so many milliseconds.
+    /// The mark that its reply waits for, if it has waited for `wait` milliseconds.
     pub fn overdue(&self, wait: u64, now: u64) -> Option<u64>
         ensures value { result ≡ overdue_in wait now (Some self.now) }
     {
@@ -344,7 +347,7 @@ impl Connection {
         }
     }
 
-    /// So many bytes of its reply went out. Behind a whole reply its next message is read.
+    /// `count` bytes of its reply were written. After a whole reply its next message is read.
     pub fn wrote(&mut self, alloc: Global, count: usize, now: u64)
         ensures goes { Goes now self.old self.new (wrote count) }
         ensures held { held_by self.new.phase ≤ held_by self.old.phase }
@@ -372,7 +375,7 @@ impl Connection {
         }
     }
 
-    /// It can't go on: a message that waits is dropped with it, a reply too.
+    /// It can't go on: a message that waits is dropped with it, and a reply too.
     pub fn fail(&mut self)
         ensures goes { Goes 0 self.old self.new failed }
         ensures held { held_by self.new.phase ≤ held_by self.old.phase }
@@ -384,7 +387,7 @@ impl Connection {
     }
 
     /// Whether its time is up, within these bounds.
-    pub fn is_late(&self, bounds: &Bounds, now: u64) -> bool
+    pub fn is_late(&self, bounds: &ConnectionLimits, now: u64) -> bool
         ensures value { result ≡ is_late bounds.now now self.now }
     {
         let waited = now.saturating_sub(self.since);
@@ -406,7 +409,7 @@ impl Connection {
         )
     }
 
-    /// Since when it has been on its way: a message since there has been room for as much of it as there is.
+    /// Since when its message or reply has been under way: a message since there has been as much room for it as now.
     pub fn begun(&self) -> u64
         ensures value { result ≡ begun_of self.now }
     {
@@ -422,15 +425,15 @@ impl Connection {
         }
     }
 
-    /// Whether it is one of those that may be ended, waits for its client and holds some bytes.
-    pub fn gives_way(&self, who: Candidates) -> bool
+    /// Whether it is one of the candidates, waits for its client and holds some bytes.
+    pub fn gives_way(&self, who: EvictionRule) -> bool
         ensures value { result ≡ gives_way_of who self.now }
     {
         self.waits_for_client() && self.held() > 0 && self.growth() == 0 && self.is_among(who)
     }
 
-    // Whether its message or its reply is large enough, and has been on its way for long enough.
-    fn is_among(&self, who: Candidates) -> bool
+    // Whether its message or its reply is large enough, and has been under way for long enough.
+    fn is_among(&self, who: EvictionRule) -> bool
         ensures value { result ≡ is_among_of who self.now }
     {
         self.size() > who.larger_than && self.begun() <= who.begun_by
@@ -449,16 +452,16 @@ pub(crate) fn at_most(bytes: &[u8], wanted: usize) -> &[u8]
     }
 }
 
-// Since when there is room for so many bytes: since this moment, where there was room for another number before.
+// Since when there is room for this many bytes: from this moment, if there was room for another number before.
 fn begun_with(room: usize, before: usize, begun: u64, now: u64) -> u64
     ensures value { result ≡ (if room == before then begun else now) }
 {
     if room == before { begun } else { now }
 }
 
-// How many bytes are wanted behind these of a message: the rest of its length, or of the message. Of a message that
-// is too long there is nothing but its length.
-fn wanted_behind(received: &[u8]) -> usize
+// How many bytes are wanted after these of a message: the rest of its length, or of the message. A message that is too
+// long has only its length.
+fn wanted_after(received: &[u8]) -> usize
     ensures value { result ≡ wanted_of received.now }
 {
     match received.split_first_chunk::<HEADER>() {
@@ -475,7 +478,7 @@ fn wanted_behind(received: &[u8]) -> usize
 }
 
 // How many bytes a message has with its length, as far as that is known.
-fn whole_behind(received: &[u8]) -> usize
+fn whole_after(received: &[u8]) -> usize
     ensures value { result ≡ whole_of received.now }
     ensures few { result ≤ 65539 }
 {

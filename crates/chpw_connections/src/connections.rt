@@ -1,26 +1,32 @@
 //! A set of connections, within bounds.
-ghost use Rattle.std.specs.Prelude.{MatchBool, ◌≡◌, ◌≢◌, ◌+◌, ◌<◌, ◌≤◌, ◌==◌, ℕ, not, nat_lt, true, false, IfSome, IfNone, IsSome, IfOk, Some, None, ◌⊎◌, ◌∷◌, ◌++◌, [], ◌%◌, length, drop, if◌then◌else◌, is_some};
+ghost use Rattle.std.specs.Prelude.{MatchBool, ◌≡◌, ◌≢◌, ◌+◌, ◌<◌, ◌≤◌, ◌==◌, ℕ, not, nat_lt};
+ghost use Rattle.std.specs.Prelude.{true, false, IfSome, IfNone, IsSome, IfOk, Some, None, ◌⊎◌};
+ghost use Rattle.std.specs.Prelude.{◌∷◌, ◌++◌, [], ◌%◌, length, drop, if◌then◌else◌, is_some};
 ghost use Rattle.slab.specs.Slab.{get, slab_len, Updates};
 ghost use Rattle.chpw_connections.specs.Holding.{held_in, growth_at};
 ghost use Rattle.chpw_connections.specs.Stages.{came, taken, replied, unanswered, wrote, closed, failed};
-ghost use Rattle.chpw_connections.specs.Sets.{Happens, wanted_at, left_at, queued_at, is_late_in, Passes, is_lingering_in, is_ended_in, is_reading_in, is_answering_in, wanted_of, IsNew};
-ghost use Rattle.chpw_connections.specs.Room.{HappensWithRoom, has_room_besides, has_room_to_read as has_room_to_read_in, read_within, for_message, for_reply, is_large_in};
+ghost use Rattle.chpw_connections.specs.Sets.{Happens, wanted_at, left_at, queued_at};
+ghost use Rattle.chpw_connections.specs.Sets.{is_late_in, Passes, is_lingering_in, is_ended_in};
+ghost use Rattle.chpw_connections.specs.Sets.{is_reading_in, is_answering_in, wanted_of, IsNew};
+ghost use Rattle.chpw_connections.specs.Room.{HappensWithRoom, has_room_besides};
+ghost use Rattle.chpw_connections.specs.Room.{has_room_to_read as has_room_to_read_in};
+ghost use Rattle.chpw_connections.specs.Room.{read_within, for_message, for_reply, is_large_in};
 ghost use Rattle.chpw_connections.specs.Expiry.{one_more, is_dropped_in, dropped_in, and_more};
 ghost use Rattle.chpw_connections.specs.Queues.{queues_of, queue_of, workers_of, DropsLate};
 ghost use Rattle.chpw_connections.specs.Waiting.{waits_for, in_time, Becomes, Leaves};
 ghost use Rattle.chpw_connections.specs.Held.{slots_of, accepted_by, removed_by, expired_by, bounds_of, Counts};
 
-use crate::bounds::Bounds;
 use crate::connection::{Connection, Phase, at_most};
+use crate::limits::ConnectionLimits;
 use crate::set::Connections;
 use crate::slots::Slots;
 use crate::waiting::Queues;
 use std::alloc::{AllocError, Global};
 use std::collections::VecDeque;
 
-/// A message for a worker, and whose it is.
+/// A message for a worker, and its peer.
 #[derive(Drop)]
-pub struct Taken {
+pub struct TakenMessage {
     pub slot: usize,
     /// An IPv4 address, high byte first.
     pub peer: [u8; 4],
@@ -29,9 +35,13 @@ pub struct Taken {
 }
 
 impl Connections {
-    /// None yet, for so many workers, but for one at least.
+    /// No connections yet, for this many workers, but at least one.
     #[tactic(auto, using(crate::proofs::HoldsLemmas::holds_none))]
-    pub fn new(alloc: Global, bounds: Bounds, workers: usize) -> Result<Connections, AllocError>
+    pub fn new(
+        alloc: Global,
+        bounds: ConnectionLimits,
+        workers: usize,
+    ) -> Result<Connections, AllocError>
         ensures none { IfOk result (λ c. slab_len (slots_of c) ≡ 0) }
         ensures counts { IfOk result (λ c. Counts c 0 0) }
         ensures expired { IfOk result (λ c. expired_by c ≡ 0) }
@@ -59,15 +69,15 @@ impl Connections {
         self.accepted
     }
 
-    /// How many ended with a message that had waited too long for its worker, whether it was to be taken (`take`) or time
-    /// passed (`pass`): never told as more than 4,294,967,295.
+    /// How many ended with a message that had waited too long for its worker, found in `take` or in `pass`; at most
+    /// 4,294,967,295.
     pub fn expired(&self) -> u32
         ensures value { result ≡ expired_by self.now }
     {
         self.expired
     }
 
-    /// How many connections there are: never more than may be.
+    /// How many connections there are: never more than allowed.
     pub fn len(&self) -> usize
         ensures value { result ≡ slab_len (slots_of self.now) }
         ensures few { result ≤ (bounds_of self.now).connections }
@@ -82,15 +92,15 @@ impl Connections {
         self.slots.len() == 0
     }
 
-    /// Whether there are as many as may be.
+    /// Whether there are as many as allowed.
     pub fn is_full(&self) -> bool
         ensures value { result ≡ not (nat_lt (slab_len (slots_of self.now)) (bounds_of self.now).connections) }
     {
         self.slots.len() >= self.bounds.connections
     }
 
-    /// A connection of this peer was accepted: it is in this slot, which was free. None where there are as many as
-    /// may be, or after 4,294,967,295.
+    /// A connection of this peer was accepted: it is in this slot, which was free. None if there are as many as
+    /// allowed, or after 4,294,967,295.
     #[tactic(auto, using(crate::proofs::HoldsLemmas::holds_accepted))]
     pub fn accept(&mut self, peer: [u8; 4], now: u64) -> Option<usize>
         ensures some { slab_len (slots_of self.old) < (bounds_of self.old).connections → accepted_by self.old < 4294967295 → IsSome result }
@@ -117,20 +127,22 @@ impl Connections {
         self.slots.wanted(slot)
     }
 
-    /// These bytes of a connection's message came, of which those count that are wanted. Where the message is whole with
-    /// them, it waits at the end of its worker's queue, and the worker is given: the connection's number, modulo how many
-    /// there are. Where there is no room for them (`has_room_to_read`), others are ended that hold bytes and have been on
-    /// their way for the bounds' grace, the longest first: for a large message only other large ones, and nobody where
-    /// that isn't enough. Without room or memory for them the connection is ended. Bytes for a free slot, and for a
-    /// connection that wants none now, change nothing.
+    /// These bytes of a connection's message came, of which those count that are wanted. If the message is complete
+    /// with them, it waits at the end of its worker's queue, and the worker is returned: the connection's number modulo
+    /// the number of workers. If there is no room for them (`has_room_to_read`), others are ended that hold bytes and
+    /// have been under way for the bounds' grace, the longest first: for a large message only other large ones, and
+    /// nobody if that isn't enough. Without room or memory for them the connection is ended. Bytes for a free slot, and
+    /// for a connection that wants none now, change nothing.
     #[tactic(auto, using(crate::proofs::ComesLemmas::wanted_happens, crate::proofs::ReadingLemmas::unwanted_unread))]
     pub fn receive(&mut self, slot: usize, bytes: &[u8], now: u64) -> Option<usize>
-        ensures queued { IfSome result (λ worker. HappensWithRoom (for_message (bounds_of self.old) now (get (slots_of self.old) slot)) now (slots_of self.old) (slots_of self.new) slot (came bytes.now)) }
+        ensures queued { IfSome result (λ worker. HappensWithRoom (for_message (bounds_of self.old) now
+            (get (slots_of self.old) slot)) now (slots_of self.old) (slots_of self.new) slot (came bytes.now)) }
         ensures joins { IfSome result (λ worker. Becomes (queues_of self.old) (queues_of self.new) worker (queue_of self.old worker ++ slot ∷ [])) }
         ensures worker { IfSome result (λ worker. IfSome (get (slots_of self.old) slot) (λ c. worker ≡ c.number % workers_of self.old)) }
         ensures within { IfSome result (λ worker. worker < workers_of self.new) }
         ensures waits { IfSome result (λ worker. waits_for (workers_of self.new) (get (slots_of self.new) slot) ≡ Some worker) }
-        ensures read { IfNone result (HappensWithRoom (for_message (bounds_of self.old) now (get (slots_of self.old) slot)) now (slots_of self.old) (slots_of self.new) slot (came bytes.now)
+        ensures read { IfNone result (HappensWithRoom (for_message (bounds_of self.old) now
+            (get (slots_of self.old) slot)) now (slots_of self.old) (slots_of self.new) slot (came bytes.now)
             ⊎ HappensWithRoom (for_message (bounds_of self.old) now (get (slots_of self.old) slot)) 0 (slots_of self.old) (slots_of self.new) slot failed) }
         ensures stays { IfNone result ((queues_of self.new ≡ queues_of self.old) ⊎ Leaves (queues_of self.old) (queues_of self.new) slot) }
         ensures unread { is_reading_in (get (slots_of self.old) slot) ≡ false → (result ≡ None) × (self.new ≡ self.old) }
@@ -155,12 +167,14 @@ impl Connections {
     // These bytes came, all of which are wanted.
     #[tactic(auto, using(crate::proofs::RoomLemmas::happens_with_room))]
     fn receive_wanted(&mut self, slot: usize, bytes: &[u8], now: u64) -> Option<usize>
-        ensures queued { IfSome result (λ worker. HappensWithRoom (for_message (bounds_of self.old) now (get (slots_of self.old) slot)) now (slots_of self.old) (slots_of self.new) slot (came bytes.now)) }
+        ensures queued { IfSome result (λ worker. HappensWithRoom (for_message (bounds_of self.old) now
+            (get (slots_of self.old) slot)) now (slots_of self.old) (slots_of self.new) slot (came bytes.now)) }
         ensures joins { IfSome result (λ worker. Becomes (queues_of self.old) (queues_of self.new) worker (queue_of self.old worker ++ slot ∷ [])) }
         ensures worker { IfSome result (λ worker. IfSome (get (slots_of self.old) slot) (λ c. worker ≡ c.number % workers_of self.old)) }
         ensures within { IfSome result (λ worker. worker < workers_of self.new) }
         ensures waits { IfSome result (λ worker. waits_for (workers_of self.new) (get (slots_of self.new) slot) ≡ Some worker) }
-        ensures read { IfNone result (HappensWithRoom (for_message (bounds_of self.old) now (get (slots_of self.old) slot)) now (slots_of self.old) (slots_of self.new) slot (came bytes.now)
+        ensures read { IfNone result (HappensWithRoom (for_message (bounds_of self.old) now
+            (get (slots_of self.old) slot)) now (slots_of self.old) (slots_of self.new) slot (came bytes.now)
             ⊎ HappensWithRoom (for_message (bounds_of self.old) now (get (slots_of self.old) slot)) 0 (slots_of self.old) (slots_of self.new) slot failed) }
         ensures stays { IfNone result ((queues_of self.new ≡ queues_of self.old) ⊎ Leaves (queues_of self.old) (queues_of self.new) slot) }
         ensures enough { held_in (slots_of self.old) + growth_at (get (slots_of self.old) slot)
@@ -233,7 +247,7 @@ impl Connections {
         self.slots.unwritten(slot)
     }
 
-    /// So many bytes of a connection's reply went out.
+    /// `count` bytes of a connection's reply were written.
     #[tactic(auto, using(crate::proofs::HoldsLemmas::holds_quiet))]
     pub fn wrote(&mut self, slot: usize, count: usize, now: u64)
         ensures happens { Happens now (slots_of self.old) (slots_of self.new) slot (wrote count) }
@@ -245,7 +259,7 @@ impl Connections {
         self.slots.wrote(self.alloc, slot, count, now);
     }
 
-    /// Whether the last reply of a connection is out, and its end is waited for.
+    /// Whether the last reply of a connection is out, and its end is awaited.
     pub fn is_lingering(&self, slot: usize) -> bool
         ensures value { result ≡ is_lingering_in (get (slots_of self.now) slot) }
     {
@@ -255,7 +269,7 @@ impl Connections {
         }
     }
 
-    /// Whether a connection has ended: nothing is left but to remove it.
+    /// Whether a connection has ended and only has to be removed.
     pub fn is_ended(&self, slot: usize) -> bool
         ensures value { result ≡ is_ended_in (get (slots_of self.now) slot) }
     {
@@ -284,9 +298,9 @@ impl Connections {
         true
     }
 
-    /// The message at the front of a worker's queue, which is the one that has stood there the longest. None where none
-    /// waits, and where it has waited too long: its connection has ended then, and the next one may be taken.
-    pub fn take(&mut self, worker: usize, now: u64) -> Option<Taken>
+    /// The message at the front of a worker's queue, which has waited there longest. None if none waits, and if it has
+    /// waited too long: its connection has ended then, and the next one may be taken.
+    pub fn take(&mut self, worker: usize, now: u64) -> Option<TakenMessage>
         ensures message { IfSome result (λ t. queued_at (get (slots_of self.old) t.slot) ≡ Some t.message.items) }
         ensures in_time { IfSome result (λ t. is_late_in (bounds_of self.old) now (get (slots_of self.old) t.slot) ≡ false) }
         ensures happens { IfSome result (λ t. Happens 0 (slots_of self.old) (slots_of self.new) t.slot taken) }
@@ -309,7 +323,7 @@ impl Connections {
     }
 
     // The message in the slot at the front of a worker's queue.
-    fn take_first(&mut self, worker: usize, slot: usize) -> Option<Taken>
+    fn take_first(&mut self, worker: usize, slot: usize) -> Option<TakenMessage>
         requires first { queue_of self.old worker ≡ slot ∷ drop 1 (queue_of self.old worker) }
         ensures some { IsSome result }
         ensures message { IfSome result (λ t. queued_at (get (slots_of self.old) slot) ≡ Some t.message.items) }
@@ -324,18 +338,17 @@ impl Connections {
         let taken = self.slots.take(slot);
         self.queues.drop_first(worker);
         let message = taken?;
-        Some(Taken {
+        Some(TakenMessage {
             slot,
             peer,
             message,
         })
     }
 
-    /// A worker's reply to the message that it took, which is to be written now; behind the last reply the connection
-    /// ends. Where it is more than may be held, others that hold bytes and wait for their clients are ended to make room,
-    /// those that have been on their way the longest first, but nobody where that isn't enough; without room for it it
-    /// isn't sent, and the connection ends. For a connection that no worker answers, or that is gone, no room is made: the
-    /// reply is let go.
+    /// A worker's reply to the message that it took, to be written now; after the last reply the connection ends. If
+    /// all together would hold more than allowed, others that hold bytes and wait for their clients are ended to make
+    /// room, longest under way first, but nobody if that isn't enough; without room it isn't sent, and the connection
+    /// ends. For a connection that no worker answers, or that is gone, no room is made: the reply is dropped.
     #[tactic(auto, using(crate::proofs::RoomLemmas::happens_with_room))]
     pub fn answer(&mut self, slot: usize, reply: Vec<u8>, is_last: bool, now: u64)
         ensures happens { HappensWithRoom (for_reply now) now (slots_of self.old) (slots_of self.new) slot (replied reply.items is_last)
@@ -374,7 +387,7 @@ impl Connections {
         self.note_where(is_with_worker, slot);
     }
 
-    /// Ends the connections whose time is up; the others stay as they are, and so does the order of those that wait.
+    /// Ends the connections whose time is up; the others stay unchanged, and so does the order of those that wait.
     pub fn pass(&mut self, now: u64)
         ensures passed { (slot : ℕ) → Passes (bounds_of self.old) now (get (slots_of self.old) slot) (get (slots_of self.new) slot) }
         ensures workers { workers_of self.new ≡ workers_of self.old }
@@ -388,7 +401,7 @@ impl Connections {
         }
     }
 
-    // Ends the connection in a slot where its time is up.
+    // Ends the connection in a slot if its time is up.
     fn pass_slot(&mut self, slot: usize, now: u64)
         ensures passed { Passes (bounds_of self.old) now (get (slots_of self.old) slot) (get (slots_of self.new) slot) }
         ensures others { (other : ℕ) → other ≢ slot → get (slots_of self.new) other ≡ get (slots_of self.old) other }
@@ -396,7 +409,8 @@ impl Connections {
         ensures counts { Counts self.new (accepted_by self.old) (removed_by self.old) }
         ensures expired { expired_by self.new ≡ one_more (is_dropped_in (bounds_of self.old) now (get (slots_of self.old) slot)) (expired_by self.old) }
         ensures bounds { bounds_of self.new ≡ bounds_of self.old }
-        ensures queues { MatchBool (is_late_in (bounds_of self.old) now (get (slots_of self.old) slot)) (Leaves (queues_of self.old) (queues_of self.new) slot) (queues_of self.new ≡ queues_of self.old) }
+        ensures queues { MatchBool (is_late_in (bounds_of self.old) now (get (slots_of self.old) slot))
+            (Leaves (queues_of self.old) (queues_of self.new) slot) (queues_of self.new ≡ queues_of self.old) }
     {
         if self.is_late(slot, now) {
             self.count_dropped(slot);

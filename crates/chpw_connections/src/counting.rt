@@ -9,7 +9,7 @@ use crate::connection::Phase;
 use crate::set::Connections;
 use crate::slots::Slots;
 
-/// The stages of connections that are counted apart. Each connection is in one of them.
+/// The stages of connections that are counted separately. Each connection is in one of them.
 #[derive(Clone, Copy, PartialEq, Eq, Debug, Drop)]
 pub enum Counted {
     /// It reads its next message.
@@ -46,7 +46,7 @@ impl Slots {
         count
     }
 
-    // One where the connection in a slot is in this stage, else none.
+    // One if the connection in a slot is in this stage, otherwise none.
     fn one(&self, slot: usize, which: Counted) -> usize
         ensures value { result ≡ one_at which (get self.now.connections slot) }
     {

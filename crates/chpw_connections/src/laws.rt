@@ -5,56 +5,57 @@ ghost use Rattle.chpw_connections.specs.Orders.{FirstInFirstOut};
 ghost use Rattle.chpw_connections.specs.Times.{AllEndInTime, AllGoOnByTheirWorker, AllGoOnReleased, NoneStays};
 ghost use Rattle.chpw_connections.specs.Unchanged.{ChangesNoAnswer, SeesOrdinary};
 
-/// The messages that go to workers are those that came, in order, cut where their lengths say, each once; the bytes
-/// written are their replies, in order, each once; no message is handed out behind the 65,536th.
+/// The messages that go to workers are those that came, in order, cut by their lengths, each once; the bytes written
+/// are their replies, in order, each once; no message is handed out after the 65,536th.
 #[tactic(auto, using(crate::proofs::LifeLemmas::orderly))]
 pub fn in_order()
     ensures { Orderly }
 {}
 
-/// Behind its end nothing of a connection is handed out or written.
+/// After its end nothing of a connection is handed out or written.
 #[tactic(auto, using(crate::proofs::LifeLemmas::ends_for_good))]
 pub fn at_its_end()
     ensures { Final }
 {}
 
-/// A connection that waits for no worker's reply and for no confirmation, in whatever stage, doesn't stay for good: from
-/// some moment on its time is up, and whoever passes then ends it.
+/// A connection in any stage that waits neither for a worker's reply nor for a confirmation doesn't stay for ever: from
+/// some moment on its time is up, and `pass` then ends it.
 #[tactic(auto, using(crate::proofs::TimeLemmas::all_end_in_time))]
 pub fn in_time()
     ensures { AllEndInTime }
 {}
 
-/// One that a worker has goes on, or ends, by the worker's reply, be it deferred or not, and by the word that there is none.
+/// A connection that a worker has goes on, or ends, by the worker's reply, deferred or not, and by the worker's word
+/// that there is none.
 #[tactic(auto, using(crate::proofs::TimeLemmas::all_go_on_by_their_worker))]
 pub fn by_its_worker()
     ensures { AllGoOnByTheirWorker }
 {}
 
-/// One whose reply is deferred goes on once that is released: it has only so long from then on.
+/// A connection whose reply is deferred goes on once that is released, and is then timed.
 #[tactic(auto, using(crate::proofs::TimeLemmas::all_go_on_released))]
 pub fn by_its_release()
     ensures { AllGoOnReleased }
 {}
 
-/// There is no other one, but those that have ended: so nothing stays for good.
+/// There is no other connection but those that have ended: so none stays for ever.
 #[tactic(auto, using(crate::proofs::TimeLemmas::none_stays))]
 pub fn in_each_stage()
     ensures { NoneStays }
 {}
 
-/// A follower changes no answer: whatever happens to a connection whose replies wait until a follower has confirmed their
-/// changes, what comes, is handed to workers, replied and written, and where it is, is as it would be had each deferred reply
-/// been an ordinary one.
+/// A follower changes no answer: whatever happens to a connection whose replies wait until a follower has confirmed
+/// their changes, what comes, is handed to workers, replied and written, and its stage, is as it would be if each
+/// deferred reply were an ordinary one.
 #[tactic(auto, using(crate::proofs::UnchangedLemmas::changes_no_answer, crate::proofs::UnchangedLemmas::sees_ordinary))]
 pub fn unchanged_by_a_follower()
     ensures unchanged { ChangesNoAnswer }
     ensures ordinary { SeesOrdinary }
 {}
 
-/// Whatever happens to a queue, what is taken from it are the slots that joined it, in the order in which they did, but
-/// for those that left it: first in, first out. A message that is whole joins (`receive`), its worker takes the first one
-/// (`take`), and those whose connections end leave (`take`, `fail`, `pass`).
+/// Whatever happens to a queue, what is taken from it are the slots that joined it, in that order, except those that
+/// left it: first in, first out. A complete message joins (`receive`), its worker takes the first one (`take`), and
+/// those whose connections end leave (`take`, `fail`, `pass`).
 #[tactic(auto, using(crate::proofs::OrderLemmas::first_in_first_out))]
 pub fn first_in_first_out()
     ensures { FirstInFirstOut }

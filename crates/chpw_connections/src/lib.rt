@@ -1,14 +1,14 @@
-//! What happens to connections: which bytes are a message, who answers it, when its reply goes out, and who is
-//! put out where there is no more room or time. No socket, clock or thread is in it: whoever has those tells what
-//! happened, and is told what to do.
+//! The state machine of connections: which bytes are a message, who answers it, when its reply is written, and who is
+//! ended for want of room or time. Without sockets, clock or threads: the caller, who has those, reports what happened
+//! and asks what to do. Moments are milliseconds of a clock that doesn't go back.
 #![tactic(auto)]
 
-mod bounds;
 mod confirming;
 mod connection;
 mod connections;
 mod counting;
 pub mod laws;
+mod limits;
 mod longest;
 mod phases;
 mod queues;
@@ -18,10 +18,10 @@ mod slots;
 mod todo;
 mod waiting;
 
-pub use bounds::Bounds;
 pub use confirming::Unconfirmed;
 pub use connection::MAX_MESSAGES;
-pub use connections::Taken;
+pub use connections::TakenMessage;
 pub use counting::Counted;
+pub use limits::ConnectionLimits;
 pub use set::Connections;
 pub use todo::Todo;

@@ -1,10 +1,10 @@
-//! Who has waited for its client the longest.
+//! Which connection has waited for its client the longest.
 ghost use Rattle.std.specs.Prelude.{◌≡◌, ◌+◌, ◌<◌, ◌^◌, IfSome, IfNone, Some, None};
 ghost use Rattle.slab.specs.Slab.{get};
 ghost use Rattle.chpw_connections.specs.Sets.{IsLongest, NobodyWaits, earlier};
 ghost use Rattle.chpw_connections.specs.Room.{waits_besides, IsLongestBesides, NobodyWaitsBesides, given_at, given_in, staying_besides as staying_besides_of};
 
-use crate::room::Candidates;
+use crate::room::EvictionRule;
 use crate::slots::Slots;
 
 impl Slots {
@@ -13,13 +13,13 @@ impl Slots {
         ensures found { IfSome result (λ slot. IsLongest self.now.connections slot) }
         ensures none { IfNone result (NobodyWaits self.now.connections) }
     {
-        self.longest_besides(None, Candidates::default())
+        self.longest_besides(None, EvictionRule::default())
     }
 
-    /// The slot of the one that has been on its way the longest of those that give way to the connection in a slot; the
-    /// one that has waited the longest of all that wait for their clients, where there is no such slot. Of the
-    /// candidates those give way that hold bytes, unless they wait for room themselves.
-    pub fn longest_besides(&self, besides: Option<usize>, who: Candidates) -> Option<usize>
+    /// The slot of the one longest under way of those that give way to the connection in a slot; if there is no such
+    /// slot, the one that has waited longest of all that wait for their clients. Of the candidates those give way that
+    /// hold bytes, unless they wait for room themselves.
+    pub fn longest_besides(&self, besides: Option<usize>, who: EvictionRule) -> Option<usize>
         ensures found { IfSome result (λ slot. IsLongestBesides self.now.connections besides who slot) }
         ensures none { IfNone result (NobodyWaitsBesides self.now.connections besides who) }
     {
@@ -33,9 +33,9 @@ impl Slots {
         }
     }
 
-    // Since when the connection in a slot waits for its client, if it does; where room is made for another one, since
-    // when it has been on its way, if it gives way to that one.
-    fn waits_since(&self, slot: usize, besides: Option<usize>, who: Candidates) -> Option<u64>
+    // Since when the connection in a slot waits for its client, if it does; if room is made for another one, since when
+    // it has been under way, if it gives way to that one.
+    fn waits_since(&self, slot: usize, besides: Option<usize>, who: EvictionRule) -> Option<u64>
         ensures value { result ≡ waits_besides self.now.connections besides who slot }
     {
         if besides == Some(slot) {
@@ -49,14 +49,14 @@ impl Slots {
     }
 
     /// How many bytes would be held if all that give way had ended, but for the connection in a slot.
-    pub fn staying_besides(&self, slot: usize, who: Candidates) -> usize
+    pub fn staying_besides(&self, slot: usize, who: EvictionRule) -> usize
         ensures value { result ≡ staying_besides_of who self.now.connections slot }
     {
         self.left_by_all(who) + self.given(slot, who)
     }
 
     // How many bytes would be held if all that give way had ended.
-    fn left_by_all(&self, who: Candidates) -> usize
+    fn left_by_all(&self, who: EvictionRule) -> usize
         ensures value { result + given_in who self.now.connections ≡ self.now.held }
         ensures fits { self.now.held < 2 ^ 64 }
     {
@@ -67,8 +67,8 @@ impl Slots {
         left
     }
 
-    // How many bytes the end of the connection in a slot would let go of, where it gives way.
-    fn given(&self, slot: usize, who: Candidates) -> usize
+    // How many bytes the end of the connection in a slot would free, if it gives way.
+    fn given(&self, slot: usize, who: EvictionRule) -> usize
         ensures value { result ≡ given_at who (get self.now.connections slot) }
     {
         match self.connections.get(slot) {

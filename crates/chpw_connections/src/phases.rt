@@ -1,4 +1,4 @@
-//! Where the connection in a slot is.
+//! The stage of the connection in a slot.
 ghost use Rattle.std.specs.Prelude.{◌≡◌, is_some};
 ghost use Rattle.slab.specs.Slab.{get};
 ghost use Rattle.chpw_connections.specs.Sets.{queued_at, is_reading_in, is_answering_in};
@@ -28,7 +28,7 @@ impl Connections {
         }
     }
 
-    /// Whether a worker answers the message of the connection in a slot, be it gone or not.
+    /// Whether a worker answers the message of the connection in a slot, gone or not.
     pub(crate) fn is_with_worker(&self, slot: usize) -> bool {
         match self.slots.get(slot) {
             None => false,

@@ -1,4 +1,4 @@
-//! Which slots wait for a worker, and which are to be looked at.
+//! Which slots wait for a worker, and which are noted for the caller.
 ghost use Rattle.std.specs.Prelude.{◌≡◌, ◌∷◌, [], nat_lt, length, IfSome, IfNone};
 ghost use Rattle.chpw_connections.specs.Held.{slots_of, accepted_by, removed_by, expired_by, bounds_of, changed_of, Counts, Notes};
 ghost use Rattle.chpw_connections.specs.Queues.{queues_of, queue_of, EachWaits};
@@ -6,7 +6,7 @@ ghost use Rattle.chpw_connections.specs.Queues.{queues_of, queue_of, EachWaits};
 use crate::set::Connections;
 
 impl Connections {
-    /// Whether a message waits for a worker. Each that waits stands in its worker's queue, once.
+    /// Whether a message waits for a worker. Each that waits is in its worker's queue, once.
     pub fn has_message(&self, worker: usize) -> bool
         ensures value { result ≡ nat_lt 0 (length (queue_of self.now worker)) }
         ensures waiting { EachWaits self.now }
@@ -14,7 +14,7 @@ impl Connections {
         self.queues.has(worker)
     }
 
-    // Whoever has the sockets is to look at a slot.
+    // Notes a slot for the caller.
     pub(crate) fn note(&mut self, slot: usize)
         ensures notes { Notes self.old self.new slot }
         ensures slots { slots_of self.new ≡ slots_of self.old }
@@ -26,7 +26,7 @@ impl Connections {
         let _ = self.changed.push_back(slot);
     }
 
-    // Whoever has the sockets is to look at a slot, where something changed for its connection.
+    // Notes a slot for the caller, if something changed for its connection.
     pub(crate) fn note_where(&mut self, is_changed: bool, slot: usize)
         ensures slots { slots_of self.new ≡ slots_of self.old }
         ensures queues { queues_of self.new ≡ queues_of self.old }
@@ -39,11 +39,11 @@ impl Connections {
         }
     }
 
-    /// A slot to look at: its connection got the word that there is no reply; its reply waits for no confirmation any longer
-    /// (`confirm`, `overdue`); it has ended, or is gone while a worker still answers; or `look_again` named it. Each is told
-    /// once for each time that it came about, in that order, as far as there was memory to note it. What `accept`, `receive`,
-    /// `take`, `answer`, `defer` and `wrote` make of a connection that doesn't end isn't told. Meanwhile the slot may be
-    /// free, or another connection's: `todo` says what is to be done.
+    /// A slot that needs attention: its connection was said to have no reply; its reply no longer waits for a
+    /// confirmation (`confirm`, `overdue`); it has ended, or is gone while a worker still answers; or `look_again`
+    /// named it. Each is given once for each time, in the order of their coming, if there was memory to note it. What
+    /// `accept`, `receive`, `take`, `answer`, `defer` and `wrote` do to a connection that doesn't end is not noted.
+    /// Meanwhile the slot may be free, or another connection's: `todo` says what is to be done.
     pub fn changed(&mut self) -> Option<usize>
         ensures first { IfSome result (λ slot. changed_of self.old ≡ slot ∷ changed_of self.new) }
         ensures none { IfNone result (changed_of self.old ≡ []) }
@@ -56,14 +56,14 @@ impl Connections {
         self.changed.pop_front()
     }
 
-    /// Whether there is a slot to look at.
+    /// Whether a slot needs attention.
     pub fn has_changed(&self) -> bool
         ensures value { result ≡ nat_lt 0 (length (changed_of self.now)) }
     {
         !self.changed.is_empty()
     }
 
-    /// There is more to do for the connection in a slot than was done for now.
+    /// Notes a slot for whose connection more is to be done than was done for now.
     pub fn look_again(&mut self, slot: usize)
         ensures notes { Notes self.old self.new slot }
         ensures slots { slots_of self.new ≡ slots_of self.old }

@@ -4,7 +4,8 @@ ghost use Rattle.chpw_connections.specs.Holding.{held_in, growth_at};
 ghost use Rattle.chpw_connections.specs.Stages.{failed};
 ghost use Rattle.chpw_connections.specs.Sets.{Happens, IsLongest, NobodyWaits, is_answering_in};
 ghost use Rattle.slab.specs.Slab.{get};
-ghost use Rattle.chpw_connections.specs.Room.{MakesRoom, is_large_in, read_within, for_message, for_reply, has_room_besides, has_room_to_read as has_room_to_read_in};
+ghost use Rattle.chpw_connections.specs.Room.{MakesRoom, is_large_in, read_within, for_message, for_reply};
+ghost use Rattle.chpw_connections.specs.Room.{has_room_besides, has_room_to_read as has_room_to_read_in};
 ghost use Rattle.chpw_connections.specs.Queues.{queues_of};
 ghost use Rattle.chpw_connections.specs.Held.{slots_of, accepted_by, removed_by, expired_by, bounds_of, Counts};
 
@@ -13,16 +14,16 @@ use crate::set::Connections;
 /// A message of more bytes is a large one.
 const LARGEST_SMALL: usize = 4_096;
 
-/// Who may be ended to make room: whoever has a message or a reply of more than so many bytes that has been on its way
-/// since this moment or longer.
+/// Who may be ended to make room: connections with a message or reply of more than `larger_than` bytes that has been
+/// under way since `begun_by` or longer.
 #[derive(Clone, Copy, PartialEq, Eq, Debug, Default, Drop)]
-pub(crate) struct Candidates {
+pub(crate) struct EvictionRule {
     pub larger_than: usize,
     pub begun_by: u64,
 }
 
 impl Connections {
-    /// How many bytes of messages and replies they hold together: never more than may be.
+    /// How many bytes of messages and replies they hold together: never more than allowed.
     pub fn held(&self) -> usize
         ensures value { result ≡ held_in (slots_of self.now) }
         ensures bounded { result ≤ (bounds_of self.now).bytes }
@@ -30,7 +31,7 @@ impl Connections {
         self.slots.held
     }
 
-    /// Ends the connection that has waited for its client the longest, to make room. Whether there was one.
+    /// Ends the connection that has waited longest for its client, to make room. Whether there was one.
     #[tactic(auto, using(crate::proofs::HoldsLemmas::longest_not_queued))]
     pub fn make_room(&mut self) -> bool
         ensures ended { result ≡ true → (slot : ℕ) × IsLongest (slots_of self.old) slot
@@ -50,11 +51,11 @@ impl Connections {
         }
     }
 
-    /// Whether there is room to read the next bytes of a connection's message: four bytes for its length, and from its next
-    /// byte on all that its length says, so that a message which is begun can be read to its end. Messages of more than
-    /// 4,096 bytes have room as far as half of the bytes that may be held aren't exceeded, and others as far as three
-    /// quarters aren't: so large messages leave room for small ones, and messages for replies. There is room too where
-    /// `receive` would make it at this moment; where there is none, it would end the connection itself.
+    /// Whether there is room to read the next bytes of a connection's message: four bytes for its length, and from its
+    /// next byte on all that its length says, so that a message that is begun can be read to its end. Messages of more
+    /// than 4,096 bytes may fill half of the bytes that may be held, and others three quarters: large messages leave
+    /// room for small ones, and messages for replies. There is room too if `receive` would make it at this moment; if
+    /// there is none, `receive` would end the connection itself.
     pub fn has_room_to_read(&self, slot: usize, now: u64) -> bool
         ensures value { result ≡ has_room_to_read_in (bounds_of self.now) now (slots_of self.now) slot }
     {
@@ -64,7 +65,7 @@ impl Connections {
     }
 
     // How many bytes all may hold with those of a connection's message, and who may be ended for it.
-    fn room_to_read(&self, slot: usize, now: u64) -> (usize, Candidates)
+    fn room_to_read(&self, slot: usize, now: u64) -> (usize, EvictionRule)
         ensures most { result.0 ≡ read_within (bounds_of self.now) (is_large_in (get (slots_of self.now) slot)) }
         ensures who { result.1 ≡ for_message (bounds_of self.now) now (get (slots_of self.now) slot) }
     {
@@ -77,7 +78,7 @@ impl Connections {
         };
         (
             most,
-            Candidates {
+            EvictionRule {
                 larger_than,
                 begun_by,
             },
@@ -88,10 +89,12 @@ impl Connections {
     pub(crate) fn find_room_to_read(&mut self, slot: usize, now: u64) -> bool
         ensures makes_room { MakesRoom (for_message (bounds_of self.old) now (get (slots_of self.old) slot)) (slots_of self.old) (slots_of self.new) slot }
         ensures value { result ≡ has_room_to_read_in (bounds_of self.old) now (slots_of self.old) slot }
-        ensures room { result ≡ true → held_in (slots_of self.new) + growth_at (get (slots_of self.old) slot) ≤ read_within (bounds_of self.old) (is_large_in (get (slots_of self.old) slot)) }
+        ensures room { result ≡ true → held_in (slots_of self.new) + growth_at (get (slots_of self.old) slot)
+            ≤ read_within (bounds_of self.old) (is_large_in (get (slots_of self.old) slot)) }
         ensures within { result ≡ true → held_in (slots_of self.new) + growth_at (get (slots_of self.old) slot) ≤ (bounds_of self.new).bytes }
         ensures fits { result ≡ true → held_in (slots_of self.new) + growth_at (get (slots_of self.old) slot) < 2 ^ 64 }
-        ensures enough { held_in (slots_of self.old) + growth_at (get (slots_of self.old) slot) ≤ read_within (bounds_of self.old) (is_large_in (get (slots_of self.old) slot))
+        ensures enough { held_in (slots_of self.old) + growth_at (get (slots_of self.old) slot)
+            ≤ read_within (bounds_of self.old) (is_large_in (get (slots_of self.old) slot))
             → slots_of self.new ≡ slots_of self.old }
         ensures none { result ≡ false → slots_of self.new ≡ slots_of self.old }
         ensures counts { Counts self.new (accepted_by self.old) (removed_by self.old) }
@@ -104,10 +107,11 @@ impl Connections {
         self.find_room(slot, count, most, who)
     }
 
-    // Makes room for a reply of so many bytes to a connection's message; whether there is, and a worker answers it.
+    // Makes room for a reply of this many bytes to a connection's message; whether there is, and a worker answers it.
     pub(crate) fn find_room_to_reply(&mut self, slot: usize, count: usize, now: u64) -> bool
         ensures makes_room { MakesRoom (for_reply now) (slots_of self.old) (slots_of self.new) slot }
-        ensures value { result ≡ (is_answering_in (get (slots_of self.old) slot) && has_room_besides (bounds_of self.old).bytes (for_reply now) (slots_of self.old) slot count) }
+        ensures value { result ≡ (is_answering_in (get (slots_of self.old) slot)
+            && has_room_besides (bounds_of self.old).bytes (for_reply now) (slots_of self.old) slot count) }
         ensures within { result ≡ true → held_in (slots_of self.new) + count ≤ (bounds_of self.new).bytes }
         ensures fits { result ≡ true → held_in (slots_of self.new) + count < 2 ^ 64 }
         ensures enough { held_in (slots_of self.old) + count ≤ (bounds_of self.old).bytes
@@ -119,14 +123,15 @@ impl Connections {
         ensures queues { queues_of self.new ≡ queues_of self.old }
     {
         let most = self.bounds.bytes;
-        let who = Candidates {
+        let who = EvictionRule {
             larger_than: 0,
             begun_by: now,
         };
         self.is_answering(slot) && self.find_room(slot, count, most, who)
     }
 
-    /// Whether the message of the connection in a slot has more than 4,096 bytes with its length, as far as that has come.
+    /// Whether the message of the connection in a slot has more than 4,096 bytes with its length, as far as that has
+    /// come.
     pub fn is_large(&self, slot: usize) -> bool
         ensures value { result ≡ is_large_in (get (slots_of self.now) slot) }
     {
@@ -136,14 +141,14 @@ impl Connections {
         }
     }
 
-    // Makes room for so many more bytes of a connection, so that all hold no more than `most`; whether there is. Where
-    // there is none, candidates are ended that hold bytes, if that is enough.
+    // Makes room for this many more bytes of a connection, so that all hold no more than `most`; whether there is. If
+    // there isn't, candidates that hold bytes are ended, if that is enough.
     pub(crate) fn find_room(
         &mut self,
         slot: usize,
         count: usize,
         most: usize,
-        who: Candidates,
+        who: EvictionRule,
     ) -> bool
         ensures makes_room { MakesRoom who (slots_of self.old) (slots_of self.new) slot }
         ensures value { result ≡ has_room_besides most who (slots_of self.old) slot count }
@@ -166,22 +171,22 @@ impl Connections {
         true
     }
 
-    // Whether so many more bytes may be held within a bound.
+    // Whether this many more bytes may be held within a bound.
     fn has_room_for(&self, count: usize, most: usize) -> bool
         ensures value { result ≡ not (nat_lt most (held_in (slots_of self.now) + count)) }
     {
         count <= most && self.slots.held <= most - count
     }
 
-    // Whether so many more bytes of a connection could be held within a bound if all that give way to it had ended.
-    fn could_make_room(&self, slot: usize, count: usize, most: usize, who: Candidates) -> bool
+    // Whether this many more bytes of a connection could be held within a bound if all that give way to it had ended.
+    fn could_make_room(&self, slot: usize, count: usize, most: usize, who: EvictionRule) -> bool
         ensures value { result ≡ has_room_besides most who (slots_of self.now) slot count }
     {
         count <= most && self.slots.staying_besides(slot, who) <= most - count
     }
 
-    // Ends others that give way, those that have waited the longest first, until so many more bytes may be held.
-    fn put_out_for(&mut self, slot: usize, count: usize, most: usize, who: Candidates)
+    // Ends others that give way, those that have waited longest first, until this many more bytes may be held.
+    fn put_out_for(&mut self, slot: usize, count: usize, most: usize, who: EvictionRule)
         requires enough { has_room_besides most who (slots_of self.old) slot count ≡ true }
         ensures makes_room { MakesRoom who (slots_of self.old) (slots_of self.new) slot }
         ensures room { held_in (slots_of self.new) + count ≤ most }

@@ -3,25 +3,25 @@ ghost use Rattle.std.specs.Prelude.{◌≡◌, ◌+◌, ◌≤◌};
 ghost use Rattle.slab.specs.Slab.{slab_len};
 ghost use Rattle.chpw_connections.specs.Waiting.{lists_of, Holds};
 
-use crate::bounds::Bounds;
+use crate::limits::ConnectionLimits;
 use crate::slots::Slots;
 use crate::waiting::Queues;
 use std::alloc::Global;
 use std::collections::VecDeque;
 
-/// The connections of a service. Each stands in a slot, from its accept until it is removed.
+/// The connections of a service. Each is in a slot, from its accept until it is removed.
 #[derive(Drop)]
 pub struct Connections {
     pub(crate) alloc: Global,
-    pub(crate) bounds: Bounds,
+    pub(crate) bounds: ConnectionLimits,
     pub(crate) slots: Slots,
     pub(crate) queues: Queues,
-    // Slots that whoever has the sockets is to look at.
+    // Slots noted for the caller.
     pub(crate) changed: VecDeque<usize>,
     pub(crate) accepted: u32,
     pub(crate) removed: u32,
     pub(crate) expired: u32,
-    // Each connection that was accepted is there, or was removed once.
+    // Each connection that was accepted is present, or was removed once.
     ghost counted: { accepted ≡ removed + slab_len slots.connections },
     ghost few: { slab_len slots.connections ≤ bounds.connections },
     ghost bounded: { slots.held ≤ bounds.bytes },

@@ -1,5 +1,6 @@
 //! Connections by slot, and how each event comes to one of them.
-ghost use Rattle.std.specs.Prelude.{◌≡◌, ◌+◌, ◌<◌, ◌≤◌, ◌^◌, ◌%◌, ℕ, Some, None, IfSome, IfNone, IfOk, OnOk, OnErr, OnSome, option_copied, option_map, length, is_some, if◌then◌else◌};
+ghost use Rattle.std.specs.Prelude.{◌≡◌, ◌+◌, ◌<◌, ◌≤◌, ◌^◌, ◌%◌, ℕ, Some, None, IfSome, IfNone, IfOk, OnOk};
+ghost use Rattle.std.specs.Prelude.{OnErr, OnSome, option_copied, option_map, length, is_some, if◌then◌else◌};
 ghost use Rattle.slab.specs.Slab.{get, slab_len, HasRoomFor, Updates};
 ghost use Rattle.chpw_connections.specs.Holding.{held_by, held_at, held_in, growth_at};
 ghost use Rattle.chpw_connections.specs.Stages.{came, taken, replied, deferred, unanswered, released, wrote, closed, failed};
@@ -19,7 +20,7 @@ pub(crate) struct Slots {
 }
 
 impl Slots {
-    /// None yet, with room for so many.
+    /// None yet, with room for `count`.
     pub fn new(alloc: Global, count: usize) -> Result<Slots, AllocError>
         ensures none { IfOk result (λ s. slab_len s.connections ≡ 0) }
         ensures room { IfOk result (λ s. count ≤ s.connections.capacity) }
@@ -52,7 +53,7 @@ impl Slots {
         self.connections.insert_reserved(connection)
     }
 
-    /// Lets go of the connection in a slot; whether there was one.
+    /// Drops the connection in a slot; whether there was one.
     pub fn remove(&mut self, slot: usize) -> bool
         ensures updates { Updates self.old.connections self.new.connections slot None }
         ensures capacity { self.new.connections.capacity ≡ self.old.connections.capacity }
@@ -95,7 +96,8 @@ impl Slots {
         self.connections.insert_reserved(connection);
     }
 
-    /// Bytes came; whether its message is whole with them, and waits. Without memory for them the connection has ended.
+    /// Bytes came; whether its message is complete with them, and waits. Without memory for them the connection has
+    /// ended.
     pub fn receive(&mut self, slot: usize, bytes: &[u8], now: u64) -> Result<bool, AllocError>
         requires fits { held_in self.old.connections + growth_at (get self.old.connections slot) < 2 ^ 64 }
         ensures happens { OnOk result (Happens now self.old.connections self.new.connections slot (came bytes.now)) }
@@ -133,7 +135,7 @@ impl Slots {
         }
     }
 
-    /// A worker replied, maybe for the last time.
+    /// A worker replied, possibly for the last time.
     pub fn answer(&mut self, slot: usize, reply: Vec<u8>, is_last: bool, now: u64)
         requires fits { held_in self.old.connections + length reply.items < 2 ^ 64 }
         ensures happens { Happens now self.old.connections self.new.connections slot (replied reply.items is_last) }
@@ -146,7 +148,8 @@ impl Slots {
         }
     }
 
-    /// A worker replied, maybe for the last time, and the reply is to wait until the KDC has `mark` bytes of the journal.
+    /// A worker replied, possibly for the last time, and the reply is to wait until the KDC has `mark` bytes of the
+    /// journal.
     pub fn defer(&mut self, slot: usize, reply: Vec<u8>, is_last: bool, mark: u64, now: u64)
         requires fits { held_in self.old.connections + length reply.items < 2 ^ 64 }
         ensures happens { Happens now self.old.connections self.new.connections slot (deferred reply.items is_last mark) }
@@ -159,7 +162,7 @@ impl Slots {
         }
     }
 
-    /// The change of a reply is confirmed, or isn't waited for any longer.
+    /// The change of a reply is confirmed, or no longer waited for.
     pub fn release(&mut self, slot: usize, now: u64)
         ensures happens { Happens now self.old.connections self.new.connections slot released }
         ensures stands { Stands self.old.connections self.new.connections }
@@ -183,7 +186,7 @@ impl Slots {
         }
     }
 
-    /// So many bytes of a reply went out.
+    /// `count` bytes of a reply were written.
     pub fn wrote(&mut self, alloc: Global, slot: usize, count: usize, now: u64)
         ensures happens { Happens now self.old.connections self.new.connections slot (wrote count) }
         ensures stands { Stands self.old.connections self.new.connections }
@@ -259,7 +262,7 @@ impl Slots {
         }
     }
 
-    /// Below which number each slot is.
+    /// Each slot is below this number.
     pub fn capacity(&self) -> usize
         ensures value { result ≡ self.now.connections.capacity }
         ensures slots { length self.now.connections.slots ≤ result }
@@ -277,7 +280,7 @@ impl Slots {
         }
     }
 
-    /// How many bytes more are held once the next ones are read in a slot.
+    /// How many more bytes are held once the next ones are read in a slot.
     pub fn growth(&self, slot: usize) -> usize
         ensures value { result ≡ growth_at (get self.now.connections slot) }
     {

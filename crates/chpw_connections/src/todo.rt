@@ -1,4 +1,4 @@
-//! What whoever has the sockets is to do for a connection.
+//! What the caller is to do for a connection.
 ghost use Rattle.std.specs.Prelude.{◌≡◌};
 ghost use Rattle.slab.specs.Slab.{get};
 ghost use Rattle.chpw_connections.specs.Todos.{todo_in};
@@ -10,13 +10,13 @@ use crate::set::Connections;
 /// What is to be done for a connection.
 #[derive(Clone, Copy, PartialEq, Eq, Debug, Drop)]
 pub enum Todo {
-    /// At most so many bytes are to be read.
+    /// Read at most this many bytes.
     Read(usize),
-    /// What is left of its reply is to be written.
+    /// Write what is left of its reply.
     Write,
-    /// Its writing side is to be shut, and what still comes to be let go.
+    /// Shut its writing side, and discard what still comes.
     Linger,
-    /// Its socket is to be closed, and then it is to be removed.
+    /// Close its socket, and then remove it.
     Close,
     /// Nothing, until its message is answered, or its reply released.
     Wait,

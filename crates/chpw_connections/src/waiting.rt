@@ -4,7 +4,7 @@ ghost use Rattle.std.specs.Prelude.{◌<◌, vec_len};
 use std::alloc::{AllocError, Global};
 use std::collections::VecDeque;
 
-/// A queue of slots for each worker, of whom there is at least one.
+/// A queue of slots for each worker, at least one.
 #[derive(Drop)]
 pub(crate) struct Queues {
     queues: Vec<VecDeque<usize>>,
@@ -12,11 +12,13 @@ pub(crate) struct Queues {
 }
 
 impl Queues {
-    ghost use Rattle.std.specs.Prelude.{◌≡◌, ◌≢◌, ◌==◌, ◌<◌, ◌%◌, ◌∷◌, ◌++◌, ℕ, [], length, drop, map, not, nat_lt, slice_index_or, true, false, if◌then◌else◌, IfSome, IfNone, IfOk, OnOk, MatchOption};
+    ghost use Rattle.std.specs.Prelude.{◌≡◌, ◌≢◌, ◌==◌, ◌<◌, ◌%◌, ◌∷◌, ◌++◌, ℕ, [], length};
+    ghost use Rattle.std.specs.Prelude.{drop, map, not, nat_lt, slice_index_or, true, false};
+    ghost use Rattle.std.specs.Prelude.{if◌then◌else◌, IfSome, IfNone, IfOk, OnOk, MatchOption};
     ghost use Rattle.std.specs.VecDeque.{deque_len, deque_capacity, deque_items};
     ghost use Rattle.chpw_connections.specs.Waiting.{lists_of, queue_in, without, Becomes, HasRoomAt};
 
-    /// Empty ones for so many workers, but for one at least.
+    /// Empty ones for this many workers, but at least one.
     pub fn new(alloc: Global, workers: usize, slots: usize) -> Result<Queues, AllocError>
         ensures workers { IfOk result (λ q. length (lists_of q) ≡ (if workers == 0 then 1 else workers)) }
         ensures empty { IfOk result (λ q. (worker : ℕ) → queue_in (lists_of q) worker ≡ []) }
@@ -29,7 +31,7 @@ impl Queues {
         Ok(Queues { queues })
     }
 
-    /// Whose worker the connection of this number is.
+    /// The worker of the connection of this number.
     pub fn worker_of(&self, number: u32) -> usize
         ensures value { result ≡ number % length (lists_of self.now) }
         ensures within { result < length (lists_of self.now) }
@@ -37,7 +39,7 @@ impl Queues {
         number as usize % self.queues.len()
     }
 
-    /// Whether a slot stands in a worker's queue.
+    /// Whether a slot is in a worker's queue.
     pub fn has(&self, worker: usize) -> bool
         ensures value { result ≡ nat_lt 0 (length (queue_in (lists_of self.now) worker)) }
     {
@@ -81,10 +83,11 @@ impl Queues {
         self.queues[worker].pop_front();
     }
 
-    /// Takes the slot of the connection of this number out of its worker's queue, and none without a number.
+    /// Takes the slot of the connection of this number out of its worker's queue; does nothing without a number.
     pub fn leave(&mut self, number: Option<u32>, slot: usize)
         ensures leaves { MatchOption number (lists_of self.new ≡ lists_of self.old) (λ n.
-            Becomes (lists_of self.old) (lists_of self.new) (n % length (lists_of self.old)) (without slot (queue_in (lists_of self.old) (n % length (lists_of self.old))))) }
+            Becomes (lists_of self.old) (lists_of self.new) (n % length (lists_of self.old))
+            (without slot (queue_in (lists_of self.old) (n % length (lists_of self.old))))) }
     {
         if let Some(number) = number {
             let worker = self.worker_of(number);

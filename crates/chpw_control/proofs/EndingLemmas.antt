@@ -1,5 +1,7 @@
 -- How an answer ends.
-use Rattle.std.proofs.Common.{◌≡◌, ℕ, ◌+◌, ◌-◌, ◌<◌, List, [], ◌∷◌, ◌++◌, length, take, Bool, true, false, ◌&&◌, ◌||◌, not, cond, inl, inr, ◌⊎◌, suc, zero, codes, refl, sym, ◌∙◌, ap, subst, append_assoc, arith, length-append, nat_eq, Result, Ok, Err, OnOk, is_ok}
+use Rattle.std.proofs.Common.{◌≡◌, ℕ, ◌+◌, ◌-◌, ◌<◌, List, [], ◌∷◌, ◌++◌, length, take, Bool, true, false}
+use Rattle.std.proofs.Common.{◌&&◌, ◌||◌, not, cond, inl, inr, ◌⊎◌, suc, zero, codes, refl, sym, ◌∙◌, ap}
+use Rattle.std.proofs.Common.{subst, append_assoc, arith, length-append, nat_eq, Result, Ok, Err, OnOk, is_ok}
 use Rattle.std.specs.Prelude.{◌==◌}
 use Rattle.std.specs.List.{ends_with, list_any}
 use Rattle.std.specs.Str.{bytes_eq}
@@ -9,7 +11,7 @@ use Rattle.std.proofs.lemmas.Slice.Eq.{bytes_eq-Decides, ends_is}
 use Rattle.std.proofs.lemmas.List.Folds.{list_all-append}
 use Rattle.chpw_rules.specs.Limits.{range, is_in}
 use Rattle.chpw_printing.specs.Quoting.{are_printed, is_field, words_text}
-use Rattle.chpw_printing.proofs.PrintedLemmas.{graphic_printed}
+use Rattle.chpw_printing.proofs.QuotingLemmas.{graphic_printed}
 use Rattle.chpw_control.specs.declared.status.FollowerState.{FollowerState}
 use Rattle.chpw_control.specs.declared.status.FollowerState.TheVariants.{Absent, Confirmed, Unconfirmed}
 use Rattle.chpw_control.specs.declared.status.JournalState.{JournalState}
@@ -39,7 +41,8 @@ first_newline : (line rest front back : List ℕ) → is_whole line ≡ false �
     → ((front ≡ line) × (back ≡ rest)) ⊎ ((between : List ℕ) × (rest ≡ between ++ 10 ∷ back))
 first_newline [] rest [] back h e = inl (refl, cc)
 first_newline [] rest (x ∷ front) back h e = inr (front, cc)
-first_newline (x ∷ line) rest [] back h e = absurd (let is : x ≡ 10 = cc in let f : is_whole (10 ∷ line) ≡ false = subst (λ (y : ℕ). is_whole (y ∷ line) ≡ false) is h in cc)
+first_newline (x ∷ line) rest [] back h e = absurd (let is : x ≡ 10 = cc in
+    let f : is_whole (10 ∷ line) ≡ false = subst (λ (y : ℕ). is_whole (y ∷ line) ≡ false) is h in cc)
 first_newline (x ∷ line) rest (y ∷ front) back h e = further (first_newline line rest front back (behind (is_newline x) h) cc)
   where
     behind : (b : Bool) → (b || is_whole line) ≡ false → is_whole line ≡ false
@@ -77,8 +80,8 @@ one_line line h has = by_case (first_newline [] line has.0 (codes "ok\n") refl h
     by_case (inr found) = with_newline found.0 found.1
 
 -- a line, and what comes behind it
-behind_line : (line rest : List ℕ) → is_whole line ≡ false → HasOk (line ++ 10 ∷ rest) → ((line ≡ codes "ok") × (rest ≡ [])) ⊎ HasOk rest
-behind_line line rest h has = by_case (first_newline [] (line ++ 10 ∷ rest) has.0 (codes "ok\n") refl has.1)
+after_line : (line rest : List ℕ) → is_whole line ≡ false → HasOk (line ++ 10 ∷ rest) → ((line ≡ codes "ok") × (rest ≡ [])) ⊎ HasOk rest
+after_line line rest h has = by_case (first_newline [] (line ++ 10 ∷ rest) has.0 (codes "ok\n") refl has.1)
   where
     by_first : ((line ≡ codes "ok") × (rest ≡ [])) ⊎ ((between : List ℕ) × ([] ≡ between ++ 10 ∷ rest)) → ((line ≡ codes "ok") × (rest ≡ [])) ⊎ HasOk rest
     by_first (inl found) = inl found
@@ -138,24 +141,25 @@ no_ok (line ∷ lines) n h has = by_case (take_line n line (lines_text lines)) (
     of_line : (is_whole line ≡ false) × (line ≡ codes "ok" → ⊥)
     of_line = line_parts line parts.0
 
-    by_behind : (k : ℕ) → ((m : ℕ) → are_lines lines ≡ true → HasOk (take m (lines_text lines)) → ⊥)
+    by_after : (k : ℕ) → ((m : ℕ) → are_lines lines ≡ true → HasOk (take m (lines_text lines)) → ⊥)
         → ((line ≡ codes "ok") × (take k (lines_text lines) ≡ [])) ⊎ HasOk (take k (lines_text lines)) → ⊥
-    by_behind k more (inl found) = of_line.1 found.0
-    by_behind k more (inr found) = more k parts.1 found
+    by_after k more (inl found) = of_line.1 found.0
+    by_after k more (inr found) = more k parts.1 found
 
     by_case : (take n (line ++ 10 ∷ lines_text lines) ≡ take n line)
         ⊎ ((k : ℕ) × (n ≡ length line + suc k) × (take n (line ++ 10 ∷ lines_text lines) ≡ line ++ 10 ∷ take k (lines_text lines)))
         → ((m : ℕ) → are_lines lines ≡ true → HasOk (take m (lines_text lines)) → ⊥) → ⊥
     by_case (inl e) more = one_line (take n line) (whole_take n line of_line.0) (subst HasOk e has)
     by_case (inr found) more =
-        by_behind found.0 more (behind_line line (take found.0 (lines_text lines)) of_line.0 (subst HasOk found.2 has))
+        by_after found.0 more (after_line line (take found.0 (lines_text lines)) of_line.0 (subst HasOk found.2 has))
 
 -- lines and `ok`, cut off
 no_whole_ok : (lines : List (List ℕ)) (n : ℕ) → are_lines lines ≡ true → n < length (lines_text (lines ++ ok_line ∷ []))
     → HasOk (take n (lines_text (lines ++ ok_line ∷ []))) → ⊥
 no_whole_ok [] n h less has = by_case (take_line n ok_line [])
   where
-    by_case : (take n (ok_line ++ 10 ∷ []) ≡ take n ok_line) ⊎ ((k : ℕ) × (n ≡ length ok_line + suc k) × (take n (ok_line ++ 10 ∷ []) ≡ ok_line ++ 10 ∷ take k [])) → ⊥
+    by_case : (take n (ok_line ++ 10 ∷ []) ≡ take n ok_line)
+        ⊎ ((k : ℕ) × (n ≡ length ok_line + suc k) × (take n (ok_line ++ 10 ∷ []) ≡ ok_line ++ 10 ∷ take k [])) → ⊥
     by_case (inl e) = one_line (take n ok_line) (whole_take n ok_line refl) (subst HasOk e has)
     by_case (inr found) = absurd (let e : n ≡ 2 + suc found.0 = found.1 in let l : n < 3 = less in omega arith)
 no_whole_ok (line ∷ lines) n h less has = by_case (take_line n line (lines_text (lines ++ ok_line ∷ []))) (no_whole_ok lines)
@@ -169,10 +173,10 @@ no_whole_ok (line ∷ lines) n h less has = by_case (take_line n line (lines_tex
     of_line : (is_whole line ≡ false) × (line ≡ codes "ok" → ⊥)
     of_line = line_parts line parts.0
 
-    by_behind : (k : ℕ) → k < length rest → ((m : ℕ) → are_lines lines ≡ true → m < length rest → HasOk (take m rest) → ⊥)
+    by_after : (k : ℕ) → k < length rest → ((m : ℕ) → are_lines lines ≡ true → m < length rest → HasOk (take m rest) → ⊥)
         → ((line ≡ codes "ok") × (take k rest ≡ [])) ⊎ HasOk (take k rest) → ⊥
-    by_behind k l more (inl found) = of_line.1 found.0
-    by_behind k l more (inr found) = more k parts.1 l found
+    by_after k l more (inl found) = of_line.1 found.0
+    by_after k l more (inr found) = more k parts.1 l found
 
     by_case : (take n (line ++ 10 ∷ rest) ≡ take n line)
         ⊎ ((k : ℕ) × (n ≡ length line + suc k) × (take n (line ++ 10 ∷ rest) ≡ line ++ 10 ∷ take k rest))
@@ -180,7 +184,7 @@ no_whole_ok (line ∷ lines) n h less has = by_case (take_line n line (lines_tex
     by_case (inl e) more = one_line (take n line) (whole_take n line of_line.0) (subst HasOk e has)
     by_case (inr found) more =
         let l : found.0 < length rest = omega (arith, found.1, less, length-append line (10 ∷ rest)) in
-        by_behind found.0 l more (behind_line line (take found.0 rest) of_line.0 (subst HasOk found.2 has))
+        by_after found.0 l more (after_line line (take found.0 rest) of_line.0 (subst HasOk found.2 has))
 
 -- ---- the laws
 
@@ -201,7 +205,8 @@ printed_line (x ∷ text) h =
     by_byte (is_newline x) refl (printed_line text parts.1) parts.0
   where
     by_byte : (b : Bool) → is_newline x ≡ b → is_whole text ≡ false → is_in (range 0x20 0x7e) x ≡ true → is_whole (x ∷ text) ≡ false
-    by_byte true e more in_it = absurd (let is : x ≡ 10 = eqb-true x 10 e in let f : is_in (range 0x20 0x7e) 10 ≡ true = subst (λ (y : ℕ). is_in (range 0x20 0x7e) y ≡ true) is in_it in cc)
+    by_byte true e more in_it = absurd (let is : x ≡ 10 = eqb-true x 10 e in
+        let f : is_in (range 0x20 0x7e) 10 ≡ true = subst (λ (y : ℕ). is_in (range 0x20 0x7e) y ≡ true) is in_it in cc)
     by_byte false e more in_it = ap (λ (b : Bool). b || is_whole text) e ∙ more
 
 error_is_line : (words : List ℕ) → are_printed (words_text words) ≡ true → is_line (error_line words) ≡ true
@@ -254,7 +259,8 @@ no_ok_line name value = by_test (bytes_eq (name ++ 32 ∷ value) (codes "ok")) r
     by_test : (b : Bool) → bytes_eq (name ++ 32 ∷ value) (codes "ok") ≡ b → bytes_eq (name ++ 32 ∷ value) (codes "ok") ≡ false
     by_test true e =
         let same = (bytes_eq-Decides (name ++ 32 ∷ value) (codes "ok")).0 e in
-        absurd (let f : list_any (λ (byte : ℕ). byte == 32) (codes "ok") ≡ true = subst (λ (xs : List ℕ). list_any (λ (byte : ℕ). byte == 32) xs ≡ true) same (has_space name value) in cc)
+        absurd (let f : list_any (λ (byte : ℕ). byte == 32) (codes "ok") ≡ true = subst (λ (xs : List ℕ).
+        list_any (λ (byte : ℕ). byte == 32) xs ≡ true) same (has_space name value) in cc)
     by_test false e = e
 
 row_plain : (name value : List ℕ) → is_whole name ≡ false → is_whole value ≡ false → is_whole (name ++ 32 ∷ value) ≡ false

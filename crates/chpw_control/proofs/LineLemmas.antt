@@ -1,5 +1,7 @@
 -- The line among the bytes that came, and the names of files.
-use Rattle.std.proofs.Common.{◌≡◌, ℕ, ◌+◌, ◌<◌, ◌≤◌, List, [], ◌∷◌, ◌++◌, length, Bool, true, false, ◌&&◌, ◌||◌, not, cond, nat_le, nat_lt, Some, None, Result, Err, suc, inl, inr, length-append, refl, sym, ◌∙◌, ap, arith}
+use Rattle.std.proofs.Common.{◌≡◌, ℕ, ◌+◌, ◌<◌, ◌≤◌, List, [], ◌∷◌, ◌++◌, length, Bool, true}
+use Rattle.std.proofs.Common.{false, ◌&&◌, ◌||◌, not, cond, nat_le, nat_lt, Some, None, Result}
+use Rattle.std.proofs.Common.{Err, suc, inl, inr, length-append, refl, sym, ◌∙◌, ap, arith}
 use Rattle.std.specs.Prelude.{◌==◌}
 use Rattle.std.specs.List.{list_any}
 use Rattle.std.specs.Str.{IsUtf8, is_utf8}
@@ -23,7 +25,8 @@ pub line_front : (bytes more : List ℕ) → is_whole bytes ≡ true → line_in
 line_front [] more h = absurd (cc)
 line_front (byte ∷ bytes) more h = by_byte (is_newline byte) refl (line_front bytes more)
   where
-    by_byte : (b : Bool) → is_newline byte ≡ b → (is_whole bytes ≡ true → line_in (bytes ++ more) ≡ line_in bytes) → line_in (byte ∷ (bytes ++ more)) ≡ line_in (byte ∷ bytes)
+    by_byte : (b : Bool) → is_newline byte ≡ b → (is_whole bytes ≡ true → line_in (bytes ++ more) ≡ line_in bytes)
+        → line_in (byte ∷ (bytes ++ more)) ≡ line_in (byte ∷ bytes)
     by_byte true e more_so =
         line_cons byte (bytes ++ more) ∙ ap (λ (b : Bool). cond (not b) (byte ∷ line_in (bytes ++ more)) []) e
         ∙ sym (line_cons byte bytes ∙ ap (λ (b : Bool). cond (not b) (byte ∷ line_in bytes) []) e)
@@ -38,7 +41,9 @@ pub line_on : (bytes more : List ℕ) → is_whole bytes ≡ false → line_in (
 line_on [] more h = refl
 line_on (byte ∷ bytes) more h = by_byte (is_newline byte) refl (line_on bytes more)
   where
-    by_byte : (b : Bool) → is_newline byte ≡ b → (is_whole bytes ≡ false → line_in (bytes ++ more) ≡ bytes ++ line_in more) → line_in (byte ∷ (bytes ++ more)) ≡ byte ∷ (bytes ++ line_in more)
+    by_byte : (b : Bool) → is_newline byte ≡ b
+        → (is_whole bytes ≡ false → line_in (bytes ++ more) ≡ bytes ++ line_in more)
+        → line_in (byte ∷ (bytes ++ more)) ≡ byte ∷ (bytes ++ line_in more)
     by_byte true e more_so = absurd (let f : true ≡ false = sym (ap (λ (b : Bool). b || is_whole bytes) e) ∙ h in cc)
     by_byte false e more_so =
         let rest : is_whole bytes ≡ false = sym (ap (λ (b : Bool). b || is_whole bytes) e) ∙ h in
@@ -62,7 +67,8 @@ pub line_less : (bytes : List ℕ) → is_whole bytes ≡ true → length (line_
 line_less [] h = absurd (cc)
 line_less (byte ∷ bytes) h = by_byte (is_newline byte) refl (line_less bytes)
   where
-    by_byte : (b : Bool) → is_newline byte ≡ b → (is_whole bytes ≡ true → length (line_in bytes) < length bytes) → length (line_in (byte ∷ bytes)) < length (byte ∷ bytes)
+    by_byte : (b : Bool) → is_newline byte ≡ b → (is_whole bytes ≡ true → length (line_in bytes) < length bytes)
+        → length (line_in (byte ∷ bytes)) < length (byte ∷ bytes)
     by_byte true e more_so =
         let same = ap length (line_cons byte bytes ∙ ap (λ (b : Bool). cond (not b) (byte ∷ line_in bytes) []) e) in
         omega (arith, same)
@@ -76,7 +82,8 @@ pub whole_append : (bytes more : List ℕ) → is_whole (bytes ++ more) ≡ (is_
 whole_append [] more = refl
 whole_append (byte ∷ bytes) more = by_byte (is_newline byte) (whole_append bytes more)
   where
-    by_byte : (b : Bool) → is_whole (bytes ++ more) ≡ (is_whole bytes || is_whole more) → (b || is_whole (bytes ++ more)) ≡ ((b || is_whole bytes) || is_whole more)
+    by_byte : (b : Bool) → is_whole (bytes ++ more) ≡ (is_whole bytes || is_whole more)
+        → (b || is_whole (bytes ++ more)) ≡ ((b || is_whole bytes) || is_whole more)
     by_byte true more_so = refl
     by_byte false more_so = more_so
 
@@ -143,7 +150,8 @@ pub told_long : (heard bytes : List ℕ) → goes_on heard ≡ true → 4200 < l
     → told_of (heard ++ bytes) ≡ Some (Err LineTooLong)
 told_long heard bytes h many =
     let same = ap length (line_on heard bytes (held_open heard h)) in
-    let long : is_short (heard ++ bytes) ≡ false = lt-leb (length (line_in (heard ++ bytes))) 4200 (omega (arith, same, many, length-append heard (line_in bytes))) in
+    let long : is_short (heard ++ bytes) ≡ false = lt-leb (length (line_in (heard ++ bytes))) 4200
+    (omega (arith, same, many, length-append heard (line_in bytes))) in
     ap (λ (b : Bool). cond (not b) (Some (Err LineTooLong)) (cond (is_whole (heard ++ bytes)) (Some (command_of (line_in (heard ++ bytes)))) None)) long
 
 -- a line that goes on is told nothing of

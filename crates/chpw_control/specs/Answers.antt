@@ -13,6 +13,6 @@ ok_line = codes "ok"
 abbrev pub error_line : List ℕ → List ℕ
 error_line words = codes "error: " ++ words_text words
 
--- the last line is `ok`: behind nothing, or behind another line's newline
+-- the last line is `ok`: it is the whole text, or follows another line's newline
 abbrev pub ended_ok : List ℕ → Bool
 ended_ok text = bytes_eq text (codes "ok\n") || ends_with nat_eq text (codes "\nok\n")

@@ -1,5 +1,5 @@
--- The whole life of somebody at the control socket: what came of its line, the commands that were carried out for it, what it
--- is told, and what went out of that.
+-- The whole life of a caller at the control socket: what came of its line, the commands that were carried out for it,
+-- its answers, and what was written of them.
 use Rattle.std.specs.Prelude.{◌≡◌, ℕ, List, [], ◌∷◌, ◌++◌, take, ◌⊎◌, Option, Some, None, Result, Ok}
 use Rattle.chpw_control.specs.declared.command.Command.{Command}
 use Rattle.chpw_control.specs.declared.fault.ControlFault.{ControlFault}
@@ -13,35 +13,35 @@ pub record Life : Type 0 where
   pub written : List ℕ
   pub stage : Stage
 
--- one that was accepted just now
+-- one that was accepted at this moment
 abbrev pub accepted : Life
 accepted = record { came = []; taken = []; answers = []; written = []; stage = asking at_start }
 
--- bytes count while its line comes
-abbrev pub came_behind : Stage → Event → List ℕ → List ℕ
-came_behind (asking s) (came bytes) before = before ++ bytes
-came_behind stage e before = before
+-- bytes count while its line is being read
+abbrev pub came_after : Stage → Event → List ℕ → List ℕ
+came_after (asking s) (came bytes) before = before ++ bytes
+came_after stage e before = before
 
-abbrev pub taken_behind : Stage → Event → List Command → List Command
-taken_behind (waiting command) taken before = before ++ command ∷ []
-taken_behind stage e before = before
+abbrev pub taken_after : Stage → Event → List Command → List Command
+taken_after (waiting command) taken before = before ++ command ∷ []
+taken_after stage e before = before
 
--- an answer counts from when it is there
-abbrev pub answers_behind : Stage → Stage → List (List ℕ) → List (List ℕ)
-answers_behind (answered left) new before = before
-answers_behind old (answered left) before = before ++ left ∷ []
-answers_behind old new before = before
+-- an answer counts from when it is given
+abbrev pub answers_after : Stage → Stage → List (List ℕ) → List (List ℕ)
+answers_after (answered left) new before = before
+answers_after old (answered left) before = before ++ left ∷ []
+answers_after old new before = before
 
-abbrev pub written_behind : Stage → Event → List ℕ → List ℕ
-written_behind (answered left) (wrote n) before = before ++ take n left
-written_behind stage e before = before
+abbrev pub written_after : Stage → Event → List ℕ → List ℕ
+written_after (answered left) (wrote n) before = before ++ take n left
+written_after stage e before = before
 
 abbrev pub behind : Life → Event → Life
 behind l e = record {
-  came = came_behind l.stage e l.came;
-  taken = taken_behind l.stage e l.taken;
-  answers = answers_behind l.stage (after l.stage e) l.answers;
-  written = written_behind l.stage e l.written;
+  came = came_after l.stage e l.came;
+  taken = taken_after l.stage e l.taken;
+  answers = answers_after l.stage (after l.stage e) l.answers;
+  written = written_after l.stage e l.written;
   stage = after l.stage e;
 }
 

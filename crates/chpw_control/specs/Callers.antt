@@ -1,17 +1,17 @@
--- Where somebody at the control socket is, and what happens there.
+-- The stage of a caller at the control socket, and what happens to it.
 use Rattle.std.specs.Prelude.{◌≡◌, ◌⊎◌, ℕ, ◌==◌, Bool, true, false, List, [], ◌++◌, length, drop, codes, Option, Some, None, Result, Ok, Err, if◌then◌else◌}
 use Rattle.chpw_control.specs.declared.command.Command.{Command}
 use Rattle.chpw_control.specs.declared.fault.ControlFault.{ControlFault}
 use Rattle.chpw_control.specs.declared.fault.ControlFault.TheVariants.{NoWholeLine, Late, Memory}
-use Rattle.chpw_control.specs.Dialogs.{State, at_start, behind_bytes, told_by, told_at_end}
+use Rattle.chpw_control.specs.Dialogs.{State, at_start, after_bytes, told_by, told_at_end}
 use Rattle.chpw_control.specs.Faults.{fault_text}
 use Rattle.chpw_control.specs.declared.caller.Phase.{Phase}
 use Rattle.chpw_control.specs.declared.caller.Phase.TheVariants as phase
 use Rattle.chpw_control.specs.declared.caller.Text.{Text}
 use Rattle.chpw_control.specs.declared.caller.Text.TheVariants as text
 
--- This has come of its line; its command waits to be carried out; that is carried out; these bytes of its answer are left
--- to write; it is gone while its command is carried out; it is over
+-- This has come of its line; its command waits to be carried out; it is being carried out; these bytes of its answer
+-- are left to write; it is gone while its command is carried out; it is finished
 pub data Stage : Type 0 where
   asking : State → Stage
   waiting : Command → Stage
@@ -20,8 +20,8 @@ pub data Stage : Type 0 where
   deserted : Stage
   over : Stage
 
--- bytes came; memory for them lacked; it sends no more; its time for the line is up; its command is carried out from now on;
--- this is its answer; so many bytes of that were written; it can't go on
+-- bytes came; there was no memory for them; it will send no more; its time for the line is up; its command is being
+-- carried out from now on; this is its answer; this many bytes of that were written; it can't go on
 pub data Event : Type 0 where
   came : List ℕ → Event
   lacked : Event
@@ -35,13 +35,13 @@ pub data Event : Type 0 where
 abbrev pub error_line : ControlFault → List ℕ
 error_line fault = codes "error: " ++ (fault_text fault ++ codes "\n")
 
--- behind what was told of all that came
+-- the stage after what all the bytes that came give
 abbrev pub told_to : State → Option (Result Command ControlFault) → Stage
 told_to s None = asking s
 told_to s (Some (Ok command)) = waiting command
 told_to s (Some (Err fault)) = answered (error_line fault)
 
--- its line is over before it was whole
+-- its line ended before it was complete
 abbrev pub ended_to : State → Option ControlFault → Stage
 ended_to s None = asking s
 ended_to s (Some fault) = answered (error_line fault)
@@ -53,7 +53,7 @@ abbrev pub written_to : List ℕ → Stage
 written_to left = if is_out left then over else answered left
 
 abbrev pub after : Stage → Event → Stage
-after (asking s) (came bytes) = told_to (behind_bytes s bytes) (told_by s bytes)
+after (asking s) (came bytes) = told_to (after_bytes s bytes) (told_by s bytes)
 after (asking s) lacked = answered (error_line Memory)
 after (asking s) closed = ended_to s (told_at_end s NoWholeLine)
 after (asking s) expired = ended_to s (told_at_end s Late)
@@ -87,7 +87,7 @@ stage_of (phase.Answered a) = answered (drop a.written (bytes_of a.text))
 stage_of phase.Deserted = deserted
 stage_of phase.Over = over
 
--- unless memory for the line lacked
+-- unless there was no memory for the line
 abbrev pub Hears : Stage → Stage → List ℕ → Type 0
 Hears old new bytes = (new ≡ after old (came bytes)) ⊎ (new ≡ after old lacked)
 

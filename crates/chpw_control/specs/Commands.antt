@@ -1,4 +1,4 @@
--- The command of a line, which is told without its newline.
+-- The command of a line, which is given without its newline.
 use Rattle.std.specs.Prelude.{ℕ, List, [], ◌∷◌, drop, codes, nat_eq, bytes_eq, if◌then◌else◌, Result, Ok, Err}
 use Rattle.std.specs.List.{starts_with}
 use Rattle.chpw_control.specs.declared.command.Command.{Command}

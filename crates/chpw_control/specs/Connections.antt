@@ -5,16 +5,16 @@ use Rattle.chpw_control.specs.declared.command.Command.{Command}
 use Rattle.chpw_control.specs.declared.fault.ControlFault.{ControlFault}
 use Rattle.chpw_control.specs.declared.fault.ControlFault.TheVariants.{NoWholeLine, Late}
 use Rattle.chpw_control.specs.Commands.{command_of}
-use Rattle.chpw_control.specs.Dialogs.{State, at_start, behind_bytes, told_by, told_at_end, told_of, is_whole}
+use Rattle.chpw_control.specs.Dialogs.{State, at_start, after_bytes, told_by, told_at_end, told_of, is_whole}
 
--- the other side says bytes, it ends, its time is up
+-- the other side sends bytes, it ends, its time is up
 pub data Event : Type 0 where
   says : List ℕ → Event
   ends : Event
   expires : Event
 
 abbrev pub behind : State → Event → State
-behind s (says bytes) = behind_bytes s bytes
+behind s (says bytes) = after_bytes s bytes
 behind s ends = None
 behind s expires = None
 
@@ -23,7 +23,7 @@ told s (says bytes) = told_by s bytes
 told s ends = option_map (λ fault. Err fault) (told_at_end s NoWholeLine)
 told s expires = option_map (λ fault. Err fault) (told_at_end s Late)
 
--- all that is told, in its order
+-- all commands and faults that it gives, in order
 abbrev pub told_from : State → List Event → List (Result Command ControlFault)
 told_from s [] = []
 told_from s (e ∷ es) = option_to_list (told s e) ++ told_from (behind s e) es
@@ -31,15 +31,15 @@ told_from s (e ∷ es) = option_to_list (told s e) ++ told_from (behind s e) es
 abbrev pub told_in : List Event → List (Result Command ControlFault)
 told_in events = told_from at_start events
 
--- one command comes of a connection, or one fault, or neither
+-- a connection gives one command, or one fault, or neither
 abbrev pub Once : Type 0
 Once = (events : List Event) → length (told_in events) ≤ 1
 
--- it doesn't matter in how many pieces bytes come
+-- the pieces in which bytes come make no difference
 abbrev pub Piecewise : Type 0
 Piecewise = (pieces : List (List ℕ)) → told_in (map says pieces) ≡ option_to_list (told_of (concat pieces))
 
--- before anything else the other side said the command's whole line, its newline behind it
+-- before anything else the other side sent the command's whole line, and then its newline
 pub record IsItsLine (events : List Event) (command : Command) : Type 0 where
   pub pieces : List (List ℕ)
   pub later : List Event
@@ -51,6 +51,6 @@ pub record IsItsLine (events : List Event) (command : Command) : Type 0 where
   pub few : length line ≤ 4200
   pub asks : command_of line ≡ Ok command
 
--- a command comes only of its whole line
+-- a command comes only from its whole line
 abbrev pub OnlyItsLine : Type 0
 OnlyItsLine = (events : List Event) (command : Command) → told_in events ≡ Ok command ∷ [] → IsItsLine events command

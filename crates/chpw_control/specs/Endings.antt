@@ -1,4 +1,4 @@
--- An answer that ended well is told from one that was cut off, and from one with an error.
+-- An answer that ended well is distinguished from one that was cut off, and from one with an error.
 use Rattle.std.specs.Prelude.{◌≡◌, ℕ, ◌<◌, Bool, true, false, not, ◌&&◌, bytes_eq, List, [], ◌∷◌, ◌++◌, length, take}
 use Rattle.std.specs.List.{list_all}
 use Rattle.chpw_printing.specs.Quoting.{are_printed, words_text}
@@ -16,7 +16,7 @@ are_lines lines = list_all is_line lines
 abbrev pub EndsWell : Type 0
 EndsWell = (lines : List (List ℕ)) → ended_ok (lines_text (lines ++ ok_line ∷ [])) ≡ true
 
--- the same, cut off anywhere
+-- lines and `ok`, cut off anywhere
 abbrev pub CutOff : Type 0
 CutOff =
     (lines : List (List ℕ)) (n : ℕ) → are_lines lines ≡ true → n < length (lines_text (lines ++ ok_line ∷ []))

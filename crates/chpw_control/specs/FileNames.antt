@@ -1,4 +1,4 @@
--- The name of a file: some bytes of UTF-8 with no NUL among them.
+-- The name of a file: non-empty UTF-8 without NUL.
 use Rattle.std.specs.Prelude.{ℕ, Bool, ◌&&◌, ◌==◌, not, nat_lt, List, length}
 use Rattle.std.specs.List.{list_any}
 use Rattle.std.specs.Str.{is_utf8}

@@ -1,4 +1,4 @@
--- For proofs: what bytes are behind so many of a line.
+-- For proofs alone: what bytes are after a part of a line.
 use Rattle.std.specs.Prelude.{◌≡◌, ℕ, ◌+◌, ◌≤◌, ◌<◌, List, length, true, false}
 use Rattle.chpw_control.specs.declared.piece.Piece.{Piece}
 use Rattle.chpw_control.specs.declared.piece.Piece.TheVariants.{Line, More, TooLong}

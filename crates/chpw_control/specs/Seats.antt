@@ -1,4 +1,4 @@
--- Those at the control socket, each in a slot of its own. Moments are milliseconds.
+-- The callers at the control socket, each in a slot of its own. Moments are milliseconds.
 use Rattle.std.specs.Prelude.{◌≡◌, ◌≢◌, ℕ, ◌≤◌, ◌+◌, ◌-◌, List, [], Bool, true, false, nat_le, ◌&&◌, Option, Some, None, MatchOption, if◌then◌else◌}
 use Rattle.slab.specs.Slab.{Slab, get}
 use Rattle.chpw_control.specs.declared.command.Command.{Command}
@@ -7,11 +7,11 @@ use Rattle.chpw_control.specs.Callers.{Stage, asking, waiting, answered, Event, 
 use Rattle.chpw_control.specs.declared.callers.Seat.{Seat}
 use Rattle.chpw_control.specs.declared.callers.Callers.{Callers}
 
--- those that are there, by their slots
+-- the callers by their slots
 abbrev pub seats_of : Callers → Slab Seat
 seats_of c = c.seats
 
--- the slot of the one whose order is carried out
+-- the slot of the caller whose order is being carried out
 abbrev pub ordering_of : Callers → Option ℕ
 ordering_of c = c.ordering
 
@@ -27,7 +27,7 @@ is_order Reload = true
 is_order ReopenLog = true
 is_order (Compact file) = true
 
--- the command of somebody that waits, of this kind
+-- the command of a caller that waits, of this kind
 abbrev pub waiting_by : Bool → Stage → Option Command
 waiting_by order (waiting command) = kept (is_order command) order
   where
@@ -41,12 +41,12 @@ abbrev pub waiting_at : Bool → Option Seat → Option Command
 waiting_at order None = None
 waiting_at order (Some s) = waiting_by order s.caller
 
--- whatever it is
+-- the command of a caller that waits, of either kind
 abbrev pub waiting_of : Option Seat → Option Command
 waiting_of None = None
 waiting_of (Some s) = waiting_in s.caller
 
--- the number of somebody that waits so, in the order in which they were accepted
+-- the number of a caller that waits so, in the order of their accepts
 abbrev pub number_at : Bool → Option Seat → Option ℕ
 number_at order None = None
 number_at order (Some s) = of (waiting_by order s.caller)
@@ -58,7 +58,7 @@ number_at order (Some s) = of (waiting_by order s.caller)
 abbrev pub number_in : Slab Seat → Bool → ℕ → Option ℕ
 number_in seats order slot = number_at order (get seats slot)
 
--- of all that wait so this one was accepted first
+-- of all that wait so, this one was accepted first
 abbrev pub IsFirst : Slab Seat → Bool → ℕ → Type 0
 IsFirst seats order slot = (number : ℕ) × (number_in seats order slot ≡ Some number)
     × ((other n : ℕ) → number_in seats order other ≡ Some n → number ≤ n)
@@ -66,16 +66,16 @@ IsFirst seats order slot = (number : ℕ) × (number_in seats order slot ≡ Som
 abbrev pub NobodyWaits : Slab Seat → Bool → Type 0
 NobodyWaits seats order = (slot : ℕ) → number_in seats order slot ≡ None
 
--- the event happened to the one in this slot, where there is one
+-- the event happened to the caller in this slot, if there is one
 abbrev pub Comes : Event → Option Seat → Option Seat → Type 0
 Comes event old new = MatchOption old (new ≡ None) (λ s. new ≡ Some (record s { caller = after s.caller event }))
 
--- and the others are as they were
+-- the event happened in this slot, and the others are unchanged
 pub record Happens (old new : Slab Seat) (slot : ℕ) (event : Event) : Type 0 where
   pub here : Comes event (get old slot) (get new slot)
   pub others : (other : ℕ) → other ≢ slot → get new other ≡ get old other
 
--- bytes came of its line, unless memory for them lacked
+-- bytes of its line came, unless there was no memory for them
 abbrev pub Heard : Option Seat → Option Seat → List ℕ → Type 0
 Heard old new bytes = MatchOption old (new ≡ None) (λ s. (c : Stage) × (new ≡ Some (record s { caller = c })) × Hears s.caller c bytes)
 
@@ -83,7 +83,7 @@ pub record HappensToHear (old new : Slab Seat) (slot : ℕ) (bytes : List ℕ) :
   pub here : Heard (get old slot) (get new slot) bytes
   pub others : (other : ℕ) → other ≢ slot → get new other ≡ get old other
 
--- somebody that was accepted just now
+-- a caller that was accepted at this moment
 pub record IsNew (now number : ℕ) (old new : Slab Seat) (slot : ℕ) (start : Stage) : Type 0 where
   pub free : get old slot ≡ None
   pub here : get new slot ≡ Some (record { caller = start; since = now; number = number })
@@ -98,7 +98,7 @@ abbrev pub is_asking : Stage → Bool
 is_asking (asking s) = true
 is_asking stage = false
 
--- its line isn't whole a second after it came
+-- its line isn't complete a second after its accept
 abbrev pub is_late : ℕ → Option Seat → Bool
 is_late now None = false
 is_late now (Some s) = is_asking s.caller && nat_le 1000 (now - s.since)

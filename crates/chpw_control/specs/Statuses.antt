@@ -2,9 +2,9 @@
 use Rattle.std.specs.Prelude.{ℕ, ◌<◌, List, [], ◌∷◌, ◌++◌, codes}
 use Rattle.std.specs.Option.{ForSome, option_map_or}
 use Rattle.std.specs.Fmt.{decimal}
-use Rattle.krb_elements.specs.Times.{IsWritable}
+use Rattle.krb_codec.specs.Times.{IsWritable}
 use Rattle.chpw_printing.specs.Quoting.{words_text}
-use Rattle.chpw_times.specs.Printed.{time_text}
+use Rattle.chpw_printing.specs.Times.{time_text}
 use Rattle.chpw_control.specs.declared.status.FollowerState.{FollowerState}
 use Rattle.chpw_control.specs.declared.status.FollowerState.TheVariants.{Absent, Confirmed, Unconfirmed}
 use Rattle.chpw_control.specs.declared.status.JournalState.{JournalState}

@@ -1,4 +1,4 @@
-//! Somebody at the control socket, from its accept to its end.
+//! A caller at the control socket, from its accept to its end.
 ghost use Rattle.std.specs.Prelude.{◌≡◌};
 ghost use Rattle.chpw_control.specs.Callers.{error_line, bytes_of, refused_with};
 
@@ -9,36 +9,36 @@ use std::alloc::Global;
 use std::marker::Model;
 use std::mem;
 
-/// Where it is.
+/// The stage of a caller.
 #[derive(Drop)]
 pub(crate) enum Phase {
-    /// Its line comes.
+    /// Its line is being read.
     Asking(Dialog),
     /// Its command waits to be carried out.
     Waiting(Command),
-    /// Its command is carried out.
+    /// Its command is being carried out.
     Served,
-    /// It is told what came of it.
+    /// Its answer is being written.
     Answered(Answer),
     /// It is gone, and its command is carried out all the same.
     Deserted,
-    /// It is over.
+    /// It is finished.
     Over,
 }
 
-/// An answer, of which so many bytes are out.
+/// An answer, and how many of its bytes are out.
 #[derive(Drop)]
 pub(crate) struct Answer {
     pub text: Text,
     pub written: usize,
 }
 
-/// What is told.
+/// The text of an answer.
 #[derive(Drop)]
 pub(crate) enum Text {
-    /// Why there is no command.
+    /// The reason why there is no command.
     Fault(ControlFault),
-    /// What came of the command.
+    /// What the command gave.
     Given(Vec<u8>),
 }
 
@@ -53,7 +53,7 @@ impl Text {
     }
 }
 
-// The line that tells a fault.
+// The line for a fault.
 fn error_line(fault: ControlFault) -> &'static str
     ensures value { result.now ≡ error_line fault }
 {
@@ -68,7 +68,7 @@ fn error_line(fault: ControlFault) -> &'static str
     }
 }
 
-/// Somebody at the control socket. Contracts see where it is.
+/// A caller at the control socket. Contracts see its stage.
 #[derive(Drop)]
 pub struct Caller {
     phase: Phase,
@@ -89,7 +89,7 @@ impl Caller {
     ghost use Rattle.chpw_control.specs.Seats.{is_asking, waiting_by};
     ghost use Rattle.chpw_control.specs.Callers.{asking, after, closed, expired, taken, told, wrote, failed, left_of, waiting_in, over, Hears, is_over};
 
-    /// One that was accepted just now.
+    /// A caller that was accepted at this moment.
     pub fn accepted(alloc: Global) -> Caller
         ensures value { result ≡ asking at_start }
     {
@@ -98,7 +98,7 @@ impl Caller {
         }
     }
 
-    /// Bytes came of its line.
+    /// Bytes of its line came.
     pub fn hear(&mut self, alloc: Global, bytes: &[u8])
         ensures heard { Hears self.old self.new bytes.now }
     {
@@ -114,7 +114,7 @@ impl Caller {
         }
     }
 
-    /// It sends no more.
+    /// It will send no more.
     pub fn close(&mut self)
         ensures value { self.new ≡ after self.old closed }
     {
@@ -136,14 +136,14 @@ impl Caller {
         }
     }
 
-    /// Whether its line comes.
+    /// Whether its line is still being read.
     pub fn is_asking(&self) -> bool
         ensures value { result ≡ is_asking self.now }
     {
         matches!(self.phase, Phase::Asking(_))
     }
 
-    /// Whether its command waits to be carried out, an order or another one.
+    /// Whether its command waits to be carried out, an order or a question.
     pub fn waits(&self, order: bool) -> bool
         ensures value { result ≡ is_some (waiting_by order self.now) }
     {
@@ -153,7 +153,7 @@ impl Caller {
         }
     }
 
-    /// Its command, which is carried out from now on.
+    /// Its command, which is being carried out from now on.
     pub fn take(&mut self) -> Option<Command>
         ensures command { result ≡ waiting_in self.old }
         ensures value { self.new ≡ after self.old taken }
@@ -167,7 +167,7 @@ impl Caller {
         }
     }
 
-    /// What came of its command is to be written.
+    /// The answer to its command is to be written.
     pub fn answer(&mut self, answer: Vec<u8>)
         ensures value { self.new ≡ after self.old (told answer.items) }
     {
@@ -193,7 +193,7 @@ impl Caller {
         }
     }
 
-    /// So many bytes of it went out.
+    /// `count` bytes of its answer were written.
     pub fn wrote(&mut self, count: usize)
         ensures value { self.new ≡ after self.old (wrote count) }
     {
@@ -205,7 +205,7 @@ impl Caller {
         }
     }
 
-    /// It can't go on. A command that is carried out is carried out all the same.
+    /// It can't go on. A command that is being carried out is carried out all the same.
     pub fn fail(&mut self)
         ensures value { self.new ≡ after self.old failed }
     {
@@ -215,7 +215,7 @@ impl Caller {
         };
     }
 
-    /// Whether it is over.
+    /// Whether it is finished.
     pub fn is_over(&self) -> bool
         ensures value { result ≡ is_over self.now }
     {
@@ -223,7 +223,7 @@ impl Caller {
     }
 }
 
-// It is told why there is no command.
+// It gets the reason why there is no command.
 fn refused(fault: ControlFault) -> Phase
     ensures value { result ≡ refused_with fault }
 {

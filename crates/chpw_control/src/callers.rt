@@ -1,19 +1,22 @@
-//! All that are at the control socket.
-ghost use Rattle.std.specs.Prelude.{◌≡◌, ◌≢◌, ◌<◌, ◌≤◌, ◌+◌, ℕ, IfOk, IfSome, IfNone, OnSome, Some, None, length, option_copied, is_some, true, false, ◌==◌, nat_le};
+//! All callers at the control socket.
+ghost use Rattle.std.specs.Prelude.{◌≡◌, ◌≢◌, ◌<◌, ◌≤◌, ◌+◌, ℕ, IfOk, IfSome, IfNone, OnSome, Some};
+ghost use Rattle.std.specs.Prelude.{None, length, option_copied, is_some, true, false, ◌==◌, nat_le};
 ghost use Rattle.slab.specs.Slab.{get, slab_len, HasRoomFor, Updates};
 ghost use Rattle.chpw_control.specs.Dialogs.{at_start};
 ghost use Rattle.chpw_control.specs.Callers.{asking, closed, expired, failed, told, taken, wrote};
-ghost use Rattle.chpw_control.specs.Seats.{Happens, HappensToHear, IsNew, IsFirst, NobodyWaits, waiting_at, number_in, left_at, is_late, is_order, is_over_at, waiting_of, earlier};
+ghost use Rattle.chpw_control.specs.Seats.{Happens, HappensToHear, IsNew, IsFirst, NobodyWaits, waiting_at};
+ghost use Rattle.chpw_control.specs.Seats.{number_in, left_at, is_late, is_order, is_over_at, waiting_of, earlier};
 
 use crate::caller::Caller;
 use crate::command::Command;
 use slab::Slab;
 use std::alloc::{AllocError, Global};
 
-/// After how many milliseconds its line is to be whole.
+/// The milliseconds within which a caller's line has to be complete.
 const PATIENCE: u64 = 1_000;
 
-/// Somebody at the control socket, since a moment in milliseconds. They are numbered in the order in which they came.
+/// A caller at the control socket, since a moment in milliseconds. Callers are numbered in the order in which they
+/// came.
 #[derive(Drop)]
 pub(crate) struct Seat {
     pub caller: Caller,
@@ -21,20 +24,20 @@ pub(crate) struct Seat {
     pub number: u64,
 }
 
-/// All that are at the control socket, each in a slot of its own.
+/// All callers at the control socket, each in a slot of its own.
 ///
-/// `status` and `stop` are answered at once, each for itself. The other commands are orders: they are carried out one after the
-/// other, beside whoever runs this.
+/// `status` and `stop` are answered at once, each for itself. The other commands are orders: they are carried out one
+/// after the other, beside the thread that has the sockets.
 #[derive(Drop)]
 pub struct Callers {
     seats: Slab<Seat>,
     accepted: u64,
-    /// The slot of the one whose order is carried out.
+    /// The slot of the caller whose order is being carried out.
     ordering: Option<usize>,
 }
 
 impl Callers {
-    /// None yet, with room for so many.
+    /// None yet, with room for `count`.
     pub fn new(alloc: Global, count: usize) -> Result<Callers, AllocError>
         ensures none { IfOk result (λ c. slab_len c.seats ≡ 0) }
         ensures room { IfOk result (λ c. count ≤ c.seats.capacity) }
@@ -47,7 +50,7 @@ impl Callers {
         })
     }
 
-    /// Somebody comes, where there is room for one more: its slot.
+    /// Accepts a caller, if there is room for one more: its slot.
     pub fn accept(&mut self, alloc: Global, now: u64) -> Option<usize>
         ensures accepted { IfSome result (λ slot. IsNew now self.old.accepted self.old.seats self.new.seats slot (asking at_start)) }
         ensures full { IfNone result ((slab_len self.old.seats ≡ self.old.seats.capacity) × (self.new ≡ self.old)) }
@@ -65,14 +68,14 @@ impl Callers {
         Some(self.seats.insert_reserved(seat))
     }
 
-    /// Whether nobody is there.
+    /// Whether there is no caller.
     pub fn is_empty(&self) -> bool
         ensures value { result ≡ (slab_len self.now.seats == 0) }
     {
         self.seats.len() == 0
     }
 
-    /// Whether there is room for nobody more.
+    /// Whether there is room for no more callers.
     pub fn is_full(&self) -> bool
         ensures value { result ≡ nat_le self.now.seats.capacity (slab_len self.now.seats) }
         ensures full { result ≡ true → slab_len self.now.seats ≡ self.now.seats.capacity }
@@ -80,7 +83,7 @@ impl Callers {
         self.seats.len() >= self.seats.capacity()
     }
 
-    // Takes the one in a slot out, which is the next to be filled.
+    // Takes out the caller in a slot, which is the next to be filled.
     fn take_out(&mut self, slot: usize) -> Option<Seat>
         ensures value { result ≡ get self.old.seats slot }
         ensures updates { Updates self.old.seats self.new.seats slot None }
@@ -92,7 +95,7 @@ impl Callers {
         self.seats.try_remove(slot)
     }
 
-    /// Bytes came of somebody's line.
+    /// Bytes of a caller's line came.
     pub fn hear(&mut self, alloc: Global, slot: usize, bytes: &[u8])
         ensures heard { HappensToHear self.old.seats self.new.seats slot bytes.now }
         ensures ordering { self.new.ordering ≡ self.old.ordering }
@@ -103,7 +106,7 @@ impl Callers {
         }
     }
 
-    /// Somebody sends no more.
+    /// A caller will send no more.
     pub fn close(&mut self, slot: usize)
         ensures happens { Happens self.old.seats self.new.seats slot closed }
         ensures ordering { self.new.ordering ≡ self.old.ordering }
@@ -114,7 +117,7 @@ impl Callers {
         }
     }
 
-    /// Somebody can't go on.
+    /// A caller can't go on.
     pub fn fail(&mut self, slot: usize)
         ensures happens { Happens self.old.seats self.new.seats slot failed }
         ensures ordering { self.new.ordering ≡ self.old.ordering }
@@ -125,7 +128,7 @@ impl Callers {
         }
     }
 
-    /// Where somebody's line isn't whole a second after it came, its time for that is up.
+    /// If a caller's line isn't complete a second after its accept, its time is up.
     pub fn pass(&mut self, slot: usize, now: u64)
         ensures late { is_late now (get self.old.seats slot) ≡ true → Happens self.old.seats self.new.seats slot expired }
         ensures others { is_late now (get self.old.seats slot) ≡ false → self.new ≡ self.old }
@@ -155,7 +158,7 @@ impl Callers {
         }
     }
 
-    /// The next one that is to be answered at once, and what it asks: of those the one that was accepted first.
+    /// The next caller with a question, and the question: the one that was accepted first.
     #[tactic(auto, using(crate::proofs::SeatLemmas::kind_of))]
     pub fn next_question(&mut self) -> Option<(usize, Command)>
         ensures first { IfSome result (λ r. IsFirst self.old.seats false r.0) }
@@ -170,8 +173,8 @@ impl Callers {
         Some((slot, command))
     }
 
-    /// The next order, unless one is carried out: of those the one whose caller was accepted first. It is carried out from now
-    /// on.
+    /// The next order, unless one is being carried out: that of the caller who was accepted first. It is being carried
+    /// out from now on.
     #[tactic(auto, using(crate::proofs::SeatLemmas::kind_of))]
     pub fn next_order(&mut self) -> Option<Command>
         ensures first { IfSome result (λ command. IfSome self.new.ordering (λ slot. IsFirst self.old.seats true slot
@@ -190,7 +193,7 @@ impl Callers {
         Some(command)
     }
 
-    /// Whether somebody waits with an order, or with a question.
+    /// Whether a caller waits with an order, or with a question.
     pub fn has_waiting(&self, order: bool) -> bool
         ensures nobody { result ≡ false → NobodyWaits self.now.seats order }
         ensures somebody { result ≡ true → (slot : ℕ) × IsFirst self.now.seats order slot }
@@ -198,7 +201,7 @@ impl Callers {
         self.first_waiting(order).is_some()
     }
 
-    /// Whether an order is carried out.
+    /// Whether an order is being carried out.
     pub fn is_ordering(&self) -> bool
         ensures value { result ≡ is_some self.now.ordering }
     {
@@ -216,7 +219,7 @@ impl Callers {
         command
     }
 
-    // Below which number each slot is.
+    // Each slot is below this number.
     fn capacity(&self) -> usize
         ensures value { result ≡ self.now.seats.capacity }
         ensures slots { length self.now.seats.slots ≤ result }
@@ -224,7 +227,7 @@ impl Callers {
         self.seats.capacity()
     }
 
-    // The one that was accepted first of those with an order, or of those with a question.
+    // The caller that was accepted first of those with an order, or of those with a question.
     #[tactic(auto, using(crate::proofs::SeatLemmas::first_next, crate::proofs::SeatLemmas::nobody_of_all))]
     fn first_waiting(&self, order: bool) -> Option<usize>
         ensures first { IfSome result (IsFirst self.now.seats order) }
@@ -240,7 +243,7 @@ impl Callers {
         }
     }
 
-    // The number of the one in a slot, where it waits so.
+    // The number of the caller in a slot, if it waits with an order, or with a question.
     fn number_waiting(&self, slot: usize, order: bool) -> Option<u64>
         ensures value { result ≡ number_in self.now.seats order slot }
     {
@@ -250,7 +253,7 @@ impl Callers {
         }
     }
 
-    /// What came of somebody's question is to be written.
+    /// The answer to a caller's question is to be written.
     pub fn answer(&mut self, slot: usize, answer: Vec<u8>)
         ensures happens { Happens self.old.seats self.new.seats slot (told answer.items) }
         ensures ordering { self.new.ordering ≡ self.old.ordering }
@@ -261,7 +264,7 @@ impl Callers {
         }
     }
 
-    /// What came of the order is to be written, and the next one may be carried out.
+    /// The answer to the order is to be written, and the next one may be carried out.
     pub fn answer_order(&mut self, answer: Vec<u8>)
         ensures happens { IfSome self.old.ordering (λ slot. Happens self.old.seats self.new.seats slot (told answer.items)) }
         ensures over { self.new.ordering ≡ None }
@@ -272,7 +275,7 @@ impl Callers {
         }
     }
 
-    /// What is left to write to somebody.
+    /// What is left to write to a caller.
     pub fn unwritten(&self, slot: usize) -> &[u8]
         ensures value { result.now ≡ left_at (get self.now.seats slot) }
     {
@@ -282,7 +285,7 @@ impl Callers {
         }
     }
 
-    /// So many bytes of it went out.
+    /// `count` bytes of it were written.
     pub fn wrote(&mut self, slot: usize, count: usize)
         ensures happens { Happens self.old.seats self.new.seats slot (wrote count) }
         ensures ordering { self.new.ordering ≡ self.old.ordering }
@@ -293,7 +296,7 @@ impl Callers {
         }
     }
 
-    /// Whether the one in a slot is over, or nobody is there: its socket can be closed.
+    /// Whether the caller in a slot is finished, or there is none: its socket can be closed.
     pub fn is_over(&self, slot: usize) -> bool
         ensures value { result ≡ is_over_at (get self.now.seats slot) }
     {
@@ -303,7 +306,7 @@ impl Callers {
         }
     }
 
-    /// Lets go of one that is over; whether there was one.
+    /// Removes a caller that is finished; whether there was one.
     pub fn remove(&mut self, slot: usize) -> bool
         ensures over { is_over_at (get self.old.seats slot) ≡ true → Updates self.old.seats self.new.seats slot None }
         ensures value { result ≡ is_over_at (get self.old.seats slot) }

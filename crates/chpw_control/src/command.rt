@@ -8,23 +8,23 @@ use crate::fault::ControlFault;
 use crate::file_name::{FileName, text_of};
 use std::alloc::Global;
 
-/// What is asked of the service.
+/// A command for the service.
 #[derive(Drop)]
 pub enum Command {
-    /// To tell how it stands.
+    /// To report its state.
     Status,
-    /// To read its configuration anew.
+    /// To reload its configuration.
     Reload,
-    /// To open its log anew.
+    /// To reopen its log.
     ReopenLog,
-    /// To end.
+    /// To stop.
     Stop,
     /// To write a compact journal to this file.
     Compact(FileName),
 }
 
 impl Command {
-    /// Whether it is carried out beside whoever has the sockets, one at a time.
+    /// Whether it is an order: carried out beside the thread that has the sockets, one at a time.
     pub fn is_order(&self) -> bool
         ensures value { result ≡ is_order self.now }
     {
@@ -34,7 +34,8 @@ impl Command {
         }
     }
 
-    /// The command of a line, which is handed in without its newline.
+    /// The command of a line, which is given without its newline. Refused as `UnknownCommand`, `NoFile`, `BadFileName`
+    /// or `Memory`.
     pub fn of(alloc: Global, line: &[u8]) -> Result<Command, ControlFault>
         ensures value { UnlessMemory result (command_of line.now) }
     {

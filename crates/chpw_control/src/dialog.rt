@@ -2,7 +2,7 @@
 ghost use Rattle.std.specs.Prelude.{◌≡◌, ◌++◌, true, Some, None, OnSome, IfNone};
 ghost use Rattle.std.specs.Option.{option_map};
 ghost use Rattle.chpw_control.specs.declared.fault.ControlFault.TheVariants.{NoWholeLine, Late};
-ghost use Rattle.chpw_control.specs.Dialogs.{State, at_start, behind_bytes, told_by, told_at_end, goes_on, is_held};
+ghost use Rattle.chpw_control.specs.Dialogs.{State, at_start, after_bytes, told_by, told_at_end, goes_on, is_held};
 ghost use Rattle.chpw_control.specs.Commands.{command_of};
 ghost use Rattle.chpw_control.specs.Faults.{ToldUnlessMemory, UnlessMemory};
 
@@ -40,11 +40,11 @@ impl Dialog {
         }
     }
 
-    /// Bytes came. The command of the line that is whole with them, or why there is none: that is told once. Nothing as
-    /// long as the line goes on, and behind what was told: no more is heard then.
+    /// Bytes came. The command of the line that is complete with them, or the reason why there is none, which is given
+    /// once. Nothing while the line goes on, and nothing afterwards: no more is heard then.
     pub fn hear(&mut self, alloc: Global, bytes: &[u8]) -> Option<Result<Command, ControlFault>>
         ensures value { ToldUnlessMemory result (told_by self.old bytes.now) }
-        ensures behind { IfNone result (self.new ≡ behind_bytes self.old bytes.now) }
+        ensures behind { IfNone result (self.new ≡ after_bytes self.old bytes.now) }
         ensures over { OnSome result (self.new ≡ None) }
     {
         let heard = self.heard.take()?;
@@ -70,7 +70,7 @@ impl Dialog {
         None
     }
 
-    /// The other side sends no more. The fault, where its line wasn't whole.
+    /// The other side will send no more. The fault, if its line wasn't complete.
     pub fn end(&mut self) -> Option<ControlFault>
         ensures value { result ≡ told_at_end self.old NoWholeLine }
         ensures over { self.new ≡ None }
@@ -79,7 +79,7 @@ impl Dialog {
         Some(ControlFault::NoWholeLine)
     }
 
-    /// The time is up that the other side has for its line. The fault, where that wasn't whole.
+    /// The other side's time for its line is up. The fault, if the line wasn't complete.
     pub fn expire(&mut self) -> Option<ControlFault>
         ensures value { result ≡ told_at_end self.old Late }
         ensures over { self.new ≡ None }
@@ -89,7 +89,7 @@ impl Dialog {
     }
 }
 
-// The command of a line of which this was heard, and this came now.
+// The command of a line of which `heard` and then `rest` came.
 fn whole(alloc: Global, mut heard: Vec<u8>, rest: &[u8]) -> Result<Command, ControlFault>
     ensures value { UnlessMemory result (command_of (heard.items ++ rest.now)) }
 {

@@ -4,12 +4,12 @@ ghost use Rattle.chpw_control.specs.Faults.{fault_text};
 
 use std::alloc::AllocError;
 
-/// Why no command came of a connection.
+/// Why a connection gave no command.
 #[derive(Clone, Copy, PartialEq, Eq, Debug, Drop)]
 pub enum ControlFault {
     /// The line is none of the commands.
     UnknownCommand,
-    /// The line is `compact` with no file behind it.
+    /// The line is `compact` without a file.
     NoFile,
     /// The file's name isn't UTF-8, or has a NUL in it.
     BadFileName,
@@ -17,14 +17,14 @@ pub enum ControlFault {
     LineTooLong,
     /// The other side ended before its newline.
     NoWholeLine,
-    /// The time for the line was up.
+    /// The time for the line is up.
     Late,
     /// A growth was refused.
     Memory,
 }
 
 impl ControlFault {
-    /// The words that tell it.
+    /// The words that are printed for it.
     pub fn text(self) -> &'static str
         ensures value { result.now ≡ fault_text self }
     {

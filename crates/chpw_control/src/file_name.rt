@@ -6,7 +6,7 @@ use std::alloc::{AllocError, Global};
 use std::marker::Model;
 use std::str;
 
-/// The name of a file: some bytes of UTF-8, and no NUL among them.
+/// The name of a file: non-empty UTF-8 without NUL.
 #[derive(Drop)]
 pub struct FileName {
     text: String,
@@ -25,7 +25,7 @@ impl Model for FileName {
 }
 
 impl FileName {
-    /// The name of this text.
+    /// The file name with this text.
     pub fn of(alloc: Global, text: &str) -> Result<FileName, AllocError>
         requires legal { is_file_name text.now ≡ true }
         ensures value { IfOk result (λ name. name ≡ text.now) }
@@ -43,7 +43,7 @@ impl FileName {
     }
 }
 
-/// These bytes as text, where a file can have that name.
+/// These bytes as text, if a file can have that name.
 pub(crate) fn text_of(name: &[u8]) -> Option<&str>
     ensures some { IfSome result (λ text. text.now ≡ name.now) }
     ensures legal { IfSome result (λ _. is_file_name name.now ≡ true) }

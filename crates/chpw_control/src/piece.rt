@@ -1,15 +1,15 @@
-//! What the bytes are that came behind a part of a line.
+//! What bytes are that came after a part of a line.
 ghost use Rattle.std.specs.Prelude.{◌≡◌, ◌≤◌};
 ghost use Rattle.std.specs.List.{before_first, position};
 ghost use Rattle.chpw_control.specs.Dialogs.{is_newline};
 ghost use Rattle.chpw_control.specs.Pieces.{IsPiece};
 
-/// The bytes of a line, at the most, its newline not counted.
+/// The most bytes of a line, without its newline.
 const LONGEST: usize = 4200;
 
-/// What bytes are behind a part of a line.
+/// What bytes are after a part of a line.
 pub(crate) enum Piece<'a> {
-    /// The rest of the line; its newline comes behind that.
+    /// The rest of the line; its newline comes after that.
     Line(&'a [u8]),
     /// More of the line.
     More,
@@ -17,7 +17,7 @@ pub(crate) enum Piece<'a> {
     TooLong,
 }
 
-// What these bytes are where so many have come before them, none of them a newline.
+// What these bytes are when `heard` bytes have come before them, none of them a newline.
 pub(crate) fn piece_of(heard: usize, bytes: &[u8]) -> Piece<'_>
     requires short { heard ≤ 4200 }
     ensures value { IsPiece result heard bytes.now }

@@ -1,4 +1,4 @@
-//! How the service stands.
+//! The state of the service.
 ghost use Rattle.std.specs.Prelude.{◌≡◌};
 ghost use Rattle.chpw_control.specs.Statuses.{follower_word, journal_word};
 
@@ -12,24 +12,24 @@ pub enum JournalState {
     Failed,
 }
 
-/// How far a follower has the changes.
+/// Which changes a follower has confirmed.
 #[derive(Clone, Copy, Drop)]
 pub enum FollowerState {
     /// There is none.
     Absent,
-    /// It has confirmed all of them.
+    /// All of them.
     Confirmed,
-    /// It hasn't.
+    /// Not all of them.
     Unconfirmed,
 }
 
-/// How the service stands.
+/// The state of the service, as `status` reports it.
 #[derive(Clone, Copy, Drop)]
 pub struct Status<'a> {
     pub version: &'a str,
     /// When it started.
     pub since: Time,
-    /// Until when no change is accepted, where there is such a time.
+    /// Until when no change is accepted, if there is such a time.
     pub quiet_until: Option<Time>,
     pub principals: u64,
     /// The iteration count of new keys.
@@ -37,10 +37,10 @@ pub struct Status<'a> {
     /// The entries of the history, and the changes among them.
     pub entries: u64,
     pub changes: u64,
-    /// The same with those of the histories before it.
+    /// Entries and changes with those of the histories before it.
     pub all_entries: u64,
     pub all_changes: u64,
-    /// The connections that are there, and then how many of them are in each stage.
+    /// The connections that are open, and then how many of them are in each stage.
     pub connections: u64,
     pub reading: u64,
     pub waiting: u64,

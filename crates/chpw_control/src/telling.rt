@@ -1,4 +1,4 @@
-//! The lines of a status.
+//! The lines of the answer to `status`.
 ghost use Rattle.std.specs.Prelude.{◌≡◌, ◌++◌, ◌∷◌, [], codes, true, false, IfOk, OnOk};
 ghost use Rattle.std.specs.Fmt.{decimal};
 ghost use Rattle.std.specs.Option.{ForSome, option_map_or};
@@ -6,13 +6,13 @@ ghost use Rattle.chpw_printing.specs.Quoting.{words_text};
 ghost use Rattle.chpw_control.specs.Answers.{lines_text, ok_line};
 ghost use Rattle.chpw_control.specs.Dialogs.{is_whole};
 ghost use Rattle.chpw_control.specs.Endings.{are_lines};
-ghost use Rattle.chpw_control.specs.Statuses.{AreTold, IsTold, connection_lines, history_lines, keeping_lines, row, service_lines, status_lines, text_of, worker_lines};
+ghost use Rattle.chpw_control.specs.Statuses.{AreTold, IsTold, connection_lines, history_lines, keeping_lines};
+ghost use Rattle.chpw_control.specs.Statuses.{row, service_lines, status_lines, text_of, worker_lines};
 
 use crate::answer::put_ok;
 use crate::status::Status;
 use crate::time::Time;
-use chpw_printing::{put_number, put_words};
-use chpw_times::put_time;
+use chpw_printing::{put_number, put_time, put_words};
 use std::alloc::{AllocError, Global};
 
 /// The whole answer to `status`: the lines of the status, and `ok`.

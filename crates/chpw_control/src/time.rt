@@ -1,6 +1,6 @@
-//! A time that is told.
+//! A time to be printed.
 
-/// A time that is told: seconds since 1970-01-01T00:00:00Z, of the years 0 to 9999, and microseconds, 0 to 999999.
+/// A time to be printed: seconds since 1970-01-01T00:00:00Z, of the years 0 to 9999, and microseconds, 0 to 999999.
 #[derive(Clone, Copy, Drop)]
 pub struct Time {
     pub seconds: i64,

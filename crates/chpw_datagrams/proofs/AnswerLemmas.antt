@@ -1,5 +1,7 @@
 -- What is kept of what was answered.
-use Rattle.std.proofs.Common.{◌≡◌, ℕ, zero, suc, ◌+◌, ◌-◌, ◌<◌, ◌≤◌, List, [], ◌∷◌, ◌++◌, length, take, Bool, true, false, ◌&&◌, cond, Option, Some, None, refl, sym, ◌∙◌, ap, subst, append_assoc, arith, nat_lt, nat_le, nat_eq}
+use Rattle.std.proofs.Common.{◌≡◌, ℕ, zero, suc, ◌+◌, ◌-◌, ◌<◌, ◌≤◌, List, [], ◌∷◌, ◌++◌, length}
+use Rattle.std.proofs.Common.{take, Bool, true, false, ◌&&◌, cond, Option, Some, None, refl, sym}
+use Rattle.std.proofs.Common.{◌∙◌, ap, subst, append_assoc, arith, nat_lt, nat_le, nat_eq}
 use borrow.Author.Tests.{ltb-true, ltb-false}
 use Rattle.std.specs.List.{All, filter, find}
 use Rattle.std.specs.Option.{IfSome, IsSome, option_map, is_some}
@@ -11,7 +13,7 @@ use Rattle.std.proofs.lemmas.Bool.Decides.{Decides-eqb}
 use Rattle.std.proofs.Math.Seq.{take-append-add}
 use Rattle.chpw_datagrams.specs.declared.sender.Sender.{Sender}
 use Rattle.chpw_datagrams.specs.Senders.{is_same_sender}
-use Rattle.chpw_datagrams.specs.Answers.{Answer, is_recent, is_for, size_of, bytes_of, within, behind_keep, reply_for}
+use Rattle.chpw_datagrams.specs.Answers.{Answer, is_recent, is_for, size_of, bytes_of, within, after_keep, reply_for}
 use Rattle.chpw_datagrams.specs.Laws.{kept_behind, WasGiven, GivenAgain, IsRemembered}
 use Rattle.chpw_datagrams.proofs.WithinLemmas.{bytes-cons, bytes-filter, within-fits, within-append}
 
@@ -97,8 +99,8 @@ all_given done kept (b ∷ rest) e =
     let others = each_filter (Given (done ++ b ∷ [])) (is_recent b.moment) kept (each_so (Given done) (Given (done ++ b ∷ [])) (given_on done b) kept e) in
     let newest = each_take (Given (done ++ b ∷ [])) 1024 (b ∷ filter (is_recent b.moment) kept) (one, others) in
     let next = each_within (Given (done ++ b ∷ [])) 4194304 (take 1024 (b ∷ filter (is_recent b.moment) kept)) newest in
-    subst (λ (xs : List Answer). Each (Given xs) (kept_behind (behind_keep kept b) rest)) (append_assoc done (b ∷ []) rest)
-    (all_given (done ++ b ∷ []) (behind_keep kept b) rest next)
+    subst (λ (xs : List Answer). Each (Given xs) (kept_behind (after_keep kept b) rest)) (append_assoc done (b ∷ []) rest)
+    (all_given (done ++ b ∷ []) (after_keep kept b) rest next)
 
 same_sender : (a b : Sender) → is_same_sender a b ≡ true → a ≡ b
 same_sender a b h =
@@ -174,7 +176,7 @@ stands_in a front rest later few few_bytes =
       few_bytes = few_bytes;
     }
 
-stands_on : (a b : Answer) (kept later : List Answer) → is_recent b.moment a ≡ true → Stands a kept (b ∷ later) → Stands a (behind_keep kept b) later
+stands_on : (a b : Answer) (kept later : List Answer) → is_recent b.moment a ≡ true → Stands a kept (b ∷ later) → Stands a (after_keep kept b) later
 stands_on a b kept later recent s =
     let p = is_recent b.moment in
     let still : filter p (a ∷ s.rest) ≡ a ∷ filter p s.rest = ap (λ (t : Bool). cond t (a ∷ filter p s.rest) (filter p s.rest)) recent in
@@ -199,12 +201,12 @@ stands_behind a now kept [] recent ascending s = s
 stands_behind a now kept (b ∷ later) recent ascending s =
     let before : b.moment ≤ now = first_of_all (λ (c : Answer). c.moment ≤ now) b later ascending in
     let still : is_recent b.moment a ≡ true = less_true (b.moment - a.moment) 5000 (omega (arith, before, recent)) in
-    stands_behind a now (behind_keep kept b) later recent (others_of_all (λ (c : Answer). c.moment ≤ now) b later ascending)
+    stands_behind a now (after_keep kept b) later recent (others_of_all (λ (c : Answer). c.moment ≤ now) b later ascending)
     (stands_on a b kept later still s)
 
 behind_append : (kept xs ys : List Answer) → kept_behind kept (xs ++ ys) ≡ kept_behind (kept_behind kept xs) ys
 behind_append kept [] ys = refl
-behind_append kept (x ∷ xs) ys = behind_append (behind_keep kept x) xs ys
+behind_append kept (x ∷ xs) ys = behind_append (after_keep kept x) xs ys
 
 finds : (p : Answer → Bool) (front rest : List Answer) (a : Answer) → p a ≡ true → IsSome (find p (front ++ a ∷ rest))
 finds p [] rest a h = ap (λ (b : Bool). is_some (cond b (Some a) (find p rest))) h
@@ -221,9 +223,9 @@ some_reply (Some a) h = refl
 pub is_remembered : IsRemembered
 is_remembered before later a now recent ascending few few_bytes =
     let kept = kept_behind [] before in
-    let first : Stands a (behind_keep kept a) later =
+    let first : Stands a (after_keep kept a) later =
     stands_in a [] (filter (is_recent a.moment) kept) later (omega (arith, few)) (omega (arith, bytes-cons a later, few_bytes)) in
-    let s = stands_behind a now (behind_keep kept a) later recent ascending first in
+    let s = stands_behind a now (after_keep kept a) later recent ascending first in
     let p : Answer → Bool = λ b. is_for a.sender a.message b && is_recent now b in
     let same : is_for a.sender a.message a ≡ true =
     both_true (is_same_sender a.sender a.sender) (bytes_eq a.message a.message)

@@ -1,12 +1,13 @@
 -- How answers are kept in a row of them.
-use Rattle.std.proofs.Common.{◌≡◌, ℕ, zero, suc, ◌<◌, List, [], ◌∷◌, ◌++◌, take, map, Bool, true, false, ◌&&◌, cond, nat_lt, Option, Some, None, Bor, refl, sym, ◌∙◌, ap, subst}
+use Rattle.std.proofs.Common.{◌≡◌, ℕ, zero, suc, ◌<◌, List, [], ◌∷◌, ◌++◌, take, map, Bool, true, false}
+use Rattle.std.proofs.Common.{◌&&◌, cond, nat_lt, Option, Some, None, Bor, refl, sym, ◌∙◌, ap, subst}
 use Rattle.std.specs.List.{filter, find}
 use Rattle.std.specs.Option.{option_map, option_to_list, IfSome, IfNone}
 use Rattle.std.proofs.lemmas.Bool.{ltb-true}
 use Rattle.std.proofs.lemmas.List.{append-nil, map-append}
 use Rattle.chpw_datagrams.specs.declared.kept.Kept.{Kept}
 use Rattle.chpw_datagrams.specs.declared.sender.Sender.{Sender}
-use Rattle.chpw_datagrams.specs.Answers.{Answer, is_for, is_recent, bytes_of, within, behind_keep, reply_for}
+use Rattle.chpw_datagrams.specs.Answers.{Answer, is_for, is_recent, bytes_of, within, after_keep, reply_for}
 use Rattle.chpw_datagrams.specs.Fields.{answer_of, answers_of}
 use Rattle.chpw_datagrams.proofs.WithinLemmas.{within-push}
 
@@ -21,7 +22,9 @@ reply_in_both : (xs ys : List Kept) (sender : Sender) (message : List ℕ) (now 
     → reply_for (answers_of (xs ++ ys)) sender message now
     ≡ or_else (reply_for (answers_of xs) sender message now) (reply_for (answers_of ys) sender message now)
 reply_in_both [] ys sender message now = refl
-reply_in_both (x ∷ xs) ys sender message now = by_test (is_for sender message (answer_of x) && is_recent now (answer_of x)) (reply_in_both xs ys sender message now)
+reply_in_both (x ∷ xs) ys sender message now =
+    by_test (is_for sender message (answer_of x) && is_recent now (answer_of x))
+    (reply_in_both xs ys sender message now)
   where
     test : Answer → Bool
     test a = is_for sender message a && is_recent now a
@@ -72,12 +75,14 @@ map_filter : {X Y : Type 0} (f : X → Y) (p : Y → Bool) (xs : List X) → map
 map_filter f p [] = refl
 map_filter {X} {Y} f p (x ∷ xs) = by_test (p (f x)) (map_filter f p xs)
   where
-    by_test : (b : Bool) → map f (filter (λ (y : X). p (f y)) xs) ≡ filter p (map f xs) → map f (cond b (x ∷ filter (λ (y : X). p (f y)) xs) (filter (λ (y : X). p (f y)) xs)) ≡ cond b (f x ∷ filter p (map f xs)) (filter p (map f xs))
+    by_test : (b : Bool) → map f (filter (λ (y : X). p (f y)) xs) ≡ filter p (map f xs)
+        → map f (cond b (x ∷ filter (λ (y : X). p (f y)) xs) (filter (λ (y : X). p (f y)) xs))
+        ≡ cond b (f x ∷ filter p (map f xs)) (filter p (map f xs))
     by_test true others = ap (λ (ys : List Y). f x ∷ ys) others
     by_test false others = others
 
 pub kept_is : (k : Kept) (recent : List Kept) (old : List Kept) → recent ≡ filter (λ (x : Kept). is_recent k.moment (answer_of x)) old
-    → within 4194304 (answers_of (k ∷ take 1023 recent)) ≡ behind_keep (answers_of old) (answer_of k)
+    → within 4194304 (answers_of (k ∷ take 1023 recent)) ≡ after_keep (answers_of old) (answer_of k)
 kept_is k recent old e =
     ap (λ (xs : List Answer). within 4194304 (answer_of k ∷ xs))
     (map_take answer_of 1023 recent ∙ ap (λ (xs : List Answer). take 1023 xs) (ap answers_of e ∙ map_filter answer_of (is_recent k.moment) old))
@@ -89,5 +94,7 @@ pub within_without_last : (old new : List Kept) (last : Option Kept) → old ≡
 within_without_last old new None e h = ap (λ (xs : List Kept). within 4194304 (answers_of xs)) (e ∙ append-nil new)
 within_without_last old new (Some k) e h =
     let parts : answers_of old ≡ answers_of new ++ answer_of k ∷ [] = ap answers_of e ∙ map-append answer_of new (k ∷ []) in
-    let more : 4194304 < bytes_of (answers_of new ++ answer_of k ∷ []) = ltb-true 4194304 (bytes_of (answers_of new ++ answer_of k ∷ [])) (subst (λ (xs : List Answer). nat_lt 4194304 (bytes_of xs) ≡ true) parts h) in
+    let more : 4194304 < bytes_of (answers_of new ++ answer_of k ∷ []) =
+    ltb-true 4194304 (bytes_of (answers_of new ++ answer_of k ∷ []))
+    (subst (λ (xs : List Answer). nat_lt 4194304 (bytes_of xs) ≡ true) parts h) in
     ap (within 4194304) parts ∙ within-push 4194304 (answers_of new) (answer_of k) more

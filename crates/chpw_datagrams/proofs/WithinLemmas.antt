@@ -1,11 +1,12 @@
 -- The longest beginning that has no more than so many bytes.
-use Rattle.std.proofs.Common.{◌≡◌, ℕ, ◌+◌, ◌-◌, ◌<◌, ◌≤◌, List, [], ◌∷◌, ◌++◌, length, take, Bool, true, false, not, cond, nat_le, refl, sym, ◌∙◌, ap, subst, inl, inr, ◌⊎◌, arith}
+use Rattle.std.proofs.Common.{◌≡◌, ℕ, ◌+◌, ◌-◌, ◌<◌, ◌≤◌, List, [], ◌∷◌, ◌++◌, length, take, Bool, true}
+use Rattle.std.proofs.Common.{false, not, cond, nat_le, refl, sym, ◌∙◌, ap, subst, inl, inr, ◌⊎◌, arith}
 use Rattle.std.specs.List.{filter}
 use Rattle.std.proofs.lemmas.Bool.{cases_lt, le-leb, leb-true}
 use Rattle.std.proofs.lemmas.List.Sums.{sum_by-cons}
 use Rattle.std.proofs.lemmas.List.Filters.{sum_by-filter_both}
 use Rattle.std.proofs.lemmas.List.{length-take}
-use Rattle.chpw_datagrams.specs.Answers.{Answer, is_recent, size_of, bytes_of, within, behind_keep}
+use Rattle.chpw_datagrams.specs.Answers.{Answer, is_recent, size_of, bytes_of, within, after_keep}
 
 -- ---- the first one, which fits or doesn't
 
@@ -88,7 +89,7 @@ length-within bytes (a ∷ answers) = by_test (nat_le (size_of a) bytes) (length
 pub bytes-filter : (p : Answer → Bool) (answers : List Answer) → bytes_of (filter p answers) ≤ bytes_of answers
 bytes-filter p answers = omega (arith, sum_by-filter_both p (λ a. not (p a)) (λ _. refl) size_of answers)
 
-pub few_kept : (answers : List Answer) (a : Answer) → length (behind_keep answers a) ≤ 1024
+pub few_kept : (answers : List Answer) (a : Answer) → length (after_keep answers a) ≤ 1024
 few_kept answers a =
     let all = a ∷ filter (is_recent a.moment) answers in
     omega (arith, length-within 4194304 (take 1024 all), length-take 1024 all)

@@ -33,9 +33,10 @@ abbrev pub within : ℕ → List Answer → List Answer
 within bytes [] = []
 within bytes (a ∷ answers) = if nat_le (size_of a) bytes then a ∷ within (bytes - size_of a) answers else []
 
--- no more than 1,024 are kept, with 4 MiB of messages and replies, the newest first, and none that isn't recent beside a new one
-abbrev pub behind_keep : List Answer → Answer → List Answer
-behind_keep answers a = within 4194304 (take 1024 (a ∷ filter (is_recent a.moment) answers))
+-- at most 1,024 are kept, with 4 MiB of messages and replies, the newest first, and none that isn't recent beside a new
+-- one
+abbrev pub after_keep : List Answer → Answer → List Answer
+after_keep answers a = within 4194304 (take 1024 (a ∷ filter (is_recent a.moment) answers))
 
 -- the reply that this message gets again: that of the newest
 abbrev pub reply_for : List Answer → Sender → List ℕ → ℕ → Option (List ℕ)

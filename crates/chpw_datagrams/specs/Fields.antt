@@ -1,4 +1,4 @@
--- How `Answered` spells what has been answered.
+-- How `Answered` represents what has been answered.
 use Rattle.std.specs.Prelude.{List, map}
 use Rattle.chpw_datagrams.specs.declared.kept.Kept.{Kept}
 use Rattle.chpw_datagrams.specs.Answers.{Answer}

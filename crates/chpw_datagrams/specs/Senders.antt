@@ -11,7 +11,7 @@ kpasswd_port = 464
 abbrev pub is_same_sender : Sender → Sender → Bool
 is_same_sender a b = bytes_eq a.address b.address && (a.port == b.port)
 
--- it was sent by a service, this one or another: two that answered each other would never end
+-- it was sent by a service, this one or another: two services would answer each other without end
 abbrev pub is_from_service : ℕ → Sender → Bool
 is_from_service own_port sender = (sender.port == kpasswd_port) || (sender.port == own_port)
 

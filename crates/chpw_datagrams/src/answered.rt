@@ -1,7 +1,7 @@
 //! What has been answered, and gets the same reply again.
 ghost use Rattle.std.specs.Prelude.{◌≡◌, ◌≤◌, ◌-◌, ◌^◌, [], length, min, nat_lt, IfOk, IfSome, IfNone, Some, None};
 ghost use Rattle.std.specs.VecDeque.{deque_capacity};
-ghost use Rattle.chpw_datagrams.specs.Answers.{behind_keep, bytes_of, reply_for, within};
+ghost use Rattle.chpw_datagrams.specs.Answers.{after_keep, bytes_of, reply_for, within};
 ghost use Rattle.chpw_datagrams.specs.Fields.{answers_of};
 
 use crate::kept::Kept;
@@ -10,10 +10,10 @@ use std::alloc::{AllocError, Global};
 use std::collections::VecDeque;
 use std::marker::Model;
 
-/// So many answers are kept, at the most.
+/// The most answers that are kept.
 pub const MAX_ANSWERS: usize = 1_024;
 
-/// So many bytes of messages and replies are kept, at the most.
+/// The most bytes of messages and replies that are kept.
 pub const MAX_BYTES: usize = 4_194_304;
 
 /// The answers that are kept, the newest first. Moments are milliseconds of a clock that doesn't go back.
@@ -44,8 +44,8 @@ impl Answered {
         Ok(Answered { kept })
     }
 
-    /// The reply that this message gets again: the newest one that the very bytes got from this sender within the last five
-    /// seconds, as far as it is kept.
+    /// The reply that this message gets again: the newest kept one that the very bytes got from this sender less than
+    /// five seconds ago.
     pub fn find(&self, sender: Sender, message: &[u8], now: u64) -> Option<&[u8]>
         ensures some { IfSome result (λ reply. reply_for self.now sender message.now now ≡ Some reply.now) }
         ensures none { IfNone result (reply_for self.now sender message.now now ≡ None) }
@@ -57,10 +57,10 @@ impl Answered {
         }
     }
 
-    /// A message was answered with this reply. Answers of five seconds ago, and older ones, are dropped, and then the oldest
-    /// ones, where there are too many or they hold too many bytes. Behind one that holds too many by itself nothing is kept.
+    /// A message was answered with this reply. Answers of five seconds ago and older are dropped, and then the oldest
+    /// ones, while there are too many or they hold too many bytes. If this one holds too many by itself, none is kept.
     pub fn keep(&mut self, sender: Sender, message: Vec<u8>, reply: Vec<u8>, now: u64)
-        ensures value { self.new ≡ behind_keep self.old (record { sender = sender; message = message.items; reply = reply.items; moment = now }) }
+        ensures value { self.new ≡ after_keep self.old (record { sender = sender; message = message.items; reply = reply.items; moment = now }) }
         ensures few { length self.new ≤ 1024 }
         ensures bytes { bytes_of self.new ≤ 4194304 }
     {
@@ -87,7 +87,7 @@ fn drop_oldest(kept: &mut VecDeque<Kept>)
     }
 }
 
-// Whether these hold more bytes than are kept.
+// Whether these hold more bytes than may be kept.
 fn holds_too_many_bytes(kept: &VecDeque<Kept>) -> bool
     ensures value { result ≡ nat_lt 4194304 (bytes_of (answers_of kept.now.items)) }
 {
@@ -95,7 +95,7 @@ fn holds_too_many_bytes(kept: &VecDeque<Kept>) -> bool
     bytes_in(newer).saturating_add(bytes_in(older)) > MAX_BYTES
 }
 
-// How many bytes these hold, as far as they can be counted.
+// How many bytes these hold, up to the greatest number that can be counted.
 fn bytes_in(kept: &[Kept]) -> usize
     ensures value { result ≡ min (2 ^ 64 - 1) (bytes_of (answers_of kept.now)) }
 {

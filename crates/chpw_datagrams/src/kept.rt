@@ -5,7 +5,7 @@ ghost use Rattle.chpw_datagrams.specs.Fields.{answer_of};
 
 use crate::sender::Sender;
 
-/// For so many milliseconds an answer is given again.
+/// For this many milliseconds an answer is given again.
 pub const MAX_AGE: u64 = 5_000;
 
 /// A message, its reply, and the moment of that in milliseconds.
@@ -18,7 +18,7 @@ pub(crate) struct Kept {
 }
 
 impl Kept {
-    // Whether it was given within the last five seconds.
+    // Whether it was given less than five seconds ago.
     pub(crate) fn is_recent(&self, now: u64) -> bool
         ensures value { result ≡ is_recent_answer now (answer_of self.now) }
     {

@@ -1,5 +1,5 @@
 //! Messages that come in datagrams (RFC 3244 section 2): which of them are answered, and which get the reply again that
-//! was given before. No socket, clock or thread is in it.
+//! was given before. Without sockets, clock or threads.
 #![tactic(auto)]
 
 mod answered;

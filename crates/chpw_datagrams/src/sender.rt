@@ -30,8 +30,8 @@ impl Sender {
     }
 }
 
-/// Whether a datagram is answered: one that has a whole frame with an AP-REQ in it, and comes neither from port 464 nor
-/// from the service's own.
+/// Whether a datagram is answered: one that is a whole frame with an AP-REQ in it, and comes neither from port 464 nor
+/// from the service's own port.
 pub fn is_answerable(sender: Sender, own_port: u16, message: &[u8]) -> bool
     ensures value { result ≡ is_answered own_port sender message.now }
 {

@@ -5,7 +5,8 @@ use Rattle.chpw_table.specs.declared.raising.Raise.{Raise}
 use Rattle.chpw_table.specs.declared.raising.Full.{Full}
 use Rattle.chpw_table.specs.Agreement.{Held}
 
-pub still_room : (b c io : Bool) (before after : ℕ) → (b ≡ false → before < 2 ^ 64 - 1) → c ≡ (b || io) → after ≡ (if io then before + 1 else before) → c ≡ false → after < 2 ^ 64 - 1
+pub still_room : (b c io : Bool) (before after : ℕ) → (b ≡ false → before < 2 ^ 64 - 1)
+    → c ≡ (b || io) → after ≡ (if io then before + 1 else before) → c ≡ false → after < 2 ^ 64 - 1
 still_room true c io before after h e a f = cc
 still_room false c true before after h e a f = cc
 still_room false c false before after h e a f = subst (λ (n : ℕ). n < 2 ^ 64 - 1) (sym a) (h refl)

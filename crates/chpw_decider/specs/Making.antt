@@ -18,7 +18,7 @@ abbrev pub name_done : Opened → Verdict → Option Name
 name_done o Done = Some (target_of o).name
 name_done o v = None
 
--- whose key an event changed
+-- the principal whose key an event changed
 abbrev pub name_changed : Event → Option Name
 name_changed (Ask o v) = name_done o v
 name_changed (Raise count v) = None
@@ -32,6 +32,6 @@ kvno_made t r =
 abbrev pub newest_made : Held → List Receipt → Option ℕ
 newest_made t receipts = option_flatten (option_map (kvno_made t) (slice_get receipts (length receipts - 1)))
 
--- a table that one thread has alone tells this
+-- a table that one thread owns answers this
 abbrev pub Makes : Kept → Option ℕ → Type 0
 Makes k kvno = kvno ≡ newest_made k.table k.receipts

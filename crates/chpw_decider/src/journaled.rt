@@ -1,5 +1,6 @@
 //! A table with the sink of its journal.
-ghost use Rattle.std.specs.Prelude.{◌≡◌, ◌≤◌, ◌+◌, ◌-◌, ◌^◌, ◌<◌, ◌++◌, ◌&&◌, ◌||◌, if◌then◌else◌, true, false, All, IfOk, IfErr, IfSome, OnOk, OnErr, option_map};
+ghost use Rattle.std.specs.Prelude.{◌≡◌, ◌≤◌, ◌+◌, ◌-◌, ◌^◌, ◌<◌, ◌++◌, ◌&&◌, ◌||◌, if◌then◌else◌};
+ghost use Rattle.std.specs.Prelude.{true, false, All, IfOk, IfErr, IfSome, OnOk, OnErr, option_map};
 ghost use Rattle.chpw_rules.specs.Limits.{is_in, entry_counts, iteration_counts};
 ghost use Rattle.chpw_table.specs.declared.verdict.Verdict.TheVariants.{Broken};
 ghost use Rattle.chpw_table.specs.Verdicts.{is_done};
@@ -19,8 +20,8 @@ use chpw_table::{
     Counts, Full, JournalSink, Lookup, Moment, Opened, Outcome, Prepared, Raise, Refused, Table,
 };
 
-/// A table and the sink that its changes go to. The sink's count of failures has room for one more, or
-/// the table is broken.
+/// A table and the sink that its changes are appended to. The sink's count of failures has room for one more, or the
+/// table is broken.
 #[derive(Drop)]
 pub struct JournaledTable<S: JournalSink> {
     pub(crate) table: Table,
@@ -29,7 +30,7 @@ pub struct JournaledTable<S: JournalSink> {
 }
 
 impl<S: JournalSink> JournaledTable<S> {
-    /// Both together.
+    /// Table and sink together.
     pub fn of(table: Table, sink: S) -> JournaledTable<S>
         requires room { table.state.broken ≡ false → S.failed sink < 2 ^ 64 - 1 }
         ensures table { result.table ≡ table }
@@ -38,7 +39,7 @@ impl<S: JournalSink> JournaledTable<S> {
         JournaledTable { table, sink }
     }
 
-    /// Prepares a step, with all that it takes of memory (`Table::prepare`). Both stay as they are.
+    /// Prepares a step, with all the memory that it takes (`Table::prepare`). Both stay unchanged.
     pub fn prepare(&mut self, now: Moment, opened: Opened) -> Result<Prepared, Refused>
         requires moment { IsMoment now }
         ensures ready { IfOk result (λ p. IsReady self.old.table p) }
@@ -98,7 +99,7 @@ impl<S: JournalSink> JournaledTable<S> {
         self.table.lookup(name)
     }
 
-    /// The counts that a decision wants and the digest lacks (`Table::missing`).
+    /// The counts that a decision needs and the digest lacks (`Table::missing`).
     pub fn missing(&self, now: Moment, opened: &Opened) -> Counts
         ensures value { result ≡ missing self.now.table.state now opened.now }
         ensures positive { All (λ n. 1 ≤ n) result }
@@ -113,7 +114,7 @@ impl<S: JournalSink> JournaledTable<S> {
         &self.table
     }
 
-    /// Takes them apart.
+    /// Takes table and sink apart.
     pub fn into_parts(self) -> (Table, S)
         ensures value { result ≡ (self.table, self.sink) }
         ensures room { result.0.state.broken ≡ false → S.failed result.1 < 2 ^ 64 - 1 }

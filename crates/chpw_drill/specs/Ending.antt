@@ -9,11 +9,11 @@ abbrev pub status_of : {T : Type 0} → Result T DrillFault → ℕ
 status_of (Ok x) = 0
 status_of (Err fault) = 1
 
--- 0 only where no line is bad, and all that the script prints is out
+-- 0 only if no line is bad, and all that the script prints is written
 abbrev pub IsEnding : Drilled → ℕ → Option (List ℕ) → Option (List ℕ) → Type 0
 IsEnding d status old new = (status ≡ 1) ⊎ ((status ≡ 0) × (d.bad ≡ None) × Appends old new d.output)
 
--- the fault's line, where there is a fault
+-- the fault's line, if there is a fault
 abbrev pub line_of : {T : Type 0} → Result T DrillFault → List ℕ
 line_of (Ok x) = []
 line_of (Err fault) = fault_text fault ++ 10 ∷ []

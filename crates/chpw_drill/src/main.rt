@@ -11,7 +11,7 @@ use std::alloc::Global;
 use std::io::{self, Read, Write};
 use std::process::ExitCode;
 
-/// Ends with 0; with 1 after a fault, which is told in a line on standard error.
+/// Ends with 0; with 1 after a fault, which has a line on standard error.
 fn main(rt: HostRuntime) -> ExitCode {
     let stderr = rt.stderr();
     let mut errors = io::writer(&stderr);
@@ -19,7 +19,7 @@ fn main(rt: HostRuntime) -> ExitCode {
     ExitCode::from(drill(rt.alloc(), &mut rt.reader(), &mut output, &mut errors))
 }
 
-/// Runs the script that the reader gives, and tells a fault; the exit status.
+/// Runs the script that the reader gives, and reports a fault; the exit status.
 fn drill<R: Read, W: Write, E: Write>(
     alloc: Global,
     reader: &mut R,

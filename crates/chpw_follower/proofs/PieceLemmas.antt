@@ -6,13 +6,13 @@ use Rattle.std.specs.Str.{bytes_eq}
 use Rattle.std.proofs.lemmas.List.{append-nil}
 use Rattle.std.proofs.lemmas.Slice.Eq.{starts_is, bytes_eq-Decides}
 use Rattle.std.proofs.lemmas.Bool.Decides.{Decides-eqb}
-use Rattle.chpw_follower.specs.Asks.{Asked, State, line_of, with_more, is_answer, is_begun, behind_answer, behind_bytes}
+use Rattle.chpw_follower.specs.Asks.{Asked, State, line_of, with_more, is_answer, is_begun, after_answer, after_bytes}
 use Rattle.chpw_follower.specs.Runs.{Piecewise}
 use Rattle.chpw_follower.proofs.LineLemmas.{same_ends, starts_ends}
 
 -- behind an answer, by what it is
 pub decided : (s : State) (a : Asked) (whole begun : Bool) → is_answer a ≡ whole → is_begun a ≡ begun
-    → behind_answer s a
+    → after_answer s a
     ≡ cond whole (Some (record { wanted = s.wanted; confirmed = a.mark; asked = None }))
     (cond begun (Some (record { wanted = s.wanted; confirmed = s.confirmed; asked = Some a })) None)
 decided s a whole begun e f =
@@ -42,7 +42,7 @@ true_false true e f = cc
 true_false false e f = cc
 
 -- the answer with one byte more than its line
-too_long : (s : State) (a : Asked) (x : ℕ) (xs : List ℕ) → a.said ≡ line_of a.mark → behind_answer s (with_more a (x ∷ xs)) ≡ None
+too_long : (s : State) (a : Asked) (x : ℕ) (xs : List ℕ) → a.said ≡ line_of a.mark → after_answer s (with_more a (x ∷ xs)) ≡ None
 too_long s a x xs e =
     let line = line_of a.mark in
     let all : a.said ++ [] ≡ line = append-nil a.said ∙ e in
@@ -53,7 +53,7 @@ too_long s a x xs e =
     decided s (with_more a (x ∷ xs)) false false other longer
 
 -- more behind a text that is no beginning of the line
-still_wrong : (s : State) (a : Asked) (more : List ℕ) → is_begun a ≡ false → behind_answer s (with_more a more) ≡ None
+still_wrong : (s : State) (a : Asked) (more : List ℕ) → is_begun a ≡ false → after_answer s (with_more a more) ≡ None
 still_wrong s a more h =
     let line = line_of a.mark in
     decided s (with_more a more) false false
@@ -61,9 +61,11 @@ still_wrong s a more h =
     (not_true (starts_with nat_eq line (a.said ++ more)) (λ e. true_false (is_begun a) (starts_front line a.said more e) h))
 
 -- behind what was said, more is said
-behind_more : (s : State) (a : Asked) (more : List ℕ) (whole begun : Bool) → is_answer a ≡ whole → is_begun a ≡ begun
-    → behind_answer s (with_more a more) ≡ option_and_then (λ (t : State). behind_bytes t more) (behind_answer s a)
-behind_more s a more whole begun e f = by_answer whole begun e f more ∙ ap (λ (o : Option State). option_and_then (λ (t : State). behind_bytes t more) o) (sym (decided s a whole begun e f))
+after_more : (s : State) (a : Asked) (more : List ℕ) (whole begun : Bool) → is_answer a ≡ whole → is_begun a ≡ begun
+    → after_answer s (with_more a more) ≡ option_and_then (λ (t : State). after_bytes t more) (after_answer s a)
+after_more s a more whole begun e f =
+    by_answer whole begun e f more ∙ ap (λ (o : Option State). option_and_then (λ (t : State). after_bytes t more) o)
+    (sym (decided s a whole begun e f))
   where
     after : Bool → Bool → Option State
     after w b =
@@ -71,7 +73,7 @@ behind_more s a more whole begun e f = by_answer whole begun e f more ∙ ap (λ
         (cond b (Some (record { wanted = s.wanted; confirmed = s.confirmed; asked = Some a })) None)
 
     by_answer : (w b : Bool) → is_answer a ≡ w → is_begun a ≡ b → (ys : List ℕ)
-        → behind_answer s (with_more a ys) ≡ option_and_then (λ (t : State). behind_bytes t ys) (after w b)
+        → after_answer s (with_more a ys) ≡ option_and_then (λ (t : State). after_bytes t ys) (after w b)
     by_answer true b g h [] =
         let all : is_answer (with_more a []) ≡ true = ap (λ (xs : List ℕ). bytes_eq xs (line_of a.mark)) (append-nil a.said) ∙ g in
         decided s (with_more a []) true (is_begun (with_more a [])) all refl
@@ -80,15 +82,15 @@ behind_more s a more whole begun e f = by_answer whole begun e f more ∙ ap (λ
     by_answer false false g h ys = still_wrong s a ys h
 
 pieces_by : (wanted confirmed : ℕ) (asked : Option Asked) (bytes more : List ℕ)
-    → behind_bytes (record { wanted = wanted; confirmed = confirmed; asked = asked }) (bytes ++ more)
-    ≡ option_and_then (λ (t : State). behind_bytes t more) (behind_bytes (record { wanted = wanted; confirmed = confirmed; asked = asked }) bytes)
+    → after_bytes (record { wanted = wanted; confirmed = confirmed; asked = asked }) (bytes ++ more)
+    ≡ option_and_then (λ (t : State). after_bytes t more) (after_bytes (record { wanted = wanted; confirmed = confirmed; asked = asked }) bytes)
 pieces_by wanted confirmed None [] more = refl
 pieces_by wanted confirmed None (b ∷ bs) more = refl
 pieces_by wanted confirmed (Some a) bytes more =
     let s : State = record { wanted = wanted; confirmed = confirmed; asked = Some a } in
     let all : a.said ++ (bytes ++ more) ≡ (a.said ++ bytes) ++ more = sym (append_assoc a.said bytes more) in
-    ap (λ (said : List ℕ). behind_answer s (record { mark = a.mark; said = said })) all
-    ∙ behind_more s (with_more a bytes) more (is_answer (with_more a bytes)) (is_begun (with_more a bytes)) refl refl
+    ap (λ (said : List ℕ). after_answer s (record { mark = a.mark; said = said })) all
+    ∙ after_more s (with_more a bytes) more (is_answer (with_more a bytes)) (is_begun (with_more a bytes)) refl refl
 
 pub piecewise : Piecewise
 piecewise s bytes more = pieces_by s.wanted s.confirmed s.asked bytes more

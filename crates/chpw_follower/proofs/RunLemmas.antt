@@ -1,9 +1,10 @@
 -- What is kept whatever happens.
-use Rattle.std.proofs.Common.{◌≡◌, ℕ, ◌<◌, ◌≤◌, List, [], ◌∷◌, ◌++◌, Bool, true, false, ◌&&◌, cond, Option, Some, None, max, inl, inr, ◌⊎◌, refl, sym, ◌∙◌, ap, subst, append_assoc, arith, nat_lt}
+use Rattle.std.proofs.Common.{◌≡◌, ℕ, ◌<◌, ◌≤◌, List, [], ◌∷◌, ◌++◌, Bool, true, false, ◌&&◌, cond, Option, Some}
+use Rattle.std.proofs.Common.{None, max, inl, inr, ◌⊎◌, refl, sym, ◌∙◌, ap, subst, append_assoc, arith, nat_lt}
 use borrow.Author.Tests.{ltb-true, ltb-false}
 use Rattle.std.specs.Option.{unwrap_or, IfSome, is_none}
 use Rattle.std.proofs.lemmas.List.{append-nil}
-use Rattle.chpw_follower.specs.Asks.{Asked, State, at_start, asks_now, behind_ask, behind_bytes, with_more, is_answer, is_begun}
+use Rattle.chpw_follower.specs.Asks.{Asked, State, at_start, asks_now, after_ask, after_bytes, with_more, is_answer, is_begun}
 use Rattle.chpw_follower.specs.Runs.{Event, wants, asks, says, loses, behind, run, state_after, Lasts, NeverFalls, IsWaitedFor, ForAChange}
 use Rattle.chpw_follower.proofs.PieceLemmas.{decided}
 
@@ -26,7 +27,7 @@ by_events P first step events = further [] at_start refl first events
 -- what holds behind an ask
 pub by_ask : (P : State → Type 0) (s : State)
     → (asks_now s ≡ true → P (record { wanted = s.wanted; confirmed = s.confirmed; asked = Some (record { mark = s.wanted; said = [] }) }))
-    → P s → P (behind_ask s)
+    → P s → P (after_ask s)
 by_ask P s asking idle = by_test (asks_now s) asking
   where
     asked : State
@@ -43,7 +44,8 @@ pub by_bytes : (P : State → Type 0) (wanted confirmed : ℕ) (asked : Option A
     → P (record { wanted = wanted; confirmed = confirmed; asked = None })
     → ((a : Asked) → asked ≡ Some a → is_answer (with_more a bytes) ≡ true → P (record { wanted = wanted; confirmed = a.mark; asked = None }))
     → ((a : Asked) → asked ≡ Some a → P (record { wanted = wanted; confirmed = confirmed; asked = Some (with_more a bytes) }))
-    → P (unwrap_or (behind_bytes (record { wanted = wanted; confirmed = confirmed; asked = asked }) bytes) (record { wanted = 0; confirmed = confirmed; asked = None }))
+    → P (unwrap_or (after_bytes (record { wanted = wanted; confirmed = confirmed; asked = asked }) bytes)
+    (record { wanted = 0; confirmed = confirmed; asked = None }))
 by_bytes P wanted confirmed None [] lost idle whole begun = idle
 by_bytes P wanted confirmed None (b ∷ bs) lost idle whole begun = lost
 by_bytes P wanted confirmed (Some a) bytes lost idle whole begun =
@@ -56,7 +58,8 @@ by_bytes P wanted confirmed (Some a) bytes lost idle whole begun =
         → P (record { wanted = wanted; confirmed = confirmed; asked = Some (with_more a bytes) })
         → P (record { wanted = 0; confirmed = confirmed; asked = None })
         → P (unwrap_or (cond w (Some (record { wanted = wanted; confirmed = a.mark; asked = None }))
-        (cond b (Some (record { wanted = wanted; confirmed = confirmed; asked = Some (with_more a bytes) })) None)) (record { wanted = 0; confirmed = confirmed; asked = None }))
+        (cond b (Some (record { wanted = wanted; confirmed = confirmed; asked = Some (with_more a bytes) })) None))
+        (record { wanted = 0; confirmed = confirmed; asked = None }))
     by_tests true b h g l = h refl
     by_tests false true h g l = g
     by_tests false false h g l = l
@@ -76,22 +79,26 @@ record Grows (least : ℕ) (s : State) : Type 0 where
   asked : IfSome s.asked (λ (a : Asked). s.confirmed ≤ a.mark)
   grows : least ≤ s.confirmed
 
-grows_behind : (least : ℕ) (s : State) (e : Event) → Grows least s → Grows least (behind s e)
-grows_behind least s (wants mark) g = record { asked = g.asked; grows = g.grows }
-grows_behind least s asks g =
+grows_after : (least : ℕ) (s : State) (e : Event) → Grows least s → Grows least (behind s e)
+grows_after least s (wants mark) g = record { asked = g.asked; grows = g.grows }
+grows_after least s asks g =
     by_ask (λ (t : State). Grows least t) s
     (λ h. record { asked = (let more : s.confirmed < s.wanted = asks_more s h in omega arith); grows = g.grows }) g
-grows_behind least s (says bytes) g =
+grows_after least s (says bytes) g =
     by_bytes (λ (t : State). Grows least t) s.wanted s.confirmed s.asked bytes
     (record { asked = tt; grows = g.grows })
     (record { asked = tt; grows = g.grows })
-    (λ a is h. record { asked = tt; grows = (let more : s.confirmed ≤ a.mark = subst (λ (o : Option Asked). IfSome o (λ (b : Asked). s.confirmed ≤ b.mark)) is g.asked in omega (arith, g.grows)) })
+    (λ a is h. record {
+      asked = tt;
+      grows = (let more : s.confirmed ≤ a.mark = subst (λ (o : Option Asked). IfSome o
+          (λ (b : Asked). s.confirmed ≤ b.mark)) is g.asked in omega (arith, g.grows));
+    })
     (λ a is. record { asked = subst (λ (o : Option Asked). IfSome o (λ (b : Asked). s.confirmed ≤ b.mark)) is g.asked; grows = g.grows })
-grows_behind least s loses g = record { asked = tt; grows = g.grows }
+grows_after least s loses g = record { asked = tt; grows = g.grows }
 
 grows_on : (least : ℕ) (s : State) (es : List Event) → Grows least s → Grows least (run s es)
 grows_on least s [] g = g
-grows_on least s (e ∷ es) g = grows_on least (behind s e) es (grows_behind least s e g)
+grows_on least s (e ∷ es) g = grows_on least (behind s e) es (grows_after least s e g)
 
 pub never_falls : NeverFalls
 never_falls events more =
@@ -121,8 +128,8 @@ waits_on events mark e lasts (inr w) = inr (record {
   lasts = lasts_append w.later (e ∷ []) w.lasts lasts;
 })
 
-waits_behind : (done : List Event) (s : State) (e : Event) → s ≡ state_after done → Waits done s.wanted → Waits (done ++ e ∷ []) (behind s e).wanted
-waits_behind done s (wants mark) is w = by_order (nat_lt s.wanted mark) refl
+waits_after : (done : List Event) (s : State) (e : Event) → s ≡ state_after done → Waits done s.wanted → Waits (done ++ e ∷ []) (behind s e).wanted
+waits_after done s (wants mark) is w = by_order (nat_lt s.wanted mark) refl
   where
     by_order : (b : Bool) → nat_lt s.wanted mark ≡ b → Waits (done ++ wants mark ∷ []) (max s.wanted mark)
     by_order true h =
@@ -133,12 +140,12 @@ waits_behind done s (wants mark) is w = by_order (nat_lt s.wanted mark) refl
         let least : mark ≤ s.wanted = ltb-false s.wanted mark h in
         let same : s.wanted ≡ max s.wanted mark = omega arith in
         subst (λ (n : ℕ). Waits (done ++ wants mark ∷ []) n) same (waits_on done s.wanted (wants mark) tt w)
-waits_behind done s asks is w =
+waits_after done s asks is w =
     by_ask (λ (t : State). Waits (done ++ asks ∷ []) t.wanted) s (λ h. waits_on done s.wanted asks tt w) (waits_on done s.wanted asks tt w)
-waits_behind done s (says bytes) is w =
+waits_after done s (says bytes) is w =
     let stays : Waits (done ++ says bytes ∷ []) s.wanted = waits_on done s.wanted (says bytes) tt w in
     by_bytes (λ (t : State). Waits (done ++ says bytes ∷ []) t.wanted) s.wanted s.confirmed s.asked bytes (inl refl) stays (λ a e h. stays) (λ a e. stays)
-waits_behind done s loses is w = inl refl
+waits_after done s loses is w = inl refl
 
 pub for_a_change : ForAChange
 for_a_change events = by_test (asks_now s) refl
@@ -147,7 +154,7 @@ for_a_change events = by_test (asks_now s) refl
     s = state_after events
 
     w : Waits events s.wanted
-    w = by_events (λ (es : List Event) (t : State). Waits es t.wanted) (inl refl) waits_behind events
+    w = by_events (λ (es : List Event) (t : State). Waits es t.wanted) (inl refl) waits_after events
 
     waited : s.confirmed < s.wanted → Waits events s.wanted → IsWaitedFor events s.wanted
     waited more (inl none) = absurd (omega arith)

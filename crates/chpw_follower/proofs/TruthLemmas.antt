@@ -66,7 +66,8 @@ heard_whole : (events : List Event) (a : Asked) (bytes : List ℕ) → is_answer
     → IsConfirmed (events ++ says bytes ∷ []) a.mark
 heard_whole events a bytes whole i =
     let b = with_more a bytes in
-    let n : IsAskedIn (events ++ says bytes ∷ []) b = asked_on events a b (says bytes) tt refl (ap (λ (xs : List ℕ). a.said ++ xs) (sym (append-nil bytes))) i in
+    let n : IsAskedIn (events ++ says bytes ∷ []) b =
+    asked_on events a b (says bytes) tt refl (ap (λ (xs : List ℕ). a.said ++ xs) (sym (append-nil bytes))) i in
     record {
       before = n.before;
       between = n.between;
@@ -77,12 +78,12 @@ heard_whole events a bytes whole i =
       lasts = n.lasts;
     }
 
-holds_behind : (done : List Event) (s : State) (e : Event) → s ≡ state_after done → Holds done s → Holds (done ++ e ∷ []) (behind s e)
-holds_behind done s (wants mark) is h = record {
+holds_after : (done : List Event) (s : State) (e : Event) → s ≡ state_after done → Holds done s → Holds (done ++ e ∷ []) (behind s e)
+holds_after done s (wants mark) is h = record {
   confirmed = confirmed_on done s.confirmed (wants mark) h.confirmed;
   asked = quietly done s.asked (wants mark) tt refl h.asked;
 }
-holds_behind done s asks is h =
+holds_after done s asks is h =
     let stays = confirmed_on done s.confirmed asks h.confirmed in
     by_ask (λ (t : State). Holds (done ++ asks ∷ []) t) s
     (λ now. record {
@@ -97,9 +98,10 @@ holds_behind done s asks is h =
       };
     })
     (record { confirmed = stays; asked = quietly done s.asked asks tt refl h.asked })
-holds_behind done s (says bytes) is h =
+holds_after done s (says bytes) is h =
     let stays = confirmed_on done s.confirmed (says bytes) h.confirmed in
-    let asked_so : (a : Asked) → s.asked ≡ Some a → IsAskedIn done a = λ a e. subst (λ (o : Option Asked). IfSome o (λ (b : Asked). IsAskedIn done b)) e h.asked in
+    let asked_so : (a : Asked) → s.asked ≡ Some a → IsAskedIn done a =
+    λ a e. subst (λ (o : Option Asked). IfSome o (λ (b : Asked). IsAskedIn done b)) e h.asked in
     by_bytes (λ (t : State). Holds (done ++ says bytes ∷ []) t) s.wanted s.confirmed s.asked bytes
     (record { confirmed = stays; asked = tt })
     (record { confirmed = stays; asked = tt })
@@ -108,7 +110,7 @@ holds_behind done s (says bytes) is h =
       confirmed = stays;
       asked = asked_on done a (with_more a bytes) (says bytes) tt refl (ap (λ (xs : List ℕ). a.said ++ xs) (sym (append-nil bytes))) (asked_so a e);
     })
-holds_behind done s loses is h = record { confirmed = confirmed_on done s.confirmed loses h.confirmed; asked = tt }
+holds_after done s loses is h = record { confirmed = confirmed_on done s.confirmed loses h.confirmed; asked = tt }
 
 pub truthful : Truthful
-truthful events = (by_events Holds (record { confirmed = inl refl; asked = tt }) holds_behind events).confirmed
+truthful events = (by_events Holds (record { confirmed = inl refl; asked = tt }) holds_after events).confirmed

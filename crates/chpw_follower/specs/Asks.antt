@@ -1,4 +1,4 @@
--- What a follower is asked, and what it answers (docs/FOLLOWER.md). A mark is a number of bytes of the journal, from
+-- What a follower is asked, and what it answers (docs/PROTOCOL.md). A mark is a number of bytes of the journal, from
 -- its beginning.
 use Rattle.std.specs.Prelude.{ℕ, List, [], ◌∷◌, ◌++◌, Bool, ◌&&◌, Option, Some, None, is_none, nat_eq, nat_le, nat_lt, max, codes, if◌then◌else◌}
 use Rattle.std.specs.Fmt.{decimal}
@@ -27,8 +27,8 @@ abbrev pub has_mark : State → ℕ → Bool
 has_mark s mark = nat_le mark s.confirmed
 
 -- a change waits for a mark
-abbrev pub behind_want : State → ℕ → State
-behind_want s mark = record { wanted = max s.wanted mark; confirmed = s.confirmed; asked = s.asked }
+abbrev pub after_want : State → ℕ → State
+after_want s mark = record { wanted = max s.wanted mark; confirmed = s.confirmed; asked = s.asked }
 
 -- one ask at a time, for a change that waits
 abbrev pub asks_now : State → Bool
@@ -38,8 +38,8 @@ asks_now s = is_none s.asked && nat_lt s.confirmed s.wanted
 abbrev pub asked_by : State → Option ℕ
 asked_by s = if asks_now s then Some s.wanted else None
 
-abbrev pub behind_ask : State → State
-behind_ask s =
+abbrev pub after_ask : State → State
+after_ask s =
     if asks_now s then record {
       wanted = s.wanted;
       confirmed = s.confirmed;
@@ -57,27 +57,27 @@ is_answer a = bytes_eq a.said (line_of a.mark)
 abbrev pub is_begun : Asked → Bool
 is_begun a = starts_with nat_eq (line_of a.mark) a.said
 
--- behind what was said: the mark is confirmed, or the answer goes on; none where it is misspoken
-abbrev pub behind_answer : State → Asked → Option State
-behind_answer s a =
+-- after what was said: the mark is confirmed, or the answer goes on; none if it is misspoken
+abbrev pub after_answer : State → Asked → Option State
+after_answer s a =
     if is_answer a then Some (record { wanted = s.wanted; confirmed = a.mark; asked = None })
     else if is_begun a then Some (record { wanted = s.wanted; confirmed = s.confirmed; asked = Some a })
     else None
 
--- unasked nothing may be said
-abbrev pub behind_bytes : State → List ℕ → Option State
-behind_bytes s bytes = heard s.asked bytes
+-- nothing may be said unasked
+abbrev pub after_bytes : State → List ℕ → Option State
+after_bytes s bytes = heard s.asked bytes
   where
     heard : Option Asked → List ℕ → Option State
     heard None [] = Some s
     heard None (b ∷ bs) = None
-    heard (Some a) bs = behind_answer s (with_more a bs)
+    heard (Some a) bs = after_answer s (with_more a bs)
 
 -- the mark that is confirmed with these bytes
 abbrev pub confirmed_by : Option Asked → List ℕ → Option ℕ
 confirmed_by None bytes = None
 confirmed_by (Some a) bytes = if is_answer (with_more a bytes) then Some a.mark else None
 
--- the connection has ended, and whoever waits is told so
-abbrev pub behind_loss : State → State
-behind_loss s = record { wanted = 0; confirmed = s.confirmed; asked = None }
+-- the connection has ended, and the replies that wait are released
+abbrev pub after_loss : State → State
+after_loss s = record { wanted = 0; confirmed = s.confirmed; asked = None }

@@ -1,10 +1,10 @@
--- How the fields of `Asking` spell what is asked, and what a line that has come so far is.
+-- How the fields of `FollowerDialog` represent what is asked, and what the bytes of an answer mean.
 use Rattle.std.specs.Prelude.{◌≡◌, ℕ, ◌+◌, ◌≤◌, List, ◌++◌, Bool, true, length, take, Option, Some, None, nat_le, if◌then◌else◌}
 use Rattle.chpw_follower.specs.Asks.{Asked, line_of, is_answer, is_begun}
 use Rattle.chpw_follower.specs.declared.line.Answer.{Answer}
 use Rattle.chpw_follower.specs.declared.line.Answer.TheVariants.{Whole, Begun, Wrong}
 
--- of the answer so many bytes have come
+-- this many bytes of the answer have come
 abbrev pub asked_with : ℕ → ℕ → Asked
 asked_with mark heard = record { mark = mark; said = take heard (line_of mark) }
 

@@ -1,6 +1,6 @@
--- What holds of all that can happen between the service and its follower, in whatever order.
+-- What holds of all that can happen between the service and its follower, in any order.
 use Rattle.std.specs.Prelude.{◌≡◌, ℕ, ◌<◌, ◌≤◌, List, [], ◌∷◌, ◌++◌, ◌⊎◌, Some, option_and_then, unwrap_or, IfSome}
-use Rattle.chpw_follower.specs.Asks.{State, at_start, behind_want, asked_by, behind_ask, behind_bytes, behind_loss, line_of}
+use Rattle.chpw_follower.specs.Asks.{State, at_start, after_want, asked_by, after_ask, after_bytes, after_loss, line_of}
 
 -- a change waits for a mark, the service asks, the follower says bytes, the connection ends
 pub data Event : Type 0 where
@@ -9,18 +9,18 @@ pub data Event : Type 0 where
   says : List ℕ → Event
   loses : Event
 
--- where the follower has misspoken, the connection ends
+-- if the follower has misspoken, the connection ends
 abbrev pub behind : State → Event → State
-behind s (wants mark) = behind_want s mark
-behind s asks = behind_ask s
-behind s (says bytes) = unwrap_or (behind_bytes s bytes) (behind_loss s)
-behind s loses = behind_loss s
+behind s (wants mark) = after_want s mark
+behind s asks = after_ask s
+behind s (says bytes) = unwrap_or (after_bytes s bytes) (after_loss s)
+behind s loses = after_loss s
 
 abbrev pub run : State → List Event → State
 run s [] = s
 run s (e ∷ es) = run (behind s e) es
 
--- the state behind these events
+-- the state after these events
 abbrev pub state_after : List Event → State
 state_after events = run at_start events
 
@@ -36,7 +36,7 @@ Lasts [] = Unit {0}
 Lasts (loses ∷ es) = ⊥
 Lasts (e ∷ es) = Lasts es
 
--- the mark was asked for, and behind that the follower said its whole line, with nothing before, within or behind it,
+-- the mark was asked for, and afterwards the follower said its whole line, with nothing before, within or after it,
 -- over the connection that it was asked on
 pub record IsConfirmed (events : List Event) (mark : ℕ) : Type 0 where
   pub before : List Event
@@ -52,15 +52,15 @@ abbrev pub Truthful : Type 0
 Truthful =
     (events : List Event) → ((state_after events).confirmed ≡ 0) ⊎ IsConfirmed events (state_after events).confirmed
 
--- what was confirmed stays so
+-- what was confirmed stays confirmed
 abbrev pub NeverFalls : Type 0
 NeverFalls = (events more : List Event) → (state_after events).confirmed ≤ (state_after (events ++ more)).confirmed
 
--- it doesn't matter in how many pieces bytes come
+-- the pieces in which bytes come make no difference
 abbrev pub Piecewise : Type 0
 Piecewise =
     (s : State) (bytes more : List ℕ)
-    → behind_bytes s (bytes ++ more) ≡ option_and_then (λ (t : State). behind_bytes t more) (behind_bytes s bytes)
+    → after_bytes s (bytes ++ more) ≡ option_and_then (λ (t : State). after_bytes t more) (after_bytes s bytes)
 
 -- a change came to wait for the mark, and no connection ended since
 pub record IsWaitedFor (events : List Event) (mark : ℕ) : Type 0 where

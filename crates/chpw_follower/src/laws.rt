@@ -1,4 +1,4 @@
-//! What holds of all that is asked and answered, in whatever order.
+//! What holds of all that is asked and answered, in any order.
 ghost use Rattle.chpw_follower.specs.Runs.{Truthful, NeverFalls, Piecewise, ForAChange};
 
 /// Only what was asked is confirmed, and only by its whole line.
@@ -7,13 +7,13 @@ pub fn only_what_was_asked()
     ensures { Truthful }
 {}
 
-/// What was confirmed stays so.
+/// What was confirmed stays confirmed.
 #[tactic(auto, using(crate::proofs::RunLemmas::never_falls))]
 pub fn never_less()
     ensures { NeverFalls }
 {}
 
-/// It doesn't matter in how many pieces the follower's bytes come.
+/// The pieces in which the follower's bytes come make no difference.
 #[tactic(auto, using(crate::proofs::PieceLemmas::piecewise))]
 pub fn in_any_pieces()
     ensures { Piecewise }

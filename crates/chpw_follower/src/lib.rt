@@ -1,10 +1,10 @@
-//! What a follower is asked, and what it answers (docs/FOLLOWER.md): how far the KDC's database has the journal. No
-//! socket, clock or thread is in it: whoever has those hands on what is to be asked, and what came.
+//! What a follower is asked, and what it answers (docs/PROTOCOL.md): how much of the journal the KDC's database has.
+//! Without sockets, clock or threads: the caller, who has those, sends what is to be asked and hands in what came.
 #![tactic(auto)]
 
-mod asking;
+mod dialog;
 pub mod laws;
 mod line;
 
-pub use asking::{Asking, Misspoken};
+pub use dialog::{FollowerDialog, ProtocolFault};
 pub use line::ask_line;

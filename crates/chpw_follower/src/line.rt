@@ -6,13 +6,13 @@ ghost use Rattle.chpw_follower.specs.Fields.{asked_with, answer_so_far, GoesOn};
 use itoa::write_digits;
 use std::alloc::{AllocError, Global};
 
-/// The digits of a number, at the most.
+/// The most digits of a number.
 const DIGITS: usize = 20;
 
-/// The bytes of a line, at the most.
+/// The most bytes of a line.
 const LONGEST: usize = DIGITS + 1;
 
-/// What an answer is, as far as it has come.
+/// What an answer is, judged by the bytes that have come.
 #[derive(Clone, Copy, Drop)]
 pub(crate) enum Answer {
     /// The whole line that was asked.
@@ -23,7 +23,7 @@ pub(crate) enum Answer {
     Wrong,
 }
 
-/// The line that asks for so many bytes: decimal digits and a newline.
+/// The line that asks for this many bytes: decimal digits and a newline.
 pub fn ask_line(alloc: Global, mark: u64) -> Result<Vec<u8>, AllocError>
     ensures value { IfOk result (λ line. line.items ≡ line_of mark) }
 {
@@ -31,7 +31,7 @@ pub fn ask_line(alloc: Global, mark: u64) -> Result<Vec<u8>, AllocError>
     Vec::from_slice(alloc, put_line(mark, &mut room))
 }
 
-// What the answer is, of which so many bytes had come, behind these bytes.
+// What the answer is after these bytes, when `heard` bytes of it had come.
 #[tactic(auto, using(crate::proofs::LineLemmas::line_short))]
 pub(crate) fn answer_of(mark: u64, heard: usize, bytes: &[u8]) -> Answer
     requires within { heard ≤ length (line_of mark) }
@@ -50,7 +50,7 @@ pub(crate) fn answer_of(mark: u64, heard: usize, bytes: &[u8]) -> Answer
     }
 }
 
-// What is left of a line behind so many bytes of it, in the room for one.
+// What is left of a line after `heard` bytes of it, in the room for one.
 fn put_rest(mark: u64, heard: usize, room: &mut [u8; LONGEST]) -> &[u8]
     requires within { heard ≤ length (line_of mark) }
     ensures value { result.now ≡ drop heard (line_of mark) }

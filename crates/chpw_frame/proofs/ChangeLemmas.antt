@@ -2,11 +2,11 @@
 use Rattle.std.proofs.Common.{◌≡◌, ℕ, ℤ, List, Option, Some, None, Ok, IfOk, IfErr, sym, ◌∙◌, ap, subst, map-id}
 use Rattle.std.specs.Prelude.{option_map}
 use Rattle.std.proofs.lemmas.Iterator.Adapters.{option_map_id}
-use Rattle.krb_elements.specs.Shapes.{Value, ◌&◌}
-use Rattle.krb_elements.specs.Grammar.{Spells}
-use Rattle.krb_elements.specs.Reading.{Fails}
-use Rattle.krb_elements.specs.declared.fault.DerFault.{DerFault}
-use Rattle.krb_elements.specs.declared.fault.ReadError.TheVariants.{Fault}
+use Rattle.krb_codec.specs.Shapes.{Value, ◌&◌}
+use Rattle.krb_codec.specs.Grammar.{Spells}
+use Rattle.krb_codec.specs.Reading.{Fails}
+use Rattle.krb_codec.specs.declared.fault.DerFault.{DerFault}
+use Rattle.krb_codec.specs.declared.fault.ReadError.TheVariants.{Fault}
 use Rattle.krb_der.specs.Types.{change_passwd_data, principal_name}
 use Rattle.krb_der.specs.Values.{principal_name_value, change_passwd_data_value}
 use Rattle.krb_der.specs.declared.change_passwd_data.ChangePasswdData.{ChangePasswdData}
@@ -54,9 +54,12 @@ complete_of password own (Some name) realm (Some target) h =
     (ap (change_of own target.name) realm_is))
 complete_of password own None None None h =
     ap (λ (w : List ℕ). record { password = w; target = None }) (ap (λ (v : Value change_passwd_data). v.0) (sym h))
-complete_of password own (Some name) realm None h = let no : Some (principal_name_value name) ≡ None = ap (λ (v : Value change_passwd_data). v.1.0) (sym h) in cc
-complete_of password own None None (Some target) h = let no : Some (principal_name_value target.name) ≡ None = ap (λ (v : Value change_passwd_data). v.1.0) h in cc
-complete_of password own None (Some realm) (Some target) h = let no : Some (principal_name_value target.name) ≡ None = ap (λ (v : Value change_passwd_data). v.1.0) h in cc
+complete_of password own (Some name) realm None h =
+    let no : Some (principal_name_value name) ≡ None = ap (λ (v : Value change_passwd_data). v.1.0) (sym h) in cc
+complete_of password own None None (Some target) h =
+    let no : Some (principal_name_value target.name) ≡ None = ap (λ (v : Value change_passwd_data). v.1.0) h in cc
+complete_of password own None (Some realm) (Some target) h =
+    let no : Some (principal_name_value target.name) ≡ None = ap (λ (v : Value change_passwd_data). v.1.0) h in cc
 complete_of password own None (Some realm) None h = let no : Some realm ≡ None = ap (λ (v : Value change_passwd_data). v.1.1.0) (sym h) in cc
 
 pub asks_complete : (fields : ChangePasswdData) (change : ChangeData) → change_value change ≡ change_passwd_data_value fields → Finds (asked fields) change

@@ -1,12 +1,13 @@
 -- A stream has one cut.
-use Rattle.std.proofs.Common.{◌≡◌, ℕ, zero, suc, ◌+◌, ◌≤◌, ◌<◌, List, [], ◌∷◌, ◌++◌, length, take, drop, refl, sym, ◌∙◌, ap, subst, arith, length-drop, append_assoc, inl, inr}
+use Rattle.std.proofs.Common.{◌≡◌, ℕ, zero, suc, ◌+◌, ◌≤◌, ◌<◌, List, [], ◌∷◌, ◌++◌, length, take, drop}
+use Rattle.std.proofs.Common.{refl, sym, ◌∙◌, ap, subst, arith, length-drop, append_assoc, inl, inr}
 use Rattle.std.specs.Prelude.{All}
 use Rattle.std.specs.Int.{to_be_bytes, w32}
 use Rattle.std.proofs.lemmas.Nat.{be_bytes_4}
 use Rattle.std.proofs.lemmas.Bool.{cases_lt}
 use Rattle.std.proofs.lemmas.List.{take-append-drop, length-take-le}
 use Rattle.std.proofs.lemmas.List.Elements.{All-take, All-drop}
-use Rattle.chpw_frame.specs.Stream.{Piece, message, ended, cut_off, too_long, next_piece, behind_piece, stated_length, sent, longest}
+use Rattle.chpw_frame.specs.Stream.{Piece, message, ended, cut_off, too_long, next_piece, after_piece, stated_length, sent, longest}
 use Rattle.chpw_frame.specs.Cuts.{End, between, within_length, within_message, before_too_long, IsLeft, Cuts}
 use Rattle.chpw_frame.specs.Laws.{CutOnce}
 use Rattle.chpw_frame.proofs.FramingLemmas.{bytes_at}
@@ -45,8 +46,8 @@ same_end one other rest h g = absurd (omega arith)
 next_is : (stream one rest : List ℕ) → length one ≤ longest → stream ≡ sent one ++ rest → next_piece stream ≡ message one
 next_is stream one rest fits is = ap next_piece is ∙ (sent_is_next one rest fits).0
 
-rest_is : (stream one rest : List ℕ) → length one ≤ longest → stream ≡ sent one ++ rest → rest ≡ behind_piece (message one) stream
-rest_is stream one rest fits is = sym (ap (behind_piece (message one)) is ∙ (sent_is_next one rest fits).1)
+rest_is : (stream one rest : List ℕ) → length one ≤ longest → stream ≡ sent one ++ rest → rest ≡ after_piece (message one) stream
+rest_is stream one rest fits is = sym (ap (after_piece (message one)) is ∙ (sent_is_next one rest fits).1)
 
 -- two cuts of one stream
 same_cut : (stream : List ℕ) (ones others : List (List ℕ)) (one other : End) → Cuts stream ones one → Cuts stream others other → (others ≡ ones) × (other ≡ one)
@@ -56,7 +57,7 @@ same_cut stream (m ∷ ms) [] one other h g = absurd (not_a_message other m (sym
 same_cut stream (m ∷ ms) (n ∷ ns) one other h g =
     let e : message n ≡ message m = sym (next_is stream n g.0 g.1 g.2) ∙ next_is stream m h.0 h.1 h.2 in
     let is : n ≡ m = cc in
-    let rest : g.0 ≡ h.0 = rest_is stream n g.0 g.1 g.2 ∙ (ap (λ (k : List ℕ). behind_piece (message k) stream) is ∙ sym (rest_is stream m h.0 h.1 h.2)) in
+    let rest : g.0 ≡ h.0 = rest_is stream n g.0 g.1 g.2 ∙ (ap (λ (k : List ℕ). after_piece (message k) stream) is ∙ sym (rest_is stream m h.0 h.1 h.2)) in
     let both = same_cut h.0 ms ns one other h.3 (subst (λ (zs : List ℕ). Cuts zs ns other) rest g.3) in
     let same : ns ≡ ms = both.0 in
     (cc, both.1)
@@ -72,8 +73,11 @@ begins stream small some fits there =
     let rest : List ℕ = drop 4 stream in
     let four : length (take 4 stream) ≡ 4 = length-take-le 4 stream some in
     let size : length (take n rest) ≡ n = length-take-le n rest (omega (arith, length-drop 4 stream)) in
-    let head : to_be_bytes w32 (length (take n rest)) ≡ take 4 stream = be_bytes_4 (take 4 stream) (length (take n rest)) four (bytes_at (take 4 stream) (All-take (λ b. b < 256) 4 stream small)) size in
-    sym (ap (λ (zs : List ℕ). (zs ++ take n rest) ++ drop n rest) head ∙ (append_assoc (take 4 stream) (take n rest) (drop n rest) ∙ (ap (λ (zs : List ℕ). take 4 stream ++ zs) (take-append-drop n rest) ∙ take-append-drop 4 stream)))
+    let head : to_be_bytes w32 (length (take n rest)) ≡ take 4 stream = be_bytes_4 (take 4 stream)
+    (length (take n rest)) four (bytes_at (take 4 stream) (All-take (λ b. b < 256) 4 stream small)) size in
+    sym (ap (λ (zs : List ℕ). (zs ++ take n rest) ++ drop n rest) head
+    ∙ (append_assoc (take 4 stream) (take n rest) (drop n rest)
+    ∙ (ap (λ (zs : List ℕ). take 4 stream ++ zs) (take-append-drop n rest) ∙ take-append-drop 4 stream)))
 
 -- a stream is cut where shorter ones are
 cut_on : (stream : List ℕ) → All (λ b. b < 256) stream → ((rest : List ℕ) → All (λ b. b < 256) rest → length rest < length stream → IsCut rest) → IsCut stream

@@ -1,9 +1,10 @@
 -- Texts and their parts.
-use Rattle.std.proofs.Common.{◌≡◌, ℕ, zero, suc, ◌+◌, ◌<◌, ◌≤◌, ◌^◌, List, [], ◌∷◌, ◌++◌, true, false, length, take, drop, Some, None, refl, sym, ◌∙◌, ap, subst, arith, length-append, get_or, lit<}
+use Rattle.std.proofs.Common.{◌≡◌, ℕ, zero, suc, ◌+◌, ◌<◌, ◌≤◌, ◌^◌, List, [], ◌∷◌, ◌++◌, true, false, length, take}
+use Rattle.std.proofs.Common.{drop, Some, None, refl, sym, ◌∙◌, ap, subst, arith, length-append, get_or, lit<}
 use Rattle.std.specs.Prelude.{nat_lt, ◌==◌, Bool, not, ◌&&◌, ◌||◌, if◌then◌else◌, All}
 use Rattle.std.specs.Int.{from_be_bytes, to_be_bytes, w16}
 use Rattle.std.specs.List.{list_any}
-use Rattle.krb_elements.proofs.CompleteLemmas.{and_true}
+use Rattle.krb_codec.proofs.CompleteLemmas.{and_true}
 use Rattle.std.proofs.lemmas.Nat.{from_be_bytes-to_be_bytes_2, be_bytes_2}
 use Rattle.std.proofs.lemmas.List.{take-append-drop, length-take-le}
 use Rattle.std.proofs.lemmas.List.Elements.{All-take, All-drop, All-head, All-tail}
@@ -48,11 +49,13 @@ framed_is_whole versions may_be_empty version xs tail taken v some h =
     let c : list_any (λ w. w == version_of text) versions ≡ true = ap (λ (n : ℕ). list_any (λ w. w == n) versions) (version_is version xs tail v) ∙ taken in
     let ap_length = ap_length_is version xs tail h in
     let d : nat_lt (length text) (header_length + ap_length_of text) ≡ false = not_below _ _ (omega (arith, size, ap_length)) in
-    let e : (not may_be_empty && (ap_length_of text == 0)) ≡ false = ap (λ (n : ℕ). not may_be_empty && (n == 0)) ap_length ∙ no_parts_fault may_be_empty (length xs) some in
+    let e : (not may_be_empty && (ap_length_of text == 0)) ≡ false =
+    ap (λ (n : ℕ). not may_be_empty && (n == 0)) ap_length ∙ no_parts_fault may_be_empty (length xs) some in
     (rw (a, b, c, e, d) refl, version_is version xs tail v, ap_is version xs tail h, tail_is version xs tail h)
 
 -- what no fault says
-pub cleared : (whole taken parts : Bool) → (if not whole then Some BadLength else if not taken then Some BadVersion else if parts then Some BadParts else None) ≡ None
+pub cleared : (whole taken parts : Bool) → (if not whole
+    then Some BadLength else if not taken then Some BadVersion else if parts then Some BadParts else None) ≡ None
     → (whole ≡ true) × (taken ≡ true) × (parts ≡ false)
 cleared true true false h = (refl, refl, refl)
 cleared whole taken parts h = cc
@@ -79,13 +82,18 @@ whole_is_framed versions may_be_empty (a ∷ b ∷ c ∷ d ∷ e ∷ f ∷ rest)
     let bytes : List ℕ = a ∷ b ∷ c ∷ d ∷ e ∷ f ∷ rest in
     let n : ℕ = ap_length_of bytes in
     let clear = cleared (is_whole bytes) (list_any (λ v. v == version_of bytes) versions) ((not may_be_empty && (n == 0)) || is_past_end bytes) none in
-    let stated : number_at bytes 0 ≡ length bytes = same_is (number_at bytes 0) (length bytes) (and_true (not (nat_lt (length bytes) header_length)) (number_at bytes 0 == length bytes) clear.0).1 in
-    let within : header_length + n ≤ length bytes = not_below_is (length bytes) (header_length + n) (neither (not may_be_empty && (n == 0)) (is_past_end bytes) clear.2).1 in
+    let stated : number_at bytes 0 ≡ length bytes = same_is (number_at bytes 0) (length bytes)
+    (and_true (not (nat_lt (length bytes) header_length)) (number_at bytes 0 == length bytes) clear.0).1 in
+    let within : header_length + n ≤ length bytes = not_below_is (length bytes)
+    (header_length + n) (neither (not may_be_empty && (n == 0)) (is_past_end bytes) clear.2).1 in
     let ap_length : length (take n rest) ≡ n = length-take-le n rest (omega (arith, within)) in
     let sum = length-parts n rest in
     let whole : header_length + length (take n rest) + length (drop n rest) ≡ number_at bytes 0 = omega (arith, sum, stated) in
-    let byte = λ (k : ℕ). λ (zs : List ℕ). λ (h : take 2 (drop k bytes) ≡ zs). subst (λ (ys : List ℕ). All (λ b. b < 256) ys) h (All-take (λ b. b < 256) 2 (drop k bytes) (All-drop (λ b. b < 256) k bytes small)) in
-    let l : to_be_bytes w16 (header_length + length (take n rest) + length (drop n rest)) ≡ a ∷ b ∷ [] = field_is (a ∷ b ∷ []) (byte 0 (a ∷ b ∷ []) refl) refl _ whole in
+    let byte =
+    λ (k : ℕ). λ (zs : List ℕ). λ (h : take 2 (drop k bytes) ≡ zs). subst (λ (ys : List ℕ). All (λ b. b < 256) ys) h
+    (All-take (λ b. b < 256) 2 (drop k bytes) (All-drop (λ b. b < 256) k bytes small)) in
+    let l : to_be_bytes w16 (header_length + length (take n rest) + length (drop n rest)) ≡ a ∷ b ∷ [] =
+    field_is (a ∷ b ∷ []) (byte 0 (a ∷ b ∷ []) refl) refl _ whole in
     let v : to_be_bytes w16 (version_of bytes) ≡ c ∷ d ∷ [] = field_is (c ∷ d ∷ []) (byte 2 (c ∷ d ∷ []) refl) refl _ refl in
     let m : to_be_bytes w16 (length (take n rest)) ≡ e ∷ f ∷ [] = field_is (e ∷ f ∷ []) (byte 4 (e ∷ f ∷ []) refl) refl _ ap_length in
     sym (ap (λ (ls : List ℕ). ls ++ to_be_bytes w16 (version_of bytes) ++ to_be_bytes w16 (length (take n rest)) ++ take n rest ++ drop n rest) l

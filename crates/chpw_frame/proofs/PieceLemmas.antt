@@ -5,9 +5,9 @@ use Rattle.std.proofs.Math.Seq.{take-append_seam, drop-append_seam}
 use Rattle.std.proofs.lemmas.Nat.{from_be_bytes-to_be_bytes_4}
 use Rattle.std.specs.Int.{from_be_bytes, to_be_bytes, w32}
 use Rattle.std.specs.Io.KnownBytes.{Consumes, IsAtEnd}
-use Rattle.chpw_frame.specs.Stream.{message, cut_off, too_long, next_piece, behind_piece, stated_length, sent, longest}
+use Rattle.chpw_frame.specs.Stream.{message, cut_off, too_long, next_piece, after_piece, stated_length, sent, longest}
 use Rattle.chpw_frame.specs.Receiving.{TakesPiece, ConsumesSome, IsLength}
-use Rattle.read_fully.proofs.FillingLemmas.{consumes_more}
+use Rattle.chpw_read_fully.proofs.FillingLemmas.{consumes_more}
 use Rattle.chpw_frame.proofs.Tests.{is_below, not_below}
 
 -- the tests of a stream's front
@@ -57,7 +57,9 @@ module _ (header : List ℕ) (n : ℕ) (h : IsLength header n) (more : List ℕ)
   size : length (header ++ more) ≡ 4 + length more
   size = length-append header more ∙ ap (λ (k : ℕ). k + length more) h.0
 
-pub takes_short : (old mid new : Option (List ℕ)) (header : List ℕ) (n : ℕ) (buffer : List ℕ) (count : ℕ) → IsLength header n → n ≤ longest → length buffer ≡ n → count < n → Consumes old mid header → Consumes mid new (take count buffer) → IsAtEnd new → TakesPiece cut_off old new
+pub takes_short : (old mid new : Option (List ℕ)) (header : List ℕ) (n : ℕ) (buffer : List ℕ) (count : ℕ)
+    → IsLength header n → n ≤ longest → length buffer ≡ n → count < n
+    → Consumes old mid header → Consumes mid new (take count buffer) → IsAtEnd new → TakesPiece cut_off old new
 takes_short None mid new header n buffer count h g l k c d e = tt
 takes_short (Some s) None new header n buffer count h g l k c d e = absurd c
 takes_short (Some s) (Some t) None header n buffer count h g l k c d e = absurd d
@@ -68,7 +70,9 @@ takes_short (Some s) (Some t) (Some left) header n buffer count h g l k c d e =
     let sz : length s ≡ 4 + length t = ap length c ∙ size header n h t in
     (is_cut_short s (omega (arith, sz)) (omega (arith, st, g)) (omega (arith, sz, st, part, k)), e)
 
-pub takes_message : (old mid new : Option (List ℕ)) (header : List ℕ) (n : ℕ) (body : List ℕ) → IsLength header n → n ≤ longest → length body ≡ n → Consumes old mid header → Consumes mid new body → TakesPiece (message body) old new
+pub takes_message : (old mid new : Option (List ℕ)) (header : List ℕ) (n : ℕ) (body : List ℕ)
+    → IsLength header n → n ≤ longest
+    → length body ≡ n → Consumes old mid header → Consumes mid new body → TakesPiece (message body) old new
 takes_message None mid new header n body h g l c d = tt
 takes_message (Some s) None new header n body h g l c d = absurd c
 takes_message (Some s) (Some t) None header n body h g l c d = absurd d
@@ -82,17 +86,24 @@ takes_message (Some s) (Some t) (Some left) header n body h g l c d =
     (is_message s (omega (arith, st, g)) (omega (arith, sz, szt, st, l)) ∙ ap message got, sym (dropped s body left 4 bk))
 
 -- what was taken before a read failed
-pub begun_body : (old mid new : Option (List ℕ)) (header : List ℕ) (n : ℕ) (buffer : List ℕ) (count : ℕ) → IsLength header n → n ≤ longest → length buffer ≡ n → count < n → Consumes old mid header → Consumes mid new (take count buffer) → ConsumesSome old new
+pub begun_body : (old mid new : Option (List ℕ)) (header : List ℕ) (n : ℕ) (buffer : List ℕ) (count : ℕ)
+    → IsLength header n → n ≤ longest → length buffer ≡ n
+    → count < n → Consumes old mid header → Consumes mid new (take count buffer) → ConsumesSome old new
 begun_body old mid new header n buffer count h g l k c d =
     let body : List ℕ = take count buffer in
     let part : length body ≡ count = length-take-le count buffer (omega (arith, l, k)) in
     let st : stated_length (header ++ body) ≡ n = stated header n h body in
-    let sz : length (header ++ body) ≡ 4 + length body = size header n h body in
-    (header ++ body, consumes_more old mid new header body c d, inr (is_cut_short (header ++ body) (omega (arith, sz)) (omega (arith, st, g)) (omega (arith, sz, st, part, k))))
+    let sz : length (header ++ body) ≡ 4 + length body = size header n h body in (
+      header ++ body,
+      consumes_more old mid new header body c d,
+      inr (is_cut_short (header ++ body) (omega (arith, sz)) (omega (arith, st, g)) (omega (arith, sz, st, part, k))),
+    )
 
 -- what was sent is the next piece
-pub sent_is_next : (bytes left : List ℕ) → length bytes ≤ longest → (next_piece (sent bytes ++ left) ≡ message bytes) × (behind_piece (message bytes) (sent bytes ++ left) ≡ left)
+pub sent_is_next : (bytes left : List ℕ) → length bytes ≤ longest
+    → (next_piece (sent bytes ++ left) ≡ message bytes) × (after_piece (message bytes) (sent bytes ++ left) ≡ left)
 sent_is_next bytes left g =
     let h : IsLength (to_be_bytes w32 (length bytes)) (length bytes) = (refl, from_be_bytes-to_be_bytes_4 (length bytes) (omega (arith, g))) in
-    let t = takes_message (Some (sent bytes ++ left)) (Some (bytes ++ left)) (Some left) (to_be_bytes w32 (length bytes)) (length bytes) bytes h g refl refl refl in
+    let t = takes_message (Some (sent bytes ++ left))
+    (Some (bytes ++ left)) (Some left) (to_be_bytes w32 (length bytes)) (length bytes) bytes h g refl refl refl in
     (t.0, sym t.1)

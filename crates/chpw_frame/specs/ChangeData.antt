@@ -1,8 +1,8 @@
--- What a request asks (RFC 3244 section 2): a ChangePasswdData has the new password and may name
--- its principal; a realm stands only beside a name.
+-- The change that a request asks for (RFC 3244 section 2): a ChangePasswdData has the new password and may name its
+-- principal; a realm stands only beside a name.
 use Rattle.std.specs.Prelude.{◌≡◌, ℕ, List, Some, None, Result, Ok, Err, option_map, option_and_then}
-use Rattle.krb_elements.specs.Shapes.{Value, ◌&◌}
-use Rattle.krb_elements.specs.Grammar.{Spells}
+use Rattle.krb_codec.specs.Shapes.{Value, ◌&◌}
+use Rattle.krb_codec.specs.Grammar.{Spells}
 use Rattle.krb_der.specs.Types.{change_passwd_data}
 use Rattle.krb_der.specs.Values.{principal_name_value}
 use Rattle.chpw_frame.specs.declared.change_data.ChangeData.{ChangeData}

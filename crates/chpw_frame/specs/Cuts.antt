@@ -1,4 +1,4 @@
--- A stream cut into its messages (RFC 3244 section 2), and how it ends behind them.
+-- A stream cut into its messages (RFC 3244 section 2), and how it ends after them.
 use Rattle.std.specs.Prelude.{◌≡◌, ℕ, ◌+◌, ◌<◌, ◌≤◌, List, [], ◌∷◌, ◌++◌, length}
 use Rattle.chpw_frame.specs.Stream.{longest, sent, stated_length}
 
@@ -16,7 +16,7 @@ IsLeft within_length rest = (0 < length rest) × (length rest < 4)
 IsLeft within_message rest = (4 ≤ length rest) × (stated_length rest ≤ longest) × (length rest < 4 + stated_length rest)
 IsLeft before_too_long rest = (4 ≤ length rest) × (longest < stated_length rest)
 
--- the stream has these messages, each behind its length, and this end
+-- the stream has these messages, each after its length, and this end
 abbrev pub Cuts : List ℕ → List (List ℕ) → End → Type 0
 Cuts stream [] end = IsLeft end stream
 Cuts stream (message ∷ messages) end =

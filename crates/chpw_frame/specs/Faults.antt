@@ -1,5 +1,5 @@
--- The reply to a message that can't be cut: result code (RFC 3244 section 2), error code of the
--- KRB-ERROR (RFC 4120 section 7.5.9) and text.
+-- The reply to a message that can't be split: result code (RFC 3244 section 2), error code of the KRB-ERROR (RFC 4120
+-- section 7.5.9) and text.
 use Rattle.std.specs.Prelude.{codes}
 use Rattle.krb_protocol.specs.declared.codes.TheConstants.{KRB5_KPASSWD_MALFORMED, KRB5_KPASSWD_BAD_VERSION, KRB_ERR_GENERIC}
 use Rattle.krb_protocol.specs.Refusals.{Refusal}

@@ -10,11 +10,11 @@ use Rattle.chpw_frame.specs.declared.fault.FrameFault.TheVariants.{BadLength, Ba
 abbrev pub request_version : ℕ
 request_version = 0xff80
 
--- and in the earlier protocol (draft-ietf-cat-kerb-chg-password-02 section 3)
+-- the version in the earlier protocol (draft-ietf-cat-kerb-chg-password-02 section 3)
 abbrev pub old_request_version : ℕ
 old_request_version = 0x0001
 
--- those that are taken
+-- the versions that are accepted
 abbrev pub request_versions : List ℕ
 request_versions = request_version ∷ old_request_version ∷ []
 
@@ -45,11 +45,11 @@ ap_of bytes = take (ap_length_of bytes) (drop header_length bytes)
 abbrev pub tail_of : List ℕ → List ℕ
 tail_of bytes = drop (ap_length_of bytes) (drop header_length bytes)
 
--- the length field is the length, header and all
+-- the length field is the length, with the header
 abbrev pub is_whole : List ℕ → Bool
 is_whole bytes = not (nat_lt (length bytes) header_length) && (number_at bytes 0 == length bytes)
 
--- the AP part ends behind the message
+-- the AP part ends after the message
 abbrev pub is_past_end : List ℕ → Bool
 is_past_end bytes = nat_lt (length bytes) (header_length + ap_length_of bytes)
 

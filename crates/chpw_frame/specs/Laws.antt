@@ -2,11 +2,11 @@
 use Rattle.std.specs.Prelude.{◌≡◌, ℕ, ◌+◌, ◌==◌, ◌<◌, ◌≤◌, ◌^◌, List, [], ◌∷◌, ◌++◌, Bool, true, false, length, None, Some, All}
 use Rattle.std.specs.List.{list_any}
 use Rattle.chpw_frame.specs.declared.fault.FrameFault.TheVariants.{BadLength, BadVersion, BadParts}
-use Rattle.chpw_frame.specs.Stream.{message, ended, cut_off, too_long, longest, next_piece, behind_piece, sent}
+use Rattle.chpw_frame.specs.Stream.{message, ended, cut_off, too_long, longest, next_piece, after_piece, sent}
 use Rattle.chpw_frame.specs.Framing.{header_length, request_versions, reply_versions, version_of, ap_of, tail_of, first_fault, framed}
 use Rattle.chpw_frame.specs.Cuts.{End, Cuts}
 
--- a framed text of a version that is taken has no fault, and the parts that it was made of
+-- a framed text of an accepted version has no fault, and the parts that it was made from
 abbrev pub FramedIsWhole : Type 0
 FramedIsWhole = (versions : List ℕ) (may_be_empty : Bool) (version : ℕ) (ap tail : List ℕ)
     → list_any (λ v. v == version) versions ≡ true → version < 2 ^ 16
@@ -16,16 +16,16 @@ FramedIsWhole = (versions : List ℕ) (may_be_empty : Bool) (version : ℕ) (ap 
     × (ap_of (framed version ap tail) ≡ ap)
     × (tail_of (framed version ap tail) ≡ tail)
 
--- bytes with no fault are the framed text of their parts
+-- bytes without a fault are the framed text of their parts
 abbrev pub WholeIsFramed : Type 0
 WholeIsFramed = (versions : List ℕ) (may_be_empty : Bool) (bytes : List ℕ) → All (λ b. b < 256) bytes
     → first_fault versions may_be_empty bytes ≡ None
     → bytes ≡ framed (version_of bytes) (ap_of bytes) (tail_of bytes)
 
--- what was sent is the next piece, and the rest stands behind it
+-- what was sent is the next piece, and the rest follows it
 abbrev pub SentIsNext : Type 0
 SentIsNext = (bytes left : List ℕ) → length bytes ≤ longest
-    → (next_piece (sent bytes ++ left) ≡ message bytes) × (behind_piece (message bytes) (sent bytes ++ left) ≡ left)
+    → (next_piece (sent bytes ++ left) ≡ message bytes) × (after_piece (message bytes) (sent bytes ++ left) ≡ left)
 
 -- each stream is cut in one way
 abbrev pub CutOnce : Type 0
@@ -33,7 +33,7 @@ CutOnce = (stream : List ℕ) → All (λ b. b < 256) stream
     → (messages : List (List ℕ)) × (end : End) × Cuts stream messages end
     × ((others : List (List ℕ)) (other : End) → Cuts stream others other → (others ≡ messages) × (other ≡ end))
 
--- requests, replies and streams, worked out
+-- worked examples: requests, replies and streams
 abbrev pub WorkedRows : Type 0
 WorkedRows =
     (first_fault request_versions false (0 ∷ 6 ∷ 0xff ∷ 0x80 ∷ 0 ∷ 0 ∷ []) ≡ Some BadParts)

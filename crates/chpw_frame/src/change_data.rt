@@ -1,4 +1,4 @@
-//! What a request asks: a new password, and whose it is.
+//! The change that a request asks for: a new password, and whose it is.
 ghost use Rattle.std.specs.Prelude.{◌≡◌, IfOk, IfErr};
 ghost use Rattle.chpw_frame.specs.declared.change_data.ChangeData.{ChangeData};
 ghost use Rattle.chpw_frame.specs.ChangeData.{IsChange, IsNoChange, Finds};
@@ -14,7 +14,7 @@ use thiserror::Error;
 #[derive(Drop)]
 pub struct ChangeData {
     pub password: OctetString,
-    /// Absent: the client.
+    /// If absent, the client.
     pub target: Option<ChangeTarget>,
 }
 
@@ -22,11 +22,11 @@ pub struct ChangeData {
 #[derive(Drop)]
 pub struct ChangeTarget {
     pub name: PrincipalName,
-    /// Absent: the service's.
+    /// If absent, the service's.
     pub realm: Option<GeneralString>,
 }
 
-/// Why bytes ask no change, in the order of the checks.
+/// Why bytes ask for no change, in the order of the checks.
 #[derive(Clone, Copy, PartialEq, Eq, Debug, Drop, Error)]
 pub enum ChangeFault {
     /// They are no ChangePasswdData.

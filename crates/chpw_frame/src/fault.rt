@@ -1,4 +1,4 @@
-//! Why a message can't be cut.
+//! Why a message can't be split.
 ghost use Rattle.std.specs.Prelude.{◌≡◌};
 ghost use Rattle.krb_protocol.specs.Refusals.{said};
 ghost use Rattle.chpw_frame.specs.Faults.{refusal_of};
@@ -7,17 +7,17 @@ use krb_protocol::Refusal;
 use krb_protocol::codes::{KRB_ERR_GENERIC, KRB5_KPASSWD_BAD_VERSION, KRB5_KPASSWD_MALFORMED};
 use thiserror::Error;
 
-/// What is wrong with a message's frame, in the order of the checks (RFC 3244 section 2). Each has
-/// the result code and the error code of its reply.
+/// What is wrong with a message's frame, in the order of the checks (RFC 3244 section 2). Each has the result code and
+/// the error code of its reply.
 #[derive(Clone, Copy, PartialEq, Eq, Debug, Drop, Error)]
 pub enum FrameFault {
-    /// It has under 6 bytes, or its length field isn't its length. 1, KRB_ERR_GENERIC (60).
+    /// It has fewer than 6 bytes, or its length field isn't its length: 1, KRB_ERR_GENERIC (60).
     #[error("another length than the message's")]
     BadLength,
-    /// It has another version. 6, KRB_ERR_GENERIC (60).
+    /// It has another version: 6, KRB_ERR_GENERIC (60).
     #[error("another version")]
     BadVersion,
-    /// The AP part ends behind the message; or it is empty, in a request. 1, KRB_ERR_GENERIC (60).
+    /// The AP part ends after the message; or it is empty, in a request: 1, KRB_ERR_GENERIC (60).
     #[error("no room for the AP part, or none there")]
     BadParts,
 }

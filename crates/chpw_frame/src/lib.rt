@@ -1,4 +1,4 @@
-//! The framing of RFC 3244 section 2: requests, replies, messages over TCP, and what a request asks.
+//! The framing of RFC 3244 section 2: requests, replies, messages over TCP, and the change that a request asks for.
 #![tactic(auto)]
 
 mod change_data;

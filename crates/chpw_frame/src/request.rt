@@ -1,6 +1,7 @@
 //! A request: an AP-REQ and a KRB-PRIV.
 ghost use Rattle.std.specs.Prelude.{◌≡◌, ◌+◌, ◌≤◌, ◌<◌, length, IfOk, IfErr, OnOk, Some, None, false};
-ghost use Rattle.chpw_frame.specs.Framing.{request_versions, request_version, old_request_version, first_fault, version_of, ap_of, tail_of, framed, header_length};
+ghost use Rattle.chpw_frame.specs.Framing.{request_versions, request_version, old_request_version};
+ghost use Rattle.chpw_frame.specs.Framing.{first_fault, version_of, ap_of, tail_of, framed, header_length};
 ghost use Rattle.chpw_frame.specs.Stream.{longest};
 
 use crate::fault::FrameFault;
@@ -14,7 +15,7 @@ pub const REQUEST_VERSION: u16 = 0xff80;
 /// (draft-ietf-cat-kerb-chg-password-02 section 3).
 pub const OLD_REQUEST_VERSION: u16 = 0x0001;
 
-/// The versions of the requests that are taken.
+/// The versions of the requests that are accepted.
 pub const REQUEST_VERSIONS: [u16; 2] = [REQUEST_VERSION, OLD_REQUEST_VERSION];
 
 /// The parts of a request of either version (RFC 3244 section 2), or its first fault.

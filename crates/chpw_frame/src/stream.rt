@@ -6,7 +6,7 @@ ghost use Rattle.chpw_frame.specs.Stream.{sent, longest};
 ghost use Rattle.chpw_frame.specs.declared.stream.Received.TheVariants.{Ended, CutOff};
 ghost use Rattle.chpw_frame.specs.Receiving.{IsReceived, TakesLength, IsLength, IsPut, AppendsFront};
 
-use read_fully::{Filled, fill, fill_vec};
+use chpw_read_fully::{Filled, fill, fill_vec};
 use std::alloc::{AllocError, Global};
 use std::io::{Read, Write};
 
@@ -27,20 +27,20 @@ pub enum Received {
     CutOff,
     /// The length of a message is above 65,535; no byte of its body was read.
     TooLong,
-    /// A read failed, or the message took too many; of the message not all was read.
+    /// A read failed, or the message took too many; not all of the message was read.
     ReadFault,
 }
 
-/// Bytes of a message that go out with its length in one write, at the most. There are clients that
-/// take what their first read gives for the whole of a reply, and a reply is shorter than this.
+/// The bytes of a message that are written together with its length, at most. Some clients take the first read for the
+/// whole reply, and a reply is shorter than this.
 const FRONT_LEN: usize = 1_020;
 
 /// A write failed, was interrupted or took nothing.
 #[derive(Clone, Copy, PartialEq, Eq, Debug, Drop)]
 pub struct WriteFault;
 
-/// Reads the next message. An interrupted read is tried again. After `AllocError` the message's
-/// length was read, which is 65,535 at most, and no byte of its body.
+/// Reads the next message, of at most 65,535 bytes after a length of four bytes (RFC 4120 section 7.2.2). An
+/// interrupted read is tried again. After `AllocError` the message's length was read, and no byte of its body.
 pub fn read_tcp<R: Read>(alloc: Global, reader: &mut R) -> Result<Received, AllocError>
     ensures piece { IfOk result (λ r. IsReceived r (R.remaining reader.old) (R.remaining reader.new)) }
     ensures refused { OnErr result (TakesLength (R.remaining reader.old) (R.remaining reader.new)) }
@@ -59,7 +59,7 @@ pub fn read_tcp<R: Read>(alloc: Global, reader: &mut R) -> Result<Received, Allo
     read_body(alloc, reader, length, &mut reads)
 }
 
-/// How a stream ends that ends after so many bytes of a length.
+/// How a stream ends that ends after this many bytes of a length.
 fn ended_after(count: usize) -> Received
     ensures value { result ≡ (if count == 0 then Ended else CutOff) }
 {
@@ -70,7 +70,7 @@ fn ended_after(count: usize) -> Received
     }
 }
 
-/// Reads a message behind its length.
+/// Reads a message after its length.
 fn read_body<R: Read>(
     alloc: Global,
     reader: &mut R,
@@ -90,7 +90,7 @@ fn read_body<R: Read>(
     }
 }
 
-/// Writes a message behind its length. After a fault a part of that is out, from the front.
+/// Writes a message after its length. After a fault a proper beginning of both is written.
 pub fn write_tcp<W: Write>(writer: &mut W, bytes: &[u8]) -> Result<(), WriteFault>
     requires fits { length bytes.now ≤ longest }
     ensures whole { OnOk result (Appends (W.contents writer.old) (W.contents writer.new) (sent bytes.now)) }
@@ -144,7 +144,7 @@ fn put_some<'a, W: Write>(writer: &mut W, bytes: &'a [u8]) -> Result<&'a [u8], W
     }
 }
 
-/// The bytes but for so many.
+/// The bytes without the first `count`.
 fn behind(bytes: &[u8], count: usize) -> &[u8]
     requires bound { count ≤ length bytes.now }
     ensures value { result.now ≡ drop count bytes.now }

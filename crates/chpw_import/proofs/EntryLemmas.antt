@@ -1,5 +1,7 @@
 -- What the keys and the versions that entries offer are: within the limits of a configuration.
-use Rattle.std.proofs.Common.{◌≡◌, ◌∙◌, sym, ap, refl, subst, ℕ, ℤ, pos, ◌+◌, ◌<◌, ◌≤◌, Bool, true, false, not, ◌&&◌, ◌==◌, List, [], ◌∷◌, length, if◌then◌else◌, Option, Some, None, Result, Ok, Err, inl, inr, arith, tests}
+use Rattle.std.proofs.Common.{◌≡◌, ◌∙◌, sym, ap, refl, subst, ℕ, ℤ, pos, ◌+◌, ◌<◌, ◌≤◌, Bool}
+use Rattle.std.proofs.Common.{true, false, not, ◌&&◌, ◌==◌, List, [], ◌∷◌, length, if◌then◌else◌}
+use Rattle.std.proofs.Common.{Option, Some, None, Result, Ok, Err, inl, inr, arith, tests}
 use Rattle.std.specs.List.{AllByRecursion}
 use Rattle.std.specs.Option.{ok_or}
 use Rattle.std.specs.Ordering.{eq_by_cmp, int_eq}
@@ -59,7 +61,8 @@ key_well : (e : KeytabEntry) (key : Key) → key_in e ≡ Ok key → is_aes_key 
 unfolding key_in
 key_well e key h = at (is_aes e.etype) (key_of e.etype e.key.items) refl h
   where
-    at : (aes : Bool) (found : Option Key) → key_of e.etype e.key.items ≡ found → (if not aes then Err OtherType else ok_or found KeyLength) ≡ Ok key → is_aes_key e.etype (bytes_of key) ≡ true
+    at : (aes : Bool) (found : Option Key) → key_of e.etype e.key.items ≡ found
+        → (if not aes then Err OtherType else ok_or found KeyLength) ≡ Ok key → is_aes_key e.etype (bytes_of key) ≡ true
     at false found f h = cc
     at true None f h = cc
     at true (Some k) f h = key_parts e.etype e.key.items key (f ∙ cc)
@@ -82,7 +85,8 @@ offered_fits realm s index e found (Err why) k f g small h = cc
 offered_fits realm s index e found (Ok name) (Err why) f g small h = cc
 offered_fits realm s index e found (Ok name) (Ok key) f g small h = at (eq_by_cmp slot_cmp (slot_in name e) s) refl h
   where
-    at : (same : Bool) → eq_by_cmp slot_cmp (slot_in name e) s ≡ same → (if same then Some (record { index = index; timestamp = e.timestamp; key = key }) else None) ≡ Some found
+    at : (same : Bool) → eq_by_cmp slot_cmp (slot_in name e) s ≡ same
+        → (if same then Some (record { index = index; timestamp = e.timestamp; key = key }) else None) ≡ Some found
         → service_key_fits (row_at s found.key) ≡ true
     at false same h = cc
     at true same h =

@@ -1,5 +1,6 @@
 -- What is brought in is within the limits of a configuration.
-use Rattle.std.proofs.Common.{◌≡◌, ◌∙◌, sym, ap, refl, subst, ℕ, ℤ, pos, negsuc, zero, suc, ◌<◌, ◌≤◌, Bool, true, false, List, [], ◌∷◌, length, codes, inl, inr, if◌then◌else◌, Option, Some, None, arith}
+use Rattle.std.proofs.Common.{◌≡◌, ◌∙◌, sym, ap, refl, subst, ℕ, ℤ, pos, negsuc, zero, suc, ◌<◌, ◌≤◌, Bool, true}
+use Rattle.std.proofs.Common.{false, List, [], ◌∷◌, length, codes, inl, inr, if◌then◌else◌, Option, Some, None, arith}
 use Rattle.std.specs.Cmp.{IsTotalOrder}
 use Rattle.std.specs.List.{AllByRecursion, list_all}
 use Rattle.std.specs.Map.{lookup}
@@ -16,13 +17,15 @@ use Rattle.chpw_rules.specs.declared.name.Name.{Name}
 use Rattle.chpw_rules.specs.declared.config.KeyBytes.{KeyBytes}
 use Rattle.chpw_rules.specs.declared.config.PrincipalRow.{PrincipalRow}
 use Rattle.chpw_rules.specs.declared.config.ServiceRow.{ServiceRow}
-use Rattle.chpw_rules.specs.Fitting.{descend_from, is_same_etype, is_same_principal, is_same_service_key, key_fits, kvnos_descend, principal_fits, principals_fit, service_fits, service_key_fits}
+use Rattle.chpw_rules.specs.Fitting.{descend_from, is_same_etype, is_same_principal, is_same_service_key, key_fits}
+use Rattle.chpw_rules.specs.Fitting.{kvnos_descend, principal_fits, principals_fit, service_fits, service_key_fits}
 use Rattle.chpw_rules.specs.Limits.{is_in, iteration_counts, kvnos, principal_counts}
 use Rattle.chpw_rules.specs.Names.{is_name, name_cmp}
 use Rattle.chpw_import.specs.declared.slot.Slot.{Slot}
 use Rattle.chpw_import.specs.declared.slot.Found.{Found}
 use Rattle.chpw_import.specs.Keytabs.{ArePrincipals, AreServiceKeys}
-use Rattle.chpw_import.specs.Rows.{ahead, first_principals, first_rows, first_service_rows, is_service, keys_from, pair_for, pair_of, row_for, row_with, service_row, slot_at}
+use Rattle.chpw_import.specs.Rows.{ahead, first_principals, first_rows, first_service_rows, is_service}
+use Rattle.chpw_import.specs.Rows.{keys_from, pair_for, pair_of, row_for, row_with, service_row, slot_at}
 use Rattle.chpw_import.specs.Tables.{HasKvno, latest, newest, slot_cmp}
 use Rattle.chpw_import.proofs.EntryLemmas.{latest_fits, newest_named, newest_small, row_at}
 use Rattle.chpw_import.proofs.OrderLemmas.{all_rows, distinct, in_order, sorted_rows, stored, tested}
@@ -72,7 +75,8 @@ same_slot a b h =
     let v : a.kvno ≡ b.kvno = eqb-true a.kvno b.kvno versions in
     cc
 
-pub keys_fit : (realm : List ℕ) (es : List KeytabEntry) (rows : List ServiceRow) → AllByRecursion HasKvno es → AreServiceKeys realm es rows → service_fits rows ≡ true
+pub keys_fit : (realm : List ℕ) (es : List KeytabEntry) (rows : List ServiceRow)
+    → AllByRecursion HasKvno es → AreServiceKeys realm es rows → service_fits rows ≡ true
 keys_fit realm es rows small are = subst (λ (ys : List ServiceRow). service_fits ys ≡ true) (sym are.first)
     (and_from _ _ (and_from _ _ (le-leb _ 16 (few service_row 16 are.slots)) fitting)
     (distinct slot_cmp slots_total slot_of is_same_service_key same_slot (first_service_rows are.slots)
@@ -94,14 +98,16 @@ pair_is kvno iterations (Some (Aes128 x)) (Some (Aes256 y)) key h =
     (sym (ap (λ (k : KeyBytes). k.kvno) is), sym (ap (λ (k : KeyBytes). k.iterations) is))
 pair_is kvno iterations a b key h = cc
 
-module _ (pair : ℕ → Option KeyBytes) (iterations : ℕ) (are : (kvno : ℕ) (key : KeyBytes) → pair kvno ≡ Some key → (key.kvno ≡ kvno) × (key.iterations ≡ iterations)) where
+module _ (pair : ℕ → Option KeyBytes) (iterations : ℕ)
+    (are : (kvno : ℕ) (key : KeyBytes) → pair kvno ≡ Some key → (key.kvno ≡ kvno) × (key.iterations ≡ iterations)) where
   all_fit : is_in iteration_counts iterations ≡ true → (count kvno : ℕ) → kvno ≤ kvnos.high → list_all key_fits (keys_from pair count kvno) ≡ true
   unfolding keys_from
   all_fit within zero kvno small = refl
   all_fit within (suc count) zero small = refl
   all_fit within (suc count) (suc below) small = at (pair (suc below)) refl (all_fit within count below (omega arith))
     where
-      at : (r : Option KeyBytes) → pair (suc below) ≡ r → list_all key_fits (keys_from pair count below) ≡ true → list_all key_fits (ahead r (keys_from pair count below)) ≡ true
+      at : (r : Option KeyBytes) → pair (suc below) ≡ r → list_all key_fits (keys_from pair count below) ≡ true
+          → list_all key_fits (ahead r (keys_from pair count below)) ≡ true
       at None e others = refl
       at (Some key) e others =
           let (version, count) = are (suc below) key e in
@@ -114,7 +120,8 @@ module _ (pair : ℕ → Option KeyBytes) (iterations : ℕ) (are : (kvno : ℕ)
   descending (suc count) zero = refl
   descending (suc count) (suc below) = at (pair (suc below)) refl (descending count below)
     where
-      at : (r : Option KeyBytes) → pair (suc below) ≡ r → descend_from (suc below) (keys_from pair count below) ≡ true → descend_from (suc (suc below)) (ahead r (keys_from pair count below)) ≡ true
+      at : (r : Option KeyBytes) → pair (suc below) ≡ r → descend_from (suc below) (keys_from pair count below) ≡ true
+          → descend_from (suc (suc below)) (ahead r (keys_from pair count below)) ≡ true
       at None e others = refl
       at (Some key) e others =
           let version : key.kvno ≡ suc below = (are (suc below) key e).0 in
@@ -155,7 +162,8 @@ row_fits keys iterations p y within small named h =
     (and_from _ _ (and_from _ _ (and_from _ _ (named some) (and_from _ _ (le-leb 1 _ one) (le-leb _ 16 (few_keys pair 16 p.1))))
     (all_fit pair iterations are within 16 p.1 small)) (versions_descend p.1 _ (descending pair iterations are 16 p.1)))
 
-pub rows_fit : (realm : List ℕ) (iterations : ℕ) (es : List KeytabEntry) (rows : List PrincipalRow) → AllByRecursion HasKvno es → is_in iteration_counts iterations ≡ true
+pub rows_fit : (realm : List ℕ) (iterations : ℕ) (es : List KeytabEntry) (rows : List PrincipalRow)
+    → AllByRecursion HasKvno es → is_in iteration_counts iterations ≡ true
     → ArePrincipals realm iterations es rows → principals_fit rows ≡ true
 rows_fit realm iterations es rows small within are =
     let row : Name × ℕ → Option PrincipalRow = row_for (λ s. latest realm s 0 es) iterations in

@@ -1,5 +1,6 @@
 pub mod EntryLemmas
 pub mod FitLemmas
+pub mod ImportLemmas
 pub mod LeftLemmas
 pub mod OrderLemmas
 pub mod PasswordLemmas

@@ -1,5 +1,6 @@
 -- The first rows of a list are in the order of what they are made of, and each differs from the others.
-use Rattle.std.proofs.Common.{◌≡◌, ◌∙◌, sym, ap, refl, subst, ℕ, zero, suc, ◌-◌, Bool, true, false, List, [], ◌∷◌, ◌++◌, map, if◌then◌else◌, Option, Some, None, arith}
+use Rattle.std.proofs.Common.{◌≡◌, ◌∙◌, sym, ap, refl, subst, ℕ, zero, suc, ◌-◌, Bool, true, false}
+use Rattle.std.proofs.Common.{List, [], ◌∷◌, ◌++◌, map, if◌then◌else◌, Option, Some, None, arith}
 use Rattle.std.specs.Cmp.{IsTotalOrder}
 use Rattle.std.specs.List.{AllByRecursion, list_all, list_any}
 use Rattle.std.specs.List.Sorted.{IsStrictlySortedBy}
@@ -44,9 +45,11 @@ module _ {A B : Type 0} (row : A → Option B) where
   -- what holds of a row holds of each of the first ones
   module _ (P : A → Type 0) (R : B → Type 0) (gives : (x : A) (y : B) → row x ≡ Some y → P x → R y) where
     first_is : (limit : ℕ) (x : A) (xs : List A) (r : Option B) → row x ≡ r → P x
-        → AllByRecursion R (first_rows row (suc limit) xs) → AllByRecursion R (first_rows row (suc limit - 1) xs) → AllByRecursion R (first_rows row (suc limit) (x ∷ xs))
+        → AllByRecursion R (first_rows row (suc limit) xs) → AllByRecursion R (first_rows row (suc limit - 1) xs)
+        → AllByRecursion R (first_rows row (suc limit) (x ∷ xs))
     first_is limit x xs None e here others fewer = subst (AllByRecursion R) (sym (passed row (suc limit) x xs e)) others
-    first_is limit x xs (Some y) e here others fewer = subst (AllByRecursion R) (sym (one_taken row (suc limit) x xs y (omega arith) e)) (gives x y e here, fewer)
+    first_is limit x xs (Some y) e here others fewer =
+        subst (AllByRecursion R) (sym (one_taken row (suc limit) x xs y (omega arith) e)) (gives x y e here, fewer)
 
     pub all_rows : (limit : ℕ) (xs : List A) → AllByRecursion P xs → AllByRecursion R (first_rows row limit xs)
     all_rows limit [] h = subst (AllByRecursion R) (sym (no_rows row limit)) tt
@@ -59,13 +62,17 @@ module _ {A B : Type 0} (row : A → Option B) where
         → IsStrictlySortedBy cmp (map key (first_rows row (suc limit) xs)) → IsStrictlySortedBy cmp (map key (first_rows row (suc limit - 1) xs))
         → IsStrictlySortedBy cmp (map key (first_rows row (suc limit) (x ∷ xs)))
     unfolding IsStrictlySortedBy
-    first_sorted limit x xs None e above others fewer = subst (λ (zs : List B). IsStrictlySortedBy cmp (map key zs)) (sym (passed row (suc limit) x xs e)) others
+    first_sorted limit x xs None e above others fewer =
+        subst (λ (zs : List B). IsStrictlySortedBy cmp (map key zs)) (sym (passed row (suc limit) x xs e)) others
     first_sorted limit x xs (Some y) e above others fewer =
         let P : A → Type 0 = λ (a : A). cmp (from x) (from a) ≡ Less in
         let R : B → Type 0 = λ (b : B). cmp (key y) (key b) ≡ Less in
         let gives : (a : A) (b : B) → row a ≡ Some b → P a → R b = λ (a : A) (b : B) (f : row a ≡ Some b) (h : P a). rw (keyed x y e, keyed a b f) h in
-        let below : AllByRecursion R (first_rows row (suc limit - 1) xs) = all_rows P R gives (suc limit - 1) xs (of_map (λ z. cmp (from x) z ≡ Less) from xs above) in
-        subst (λ (zs : List B). IsStrictlySortedBy cmp (map key zs)) (sym (one_taken row (suc limit) x xs y (omega arith) e)) (to_map (λ z. cmp (key y) z ≡ Less) key _ below, fewer)
+        let below : AllByRecursion R (first_rows row (suc limit - 1) xs) =
+        all_rows P R gives (suc limit - 1) xs (of_map (λ z. cmp (from x) z ≡ Less) from xs above) in
+        subst (λ (zs : List B). IsStrictlySortedBy cmp (map key zs))
+        (sym (one_taken row (suc limit) x xs y (omega arith) e))
+        (to_map (λ z. cmp (key y) z ≡ Less) key _ below, fewer)
 
     pub sorted_rows : (limit : ℕ) (xs : List A) → IsStrictlySortedBy cmp (map from xs) → IsStrictlySortedBy cmp (map key (first_rows row limit xs))
     unfolding IsStrictlySortedBy
@@ -83,7 +90,8 @@ named_as false name (key ∷ others) y h = sym (ap (λ (r : PrincipalRow). r.nam
 pub in_order : (keys : Slot → Option Found) (iterations : ℕ) (rows : List PrincipalRow) (xs : List (Name × ℕ))
     → rows ≡ first_rows (row_for keys iterations) 10000 xs → IsStrictlySortedBy name_cmp (keys_of xs) → IsStrictlySortedBy name_cmp (map (λ row. row.name) rows)
 in_order keys iterations rows xs e h = subst (λ (zs : List PrincipalRow). IsStrictlySortedBy name_cmp (map (λ row. row.name) zs)) (sym e)
-    (sorted_rows (row_for keys iterations) name_cmp (λ p. p.0) (λ row. row.name) (λ p y f. named_as (is_service p.0) p.0 (keys_from (pair_for keys iterations p.0) 16 p.1) y f) 10000 xs h)
+    (sorted_rows (row_for keys iterations) name_cmp (λ p. p.0) (λ row. row.name)
+    (λ p y f. named_as (is_service p.0) p.0 (keys_from (pair_for keys iterations p.0) 16 p.1) y f) 10000 xs h)
 
 -- ---- keys in a strict order
 
@@ -110,7 +118,8 @@ module _ {K : Type 0} (cmp : K → K → Ordering) (total : IsTotalOrder cmp) wh
         at false e = refl
         at true e = let ties : cmp (key a) (key b) ≡ Equal = ap (cmp (key a)) (exact b a e) ∙ tied_itself total (key a) in cc
 
-    none_again_in : (before rows : List B) → AllByRecursion (λ b. list_any (same b) before ≡ false) rows → IsStrictlySortedBy cmp (map key rows) → none_again same before rows ≡ true
+    none_again_in : (before rows : List B) → AllByRecursion (λ b. list_any (same b) before ≡ false) rows
+        → IsStrictlySortedBy cmp (map key rows) → none_again same before rows ≡ true
     unfolding IsStrictlySortedBy
     none_again_in before [] new s = refl
     none_again_in before (a ∷ rows) new s = rw (

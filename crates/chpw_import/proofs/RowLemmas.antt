@@ -1,5 +1,7 @@
 -- The rows that are made one after the other.
-use Rattle.std.proofs.Common.{◌≡◌, ◌∙◌, sym, ap, refl, subst, ℕ, ℤ, zero, suc, ◌-◌, ◌<◌, ◌≤◌, Bool, true, false, ◌&&◌, List, [], ◌∷◌, ◌++◌, append_assoc, append-nil, length, length-append, get_or, codes, bytes_eq, Option, Some, None, arith}
+use Rattle.std.proofs.Common.{◌≡◌, ◌∙◌, sym, ap, refl, subst, ℕ, ℤ, zero, suc, ◌-◌, ◌<◌, ◌≤◌, Bool}
+use Rattle.std.proofs.Common.{true, false, ◌&&◌, List, [], ◌∷◌, ◌++◌, append_assoc, append-nil, length}
+use Rattle.std.proofs.Common.{length-append, get_or, codes, bytes_eq, Option, Some, None, arith}
 use Rattle.std.specs.Option.{option_map}
 use Rattle.chpw_rules.specs.declared.name.Name.{Name}
 use Rattle.chpw_rules.specs.declared.config.KeyBytes.{KeyBytes}
@@ -72,7 +74,8 @@ pub passed : {A B : Type 0} (row : A → Option B) (limit : ℕ) (x : A) (xs : L
 unfolding first_rows
 passed row limit x xs h = rw h
 
-pub one_taken : {A B : Type 0} (row : A → Option B) (limit : ℕ) (x : A) (xs : List A) (y : B) → 0 < limit → row x ≡ Some y → first_rows row limit (x ∷ xs) ≡ y ∷ first_rows row (limit - 1) xs
+pub one_taken : {A B : Type 0} (row : A → Option B) (limit : ℕ) (x : A) (xs : List A) (y : B)
+    → 0 < limit → row x ≡ Some y → first_rows row limit (x ∷ xs) ≡ y ∷ first_rows row (limit - 1) xs
 unfolding first_rows
 one_taken row zero x xs y m h = absurd (omega arith)
 one_taken row (suc limit) x xs y m h =
@@ -145,13 +148,15 @@ more_parts (x ∷ y ∷ z ∷ zs) h =
 pub second_decides : (name : Name) (s : List (List ℕ)) (a b : List ℕ) → s ≡ name.parts → 2 ≤ length s → length s < 3 → a ≡ get_or s 0 a → b ≡ get_or s 1 b
     → bytes_eq a (codes "kadmin") ≡ true → bytes_eq b (codes "changepw") ≡ is_service name
 second_decides name s a b e low high x y first =
-    let P : List (List ℕ) → Type 0 = λ (parts : List (List ℕ)). is_service (record { parts = parts }) ≡ (bytes_eq a (codes "kadmin") && bytes_eq b (codes "changepw")) in
+    let P : List (List ℕ) → Type 0 = λ (parts : List (List ℕ)). is_service (record { parts = parts })
+    ≡ (bytes_eq a (codes "kadmin") && bytes_eq b (codes "changepw")) in
     sym (subst P e (two_parts s a b low high x y) ∙ ap (λ (p : Bool). p && bytes_eq b (codes "changepw")) first)
 
 pub first_decides : (name : Name) (s : List (List ℕ)) (a b : List ℕ) → s ≡ name.parts → 2 ≤ length s → length s < 3 → a ≡ get_or s 0 a → b ≡ get_or s 1 b
     → bytes_eq a (codes "kadmin") ≡ false → false ≡ is_service name
 first_decides name s a b e low high x y first =
-    let P : List (List ℕ) → Type 0 = λ (parts : List (List ℕ)). is_service (record { parts = parts }) ≡ (bytes_eq a (codes "kadmin") && bytes_eq b (codes "changepw")) in
+    let P : List (List ℕ) → Type 0 = λ (parts : List (List ℕ)). is_service (record { parts = parts })
+    ≡ (bytes_eq a (codes "kadmin") && bytes_eq b (codes "changepw")) in
     sym (subst P e (two_parts s a b low high x y) ∙ ap (λ (p : Bool). p && bytes_eq b (codes "changepw")) first)
 
 pub few_decide : (name : Name) (s : List (List ℕ)) → s ≡ name.parts → length s < 2 → false ≡ is_service name

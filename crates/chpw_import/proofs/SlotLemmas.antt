@@ -26,7 +26,8 @@ pub names_total : IsTotalOrder name_cmp
 names_total = on_total (λ (n : Name). n.parts) (lists_total nat_list_cmp_total)
 
 -- a newest version that is raised
-pub raised : (f g : Name → Option ℕ) (name : Name) (kvno : ℕ) → ((n : Name) → g n ≡ cond (eq_by_cmp name_cmp name n) (Some kvno) (f n)) → unwrap_or (f name) 0 < kvno
+pub raised : (f g : Name → Option ℕ) (name : Name) (kvno : ℕ)
+    → ((n : Name) → g n ≡ cond (eq_by_cmp name_cmp name n) (Some kvno) (f n)) → unwrap_or (f name) 0 < kvno
     → (n : Name) → unwrap_or (g n) 0 ≡ max (unwrap_or (f n) 0) (if is_same_name name n then kvno else 0)
 raised f g name kvno puts low n = at (is_same_name name n) refl
   where
@@ -72,7 +73,8 @@ slot_exact a b h =
     same n k e = rw (n, k, e) refl
 
 -- a key that is put to its slot
-pub put_there : (f g : Slot → Option Found) (slot : Slot) (next : Found) → ((s : Slot) → g s ≡ cond (eq_by_cmp slot_cmp slot s) (Some next) (f s)) → is_older (f slot) next ≡ false
+pub put_there : (f g : Slot → Option Found) (slot : Slot) (next : Found)
+    → ((s : Slot) → g s ≡ cond (eq_by_cmp slot_cmp slot s) (Some next) (f s)) → is_older (f slot) next ≡ false
     → (s : Slot) → g s ≡ last_of_two (f s) (if eq_by_cmp slot_cmp slot s then Some next else None)
 put_there f g slot next puts newer s = at (eq_by_cmp slot_cmp slot s) refl
   where

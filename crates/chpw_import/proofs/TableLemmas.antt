@@ -40,7 +40,8 @@ pub goes_on : (realm : List ℕ) (rest es : List KeytabEntry) (e : KeytabEntry) 
     HoldsBefore realm (length es - length others) others es u × (length others ≤ length es) × (AllByRecursion HasKvno others → AllByRecursion HasKvno es)
 goes_on realm [] es e t u before some is step has = absurd (omega arith)
 goes_on realm (x ∷ xs) es e t u before some is step has = rw (behind x xs) (
-  subst (λ (i : ℕ). HoldsBefore realm i xs es u) next (one_more realm _ x xs es t u before.0 (subst (λ (y : KeytabEntry). Takes realm (length es - length (x ∷ xs)) y t u) is step)),
+  subst (λ (i : ℕ). HoldsBefore realm i xs es u) next (one_more realm _ x xs es t u before.0
+      (subst (λ (y : KeytabEntry). Takes realm (length es - length (x ∷ xs)) y t u) is step)),
   omega (arith, before.1),
   λ others. before.2 (subst HasKvno is has, others),
 )

@@ -1,6 +1,7 @@
 -- The row of a name among rows in the order of their names, as a search by halves finds it.
 use mathlib.Core.Path.{fun_ext}
-use Rattle.std.proofs.Common.{◌≡◌, ◌∙◌, sym, ap, refl, ℕ, zero, suc, ◌+◌, ◌<◌, Bool, false, cond, List, [], ◌∷◌, map, length, get_or, Some, None, Err, inl, inr, arith}
+use Rattle.std.proofs.Common.{◌≡◌, ◌∙◌, sym, ap, refl, ℕ, zero, suc, ◌+◌, ◌<◌, Bool, false, cond}
+use Rattle.std.proofs.Common.{List, [], ◌∷◌, map, length, get_or, Some, None, Err, inl, inr, arith}
 use Rattle.std.proofs.lemmas.Bool.{cases_lt}
 use Rattle.std.proofs.lemmas.Cmp.{alike_right}
 use Rattle.std.proofs.lemmas.List.{get_or-map, length-map}
@@ -26,7 +27,8 @@ has q row = eq_by_cmp name_cmp row.name q
 same_test : (q : Name) → has q ≡ (λ (row : PrincipalRow). is_same_name row.name q)
 same_test q = fun_ext (λ (row : PrincipalRow). ties row.name q)
 
-at_map : (P : Name → Type 0) (rows : List PrincipalRow) (i : ℕ) (d : PrincipalRow) → AllByRecursion P (map name_of rows) → i < length rows → P (get_or rows i d).name
+at_map : (P : Name → Type 0) (rows : List PrincipalRow) (i : ℕ) (d : PrincipalRow)
+    → AllByRecursion P (map name_of rows) → i < length rows → P (get_or rows i d).name
 at_map P [] i d a h = absurd (omega (arith, h))
 at_map P (x ∷ xs) zero d a h = a.0
 at_map P (x ∷ xs) (suc i) d a h = at_map P xs i d a.1 (omega (arith, h))
@@ -81,7 +83,8 @@ apart q rows i p k d l = elim (cases_lt k i) [
   | inr h ↦ greater_not _ (p.1 k d h l)
 ]
 
-pub unused_at : (q : Name) (rows : List PrincipalRow) (i : ℕ) → IsStrictlySortedBy name_cmp (map name_of rows) → IsBinarySearchResult (λ (row : PrincipalRow). name_cmp row.name q) rows (Err i)
+pub unused_at : (q : Name) (rows : List PrincipalRow) (i : ℕ) → IsStrictlySortedBy name_cmp (map name_of rows)
+    → IsBinarySearchResult (λ (row : PrincipalRow). name_cmp row.name q) rows (Err i)
     → used_keys q rows ≡ []
 unused_at q rows i s h =
     sym (ap (λ (p : PrincipalRow → Bool). row_keys (find p rows)) (same_test q))

@@ -1,4 +1,4 @@
--- What an entry of a keytab is by itself to a realm.
+-- What an entry of a keytab is for a realm, by itself.
 use Rattle.std.specs.Prelude.{ℕ, ℤ, pos, negsuc, Bool, false, not, ◌&&◌, ◌==◌, if◌then◌else◌, List, map, bytes_eq, Result, Ok, Err}
 use Rattle.std.specs.Option.{ok_or}
 use Rattle.krb_keys.specs.Keys.{key_of}
@@ -15,11 +15,11 @@ use Rattle.chpw_import.specs.declared.left.Reason.TheVariants.{OtherRealm, BadNa
 abbrev pub name_in : KeytabEntry → Name
 name_in e = record { parts = map (λ c. c.items) e.components.items }
 
--- a name that a configuration can have, and a file can say
+-- a name that a configuration can have, and a file can express
 abbrev pub is_good_name : Name → Bool
 is_good_name name = is_name name && is_writable_name name
 
--- the name whose version it is of, or why it is of none
+-- the name of whose version it is, or why it is of none
 unfoldable pub named : List ℕ → KeytabEntry → Result Name Reason
 named realm e =
     if not (bytes_eq e.realm.items realm) then Err OtherRealm

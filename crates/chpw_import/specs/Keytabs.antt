@@ -1,4 +1,4 @@
--- What is brought in from a keytab, or why nothing is.
+-- What is imported from a keytab, or why nothing is.
 use Rattle.std.specs.Prelude.{◌≡◌, ℕ, List, map, Ok, Err}
 use Rattle.std.specs.List.Sorted.{IsStrictlySortedBy}
 use Rattle.std.specs.Map.{keys_of, lookup}
@@ -11,7 +11,7 @@ use Rattle.chpw_rules.specs.declared.name.Name.{Name}
 use Rattle.chpw_rules.specs.declared.config.PrincipalRow.{PrincipalRow}
 use Rattle.chpw_rules.specs.declared.config.ServiceRow.{ServiceRow}
 use Rattle.chpw_rules.specs.Names.{name_cmp}
-use Rattle.chpw_import.specs.declared.keytab.Brought.{Brought}
+use Rattle.chpw_import.specs.declared.keytab.KeytabImport.{KeytabImport}
 use Rattle.chpw_import.specs.declared.keytab.ImportFault.{ImportFault}
 use Rattle.chpw_import.specs.declared.keytab.ImportFault.TheVariants.{Keytab, Memory}
 use Rattle.chpw_import.specs.declared.slot.Slot.{Slot}
@@ -25,7 +25,7 @@ abbrev pub IsOfKeytab : List ℕ → ImportFault → Type 0
 IsOfKeytab bytes (Keytab fault) = keytab bytes ≡ Err fault
 IsOfKeytab bytes Memory = Unit {0}
 
--- the first of the service's, of the slots that have a key, in their order, with their last usable ones
+-- the first ones of the service, of the slots that have a key, in their order, with their latest usable keys
 pub record AreServiceKeys (realm : List ℕ) (es : List KeytabEntry) (rows : List ServiceRow) : Type 0 where
   pub slots : List (Slot × Found)
   pub sorted : IsStrictlySortedBy slot_cmp (keys_of slots)
@@ -39,8 +39,8 @@ pub record ArePrincipals (realm : List ℕ) (iterations : ℕ) (es : List Keytab
   pub versions : (n : Name) → unwrap_or (lookup (eq_by_cmp name_cmp n) names) 0 ≡ newest realm n es
   pub first : rows ≡ first_principals (λ s. latest realm s 0 es) iterations names
 
--- what a keytab with these bytes holds of a realm
-pub record IsBrought (bytes realm : List ℕ) (iterations : ℕ) (b : Brought) : Type 0 where
+-- the keys that a keytab with these bytes has of a realm
+pub record IsBrought (bytes realm : List ℕ) (iterations : ℕ) (b : KeytabImport) : Type 0 where
   pub entries : keytab bytes ≡ Ok (views b.entries.items)
   pub service : AreServiceKeys realm b.entries.items b.service.items
   pub principals : ArePrincipals realm iterations b.entries.items b.principals.items

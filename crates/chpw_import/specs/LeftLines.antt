@@ -1,24 +1,26 @@
--- What is told of the entries that are left out: a line each.
+-- The lines about the skipped entries.
 use Rattle.std.specs.Prelude.{ℕ, ℤ, pos, negsuc, ◌==◌, if◌then◌else◌, List, [], ◌∷◌, ◌++◌, length, codes, Option, Some, None}
 use Rattle.std.specs.List.{slice_get}
 use Rattle.std.specs.Fmt.{decimal, signed_decimal}
 use Rattle.krb_keytab.specs.declared.entry.KeytabEntry.{KeytabEntry}
 use Rattle.chpw_printing.specs.Quoting.{principal_text}
-use Rattle.chpw_import.specs.declared.left.Left.{Left}
+use Rattle.chpw_import.specs.declared.left.SkippedEntry.{SkippedEntry}
 use Rattle.chpw_import.specs.declared.left.Reason.{Reason}
-use Rattle.chpw_import.specs.declared.left.Reason.TheVariants.{OtherRealm, BadName, NoVersion, OtherType, KeyLength, Repeated, Unpaired, BehindGap, TooManyKeys, TooManyPrincipals}
+use Rattle.chpw_import.specs.declared.left.Reason.TheVariants.{OtherRealm, BadName, NoVersion, OtherType}
+use Rattle.chpw_import.specs.declared.left.Reason.TheVariants.{KeyLength, Repeated, Unpaired, BehindGap}
+use Rattle.chpw_import.specs.declared.left.Reason.TheVariants.{TooManyKeys, TooManyPrincipals}
 use Rattle.chpw_import.specs.Entries.{name_in}
 
--- a reason in the words that are the same for each entry
+-- a reason whose words are the same for each entry
 abbrev pub words_of : Reason → List ℕ
 words_of OtherRealm = codes "another realm"
 words_of BadName = codes "a name has 1 to 8 components of 1 to 128 bytes, in UTF-8 and without a /"
 words_of NoVersion = codes "a version is at least 1"
 words_of OtherType = codes "only 17 and 18 can be used"
 words_of KeyLength = []
-words_of Repeated = codes "an entry put there later has the same name, kvno and etype"
+words_of Repeated = codes "a later entry has the same name, kvno and etype"
 words_of Unpaired = []
-words_of BehindGap = codes "behind a version that is missing or left out"
+words_of BehindGap = codes "older than a version that is missing or skipped"
 words_of TooManyKeys = codes "there are 16 keys already"
 words_of TooManyPrincipals = codes "there are 10000 principals already"
 
@@ -40,15 +42,15 @@ abbrev pub entry_text : KeytabEntry → List ℕ
 entry_text e =
     principal_text e.realm.items (name_in e) ++ codes ", kvno " ++ decimal e.kvno ++ codes ", etype " ++ signed_decimal e.etype
 
--- where it stands, what it is, and why it is left out
+-- its offset, what it is, and why it is skipped
 abbrev pub left_text : KeytabEntry → Reason → List ℕ
-left_text e why = codes "at " ++ decimal e.place ++ codes ": left out: " ++ entry_text e ++ codes ": " ++ reason_text e why
+left_text e why = codes "at " ++ decimal e.place ++ codes ": skipped: " ++ entry_text e ++ codes ": " ++ reason_text e why
 
--- behind the file's name
+-- after the file's name
 abbrev pub line_of : List ℕ → Reason → Option KeytabEntry → List ℕ
 line_of file why None = []
 line_of file why (Some e) = file ++ codes ": " ++ left_text e why ++ codes "\n"
 
-abbrev pub left_lines : List ℕ → List KeytabEntry → List Left → List ℕ
+abbrev pub left_lines : List ℕ → List KeytabEntry → List SkippedEntry → List ℕ
 left_lines file es [] = []
 left_lines file es (l ∷ left) = line_of file l.why (slice_get es l.index) ++ left_lines file es left

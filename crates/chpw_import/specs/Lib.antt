@@ -1,7 +1,9 @@
 pub mod Entries
+pub mod Faults
 pub mod Keytabs
 pub mod LeftLines
 pub mod LeftOut
 pub mod Passwords
 pub mod Rows
+pub mod Stanzas
 pub mod Tables

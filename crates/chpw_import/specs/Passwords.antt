@@ -1,4 +1,4 @@
--- The keys of a password (RFC 3962 section 4), and the password that a file holds.
+-- The keys of a password (RFC 3962 section 4), and the password in a file.
 use Rattle.std.specs.Prelude.{◌≡◌, ◌⊎◌, ◌<◌, ℕ, List, [], ◌∷◌, ◌++◌, length, Bool, nat_eq}
 use Rattle.std.specs.List.{flat_map, ends_with}
 use Rattle.krb_keys.specs.declared.etype.Etype.TheVariants as etype
@@ -12,12 +12,12 @@ use Rattle.chpw_import.specs.declared.numbers.KeyNumbers.{KeyNumbers}
 abbrev pub EndsIn : ℕ → List ℕ → Type 0
 EndsIn byte bytes = (front : List ℕ) × (bytes ≡ front ++ byte ∷ [])
 
--- a newline (10), alone or behind a carriage return (13), is the end of a file's line
+-- a newline (10), alone or after a carriage return (13), is the end of a file's line
 abbrev pub IsWithoutEnd : List ℕ → List ℕ → Type 0
 IsWithoutEnd file line = (file ≡ line ++ 13 ∷ 10 ∷ [])
     ⊎ (((file ≡ line ++ 10 ∷ []) × ¬ (EndsIn 13 line)) ⊎ ((file ≡ line) × ¬ (EndsIn 10 file)))
 
--- the file's bytes without one such end, where there are any
+-- the file's bytes without one such end, if there are any
 abbrev pub IsPasswordOf : List ℕ → List ℕ → Type 0
 IsPasswordOf file password = (0 < length password) × IsWithoutEnd file password
 

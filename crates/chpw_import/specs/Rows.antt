@@ -23,7 +23,7 @@ slot_at name kvno etype = record { name = name; kvno = record { 0 = kvno }; etyp
 abbrev pub key_for : (Slot → Option Found) → Name → ℕ → ℤ → Option Key
 key_for keys name kvno etype = option_map (λ found. found.key) (keys (slot_at name kvno etype))
 
--- a version whose keys of both encryption types are there
+-- a version whose keys of both encryption types are present
 abbrev pub pair_of : ℕ → ℕ → Option Key → Option Key → Option KeyBytes
 pair_of kvno iterations (Some (Aes128 aes128)) (Some (Aes256 aes256)) =
     Some (record { kvno = kvno; iterations = iterations; aes128 = aes128; aes256 = aes256 })
@@ -36,13 +36,13 @@ abbrev pub ahead : Option KeyBytes → List KeyBytes → List KeyBytes
 ahead None others = []
 ahead (Some key) others = key ∷ others
 
--- the keys of a version and of each one below it, as long as both are there; so many at most
+-- the keys of a version and of each one below it, as long as both are present; at most this many
 unfoldable pub keys_from : (ℕ → Option KeyBytes) → ℕ → ℕ → List KeyBytes
 keys_from pair zero kvno = []
 keys_from pair (suc count) zero = []
 keys_from pair (suc count) (suc below) = ahead (pair (suc below)) (keys_from pair count below)
 
--- the principal of a name with its newest version, where it has keys and isn't the service
+-- the principal of a name with its newest version, if it has keys and isn't the service
 abbrev pub row_with : Name → List KeyBytes → Option PrincipalRow
 row_with name [] = None
 row_with name (key ∷ others) = Some (record { name = name; keys = key ∷ others })
@@ -51,7 +51,7 @@ abbrev pub row_for : (Slot → Option Found) → ℕ → Name × ℕ → Option 
 row_for keys iterations p =
     if is_service p.0 then None else row_with p.0 (keys_from (pair_for keys iterations p.0) 16 p.1)
 
--- the first of the principals, where these are the names in their order
+-- the first of the principals, for these names in their order
 unfoldable pub first_rows : {A B : Type 0} → (A → Option B) → ℕ → List A → List B
 first_rows row limit xs = take limit (flat_map (λ x. option_to_list (row x)) xs)
 

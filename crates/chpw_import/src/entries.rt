@@ -9,7 +9,7 @@ use krb_keys::{Key, key_of};
 use krb_keytab::KeytabEntry;
 use std::alloc::{AllocError, Global};
 
-/// The name of the entry, where it is of a version of a principal of the realm; else why it is none.
+/// The name of the entry, if it is of a version of a principal of the realm; otherwise why it isn't.
 #[tactic(auto, unfolding(crate::specs::Entries::named))]
 pub(crate) fn named_in(
     alloc: Global,
@@ -55,7 +55,7 @@ fn is_aes(etype: i16) -> bool
     }
 }
 
-/// The name of the entry, in memory of its own.
+/// The name of the entry, in new memory.
 pub(crate) fn name_of(alloc: Global, entry: &KeytabEntry) -> Result<Name, AllocError>
     ensures value { IfOk result (λ name. name ≡ name_in entry.now) }
 {

@@ -7,28 +7,28 @@ ghost use Rattle.chpw_rules.specs.Names.{name_cmp};
 ghost use Rattle.chpw_import.specs.Keytabs.{ArePrincipals, AreServiceKeys, IsBrought, IsOfKeytab};
 ghost use Rattle.chpw_import.specs.LeftOut.{left_out};
 
-use crate::left::Left;
-use crate::left_out::{Used, left_of};
+use crate::left::SkippedEntry;
+use crate::left_out::{UsableKeys, left_of};
 use crate::rows::{principals_of, service_of};
 use crate::table::table_of;
 use chpw_rules::{PrincipalRow, ServiceRow};
 use krb_keytab::{KeytabEntry, KeytabError, KeytabFault, read_keytab};
 use std::alloc::{AllocError, Global};
 
-/// What a keytab holds of a realm.
+/// The keys that a keytab has of a realm.
 #[derive(Drop)]
-pub struct Brought {
+pub struct KeytabImport {
     /// The entries of the file, in its order.
     pub entries: Vec<KeytabEntry>,
     /// The keys of kadmin/changepw, newest first and of one version etype 18 first; at most 16.
     pub service: Vec<ServiceRow>,
     /// The others, in the order of their names.
     pub principals: Vec<PrincipalRow>,
-    /// What is left out, in the order of the file.
-    pub left: Vec<Left>,
+    /// The skipped entries, in the order of the file.
+    pub left: Vec<SkippedEntry>,
 }
 
-/// Why nothing is brought in.
+/// Why nothing is imported.
 #[derive(Clone, Copy, PartialEq, Eq, Debug, Drop)]
 pub enum ImportFault {
     /// The keytab has this fault.
@@ -37,21 +37,20 @@ pub enum ImportFault {
     Memory,
 }
 
-/// The keys of a realm that a keytab holds, as a configuration has them.
+/// The keys of a realm in a keytab, as a configuration has them.
 ///
-/// Of two entries of one name, kvno and encryption type the one that was put there last counts: the one with
-/// the greater timestamp, or where that is the same, the one that follows in the file. The keys of a principal are
-/// those of its newest kvno in the realm and of each one below it, as long as that has a key of both
-/// encryption types; what is behind is left out.
+/// Of two entries with one name, kvno and encryption type the later one counts: the one with the greater timestamp, or,
+/// if these are equal, the one that follows in the file. The keys of a principal are those of its newest kvno in the
+/// realm and of each one below it, as long as that has a key of both encryption types; older ones are skipped.
 ///
-/// A configuration can have what is brought in: the service's keys fit, and so do the principals where the
-/// iteration count is within 1 to 16,777,216.
+/// A configuration can have the result: the service's keys fit, and so do the principals if the iteration count is
+/// within 1 to 16,777,216.
 pub fn bring_in(
     alloc: Global,
     bytes: &[u8],
     realm: &[u8],
     iterations: u32,
-) -> Result<Brought, ImportFault>
+) -> Result<KeytabImport, ImportFault>
     ensures fault { IfErr result (IsOfKeytab bytes.now) }
     ensures brought { IfOk result (IsBrought bytes.now realm.now iterations) }
     ensures service_fits { IfOk result (λ b. service_fits b.service.items ≡ true) }
@@ -68,13 +67,13 @@ pub fn bring_in(
     }
 }
 
-// What these entries hold of a realm.
+// The keys that these entries have of a realm.
 fn brought_of(
     alloc: Global,
     entries: Vec<KeytabEntry>,
     realm: &[u8],
     iterations: u32,
-) -> Result<Brought, AllocError>
+) -> Result<KeytabImport, AllocError>
     ensures entries { IfOk result (λ b. b.entries.items ≡ entries.items) }
     ensures service { IfOk result (λ b.
         AreServiceKeys realm.now b.entries.items b.service.items) }
@@ -91,13 +90,13 @@ fn brought_of(
     let table = table_of(alloc, realm, entries.as_slice())?;
     let service = service_of(alloc, &table.found)?;
     let principals = principals_of(alloc, &table, iterations)?;
-    let used = Used {
+    let used = UsableKeys {
         table: &table,
         service: service.as_slice(),
         principals: principals.as_slice(),
     };
     let left = left_of(alloc, realm, entries.as_slice(), &used)?;
-    Ok(Brought {
+    Ok(KeytabImport {
         entries,
         service,
         principals,

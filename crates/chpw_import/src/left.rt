@@ -1,15 +1,15 @@
-//! What is left out, and what is told of it.
+//! Skipped entries, and the lines about them.
 ghost use Rattle.std.specs.Prelude.{◌≡◌, ◌++◌, IfOk, OnOk};
 ghost use Rattle.std.specs.Option.{option_copied};
 ghost use Rattle.chpw_import.specs.LeftLines.{entry_text, left_lines, left_text, length_text, line_of, reason_text, unpaired_text, words_of};
 
 use crate::entries::name_of;
-use crate::keytab::Brought;
+use crate::keytab::KeytabImport;
 use chpw_printing::{put_number, put_principal, put_signed};
 use krb_keytab::KeytabEntry;
 use std::alloc::{AllocError, Global};
 
-/// Why an entry is left out, in the order in which it is looked at.
+/// Why an entry is skipped, in the order of the checks.
 #[derive(Clone, Copy, PartialEq, Eq, Debug, Drop)]
 pub enum Reason {
     /// It is of another realm.
@@ -22,27 +22,27 @@ pub enum Reason {
     OtherType,
     /// Its key has another length than its encryption type's.
     KeyLength,
-    /// An entry of the same name, kvno and encryption type was put there later.
+    /// A later entry has the same name, kvno and encryption type.
     Repeated,
     /// It is older than the newest version of its name that isn't used.
     BehindGap,
     /// Its version has no key of the other encryption type.
     Unpaired,
-    /// There are the most principals already.
+    /// There is already the greatest number of principals.
     TooManyPrincipals,
-    /// Its principal, or the service, has the most keys already.
+    /// Its principal, or the service, already has the greatest number of keys.
     TooManyKeys,
 }
 
-/// An entry that is left out: the index-th of the file, from 0.
+/// A skipped entry: the index-th of the file, from 0.
 #[derive(Clone, Copy, PartialEq, Eq, Debug, Drop)]
-pub struct Left {
+pub struct SkippedEntry {
     pub index: usize,
     pub why: Reason,
 }
 
-/// What is told of what is left out: a line for each entry, behind the file's name.
-pub fn left_text(alloc: Global, file: &str, brought: &Brought) -> Result<Vec<u8>, AllocError>
+/// A line for each skipped entry, after the file's name.
+pub fn left_text(alloc: Global, file: &str, brought: &KeytabImport) -> Result<Vec<u8>, AllocError>
     ensures value { IfOk result (λ text.
         text.items ≡ left_lines file.now brought.now.entries.items brought.now.left.items) }
 {
@@ -78,13 +78,13 @@ fn put_line(
     text.extend_from_slice(b"\n")
 }
 
-// What is told of an entry that is left out.
+// The text about a skipped entry.
 fn put_left(text: &mut Vec<u8>, entry: &KeytabEntry, why: Reason) -> Result<(), AllocError>
     ensures value { OnOk result (text.new.items ≡ text.old.items ++ left_text entry.now why) }
 {
     text.extend_from_slice(b"at ")?;
     put_number(text, entry.place as u64)?;
-    text.extend_from_slice(b": left out: ")?;
+    text.extend_from_slice(b": skipped: ")?;
     put_entry(text, entry)?;
     text.extend_from_slice(b": ")?;
     put_reason(text, entry, why)
@@ -142,8 +142,8 @@ fn words_of(why: Reason) -> &'static [u8]
         }
         Reason::NoVersion => b"a version is at least 1",
         Reason::OtherType => b"only 17 and 18 can be used",
-        Reason::Repeated => b"an entry put there later has the same name, kvno and etype",
-        Reason::BehindGap => b"behind a version that is missing or left out",
+        Reason::Repeated => b"a later entry has the same name, kvno and etype",
+        Reason::BehindGap => b"older than a version that is missing or skipped",
         Reason::TooManyKeys => b"there are 16 keys already",
         Reason::TooManyPrincipals => b"there are 10000 principals already",
     }

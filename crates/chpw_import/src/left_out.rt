@@ -1,4 +1,4 @@
-//! Which entries of a keytab are left out.
+//! Which entries of a keytab are skipped.
 ghost use Rattle.std.specs.Prelude.{◌≡◌, Bool, IfOk, map};
 ghost use Rattle.std.specs.BTreeMap.{get};
 ghost use Rattle.std.specs.List.{list_any};
@@ -8,7 +8,7 @@ ghost use Rattle.chpw_import.specs.Tables.{newest_at, slot_cmp};
 ghost use Rattle.chpw_import.specs.LeftOut.{has_version, is_found, is_key_of, told_from, unused, unused_of_service, usable, used_keys, why_left};
 
 use crate::entries::{named_in, usable_key};
-use crate::left::{Left, Reason};
+use crate::left::{Reason, SkippedEntry};
 use crate::rows::{is_service, pair_at};
 use crate::slot::{Found, Slot};
 use crate::table::{Table, newest_version, slot_of};
@@ -17,21 +17,21 @@ use krb_keytab::KeytabEntry;
 use std::alloc::{AllocError, Global};
 use std::collections::BTreeMap;
 
-/// What is used of a keytab: its table, and the rows that it makes, the principals in the order of their names.
+/// What is used of a keytab: its table, and the rows that it gives, the principals in the order of their names.
 #[derive(Clone, Copy, Drop)]
-pub(crate) struct Used<'a> {
+pub(crate) struct UsableKeys<'a> {
     pub table: &'a Table,
     pub service: &'a [ServiceRow],
     pub principals: &'a [PrincipalRow],
 }
 
-/// The entries that are left out, in the order of the file.
+/// The skipped entries, in the order of the file.
 pub(crate) fn left_of(
     alloc: Global,
     realm: &[u8],
     entries: &[KeytabEntry],
-    used: &Used<'_>,
-) -> Result<Vec<Left>, AllocError>
+    used: &UsableKeys<'_>,
+) -> Result<Vec<SkippedEntry>, AllocError>
     requires sorted { IsStrictlySortedBy name_cmp (map (λ row. row.name) used.now.principals.now) }
     ensures value { IfOk result (λ left. left.items ≡ told_from
         (why_left realm.now (get slot_cmp used.now.table.now.found) (newest_at used.now.table.now.newest)
@@ -42,18 +42,18 @@ pub(crate) fn left_of(
     while let [entry, others @ ..] = rest {
         let index = entries.len() - rest.len();
         if let Some(why) = why_left(alloc, realm, used, index, entry)? {
-            left.push(Left { index, why })?;
+            left.push(SkippedEntry { index, why })?;
         }
         rest = others;
     }
     Ok(left)
 }
 
-// Why the index-th entry is left out, where it is.
+// Why the index-th entry is skipped, if it is.
 fn why_left(
     alloc: Global,
     realm: &[u8],
-    used: &Used<'_>,
+    used: &UsableKeys<'_>,
     index: usize,
     entry: &KeytabEntry,
 ) -> Result<Option<Reason>, AllocError>
@@ -72,10 +72,10 @@ fn why_left(
     }
 }
 
-// Why an entry with this name, whose key can be used, is left out, where it is.
+// Why an entry with this name, whose key can be used, is skipped, if it is.
 fn why_unused(
     alloc: Global,
-    used: &Used<'_>,
+    used: &UsableKeys<'_>,
     index: usize,
     entry: &KeytabEntry,
     name: &Name,
@@ -94,7 +94,7 @@ fn why_unused(
     let is_pair = pair_at(alloc, &used.table.found, name, entry.kvno, 1)?.is_some();
     let newest = newest_version(&used.table.newest, name);
     let keys = used_keys(used.principals, name);
-    Ok(unused(entry.kvno, newest, keys, is_pair))
+    Ok(why_key_unused(entry.kvno, newest, keys, is_pair))
 }
 
 // Whether the slot has the key of the index-th entry.
@@ -107,7 +107,7 @@ fn is_found(found: &BTreeMap<Slot, Found>, slot: &Slot, index: usize) -> bool
     }
 }
 
-// Why a key of the service isn't used, where it isn't.
+// Why a key of the service isn't used, if it isn't.
 fn unused_of_service(entry: &KeytabEntry, service: &[ServiceRow]) -> Option<Reason>
     ensures value { result ≡ unused_of_service entry.now service.now }
 {
@@ -132,8 +132,8 @@ fn used_keys<'a>(principals: &'a [PrincipalRow], name: &Name) -> &'a [KeyBytes]
     }
 }
 
-// Why a principal's key isn't used, where it isn't.
-fn unused(kvno: u32, newest: u32, keys: &[KeyBytes], is_pair: bool) -> Option<Reason>
+// Why a principal's key isn't used, if it isn't.
+fn why_key_unused(kvno: u32, newest: u32, keys: &[KeyBytes], is_pair: bool) -> Option<Reason>
     ensures value { result ≡ unused kvno newest keys.now is_pair }
 {
     if has_version(kvno, keys) {

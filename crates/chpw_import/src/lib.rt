@@ -1,18 +1,25 @@
-//! Keys brought in: the service keys and the principals' keys that a keytab holds, with what is left out of
-//! it and why; and a principal's keys of a password.
+//! Importing keys: the service keys and the principals' keys of a keytab, with the entries that are skipped and why;
+//! and a principal's keys from a password.
 #![tactic(auto)]
 
 mod entries;
+mod fault;
+mod import_command;
+mod key_command;
 mod keytab;
 mod left;
 mod left_out;
 mod numbers;
+mod output;
 mod password;
 mod rows;
 mod slot;
 mod table;
 
-pub use keytab::{Brought, ImportFault, bring_in};
-pub use left::{Left, Reason, left_text};
+pub use fault::KeysFault;
+pub use import_command::{import, tell_keytab, write_keytab};
+pub use key_command::{key, tell_password, write_password};
+pub use keytab::{ImportFault, KeytabImport, bring_in};
+pub use left::{Reason, SkippedEntry, left_text};
 pub use numbers::KeyNumbers;
 pub use password::{default_salt, has_carriage_return, password_in, password_row};

@@ -1,4 +1,4 @@
-//! A principal's keys of a password.
+//! A principal's keys from a password.
 ghost use Rattle.std.specs.Prelude.{◌≡◌, ◌≤◌, ◌++◌, ◌&&◌, true, IfOk, IfSome, None};
 ghost use Rattle.std.specs.List.{flat_map};
 ghost use Rattle.krb_keys.specs.Keys.{bytes_of, etype_of};
@@ -12,8 +12,8 @@ use chpw_rules::{AES128_LENGTH, AES256_LENGTH, Items, KeyBytes, Name, PrincipalR
 use krb_keys::{Etype, Key, string_to_keys};
 use std::alloc::{AllocError, Global};
 
-/// The password that a file holds: its bytes, but for one newline at its end, alone or behind a carriage return; none
-/// where nothing is left.
+/// The password in a file: its bytes without one newline at its end, alone or after a carriage return; none if nothing
+/// is left.
 pub fn password_in(bytes: &[u8]) -> Option<&[u8]>
     ensures value { IfSome result (λ password. IsPasswordOf bytes.now password.now) }
     ensures none { result ≡ None → HoldsNoPassword bytes.now }
@@ -30,7 +30,7 @@ pub fn password_in(bytes: &[u8]) -> Option<&[u8]>
     }
 }
 
-/// Whether the newline at the end of these bytes stands behind a carriage return.
+/// Whether the newline at the end of these bytes follows a carriage return.
 pub fn has_carriage_return(bytes: &[u8]) -> bool
     ensures value { result ≡ has_carriage_return bytes.now }
 {
@@ -51,8 +51,8 @@ pub fn default_salt(alloc: Global, realm: &[u8], name: &Name) -> Result<Vec<u8>,
     Ok(salt)
 }
 
-/// A principal with one key: that which string-to-key makes of the password with the default salt, of each
-/// encryption type (RFC 3962 section 4). It fits a configuration where the name and both numbers do.
+/// A principal with one key: the one that string-to-key makes from the password with the default salt, for each
+/// encryption type (RFC 3962 section 4). It fits a configuration if the name and both numbers do.
 #[tactic(auto, using(crate::proofs::PasswordLemmas::aes128_made, crate::proofs::PasswordLemmas::aes256_made, crate::proofs::PasswordLemmas::row_fits))]
 pub fn password_row(
     alloc: Global,

@@ -1,4 +1,4 @@
-//! The rows of a configuration that the keys of a table make.
+//! The rows of a configuration for the keys of a table.
 ghost use Rattle.std.specs.Prelude.{◌≡◌, IfOk, IfErr, map};
 ghost use Rattle.std.specs.List.Sorted.{IsStrictlySortedBy};
 ghost use Rattle.std.specs.BTreeMap.{IsOrdered, get};
@@ -42,7 +42,7 @@ pub(crate) fn principals_of(
     Ok(rows)
 }
 
-// The principal of this name, where it has keys.
+// The principal of this name, if it has keys.
 fn row_of(
     alloc: Global,
     found: &BTreeMap<Slot, Found>,
@@ -66,7 +66,7 @@ fn row_of(
     }))
 }
 
-// The keys of the name's newest version and of each one below it, as long as both are there.
+// The keys of the name's newest version and of each one below it, as long as both are present.
 #[tactic(auto, using(crate::proofs::RowLemmas::no_more, crate::proofs::RowLemmas::stopped, crate::proofs::RowLemmas::one_key))]
 fn keys_of(
     alloc: Global,
@@ -90,7 +90,7 @@ fn keys_of(
     Ok(keys)
 }
 
-/// Both keys of a version, where both are there.
+/// Both keys of a version, if both are present.
 pub(crate) fn pair_at(
     alloc: Global,
     found: &BTreeMap<Slot, Found>,
@@ -121,7 +121,7 @@ fn key_at(found: &BTreeMap<Slot, Found>, name: Name, kvno: u32, etype: i16) -> O
     }
 }
 
-// Both keys, where both are there.
+// Both keys, if both are present.
 fn both(kvno: u32, iterations: u32, aes128: Option<Key>, aes256: Option<Key>) -> Option<KeyBytes>
     ensures value { result ≡ pair_of kvno iterations aes128 aes256 }
 {
@@ -157,7 +157,7 @@ pub(crate) fn service_of(
     Ok(rows)
 }
 
-// The row of a key, where it is the service's.
+// The row of a key, if it is the service's.
 fn service_row(alloc: Global, slot: &Slot, found: &Found) -> Result<Option<ServiceRow>, AllocError>
     ensures value { IfOk result (λ row. row ≡ service_row (slot.now, found.now)) }
 {

@@ -12,10 +12,10 @@ use std::alloc::{AllocError, Global};
 use std::cmp::Reverse;
 use std::collections::BTreeMap;
 
-/// What the entries hold of a realm.
+/// What the entries have of a realm.
 #[derive(Drop)]
 pub(crate) struct Table {
-    /// The usable key of each slot that was put there last.
+    /// The latest usable key of each slot.
     pub found: BTreeMap<Slot, Found>,
     /// The newest version of each name, its keys usable or not.
     pub newest: BTreeMap<Name, u32>,
@@ -79,7 +79,7 @@ impl Table {
     }
 }
 
-// Puts a key to its slot, unless the slot has one that was put into the file later.
+// Sets a slot's key, unless it has a later one.
 fn put(found: &mut BTreeMap<Slot, Found>, slot: Slot, next: Found) -> Result<(), AllocError>
     ensures step { OnOk result (Puts slot next found.old found.new) }
 {
@@ -90,7 +90,7 @@ fn put(found: &mut BTreeMap<Slot, Found>, slot: Slot, next: Found) -> Result<(),
     Ok(())
 }
 
-// Whether the key was put there before the one that is held.
+// Whether the key was added before the one that is held.
 fn is_older(held: Option<&Found>, next: &Found) -> bool
     ensures value { result ≡ is_older (option_copied held.entry) next.now }
 {
@@ -110,7 +110,7 @@ fn raise(newest: &mut BTreeMap<Name, u32>, name: Name, kvno: u32) -> Result<(), 
     Ok(())
 }
 
-/// The newest version of a name; 0 where there is none.
+/// The newest version of a name; 0 if there is none.
 pub(crate) fn newest_version(newest: &BTreeMap<Name, u32>, name: &Name) -> u32
     ensures value { result ≡ newest_at newest.now name.now }
 {

@@ -1,5 +1,6 @@
 -- A command in whose words clap finds no fault has what it requires, each value as its rule takes it.
-use Rattle.std.proofs.Common.{◌≡◌, ◌≢◌, ◌∙◌, ◌&&◌, ◌||◌, Bool, cond, true, false, not, refl, sym, ap, subst, arith, List, [], ◌∷◌, Option, Some, None, true≢false}
+use Rattle.std.proofs.Common.{◌≡◌, ◌≢◌, ◌∙◌, ◌&&◌, ◌||◌, Bool, cond, true, false, not, refl, sym}
+use Rattle.std.proofs.Common.{ap, subst, arith, List, [], ◌∷◌, Option, Some, None, true≢false}
 use Rattle.std.specs.Prelude.{IfSome, fold, slice_get}
 use Rattle.std.specs.List.{AllByRecursion, find, list_any}
 use Rattle.std.specs.Option.{option_and_then, option_map_or}
@@ -10,7 +11,8 @@ use Rattle.clap.specs.Facts.{explicit_source, parser_of_value}
 use Rattle.clap.specs.Values.{Accepts, read_as}
 use Rattle.clap.specs.Kinds.{check_kinds, or_else, request_kinds}
 use Rattle.clap.specs.Takes.{is_given}
-use Rattle.clap.specs.Walk.{Held, Row, Rule, Text, action_of, arg_by_id, default_rows, has_row, is_empty, nothing_held, reading_by, row_text, rows_after, settled, walk, walk_from, with_default}
+use Rattle.clap.specs.Walk.{Held, Row, Rule, Text, action_of, arg_by_id, default_rows, has_row, is_empty}
+use Rattle.clap.specs.Walk.{nothing_held, reading_by, row_text, rows_after, settled, walk, walk_from, with_default}
 use Rattle.clap.specs.Simple.{Shape}
 use Rattle.clap.specs.Faults.{default_fault, defaults_fault, level_fault, values_fault}
 use Rattle.clap.proofs.ValueTestLemmas.{accepts-Accepts}

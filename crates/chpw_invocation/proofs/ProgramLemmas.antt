@@ -1,5 +1,6 @@
 -- Where clap finds no fault in the program's words, the command that is named has what it requires.
-use Rattle.std.proofs.Common.{◌≡◌, ◌≢◌, ◌∙◌, ◌&&◌, ℕ, Bool, cond, true, false, not, refl, sym, subst, List, [], ◌∷◌, ◌++◌, codes, Option, Some, None, is_some, option_map, true≢false, inl, inr}
+use Rattle.std.proofs.Common.{◌≡◌, ◌≢◌, ◌∙◌, ◌&&◌, ℕ, Bool, cond, true, false, not, refl, sym, subst, List, []}
+use Rattle.std.proofs.Common.{◌∷◌, ◌++◌, codes, Option, Some, None, is_some, option_map, true≢false, inl, inr}
 use Rattle.std.specs.Prelude.{IfSome, fold}
 use Rattle.std.specs.List.{AllByRecursion, find}
 use Rattle.std.specs.Option.{option_map_or}
@@ -7,8 +8,13 @@ use Rattle.std.specs.Str.{bytes_eq}
 use Rattle.std.proofs.lemmas.Slice.Eq.{bytes_eq-Decides}
 use Rattle.std.proofs.lemmas.Bool.{cond_both, or_cases}
 use Rattle.clap.specs.Lexer.{long_of, short_of}
-use Rattle.clap.specs.Walk.{Held, Names, Outcome, Row, Rule, Step, Text, Waiting, Walk, after_flag, after_step, answers_to, arg_by_index, arg_by_long, bundle, done, idle, long_met, long_or_other, next, nothing_held, option, plain, plain_word, positional, refused, rows_after, short_or_plain, stop_after, subcommand, subcommand_met, subcommand_or_other, to_positional, trailing, value, waits, walk_from, walked, walked_from, word_met}
-use Rattle.clap.specs.Simple.{Shape, argument_words, built, built_leaf, entered, filled, filled_from, help_rule, inherited, label_of, marked_built, names_of, rows_at, subcommand_of, with_leaf_noted}
+use Rattle.clap.specs.Walk.{Held, Names, Outcome, Row, Rule, Step, Text, Waiting, Walk, after_flag, after_step}
+use Rattle.clap.specs.Walk.{answers_to, arg_by_index, arg_by_long, bundle, done, idle, long_met, long_or_other}
+use Rattle.clap.specs.Walk.{next, nothing_held, option, plain, plain_word, positional, refused, rows_after}
+use Rattle.clap.specs.Walk.{short_or_plain, stop_after, subcommand, subcommand_met, subcommand_or_other}
+use Rattle.clap.specs.Walk.{to_positional, trailing, value, waits, walk_from, walked, walked_from, word_met}
+use Rattle.clap.specs.Simple.{Shape, argument_words, built, built_leaf, entered, filled, filled_from, help_rule}
+use Rattle.clap.specs.Simple.{inherited, label_of, marked_built, names_of, rows_at, subcommand_of, with_leaf_noted}
 use Rattle.clap.specs.Kinds.{or_else}
 use Rattle.clap.specs.Faults.{entered_fault, fault_of, level_fault, other_fault, step_fault, turn_fault, walk_fault, word_fault}
 use Rattle.clap.specs.declared.error.kind.ErrorKind.TheVariants.{DisplayHelp, InvalidSubcommand}
@@ -80,12 +86,14 @@ module _ (s : Shape) (names : Names) (enabled : s.disable_help_subcommand ≡ fa
 
       go : (o : Option (Text × List Text))
           → cond (is_some o) [] (or_else (word_fault s names w.is_trailing w.waiting word w.held)
-          (step_fault s w.position (word_met s.rules names w.is_trailing w.waiting w.position word w.held).0 (word_met s.rules names w.is_trailing w.waiting w.position word w.held).1)) ≡ []
+          (step_fault s w.position (word_met s.rules names w.is_trailing w.waiting w.position word w.held).0
+          (word_met s.rules names w.is_trailing w.waiting w.position word w.held).1)) ≡ []
           → IfSome o (λ p. IsNoHelp p.0)
           → IfSome (walked_from s.rules names o w word).stopped (λ p. IsNoHelp p.0)
       go (Some p) e was = was
       go None e was =
-          stepped (word_met s.rules names w.is_trailing w.waiting w.position word w.held).0 (word_met s.rules names w.is_trailing w.waiting w.position word w.held).1
+          stepped (word_met s.rules names w.is_trailing w.waiting w.position word w.held).0
+          (word_met s.rules names w.is_trailing w.waiting w.position word w.held).1
           (word_step w.is_trailing w.waiting w.position word w.held (no_fault _ _ e).0)
 
   pub walk_stops : (w : Walk) (words : List Text) → walk_fault s names w words ≡ [] → IfSome w.stopped (λ p. IsNoHelp p.0)
@@ -141,13 +149,58 @@ key_found : AllByRecursion (IsFound (rules_of program.key.rules)) (rules_of prog
 key_found = ((refl, refl), ((refl, refl), ((refl, refl), ((refl, refl), ((refl, refl), ((refl, refl), tt))))))
 
 serve_found : AllByRecursion (IsFound (rules_of program.serve.rules)) (rules_of program.serve.rules)
-serve_found = ((refl, refl), ((refl, refl), ((refl, refl), ((refl, refl), ((refl, refl), ((refl, refl), ((refl, refl), ((refl, refl), ((refl, refl), ((refl, refl), ((refl, refl), ((refl, refl), ((refl, refl), ((refl, refl), ((refl, refl), ((refl, refl), tt))))))))))))))))
+serve_found = (
+  (refl, refl),
+  (
+    (refl, refl),
+    (
+      (refl, refl),
+      (
+        (refl, refl),
+        (
+          (refl, refl),
+          (
+            (refl, refl),
+            (
+              (refl, refl),
+              (
+                (refl, refl),
+                (
+                  (refl, refl),
+                  (
+                    (
+                      refl,
+                      refl,
+                    ),
+                    ((refl, refl), ((refl, refl), ((refl, refl), ((refl, refl), ((refl, refl), ((refl, refl), ((refl, refl), ((refl, refl), tt)))))))),
+                  ),
+                ),
+              ),
+            ),
+          ),
+        ),
+      ),
+    ),
+  ),
+)
 
 control_found : AllByRecursion (IsFound (rules_of program.control.rules)) (rules_of program.control.rules)
 control_found = ((refl, refl), ((refl, refl), ((refl, refl), ((refl, refl), tt))))
 
 client_found : AllByRecursion (IsFound (rules_of program.client.rules)) (rules_of program.client.rules)
-client_found = ((refl, refl), ((refl, refl), ((refl, refl), ((refl, refl), ((refl, refl), ((refl, refl), ((refl, refl), ((refl, refl), ((refl, refl), ((refl, refl), tt))))))))))
+client_found = (
+  (refl, refl),
+  (
+    (refl, refl),
+    (
+      (refl, refl),
+      (
+        (refl, refl),
+        ((refl, refl), ((refl, refl), ((refl, refl), ((refl, refl), ((refl, refl), ((refl, refl), tt)))))),
+      ),
+    ),
+  ),
+)
 
 -- a built command that a word names has what it requires, where its words have no fault
 abbrev SuitsWhenNamed : Text → List Text → Shape → Type 0

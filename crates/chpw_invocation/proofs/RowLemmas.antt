@@ -1,5 +1,6 @@
 -- The rows of a command in whose words clap finds no fault: each has a value that its rule takes.
-use Rattle.std.proofs.Common.{◌≡◌, ◌&&◌, ◌||◌, ℕ, Bool, cond, true, false, not, zero, suc, refl, sym, ap, subst, arith, List, [], ◌∷◌, ◌++◌, length, Option, Some, None, is_some, true≢false, inl, inr}
+use Rattle.std.proofs.Common.{◌≡◌, ◌&&◌, ◌||◌, ℕ, Bool, cond, true, false, not, zero, suc, refl, sym, ap, subst}
+use Rattle.std.proofs.Common.{arith, List, [], ◌∷◌, ◌++◌, length, Option, Some, None, is_some, true≢false, inl, inr}
 use Rattle.std.specs.Prelude.{IfSome, nat_lt, drop, encode_utf8, fold, slice_get}
 use Rattle.std.specs.List.{AllByRecursion, find}
 use Rattle.std.specs.Option.{option_map_or}
@@ -10,9 +11,18 @@ use Rattle.clap.specs.Lexer.{long_of, short_of}
 use Rattle.clap.specs.Values.{is_request}
 use Rattle.clap.specs.ValueTests.{accepts}
 use Rattle.clap.specs.Kinds.{Kinds, or_else, range_kinds}
-use Rattle.clap.specs.Walk.{Held, most_values, Names, Outcome, Row, Rule, Step, Text, Waiting, Walk, action_of, after_flag, after_step, arg_by_id, arg_by_index, arg_by_long, arg_by_short, at_row, attached_value, bundle, bundle_met, bundle_step, done, flag_met, idle, is_empty, is_pending, long_met, long_or_other, more_values, next, option, option_met, option_word, plain, plain_word, positional, reacted, reading_by, refused, settled, settled_rows, short_met, short_or_plain, subcommand, subcommand_met, subcommand_or_other, takes_several, takes_values, to_positional, trailing, used, used_as, used_by_id, value, values_or_missing, waits, walked, walked_from, with_values, without, word_met}
+use Rattle.clap.specs.Walk.{Held, most_values, Names, Outcome, Row, Rule, Step, Text, Waiting, Walk, action_of}
+use Rattle.clap.specs.Walk.{after_flag, after_step, arg_by_id, arg_by_index, arg_by_long, arg_by_short, at_row}
+use Rattle.clap.specs.Walk.{attached_value, bundle, bundle_met, bundle_step, done, flag_met, idle, is_empty}
+use Rattle.clap.specs.Walk.{is_pending, long_met, long_or_other, more_values, next, option, option_met, option_word}
+use Rattle.clap.specs.Walk.{plain, plain_word, positional, reacted, reading_by, refused, settled, settled_rows}
+use Rattle.clap.specs.Walk.{short_met, short_or_plain, subcommand, subcommand_met, subcommand_or_other}
+use Rattle.clap.specs.Walk.{takes_several, takes_values, to_positional, trailing, used, used_as, used_by_id, value}
+use Rattle.clap.specs.Walk.{values_or_missing, waits, walked, walked_from, with_values, without, word_met}
 use Rattle.clap.specs.Simple.{Shape}
-use Rattle.clap.specs.Faults.{action_fault, bundle_step_fault, flag_word_fault, flags_fault, long_fault, stray_fault, bundle_fault, option_fault, other_fault, positional_fault, react_fault, settle_fault, short_fault, step_fault, turn_fault, use_fault, values_fault, walk_fault, word_fault}
+use Rattle.clap.specs.Faults.{action_fault, bundle_step_fault, flag_word_fault, flags_fault, long_fault, stray_fault}
+use Rattle.clap.specs.Faults.{bundle_fault, option_fault, other_fault, positional_fault, react_fault, settle_fault}
+use Rattle.clap.specs.Faults.{short_fault, step_fault, turn_fault, use_fault, values_fault, walk_fault, word_fault}
 use Rattle.clap.specs.declared.builder.action.ArgAction.{ArgAction}
 use Rattle.clap.specs.declared.builder.action.ArgAction.TheVariants as action
 use Rattle.clap.specs.declared.error.kind.ErrorKind.{ErrorKind}
@@ -116,7 +126,8 @@ module _ (c : List Rule) where
       → AreGood c (used_as x a.id (reading_by a) values rows)
   action_good action.Set again a values rows is some e good = values_good a _ values _ is (not-true _ some) (no_fault _ _ e).1 (without_good a.id rows good)
   action_good action.SetTrue again a values rows is some e good = values_good a _ values _ is (not-true _ some) (no_fault _ _ e).1 (without_good a.id rows good)
-  action_good action.SetFalse again a values rows is some e good = values_good a _ values _ is (not-true _ some) (no_fault _ _ e).1 (without_good a.id rows good)
+  action_good action.SetFalse again a values rows is some e good =
+      values_good a _ values _ is (not-true _ some) (no_fault _ _ e).1 (without_good a.id rows good)
   action_good action.Append again a values rows is some e good = values_good a _ values _ is (not-true _ some) e good
   action_good action.Count again a [] rows is some e good = absurd (true≢false (sym some))
   action_good action.Count again a (v ∷ vs) rows is some e good = values_good a _ (v ∷ vs) _ is (not-true _ some) e (without_good a.id rows good)
@@ -277,12 +288,14 @@ module _ (s : Shape) (rules : AllByRecursion (IsFound s.rules) s.rules) where
 
       go : (o : Option (Text × List Text))
           → cond (is_some o) [] (or_else (word_fault s names w.is_trailing w.waiting word w.held)
-          (step_fault s w.position (word_met s.rules names w.is_trailing w.waiting w.position word w.held).0 (word_met s.rules names w.is_trailing w.waiting w.position word w.held).1)) ≡ []
+          (step_fault s w.position (word_met s.rules names w.is_trailing w.waiting w.position word w.held).0
+          (word_met s.rules names w.is_trailing w.waiting w.position word w.held).1)) ≡ []
           → AreGood s.rules (walked_from s.rules names o w word).held.rows
       go (Some p) e = good
       go None e =
           let parts = no_fault _ _ e in
-          stepped (word_met s.rules names w.is_trailing w.waiting w.position word w.held).0 (word_met s.rules names w.is_trailing w.waiting w.position word w.held).1
+          stepped (word_met s.rules names w.is_trailing w.waiting w.position word w.held).0
+          (word_met s.rules names w.is_trailing w.waiting w.position word w.held).1
           parts.1 (word_good names w.is_trailing w.waiting w.position word w.held parts.0 good)
 
   pub walk_good : (names : Names) (w : Walk) (words : List Text) → walk_fault s names w words ≡ [] → AreGood s.rules w.held.rows

@@ -1,6 +1,7 @@
--- What a user asks for, of what clap matched: the command's name, and each option's value by its name.
--- The words are matched by clap's own rules.
-use Rattle.std.specs.Prelude.{◌≡◌, ◌≢◌, ◌⊎◌, ◌≤◌, ℕ, Bool, true, false, List, [], Option, Some, None, option_map, codes, bytes_eq, if◌then◌else◌, length, pos, ◌<◌}
+-- What a user asks for, by what clap matched: the command's name, and each option's value by its name. The words are
+-- matched by clap's own rules.
+use Rattle.std.specs.Prelude.{◌≡◌, ◌≢◌, ◌⊎◌, ◌≤◌, ℕ, Bool, true, false, List, [], Option, Some}
+use Rattle.std.specs.Prelude.{None, option_map, codes, bytes_eq, if◌then◌else◌, length, pos, ◌<◌}
 use Rattle.std.specs.Fmt.{decimal}
 use Rattle.std.specs.Option.{option_map_or}
 use Rattle.std.specs.Str.Parse.{digits_value, without_leading_plus}
@@ -25,31 +26,31 @@ use Rattle.chpw_invocation.specs.declared.invocation.TableForm.{TableForm}
 use Rattle.chpw_invocation.specs.declared.invocation.TableForm.TheVariants.{Lines, Configuration, Keys}
 use Rattle.chpw_invocation.specs.declared.invocation.TableOptions.{TableOptions}
 
--- an option that has to be there has this value
+-- a required option has this value
 abbrev pub HasText : List Row → Text → Text → Type 0
 HasText options name text = first_of name options ≡ Some text
 
--- and this number, within these limits
+-- a required option has this number, within these limits
 abbrev pub HasNumber : ℕ → ℕ → List Row → Text → ℕ → Type 0
 HasNumber low high options name number = (text : Text) × (one_of name options ≡ Some text)
     × (number ≡ digits_value 10 (without_leading_plus text)) × (low ≤ number) × (number ≤ high)
 
--- an option that may be left out has this number, within these limits
+-- an optional option has this number, within these limits
 abbrev pub MayHaveNumber : ℕ → ℕ → List Row → Text → Option ℕ → Type 0
 MayHaveNumber low high options name None = first_of name options ≡ None
 MayHaveNumber low high options name (Some number) = HasNumber low high options name number
 
--- an option that may be left out has this number, within these limits, or is left out and this is the usual one
+-- an option with a default has this number, within these limits, or is left out and this is its default
 abbrev pub HasNumberOr : ℕ → ℕ → ℕ → List Row → Text → ℕ → Type 0
 HasNumberOr usual low high options name number =
     ((first_of name options ≡ None) × (number ≡ usual)) ⊎ HasNumber low high options name number
 
--- no number within these limits is its value, as numbers are printed
+-- no number within these limits, as numbers are printed, is its value
 abbrev pub LacksNumber : ℕ → ℕ → List Row → Text → Type 0
 LacksNumber low high options name =
     (number : ℕ) → low ≤ number → number ≤ high → one_of name options ≢ Some (decimal number)
 
--- its value is one that a rule for numbers from 1 to a limit takes
+-- its value is one that a rule for numbers from 1 to a limit accepts
 abbrev pub HasTakenNumber : ℕ → List Row → Text → Type 0
 HasTakenNumber limit options name = (text : Text)
     × (one_of name options ≡ Some (read_as WithoutMinus text)) × IsSignedIn (pos 1) (pos limit) text
@@ -66,7 +67,7 @@ HasRealm options realm = HasText options (codes "realm") realm × (1 ≤ length 
 abbrev pub LacksRealm : List Row → Type 0
 LacksRealm options = (realm : Text) × HasText options (codes "realm") realm × ((realm ≡ []) ⊎ (255 < length realm))
 
--- a flag is given or isn't: clap matches true or false for it
+-- a flag is given or not: clap matches true or false for it
 abbrev pub IsGiven : List Row → Text → Bool → Type 0
 IsGiven options name given = (one_of name options ≡ Some (codes "true") → given ≡ true)
     × (one_of name options ≡ Some (codes "false") → given ≡ false)
@@ -80,7 +81,7 @@ form_of_name name =
     else if bytes_eq name (codes "keys") then Some Keys
     else None
 
--- lines, where none is named
+-- lines by default
 abbrev pub form_asked : List Row → Option TableForm
 form_asked options = option_map_or form_of_name (first_of (codes "as") options) (Some Lines)
 
@@ -117,6 +118,8 @@ pub record AsksServe (options : List Row) (asked : ServeOptions) : Type 0 where
   pub follower_wait : HasNumberOr 2000 1 60000 options (codes "follower-wait") asked.follower_wait
   pub control : option_map (λ socket. socket.now) asked.control ≡ first_of (codes "control") options
   pub udp : IsGiven options (codes "udp") asked.udp
+  pub rfc3244_only : IsGiven options (codes "rfc3244-only") asked.rfc3244_only
+  pub strict_modes : IsGiven options (codes "strict-modes") asked.strict_modes
 
 pub record AsksControl (options : List Row) (asked : ControlOptions) : Type 0 where
   pub socket : HasText options (codes "socket") asked.socket.now
@@ -132,7 +135,7 @@ abbrev pub HasNoPassword : List Row → Type 0
 HasNoPassword options =
     (first_of (codes "password") options ≡ None) × (first_of (codes "password-file") options ≡ None)
 
--- the password comes from this file; from standard input, where its name is `-`
+-- the password comes from this file; from standard input if its name is `-`
 abbrev pub IsInFile : Text → PasswordSource → Type 0
 IsInFile name (source.Text text) = ⊥
 IsInFile name (source.File file) = (file.now ≡ name) × (name ≢ codes "-")
@@ -170,7 +173,7 @@ AsksFor (Some p) (Serve asked) = (p.0 ≡ codes "serve") × AsksServe p.1 asked
 AsksFor (Some p) (Control asked) = (p.0 ≡ codes "control") × AsksControl p.1 asked
 AsksFor (Some p) (Client asked) = (p.0 ≡ codes "client") × AsksClient p.1 asked
 
--- a request of the earlier protocol with a target, which it has none of
+-- a request of the earlier protocol with a target, which that protocol doesn't have
 abbrev pub AimsOld : List Row → Type 0
 AimsOld options = IsGiven options (codes "old") true × (first_of (codes "target") options ≢ None)
 
@@ -195,15 +198,15 @@ abbrev pub HasSpareFile : List Row → Type 0
 HasSpareFile options = (word : Text) × HasText options (codes "command") word × (takes_file word ≡ Some false)
     × (first_of (codes "file") options ≢ None)
 
--- Why a command for a running service is refused: there is no such command, it wants a file, or it wants none.
+-- Why a command for a running service is refused: there is no such command, it requires a file, or it takes none.
 abbrev pub RefusesControl : List Row → ErrorKind → Type 0
 RefusesControl options kind =
     ((kind ≡ InvalidValue) × NamesNoCommand options)
     ⊎ (((kind ≡ MissingRequiredArgument) × LacksFile options)
     ⊎ ((kind ≡ UnknownArgument) × HasSpareFile options))
 
--- Why words in which clap finds no fault are refused: those two, a table in a form that there isn't, or a keytab or
--- a password of a realm of 0 or more than 255 bytes.
+-- Why words in which clap finds no fault are refused: a refused client or control, a table in an unknown form, or a
+-- keytab or a password of a realm of 0 or more than 255 bytes.
 abbrev pub IsOwnRefusal : Option (Text × List Row) → ErrorKind → Type 0
 IsOwnRefusal None kind = ⊥
 IsOwnRefusal (Some p) kind =
@@ -212,11 +215,11 @@ IsOwnRefusal (Some p) kind =
     ⊎ (((p.0 ≡ codes "table") × (kind ≡ InvalidValue) × (form_asked p.1 ≡ None))
     ⊎ (((p.0 ≡ codes "import") ⊎ (p.0 ≡ codes "key")) × (kind ≡ InvalidValue) × LacksRealm p.1)))
 
--- what the program itself refuses of words in which clap finds no fault
+-- the program itself refuses words in which clap finds no fault
 abbrev pub IsOwnReason : Option (Text × List Row) → Type 0
 IsOwnReason asked = (kind : ErrorKind) × IsOwnRefusal asked kind
 
--- Why words are refused, of the kinds of fault that clap may find in them: one of these, or memory
--- ran out; or for want of those a reason of the program's own.
+-- Why words are refused: for one of the kinds of fault that clap finds in them, or for want of memory; if there is
+-- none, for a reason of the program's own.
 abbrev pub IsRefusal : Kinds → Option (Text × List Row) → Error → Type 0
 IsRefusal kinds asked e = HasKind kinds e ⊎ ((kinds ≡ []) × IsOwnRefusal asked (kind_of e))

@@ -1,4 +1,4 @@
--- The forms that options have, as clap's rules.
+-- The kinds of options, as clap's rules.
 use Rattle.std.specs.Prelude.{true, Some, pos, codes, ℕ}
 use Rattle.clap.specs.Walk.{Rule, Text}
 use Rattle.clap.specs.Simple.{new_rule}
@@ -12,7 +12,7 @@ use Rattle.chpw_invocation.specs.declared.options.OptionLine.{OptionLine}
 abbrev pub optional : Text → Rule
 optional name = record (new_rule name) { long = Some name; action = Some Set; value_names = 1 }
 
--- the same, where it has to be there
+-- `--NAME VALUE`, required
 abbrev pub required : Text → Rule
 required name = record (optional name) { required = true }
 
@@ -20,23 +20,23 @@ required name = record (optional name) { required = true }
 abbrev pub flag : Text → Rule
 flag name = record (new_rule name) { long = Some name; action = Some SetTrue }
 
--- `--NAME N`, which has to be there, N from 1 to a limit
+-- `--NAME N`, required, N from 1 to a limit
 abbrev pub numbered : Text → ℕ → Rule
 numbered name limit = record (required name) { parser = Some (parser.Signed (pos 1) (pos limit)) }
 
--- the same, where it may be left out
+-- `--NAME N`, optional, N from 1 to a limit
 abbrev pub may_be_numbered : Text → ℕ → Rule
 may_be_numbered name limit = record (optional name) { parser = Some (parser.Signed (pos 1) (pos limit)) }
 
--- `VALUE`, a word without a name before it
+-- `VALUE`, an optional positional word
 abbrev pub optional_word : Text → Rule
 optional_word name = record (new_rule name) { action = Some Set; value_names = 1 }
 
--- the same, where it has to be there
+-- `VALUE`, a required positional word
 abbrev pub required_word : Text → Rule
 required_word name = record (optional_word name) { required = true }
 
--- the rule of an option of the program's lists
+-- the rule of an option in the program's lists
 abbrev pub rule_by : OptionKind → Text → Rule
 rule_by Required name = required name
 rule_by Optional name = optional name

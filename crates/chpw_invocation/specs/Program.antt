@@ -4,7 +4,8 @@ use Rattle.clap.specs.Walk.{Rule, Text}
 use Rattle.clap.specs.Simple.{App, Shape, app_of, new_shape}
 use Rattle.clap.specs.declared.builder.command.Command.{Command}
 use Rattle.clap.specs.declared.builder.command.Command.TheViews.{out-Command}
-use Rattle.chpw_invocation.specs.Options.{required, optional, flag, required_word, optional_word, port, workers, connections, idle, clients, buffers, raise, follower_wait, iterations, kvno}
+use Rattle.chpw_invocation.specs.Options.{required, optional, flag, required_word, optional_word, port, workers}
+use Rattle.chpw_invocation.specs.Options.{connections, idle, clients, buffers, raise, follower_wait, iterations, kvno}
 
 abbrev pub command : Text → List Rule → Shape
 command name options = record (new_shape name) { rules = options }
@@ -13,7 +14,7 @@ command name options = record (new_shape name) { rules = options }
 abbrev pub alone : Shape → App
 alone command = record { top = command; subs = [] }
 
--- no option of it is passed down to the commands below it
+-- no option of it is passed down to its subcommands
 abbrev pub IsLocal : Command → Type 0
 IsLocal c = (out-Command c).has_globals ≡ false
 
@@ -57,7 +58,7 @@ key = command (codes "key")
 
 -- serve --config FILE --journal FILE --seed FILE --port N --workers N --connections N [--idle SECONDS]
 -- [--clients N] [--buffers MEBIBYTES] [--raise COUNT] [--log FILE] [--follower SOCKET] [--follower-wait MILLISECONDS]
--- [--control SOCKET] [--udp]
+-- [--control SOCKET] [--udp] [--rfc3244-only] [--strict-modes]
 abbrev pub serve : Shape
 serve = command (codes "serve")
     (required (codes "config")
@@ -75,6 +76,8 @@ serve = command (codes "serve")
     ∷ follower_wait
     ∷ optional (codes "control")
     ∷ flag (codes "udp")
+    ∷ flag (codes "rfc3244-only")
+    ∷ flag (codes "strict-modes")
     ∷ [])
 
 -- control --socket SOCKET COMMAND [FILE]
@@ -100,7 +103,7 @@ client = command (codes "client")
     ∷ flag (codes "old")
     ∷ [])
 
--- with a version, and one of the commands below it has to be named
+-- with a version, and one of the subcommands required
 abbrev pub leading : App → App
 leading a = record a {
   top = record a.top {

@@ -14,38 +14,37 @@ pub const GREATEST_CONNECTIONS: u32 = 4_294_967_295;
 /// The greatest `--idle`, in seconds: an hour.
 pub const LONGEST_IDLE: u16 = 3600;
 
-/// After how many seconds of waiting for its client a connection is ended, where no `--idle` is given.
+/// The default of `--idle`: the seconds of waiting for its client after which a connection is ended.
 pub const USUAL_IDLE: u16 = 30;
 
 /// The greatest `--clients`.
 pub const MOST_CLIENTS: u32 = 65_536;
 
-/// How many connections are open at a time, where no `--clients` is given.
+/// The default of `--clients`: how many connections may be open at a time.
 pub const USUAL_CLIENTS: u32 = 1_024;
 
 /// The greatest `--buffers`, in MiB.
 pub const MOST_BUFFERS: u16 = 1_024;
 
-/// How many MiB the messages and replies of all connections may hold together, where no `--buffers` is
-/// given.
+/// The default of `--buffers`: the MiB that the messages and replies of all connections may hold together.
 pub const USUAL_BUFFERS: u16 = 32;
 
 /// The greatest `--follower-wait`, in milliseconds: a minute.
 pub const LONGEST_FOLLOWER_WAIT: u32 = 60_000;
 
-/// How many milliseconds the reply to a change waits for a follower, where no `--follower-wait` is given.
+/// The default of `--follower-wait`: the milliseconds that the reply to a change waits for a follower.
 pub const USUAL_FOLLOWER_WAIT: u32 = 2_000;
 
 /// The greatest iteration count.
 pub const GREATEST_COUNT: u32 = 16_777_216;
 
-/// The iteration count of keys for which none is named (RFC 3962 section 4).
+/// The default iteration count of keys (RFC 3962 section 4).
 pub const USUAL_COUNT: u32 = 4096;
 
 /// The greatest key version.
 pub const GREATEST_KVNO: u32 = 4_294_967_295;
 
-/// The key version, where none is named.
+/// The default key version.
 pub const USUAL_KVNO: u32 = 1;
 
 /// The most bytes in a realm.
@@ -75,9 +74,9 @@ pub struct ClientOptions<'a> {
     pub client: &'a str,
     /// The new password.
     pub password: PasswordSource<'a>,
-    /// Whose password is set, where that isn't the client's own.
+    /// The principal whose password is set, if that isn't the client.
     pub target: Option<&'a str>,
-    /// Whether the ticket is made without the flag initial.
+    /// Whether the ticket is made without the flag INITIAL.
     pub no_initial: bool,
     /// Whether it asks in the earlier protocol, which has no target.
     pub old: bool,
@@ -99,28 +98,31 @@ pub struct ServeOptions<'a> {
     pub workers: u8,
     /// After how many connections it ends; at least 1.
     pub connections: u32,
-    /// After how many seconds of waiting for its client a connection is ended, 1 to
-    /// [`LONGEST_IDLE`]; [`USUAL_IDLE`], where none is given.
+    /// After how many seconds of waiting for its client a connection is ended, 1 to [`LONGEST_IDLE`]; default
+    /// [`USUAL_IDLE`].
     pub idle: u16,
-    /// How many connections are open at a time, 1 to 65,536; [`USUAL_CLIENTS`], where none is given.
+    /// How many connections may be open at a time, 1 to 65,536; default [`USUAL_CLIENTS`].
     pub clients: u32,
-    /// How many MiB the messages and replies of all connections may hold together, 1 to 1,024;
-    /// [`USUAL_BUFFERS`], where none is given.
+    /// How many MiB the messages and replies of all connections may hold together, 1 to 1,024; default
+    /// [`USUAL_BUFFERS`].
     pub buffers: u16,
-    /// The iteration count that new keys are raised to before it listens, 1 to 16,777,216; none where
-    /// it stays as it is.
+    /// The iteration count that new keys are raised to before the service listens, 1 to 16,777,216; none to leave it.
     pub raise: Option<u32>,
-    /// The file of the log; none where there is none.
+    /// The file of the log, if there is one.
     pub log: Option<&'a str>,
-    /// The socket of the follower that says when the KDC has a change; none where replies wait for none.
+    /// The socket of the follower that confirms that the KDC has a change; without one no reply waits.
     pub follower: Option<&'a str>,
-    /// How many milliseconds the reply to a change waits for the follower, 1 to [`LONGEST_FOLLOWER_WAIT`];
-    /// [`USUAL_FOLLOWER_WAIT`], where none is given.
+    /// How many milliseconds the reply to a change waits for the follower, 1 to [`LONGEST_FOLLOWER_WAIT`]; default
+    /// [`USUAL_FOLLOWER_WAIT`].
     pub follower_wait: u32,
-    /// The socket at which it is told what to do while it runs; none where it isn't.
+    /// The path of the control socket, if there is one.
     pub control: Option<&'a str>,
-    /// Whether it takes messages over UDP too.
+    /// Whether messages are accepted over UDP too.
     pub udp: bool,
+    /// Whether requests of RFC 3244 alone are answered, and those of the earlier protocol refused.
+    pub rfc3244_only: bool,
+    /// Whether a start is refused when others may read or write one of its files.
+    pub strict_modes: bool,
     ghost some_workers: { (1 ≤ workers) × (workers ≤ 16) },
     ghost some_idle: { (1 ≤ idle) × (idle ≤ 3600) },
     ghost some_clients: { (1 ≤ clients) × (clients ≤ 65536) },
@@ -129,18 +131,18 @@ pub struct ServeOptions<'a> {
     ghost some_count: { (count : ℕ) → raise ≡ Some count → (1 ≤ count) × (count ≤ 16777216) },
 }
 
-/// What a running service is told to do.
+/// Send a command to a running service.
 #[derive(Clone, Copy, Drop)]
 pub enum ControlCommand<'a> {
-    /// To say how it goes.
+    /// Report its state.
     Status,
-    /// To read its configuration anew.
+    /// Reload its configuration.
     Reload,
-    /// To open the file of its log anew.
+    /// Reopen its log file.
     ReopenLog,
-    /// To end.
+    /// Stop.
     Stop,
-    /// To write a shorter journal to this file.
+    /// Write a compact journal to this file.
     Compact { file: &'a str },
 }
 
@@ -158,7 +160,7 @@ impl<'a> ControlCommand<'a> {
         }
     }
 
-    /// The file that it comes with.
+    /// The file that it takes.
     pub fn file(&self) -> Option<&'a str>
         ensures value { option_map (λ file. file.now) result ≡ file_of self.now }
     {
@@ -169,51 +171,51 @@ impl<'a> ControlCommand<'a> {
     }
 }
 
-/// What a running service is told, and where.
+/// A command for a running service, and where to send it.
 #[derive(Clone, Copy, Drop)]
 pub struct ControlOptions<'a> {
     /// The service's control socket.
     pub socket: &'a str,
-    /// What it is told to do.
+    /// The command.
     pub command: ControlCommand<'a>,
 }
 
-/// The forms in which the table that is held is told.
+/// The output forms of `table`.
 #[derive(Clone, Copy, PartialEq, Eq, Debug, Drop)]
 pub enum TableForm {
-    /// A line for each principal, for a person.
+    /// A line for each principal.
     Lines,
     /// A whole configuration.
     Configuration,
-    /// A line for each key, for a KDC's tool.
+    /// A line for each key, for a KDC's tools.
     Keys,
 }
 
-/// Whose table is told, and how.
+/// Which table is printed, and in which form.
 #[derive(Clone, Copy, Drop)]
 pub struct TableOptions<'a> {
     /// The configuration's file.
     pub config: &'a str,
     /// The journal's file.
     pub journal: &'a str,
-    /// Lines, where none is named.
+    /// Lines by default.
     pub form: TableForm,
 }
 
-/// Whose keytab is brought in.
+/// The keytab that is imported.
 #[derive(Clone, Copy, Drop)]
 pub struct ImportOptions<'a> {
     /// The keytab's file.
     pub keytab: &'a str,
     /// 1 to [`LONGEST_REALM`] bytes.
     pub realm: &'a str,
-    /// What the principals' keys were made with, 1 to 16,777,216; [`USUAL_COUNT`], where none is named.
+    /// The iteration count that the principals' keys were made with, 1 to 16,777,216; default [`USUAL_COUNT`].
     pub iterations: u32,
     ghost some_realm: { (1 ≤ length realm.now) × (length realm.now ≤ 255) },
     ghost some_count: { (1 ≤ iterations) × (iterations ≤ 16777216) },
 }
 
-/// Whose keys are made of a password.
+/// The principal whose keys are made from a password.
 #[derive(Clone, Copy, Drop)]
 pub struct KeyOptions<'a> {
     /// 1 to [`LONGEST_REALM`] bytes.
@@ -222,32 +224,32 @@ pub struct KeyOptions<'a> {
     pub name: &'a str,
     /// The password's file.
     pub password_file: &'a str,
-    /// 1 to 16,777,216; [`USUAL_COUNT`], where none is named.
+    /// 1 to 16,777,216; default [`USUAL_COUNT`].
     pub iterations: u32,
-    /// 1 to 4,294,967,295; 1, where none is named.
+    /// 1 to 4,294,967,295; default 1.
     pub kvno: u32,
     ghost some_realm: { (1 ≤ length realm.now) × (length realm.now ≤ 255) },
     ghost some_count: { (1 ≤ iterations) × (iterations ≤ 16777216) },
     ghost some_kvno: { 1 ≤ kvno },
 }
 
-/// A command, with its options.
+/// A command with its options.
 #[derive(Clone, Copy, Drop)]
 pub enum Invocation<'a> {
-    /// The script on standard input.
+    /// Run the script on standard input.
     Drill,
-    /// The check of the configuration in a file.
+    /// Check the configuration in a file.
     Check { config: &'a str },
-    /// The table that is held.
+    /// Print the table that configuration and journal hold.
     Table(TableOptions<'a>),
-    /// The keys of a keytab.
+    /// Convert the keys of a keytab.
     Import(ImportOptions<'a>),
-    /// The keys of a password.
+    /// Make the keys of a password.
     Key(KeyOptions<'a>),
-    /// The service.
+    /// Run the service.
     Serve(ServeOptions<'a>),
-    /// A command for a running service.
+    /// Send a command to a running service.
     Control(ControlOptions<'a>),
-    /// One request.
+    /// Send one request.
     Client(ClientOptions<'a>),
 }

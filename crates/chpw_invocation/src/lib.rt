@@ -1,5 +1,4 @@
-//! The program's command line, read by `clap`: its commands, their options with the help for them,
-//! and what a user asks for.
+//! The program's command line, over `clap`: its commands, their options and help texts, and what a user asks for.
 #![tactic(auto)]
 
 mod invocation;

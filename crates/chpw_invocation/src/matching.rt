@@ -1,4 +1,4 @@
-//! The command line matched: what its words ask for.
+//! What the words of the command line ask for.
 ghost use Rattle.std.specs.Prelude.{◌≡◌, ◌≢◌, ◌≤◌, ◌⊎◌, [], None, true, false, IfErr, IfOk, IfSome, OnOk, codes, map, option_map, string_bytes};
 ghost use Rattle.clap.specs.Faults.{fault_of};
 ghost use Rattle.clap.specs.Words.{first_of, found_of, rows_of, subcommand_of, subcommand_rows_of};
@@ -8,7 +8,11 @@ ghost use Rattle.chpw_invocation.specs.Options as options_of;
 ghost use Rattle.chpw_invocation.specs.Options.{may_be_numbered, required, required_word};
 ghost use Rattle.chpw_invocation.specs.Program as specs_of;
 ghost use Rattle.chpw_invocation.specs.Program.{program};
-ghost use Rattle.chpw_invocation.specs.Invocations.{AsksFor, HasNoPassword, HasNumber, HasNumberOr, HasPassword, HasRealm, HasTakenNumber, HasText, HasTwoPasswords, IsGiven, IsInFile, IsOwnReason, IsRefusal, LacksGiven, LacksNumber, LacksRealm, MayHaveNumber, RefusesClient, RefusesControl, form_asked, form_of_name};
+ghost use Rattle.chpw_invocation.specs.Invocations.{AsksFor, HasNoPassword, HasNumber, HasNumberOr};
+ghost use Rattle.chpw_invocation.specs.Invocations.{HasPassword, HasRealm, HasTakenNumber, HasText};
+ghost use Rattle.chpw_invocation.specs.Invocations.{HasTwoPasswords, IsGiven, IsInFile, IsOwnReason, IsRefusal};
+ghost use Rattle.chpw_invocation.specs.Invocations.{LacksGiven, LacksNumber, LacksRealm, MayHaveNumber};
+ghost use Rattle.chpw_invocation.specs.Invocations.{RefusesClient, RefusesControl, form_asked, form_of_name};
 ghost use Rattle.chpw_invocation.specs.Controls as controls;
 ghost use Rattle.chpw_invocation.specs.Controls.{file_of, word_of};
 
@@ -27,8 +31,8 @@ use std::alloc::Global;
 
 /// The command that the words ask for, the first of them the program's name.
 ///
-/// The error of any other words says what is wrong with them, and of words that ask for help or the
-/// version its text; its kind is `OutOfMemory` where memory ran out.
+/// For any other words, the error says what is wrong with them, and for words that ask for help or the version it is
+/// that text; its kind is `OutOfMemory` if memory ran out.
 pub fn command_of<'a>(alloc: Global, words: &'a [String]) -> Result<Invocation<'a>, Error>
     ensures asked { IfOk result (AsksFor (subcommand_of program (map string_bytes words.entry.now))) }
     ensures taken { OnOk result (fault_of program (map string_bytes words.entry.now) ≡ []) }
@@ -47,8 +51,8 @@ pub fn command_of<'a>(alloc: Global, words: &'a [String]) -> Result<Invocation<'
     }
 }
 
-// The command that was matched; always one after a parse, since the program wants one and each
-// command its options, but for the reasons of the program's own.
+// The command that was matched; there is one after every parse, since the program requires one and each command its
+// options, except for the program's own reasons.
 fn asked_of<'a>(matches: &ArgMatches<'a>) -> Option<Invocation<'a>>
     ensures asked { IfSome result (AsksFor (subcommand_rows_of matches.now)) }
     ensures none { IsSuited (subcommand_rows_of matches.now) → result ≡ None
@@ -90,7 +94,7 @@ fn table_of<'a>(options: &ArgMatches<'a>) -> Option<Invocation<'a>>
     }))
 }
 
-// The form that is asked for; none where there is no such form.
+// The form that is asked for; none if there is no such form.
 fn form_of(options: &ArgMatches<'_>) -> Option<TableForm>
     ensures value { result ≡ form_asked (rows_of (found_of options.now)) }
 {
@@ -139,7 +143,7 @@ fn key_of<'a>(options: &ArgMatches<'a>) -> Option<Invocation<'a>>
     }))
 }
 
-// The realm, where its length is within the limits.
+// The realm, if its length is within the limits.
 #[tactic(auto, using(crate::proofs::NeedLemmas::required_there))]
 fn realm_of<'a>(options: &ArgMatches<'a>) -> Option<&'a str>
     ensures realm { IfSome result (λ realm. HasRealm (rows_of (found_of options.now)) realm.now) }
@@ -174,10 +178,12 @@ fn serve_of<'a>(options: &ArgMatches<'a>) -> Option<Invocation<'a>>
         follower_wait: follower_wait_of(options)?,
         control: text_of(options, "control"),
         udp: is_given(options, "udp"),
+        rfc3244_only: is_given(options, "rfc3244-only"),
+        strict_modes: is_given(options, "strict-modes"),
     }))
 }
 
-// What a running service is told.
+// The command for a running service, with its socket.
 #[tactic(auto, using(crate::proofs::NeedLemmas::required_there))]
 fn control_of<'a>(options: &ArgMatches<'a>) -> Option<Invocation<'a>>
     ensures asked { IfSome result (AsksFor (Some (codes "control", rows_of (found_of options.now)))) }
@@ -190,7 +196,7 @@ fn control_of<'a>(options: &ArgMatches<'a>) -> Option<Invocation<'a>>
     }))
 }
 
-// The command for a running service, with its file where it takes one.
+// The command for a running service, with its file if it takes one.
 fn told_of<'a>(options: &ArgMatches<'a>) -> Option<ControlCommand<'a>>
     ensures word { IfSome result (λ c. HasText (rows_of (found_of options.now)) (codes "command") (word_of c)) }
     ensures file { IfSome result (λ c. file_of c ≡ first_of (codes "file") (rows_of (found_of options.now))) }
@@ -252,7 +258,7 @@ fn client_of<'a>(options: &ArgMatches<'a>) -> Option<Invocation<'a>>
     }))
 }
 
-// Where the new password comes from; none where two are given, or none is.
+// Where the new password comes from; none if two sources are given, or none.
 fn password_of<'a>(options: &ArgMatches<'a>) -> Option<PasswordSource<'a>>
     ensures password { IfSome result (HasPassword (rows_of (found_of options.now))) }
     ensures none { result ≡ None → HasTwoPasswords (rows_of (found_of options.now))
@@ -293,7 +299,7 @@ pub(crate) fn is_given(options: &ArgMatches<'_>, name: &str) -> bool
     options.get_flag(name)
 }
 
-// The number of an option, where it is 1 at least and no greater than this.
+// The number of an option, if it is at least 1 and no greater than this.
 fn number_of(options: &ArgMatches<'_>, name: &str, greatest: u32) -> Option<u32>
     ensures number { IfSome result (HasNumber 1 greatest (rows_of (found_of options.now)) name.now) }
     ensures range { IfSome result (λ number. (1 ≤ number) × (number ≤ greatest)) }
@@ -339,7 +345,7 @@ fn connections_of(options: &ArgMatches<'_>) -> Option<u32>
     number_of(options, "connections", GREATEST_CONNECTIONS)
 }
 
-// The number of an option that may be left out, and is then the usual one.
+// The number of an option with this default.
 #[tactic(auto, using(crate::proofs::NeedLemmas::given_taken))]
 fn number_or(options: &ArgMatches<'_>, name: &str, usual: u32, greatest: u32) -> Option<u32>
     ensures number { IfSome result
@@ -412,7 +418,7 @@ fn follower_wait_of(options: &ArgMatches<'_>) -> Option<u32>
     )
 }
 
-// The iteration count to raise to, where one is given.
+// The iteration count to raise to, if one is given.
 #[tactic(auto, using(crate::proofs::NeedLemmas::given_taken))]
 fn raise_of(options: &ArgMatches<'_>) -> Option<Option<u32>>
     ensures raise { IfSome result (MayHaveNumber 1 16777216 (rows_of (found_of options.now)) (codes "raise")) }
@@ -428,7 +434,7 @@ fn raise_of(options: &ArgMatches<'_>) -> Option<Option<u32>>
     }
 }
 
-// The iteration count of keys that were made elsewhere, or are made of a password.
+// The iteration count of the keys of a keytab or of a password.
 fn iterations_of(options: &ArgMatches<'_>) -> Option<u32>
     ensures iterations { IfSome result
         (HasNumberOr 4096 1 16777216 (rows_of (found_of options.now)) (codes "iterations")) }

@@ -1,4 +1,4 @@
-//! The forms that options have. Each has its name alone: there are no short ones.
+//! The kinds of options. Each has only its long name.
 ghost use Rattle.std.specs.Prelude.{◌≡◌, false, pos};
 ghost use Rattle.clap.specs.Walk.{rule_of};
 ghost use Rattle.clap.specs.declared.builder.value_parser.ValueParser.TheVariants as parser;
@@ -11,19 +11,19 @@ use std::alloc::Global;
 /// What an option takes.
 #[derive(Clone, Copy, Drop)]
 pub(crate) enum OptionKind {
-    /// A value, which has to be there.
+    /// A required value.
     Required,
-    /// A value, where it is given.
+    /// An optional value.
     Optional,
-    /// A number from 1 to a limit, which has to be there.
+    /// A required number from 1 to a limit.
     Number(u32),
-    /// A number from 1 to a limit, where it is given.
+    /// An optional number from 1 to a limit.
     OptionalNumber(u32),
     /// No value.
     Flag,
-    /// A word without a name before it, which has to be there.
+    /// A required positional word.
     Word,
-    /// A word without a name before it, where it is given.
+    /// An optional positional word.
     OptionalWord,
 }
 
@@ -32,13 +32,17 @@ pub(crate) enum OptionKind {
 pub(crate) struct OptionLine {
     name: &'static str,
     kind: OptionKind,
-    // What its value is called in the help.
+    // The name of its value in the help.
     value: &'static str,
     help: &'static str,
 }
 
-/// An option that has to be there, with a value.
-pub(crate) fn required(name: &'static str, value: &'static str, help: &'static str) -> OptionLine
+/// A required option with a value.
+pub(crate) fn required_option(
+    name: &'static str,
+    value: &'static str,
+    help: &'static str,
+) -> OptionLine
     ensures rule { specs_of.rule_for result ≡ specs_of.required name.entry.now }
 {
     let kind = OptionKind::Required;
@@ -50,7 +54,7 @@ pub(crate) fn required(name: &'static str, value: &'static str, help: &'static s
     }
 }
 
-/// An option that may be left out, with a value.
+/// An optional option with a value.
 pub(crate) fn optional(name: &'static str, value: &'static str, help: &'static str) -> OptionLine
     ensures rule { specs_of.rule_for result ≡ specs_of.optional name.entry.now }
 {
@@ -63,7 +67,7 @@ pub(crate) fn optional(name: &'static str, value: &'static str, help: &'static s
     }
 }
 
-/// An option that has to be there, with a number from 1 to a limit.
+/// A required option with a number from 1 to a limit.
 pub(crate) fn number(
     name: &'static str,
     value: &'static str,
@@ -81,7 +85,7 @@ pub(crate) fn number(
     }
 }
 
-/// An option that may be left out, with a number from 1 to a limit.
+/// An optional option with a number from 1 to a limit.
 pub(crate) fn optional_number(
     name: &'static str,
     value: &'static str,
@@ -112,7 +116,7 @@ pub(crate) fn flag(name: &'static str, help: &'static str) -> OptionLine
     }
 }
 
-/// A word without a name before it, which has to be there.
+/// A required positional word.
 pub(crate) fn word(name: &'static str, value: &'static str, help: &'static str) -> OptionLine
     ensures rule { specs_of.rule_for result ≡ specs_of.required_word name.entry.now }
 {
@@ -125,7 +129,7 @@ pub(crate) fn word(name: &'static str, value: &'static str, help: &'static str) 
     }
 }
 
-/// A word without a name before it, which may be left out.
+/// An optional positional word.
 pub(crate) fn optional_word(
     name: &'static str,
     value: &'static str,
@@ -142,27 +146,29 @@ pub(crate) fn optional_word(
     }
 }
 
-/// The option as clap has it.
+/// The option as a clap argument.
 pub(crate) fn argument_of<'a>(alloc: Global, line: &OptionLine) -> Arg<'a>
     ensures rule { rule_of result ≡ specs_of.rule_for line.now }
     ensures local { result.global ≡ false }
 {
     match line.kind {
-        OptionKind::Required => valued(alloc, line, true),
-        OptionKind::Optional => valued(alloc, line, false),
-        OptionKind::Number(limit) => valued(alloc, line, true).value_parser(up_to(limit)),
-        OptionKind::OptionalNumber(limit) => valued(alloc, line, false).value_parser(up_to(limit)),
+        OptionKind::Required => option_arg(alloc, line, true),
+        OptionKind::Optional => option_arg(alloc, line, false),
+        OptionKind::Number(limit) => option_arg(alloc, line, true).value_parser(up_to(limit)),
+        OptionKind::OptionalNumber(limit) => option_arg(alloc, line, false).value_parser(up_to(
+            limit,
+        )),
         OptionKind::Flag => Arg::new(alloc, line.name)
             .long(line.name)
             .action(ArgAction::SetTrue)
             .help(line.help),
-        OptionKind::Word => unnamed(alloc, line, true),
-        OptionKind::OptionalWord => unnamed(alloc, line, false),
+        OptionKind::Word => positional_arg(alloc, line, true),
+        OptionKind::OptionalWord => positional_arg(alloc, line, false),
     }
 }
 
-// The word, which has to be there or may be left out.
-fn unnamed<'a>(alloc: Global, line: &OptionLine, is_required: bool) -> Arg<'a>
+// The positional word, required or optional.
+fn positional_arg<'a>(alloc: Global, line: &OptionLine, is_required: bool) -> Arg<'a>
     ensures rule { rule_of result ≡ record (specs_of.optional_word line.now.name.now) { required = is_required } }
     ensures local { result.global ≡ false }
 {
@@ -173,8 +179,8 @@ fn unnamed<'a>(alloc: Global, line: &OptionLine, is_required: bool) -> Arg<'a>
         .help(line.help)
 }
 
-// The option with a value, which has to be there or may be left out.
-fn valued<'a>(alloc: Global, line: &OptionLine, is_required: bool) -> Arg<'a>
+// The option with a value, required or optional.
+fn option_arg<'a>(alloc: Global, line: &OptionLine, is_required: bool) -> Arg<'a>
     ensures rule { rule_of result ≡ record (specs_of.optional line.now.name.now) { required = is_required } }
     ensures local { result.global ≡ false }
 {
@@ -186,7 +192,7 @@ fn valued<'a>(alloc: Global, line: &OptionLine, is_required: bool) -> Arg<'a>
         .help(line.help)
 }
 
-// From 1 to a limit.
+// A number from 1 to a limit.
 fn up_to<'a>(limit: u32) -> ValueParser<'a>
     ensures { result ≡ parser.Signed (pos 1) (pos limit) }
 {

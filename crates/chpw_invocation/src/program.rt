@@ -1,4 +1,4 @@
-//! The program's commands, with their help.
+//! The program's commands, with their help texts.
 ghost use Rattle.std.specs.Prelude.{◌≡◌, codes, false, IfOk, map};
 ghost use Rattle.clap.specs.Simple.{App, Shape, new_shape, with_subcommand};
 ghost use Rattle.clap.specs.Words.{app_of};
@@ -10,36 +10,38 @@ use crate::invocation::{
     LONGEST_IDLE, MOST_BUFFERS, MOST_CLIENTS, MOST_WORKERS,
 };
 use crate::options::{
-    OptionLine, argument_of, flag, number, optional, optional_number, optional_word, required, word,
+    OptionLine, argument_of, flag, number, optional, optional_number, optional_word,
+    required_option, word,
 };
 use clap::Command;
 use std::alloc::{AllocError, Global};
 
+/// The version that `--version` and `status` print.
 pub const VERSION: &str = "0.1";
 
 const ABOUT: &str = "The Kerberos change-password service kadmin/changepw (RFC 3244).";
 
 const STATUSES: &str = "\
-Exit status: 0 success; 1 a fault, told in a line on standard error, or a request that the service
-refused; 2 a bad command line, or help. A value that begins with a dash needs the equals sign,
-as in --password=-word-.";
+Exit status: 0 for success; 1 for a fault, with a line on standard error, or for a request that the
+service refused; 2 for a bad command line, or for help. A value that begins with a dash needs the
+equals sign, as in --password=-word-.";
 
-const DRILL: &str = "Decides the requests of a script on standard input, without a network.";
+const DRILL: &str = "Run a script of requests from standard input, without a network.";
 
 const DRILL_MORE: &str = "\
-The script has a line for each rule, principal and request; what each request is answered is printed
-in a line: its result code, the error code of a KRB-ERROR or a dash, and the text. A bad line ends
-the drill with status 1.
+The script has a line for each rule, principal and request. For each request a line is printed: the
+result code, the error code of a KRB-ERROR or a dash, and the text. A bad line ends the drill with
+status 1.
 
 Example:
   chpw_server drill < samples/drill/changes.script";
 
-const CHECK: &str = "Says whether a configuration is good, or what its first fault is.";
+const CHECK: &str = "Check a configuration, and print its first fault.";
 
 const CHECK_MORE: &str = "\
-Prints 'ok: principals N, rules N, service keys N' with status 0, or the fault as kind, part and
-index, such as 'C4 policy 0', with status 1; where it is and what was expected stands on standard
-error then.
+Prints 'ok: principals N, rules N, service keys N' with status 0, or the first fault as kind, part and
+index, such as 'C4 policy 0', with status 1; then standard error says where it is and what was
+expected.
 
 Example:
   chpw_server check --config samples/realm.toml";
@@ -47,129 +49,134 @@ Example:
 const CONFIG_HELP: &str =
     "The configuration, in TOML: realm, policy, rules, principals, service keys";
 
-const TABLE: &str = "Tells which keys the principals have now.";
+const TABLE: &str = "Print the current principal table.";
 
 const TABLE_MORE: &str = "\
-The configuration's principals with the journal's changes put back, as a service would start with. Both
-files are only read, also while a service runs.
+Prints the configuration's principals with the journal's changes applied: what a service would start
+with. Both files are only read, and may be in use by a running service.
 
   --as lines          a line for each principal: 'alice kvno 3 counts 4096 4096'; at the end
                       'principals N changes N'
-  --as configuration  a configuration with the keys that are held: with it a journal starts anew
+  --as configuration  a configuration with the current keys, to start over with an empty journal
   --as keys           a line for each key: name, kvno, etype, iterations, key, salt
 
-The last two have the keys in the clear: keep them as the configuration is kept.
+The last two print keys in the clear: protect the output like the configuration.
 
 Example:
   chpw_server table --config samples/realm.toml --journal realm.journal";
 
-const OLD_JOURNAL_HELP: &str = "The journal of accepted changes, which has to be there";
+const OLD_JOURNAL_HELP: &str = "The journal of accepted changes, which must exist";
 
 const AS_HELP: &str = "lines, configuration or keys [default: lines]";
 
-const SERVE: &str = "Serves so many connections on a port of this machine, and ends.";
+const SERVE: &str = "Run the service on 127.0.0.1.";
 
 const SERVE_MORE: &str = "\
-Prints 'listening on 127.0.0.1:N' before the first connection is accepted, and at the end, as behind
-each full history, 'entries N changes N': how many requests were decided, and how many of them
-changed a password.
+Prints 'listening on 127.0.0.1:N' before it accepts the first connection, and at the end, and after
+each full history, 'entries N changes N': how many requests were decided, and how many of them changed
+a password.
 
-Connection i is answered by worker i modulo their number; with --udp a datagram counts as a connection. No worker waits for a client: a message goes
-to its worker once it is whole. A client that is silent or slow holds its own place alone, for as long
-as --idle says. Where --clients or --buffers is reached, the connection that has waited for its client
-the longest is ended to make room.
+Connection i is answered by worker i modulo the number of workers; with --udp each datagram counts as
+a connection. No worker waits for a client: a message goes to its worker once it is complete. A client
+that is silent or slow occupies only its own connection, for as long as --idle allows. When --clients
+or --buffers is reached, the connection that has waited longest for its client is ended to make room.
 
 With --follower SOCKET the reply to a change waits until the KDC has the new key, so that a client can
-use its new password at once. Where the follower says nothing for as long as --follower-wait says, or
-isn't there, the reply goes out all the same, and the log says so.
+use its new password at once. If the follower doesn't answer within --follower-wait, or isn't running,
+the reply is sent anyway, and the log says so.
 
-With --raise COUNT it first prints what came of it: 'raised COUNT', 'count not higher', 'journal failed'
-or 'history full'. It serves after each of them.
+With --raise COUNT it first prints the result: 'raised COUNT', 'count not higher', 'journal failed' or
+'history full'. It serves after each of them.
 
 Example:
   chpw_server serve --config samples/realm.toml --journal realm.journal --seed /dev/urandom \\
-      --port 464 --workers 4 --connections 1000000";
+      --port 464 --workers 4 --connections 4294967295";
 
 const JOURNAL_HELP: &str =
-    "The journal of accepted changes; made where it isn't there, else the keys are restored from it";
+    "The journal of accepted changes; replayed at the start, and created if it doesn't exist";
 
 const WORKERS_HELP: &str = "How many messages are answered at a time, 1 to 16";
 
-const CONNECTIONS_HELP: &str = "After how many connections the service ends, 1 to 4294967295";
+const CONNECTIONS_HELP: &str =
+    "End after this many connections, 1 to 4294967295; use 4294967295 to run indefinitely";
 
 const IDLE_HELP: &str =
-    "How many seconds a client may take for a whole message, or to read its reply, 1 to 3600 [default: 30]";
+    "End a connection after this many seconds without a complete message or with an unread reply, 1 to 3600 [default: 30]";
 
-const CLIENTS_HELP: &str = "How many connections are open at a time, 1 to 65536 [default: 1024]";
+const CLIENTS_HELP: &str = "How many connections may be open at a time, 1 to 65536 [default: 1024]";
 
 const BUFFERS_HELP: &str =
     "How many MiB the messages and replies of all connections may hold together, 1 to 1024 [default: 32]";
 
 const RAISE_HELP: &str =
-    "Raises the iteration count of new keys first, to 1 to 16777216; keys that are held stay";
+    "Raise the iteration count of new keys before serving, to 1 to 16777216; existing keys stay";
 
 const LOG_HELP: &str =
-    "Where each decision is told in a line, appended; made where it isn't there [default: nowhere]";
+    "Append a line for each decision to this file, created if it doesn't exist; - for standard error [default: no log]";
 
 const FOLLOWER_HELP: &str =
-    "The socket of a follower: the reply to a change waits until it says that the KDC has the change [default: no wait]";
+    "The follower's socket: the reply to a change waits until the KDC has the change [default: no wait]";
 
 const FOLLOWER_WAIT_HELP: &str =
-    "How many milliseconds a reply waits for the follower at the most, 1 to 60000 [default: 2000]";
+    "How many milliseconds a reply waits for the follower at most, 1 to 60000 [default: 2000]";
 
-const CONTROL_HELP: &str =
-    "The socket at which the command control tells the service what to do [default: none]";
+const CONTROL_HELP: &str = "Accept commands of 'control' at this socket [default: none]";
 
-const UDP_HELP: &str =
-    "Takes messages over UDP too, at the same port, each in a datagram of its own";
+const UDP_HELP: &str = "Accept messages over UDP too, at the same port";
 
-const IMPORT: &str = "Prints a keytab's keys as a configuration has them.";
+const RFC3244_ONLY_HELP: &str =
+    "Refuse requests of the earlier protocol, version 0x0001, as of a bad version";
+
+const STRICT_MODES_HELP: &str =
+    "Don't start if other users may read or write the configuration, the seed, the log or the journal";
+
+const IMPORT: &str = "Convert a keytab's keys to a configuration.";
 
 const IMPORT_MORE: &str = "\
-Prints a [[service.key]] for each key of kadmin/changepw, and a [[principal]] for each other principal of
-the realm. What can't stand in a configuration is left out, with a line on standard error that says why.
-A keytab doesn't say which iteration count its keys were made with: --iterations does.
+Prints a [[service.key]] for each key of kadmin/changepw, and a [[principal]] for each other principal
+of the realm. Entries that a configuration can't hold are skipped, each with a line on standard error
+that says why. A keytab doesn't contain the iteration count of its keys: give it with --iterations.
 
-What is printed has keys in the clear: keep it as the keytab is kept.
+The output has keys in the clear: protect it like the keytab.
 
 Example:
   chpw_server import --keytab realm.keytab --realm EXAMPLE.COM >> realm.toml";
 
-const KEYTAB_HELP: &str = "The keytab, of MIT's format 0x0502";
+const KEYTAB_HELP: &str = "The keytab, in MIT's format 0x0502";
 
 const REALM_HELP: &str = "The realm, 1 to 255 bytes";
 
 const KEY_COUNT_HELP: &str = "The keys' iteration count, 1 to 16777216 [default: 4096]";
 
-const KEY: &str = "Prints the keys that a password makes, as a configuration has them.";
+const KEY: &str = "Make a principal's keys from a password, for a configuration.";
 
 const KEY_MORE: &str = "\
-Prints a [[principal]] with one key, made of the password with the usual salt: the realm, and the name's
-components behind it. A newline at the end of the file is no part of the password.
+Prints a [[principal]] with one key, made from the password with the usual salt: the realm followed by
+the name's components. A newline at the end of the file is not part of the password.
 
-What is printed has keys in the clear: keep it as the password is kept.
+The output has keys in the clear: protect it like the password.
 
 Example:
   chpw_server key --realm EXAMPLE.COM --name alice --password-file alice.password >> realm.toml";
 
 const NAME_HELP: &str =
-    "Whose keys: 1 to 8 components of 1 to 128 bytes, with / between them, as alice or alice/admin";
+    "The principal: 1 to 8 components of 1 to 128 bytes, with / between them, as alice or alice/admin";
 
 const PASSWORD_FILE_HELP: &str = "The file with the password";
 
 const KVNO_HELP: &str = "The key version, 1 to 4294967295 [default: 1]";
 
-const CONTROL: &str = "Tells a running service what to do.";
+const CONTROL: &str = "Send a command to a running service.";
 
 const CONTROL_MORE: &str = "\
-Sends a line to the socket that the service was started with (serve --control), and prints what comes back.
-The status is 0 only where the last line of that is 'ok'.
+Sends a line to the socket that the service was started with (serve --control), and prints the answer.
+The status is 0 only if the last line of the answer is 'ok'.
 
-  status         how it goes
-  reload         reads the configuration anew
-  reopen-log     opens the file of the log anew
-  stop           ends the service
-  compact FILE   writes a shorter journal to FILE
+  status         report the state of the service
+  reload         read the configuration again
+  reopen-log     reopen the log file
+  stop           stop the service
+  compact FILE   replace the journal by a compact one, and save the present configuration to FILE
 
 Example:
   chpw_server control --socket control.socket status";
@@ -178,41 +185,42 @@ const SOCKET_HELP: &str = "The control socket of the service";
 
 const COMMAND_HELP: &str = "status, reload, reopen-log, stop or compact";
 
-const COMMAND_FILE_HELP: &str = "For compact alone: the file that it writes";
+const COMMAND_FILE_HELP: &str = "For compact only: the file to save the configuration to";
 
-const CLIENT: &str = "Sends one request to a service on this machine, with a ticket of its own.";
+const CLIENT: &str = "Send one request to a service on this machine, without a KDC.";
 
 const CLIENT_MORE: &str = "\
 The ticket is made with the configuration's first service key, so no KDC is asked. Prints
-'code C TEXT', or 'code C error E TEXT' where the service answered with a KRB-ERROR. The status is 0
-only for code 0, password changed.
+'code C TEXT', or 'code C error E TEXT' if the service answered with a KRB-ERROR. The status is 0 only
+for code 0, password changed.
 
 Example:
   chpw_server client --config samples/realm.toml --seed /dev/urandom --port 464 \\
       --client alice --password-file new.password";
 
 const SEED_HELP: &str =
-    "A file whose first 32 bytes seed the random words; a new seed for each run";
+    "A file whose first 32 bytes seed the random numbers; use a new seed for each run";
 
-const PORT_HELP: &str = "The port on 127.0.0.1 where the service listens, 1 to 65535";
+const PORT_HELP: &str = "The service's port on 127.0.0.1, 1 to 65535";
 
 const CLIENT_HELP: &str =
-    "Who asks: 1 to 8 components of 1 to 128 bytes, with / between them, as alice or alice/admin";
+    "The client's principal: 1 to 8 components of 1 to 128 bytes, with / between them, as alice or alice/admin";
 
 const PASSWORD_HELP: &str = "The new password, at most 60000 bytes; or --password-file";
 
 const NEW_PASSWORD_FILE_HELP: &str =
-    "The file with the new password in its only line, or - for standard input";
+    "The file with the new password on its only line, or - for standard input";
 
-const TARGET_HELP: &str = "Whose password is set, a name as for --client [default: the client]";
+const TARGET_HELP: &str =
+    "The principal whose password is set, a name as for --client [default: the client]";
 
-const NO_INITIAL_HELP: &str = "Makes a ticket without the flag initial, as one from a TGT would be";
+const NO_INITIAL_HELP: &str = "Make a ticket without the flag INITIAL, as one from a TGT would be";
 
 const OLD_HELP: &str =
-    "Asks in the earlier protocol, version 0x0001, for the client's own password: without --target";
+    "Ask in the earlier protocol, version 0x0001, for the client's own password: without --target";
 
-// A command with this name, these texts, in a line and below its options, and these options.
-fn described<'a>(
+// A command with this name, these texts (one in the list, one below the options), and these options.
+fn command_with<'a>(
     alloc: Global,
     name: &'a str,
     about: &'a str,
@@ -234,15 +242,15 @@ fn drill<'a>(alloc: Global) -> Result<Command<'a>, AllocError>
     ensures shape { IfOk result (λ c. app_of c ≡ specs_of.alone specs_of.drill) }
     ensures local { IfOk result specs_of.IsLocal }
 {
-    described(alloc, "drill", DRILL, DRILL_MORE, &[])
+    command_with(alloc, "drill", DRILL, DRILL_MORE, &[])
 }
 
 fn check<'a>(alloc: Global) -> Result<Command<'a>, AllocError>
     ensures shape { IfOk result (λ c. app_of c ≡ specs_of.alone specs_of.check) }
     ensures local { IfOk result specs_of.IsLocal }
 {
-    let options = [required("config", "FILE", CONFIG_HELP)];
-    described(alloc, "check", CHECK, CHECK_MORE, &options)
+    let options = [required_option("config", "FILE", CONFIG_HELP)];
+    command_with(alloc, "check", CHECK, CHECK_MORE, &options)
 }
 
 fn table<'a>(alloc: Global) -> Result<Command<'a>, AllocError>
@@ -250,11 +258,11 @@ fn table<'a>(alloc: Global) -> Result<Command<'a>, AllocError>
     ensures local { IfOk result specs_of.IsLocal }
 {
     let options = [
-        required("config", "FILE", CONFIG_HELP),
-        required("journal", "FILE", OLD_JOURNAL_HELP),
+        required_option("config", "FILE", CONFIG_HELP),
+        required_option("journal", "FILE", OLD_JOURNAL_HELP),
         optional("as", "FORM", AS_HELP),
     ];
-    described(alloc, "table", TABLE, TABLE_MORE, &options)
+    command_with(alloc, "table", TABLE, TABLE_MORE, &options)
 }
 
 fn import_keytab<'a>(alloc: Global) -> Result<Command<'a>, AllocError>
@@ -262,11 +270,11 @@ fn import_keytab<'a>(alloc: Global) -> Result<Command<'a>, AllocError>
     ensures local { IfOk result specs_of.IsLocal }
 {
     let options = [
-        required("keytab", "FILE", KEYTAB_HELP),
-        required("realm", "REALM", REALM_HELP),
+        required_option("keytab", "FILE", KEYTAB_HELP),
+        required_option("realm", "REALM", REALM_HELP),
         optional_number("iterations", "COUNT", GREATEST_COUNT, KEY_COUNT_HELP),
     ];
-    described(alloc, "import", IMPORT, IMPORT_MORE, &options)
+    command_with(alloc, "import", IMPORT, IMPORT_MORE, &options)
 }
 
 fn key<'a>(alloc: Global) -> Result<Command<'a>, AllocError>
@@ -274,13 +282,13 @@ fn key<'a>(alloc: Global) -> Result<Command<'a>, AllocError>
     ensures local { IfOk result specs_of.IsLocal }
 {
     let options = [
-        required("realm", "REALM", REALM_HELP),
-        required("name", "NAME", NAME_HELP),
-        required("password-file", "FILE", PASSWORD_FILE_HELP),
+        required_option("realm", "REALM", REALM_HELP),
+        required_option("name", "NAME", NAME_HELP),
+        required_option("password-file", "FILE", PASSWORD_FILE_HELP),
         optional_number("iterations", "COUNT", GREATEST_COUNT, KEY_COUNT_HELP),
         optional_number("kvno", "N", GREATEST_KVNO, KVNO_HELP),
     ];
-    described(alloc, "key", KEY, KEY_MORE, &options)
+    command_with(alloc, "key", KEY, KEY_MORE, &options)
 }
 
 fn serve<'a>(alloc: Global) -> Result<Command<'a>, AllocError>
@@ -288,9 +296,9 @@ fn serve<'a>(alloc: Global) -> Result<Command<'a>, AllocError>
     ensures local { IfOk result specs_of.IsLocal }
 {
     let options = [
-        required("config", "FILE", CONFIG_HELP),
-        required("journal", "FILE", JOURNAL_HELP),
-        required("seed", "FILE", SEED_HELP),
+        required_option("config", "FILE", CONFIG_HELP),
+        required_option("journal", "FILE", JOURNAL_HELP),
+        required_option("seed", "FILE", SEED_HELP),
         number("port", "N", GREATEST_PORT as u32, PORT_HELP),
         number("workers", "N", MOST_WORKERS as u32, WORKERS_HELP),
         number("connections", "N", GREATEST_CONNECTIONS, CONNECTIONS_HELP),
@@ -308,8 +316,10 @@ fn serve<'a>(alloc: Global) -> Result<Command<'a>, AllocError>
         ),
         optional("control", "SOCKET", CONTROL_HELP),
         flag("udp", UDP_HELP),
+        flag("rfc3244-only", RFC3244_ONLY_HELP),
+        flag("strict-modes", STRICT_MODES_HELP),
     ];
-    described(alloc, "serve", SERVE, SERVE_MORE, &options)
+    command_with(alloc, "serve", SERVE, SERVE_MORE, &options)
 }
 
 fn control<'a>(alloc: Global) -> Result<Command<'a>, AllocError>
@@ -317,11 +327,11 @@ fn control<'a>(alloc: Global) -> Result<Command<'a>, AllocError>
     ensures local { IfOk result specs_of.IsLocal }
 {
     let options = [
-        required("socket", "SOCKET", SOCKET_HELP),
+        required_option("socket", "SOCKET", SOCKET_HELP),
         word("command", "COMMAND", COMMAND_HELP),
         optional_word("file", "FILE", COMMAND_FILE_HELP),
     ];
-    described(alloc, "control", CONTROL, CONTROL_MORE, &options)
+    command_with(alloc, "control", CONTROL, CONTROL_MORE, &options)
 }
 
 fn client<'a>(alloc: Global) -> Result<Command<'a>, AllocError>
@@ -329,20 +339,20 @@ fn client<'a>(alloc: Global) -> Result<Command<'a>, AllocError>
     ensures local { IfOk result specs_of.IsLocal }
 {
     let options = [
-        required("config", "FILE", CONFIG_HELP),
-        required("seed", "FILE", SEED_HELP),
+        required_option("config", "FILE", CONFIG_HELP),
+        required_option("seed", "FILE", SEED_HELP),
         number("port", "N", GREATEST_PORT as u32, PORT_HELP),
-        required("client", "NAME", CLIENT_HELP),
+        required_option("client", "NAME", CLIENT_HELP),
         optional("password", "TEXT", PASSWORD_HELP),
         optional("password-file", "FILE", NEW_PASSWORD_FILE_HELP),
         optional("target", "NAME", TARGET_HELP),
         flag("no-initial", NO_INITIAL_HELP),
         flag("old", OLD_HELP),
     ];
-    described(alloc, "client", CLIENT, CLIENT_MORE, &options)
+    command_with(alloc, "client", CLIENT, CLIENT_MORE, &options)
 }
 
-// The program with one command more below it, where memory hasn't run out for either.
+// The program with one more subcommand, unless memory has run out for either.
 fn with_command<'a>(
     program: Result<Command<'a>, AllocError>,
     below: Result<Command<'a>, AllocError>,
@@ -354,7 +364,7 @@ fn with_command<'a>(
     program?.subcommand(below?)
 }
 
-// The program with a version, of which a command has to be named.
+// The program with a version, which requires a command.
 fn leading<'a>(alloc: Global) -> Command<'a>
     ensures shape { app_of result ≡ specs_of.leading (specs_of.alone (new_shape (codes "chpw_server"))) }
     ensures local { specs_of.IsLocal result }

@@ -1,4 +1,4 @@
-//! Why words in which clap finds no fault ask for nothing.
+//! Why words in which clap finds no fault are refused.
 ghost use Rattle.std.specs.Prelude.{◌≡◌, false, true, codes};
 ghost use Rattle.clap.specs.Simple.{filled};
 ghost use Rattle.clap.specs.Words.{found_of, rows_of, subcommand_rows_of};
@@ -11,10 +11,10 @@ use crate::matching::{is_given, text_of};
 use clap::ArgMatches;
 use clap::error::ErrorKind;
 
-// In clap's own words for two options that exclude one another.
+// In clap's words for two options that exclude each other.
 const OLD_TARGET: &str = "the argument '--old' cannot be used with '--target <NAME>'";
 
-// The same for two passwords.
+// In clap's words for the two passwords, which exclude each other.
 const TWO_PASSWORDS: &str =
     "the argument '--password <TEXT>' cannot be used with '--password-file <FILE>'";
 
@@ -23,16 +23,16 @@ const NO_PASSWORD: &str = "either '--password <TEXT>' or '--password-file <FILE>
 const NO_COMMAND: &str =
     "a value for '<COMMAND>' is one of: status, reload, reopen-log, stop, compact";
 
-const NO_FILE: &str = "the command 'compact' wants a '<FILE>'";
+const NO_FILE: &str = "the command 'compact' requires a '<FILE>'";
 
-const SPARE_FILE: &str = "no command but 'compact' takes a '<FILE>'";
+const SPARE_FILE: &str = "only the command 'compact' takes a '<FILE>'";
 
 const NO_FORM: &str = "a value for '--as <FORM>' is one of: lines, configuration, keys";
 
 const NO_REALM: &str = "a value for '--realm <REALM>' has 1 to 255 bytes";
 
-/// Why the words that clap matched ask for nothing, and the text that says so. Without a fault a command
-/// that isn't named here has one reason alone.
+/// Why the words that clap matched are refused, and the text that says so. A command that isn't named here has only one
+/// reason.
 pub(crate) fn refusal_of(matches: &ArgMatches<'_>) -> (ErrorKind, &'static str)
     ensures why { IsSuited (subcommand_rows_of matches.now) → IsOwnReason (subcommand_rows_of matches.now)
         → IsOwnRefusal (subcommand_rows_of matches.now) result.0 }
@@ -78,7 +78,7 @@ fn control_refusal(options: &ArgMatches<'_>) -> (ErrorKind, &'static str)
     }
 }
 
-// Whether the command of this word takes a file; none where there is no such command.
+// Whether the command of this word takes a file; none if there is no such command.
 fn takes_file(word: &str) -> Option<bool>
     ensures value { result ≡ controls.takes_file word.now }
 {
@@ -89,7 +89,7 @@ fn takes_file(word: &str) -> Option<bool>
     }
 }
 
-// Whether `client` is to ask in the earlier protocol, and has a target.
+// Whether `client` is to ask in the earlier protocol although it has a target.
 fn aims_old(options: &ArgMatches<'_>) -> bool
     ensures aims { result ≡ true → AimsOld (rows_of (found_of options.now)) }
     ensures own { Suits (filled (flag (codes "old"))) (rows_of (found_of options.now)) → result ≡ false

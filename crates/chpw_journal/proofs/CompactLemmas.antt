@@ -1,5 +1,6 @@
 -- What a compact journal gives, and what is found again behind it.
-use Rattle.std.proofs.Common.{◌≡◌, ℕ, ◌≤◌, ◌+◌, max, List, [], ◌∷◌, ◌++◌, map, length, Bool, true, false, ◌⊎◌, ⊎_elim, inl, inr, if◌then◌else◌, Option, Some, None, refl, sym, ◌∙◌, ap, subst, arith, rules}
+use Rattle.std.proofs.Common.{◌≡◌, ℕ, ◌≤◌, ◌+◌, max, List, [], ◌∷◌, ◌++◌, map, length, Bool, true, false, ◌⊎◌, ⊎_elim}
+use Rattle.std.proofs.Common.{inl, inr, if◌then◌else◌, Option, Some, None, refl, sym, ◌∙◌, ap, subst, arith, rules}
 use Rattle.std.specs.Prelude.{Decides, option_map, nat_lt, IsSome, IfSome}
 use Rattle.std.specs.List.{flat_map}
 use Rattle.std.specs.Cmp.Lexicographic.{pointwise_decides, bytes_decides}
@@ -8,7 +9,7 @@ use Rattle.std.proofs.lemmas.List.{take_all}
 use Rattle.chpw_rules.specs.declared.name.Name.{Name}
 use Rattle.chpw_rules.specs.Limits.{is_in, iteration_counts}
 use Rattle.chpw_rules.specs.Names.{is_same_name, is_name}
-use Rattle.chpw_table.specs.declared.key.KeyRow.{KeyRow}
+use Rattle.chpw_record.specs.declared.key.KeyRow.{KeyRow}
 use Rattle.chpw_table.specs.declared.table.Principal.{Principal}
 use Rattle.chpw_table.specs.State.{State, keys_held, kept_count, new_count}
 use Rattle.chpw_table.specs.Agreement.{Agrees}
@@ -16,17 +17,20 @@ use Rattle.chpw_table.proofs.AgreementLemmas.{agrees_itself}
 use Rattle.chpw_table.proofs.BaseLemmas.{keys_based}
 use Rattle.chpw_table.proofs.KeyLemmas.{keys_in, keys_put, put}
 use Rattle.chpw_table.proofs.NameLemmas.{is_same_name-Decides, is_same_name-itself}
-use Rattle.chpw_journal.specs.declared.change.Change.{Change}
-use Rattle.chpw_journal.specs.declared.record.Record.{Record}
-use Rattle.chpw_journal.specs.declared.record.Record.TheVariants as record_of
-use Rattle.chpw_journal.specs.Records.{ChangeFits, records_text}
+use Rattle.chpw_record.specs.declared.record.Change.{Change}
+use Rattle.chpw_record.specs.declared.record.Record.{Record}
+use Rattle.chpw_record.specs.declared.record.Record.TheVariants as record_of
+use Rattle.chpw_record.specs.Records.{ChangeFits, records_text}
 use Rattle.chpw_journal.specs.JournalText.{restored, AreNext, Begins, whole, IsReading}
 use Rattle.chpw_journal.specs.Runs.{IsWholeKey, journals, records_in, last_state}
 use Rattle.chpw_journal.specs.Joined.{IsAlike}
 use Rattle.chpw_journal.specs.Known.{AreKnown}
-use Rattle.chpw_journal.specs.Compact.{is_same_key, are_same_keys, key_records, records_between, name_records, raise_records, compacted, KeyInRange, AreInRow, AreKeptInRow, AreWholeRecords, MayCompact}
+use Rattle.chpw_journal.specs.Compact.{is_same_key, are_same_keys, key_records, records_between}
+use Rattle.chpw_journal.specs.Compact.{name_records, raise_records, compacted, KeyInRange}
+use Rattle.chpw_journal.specs.Compact.{AreInRow, AreKeptInRow, AreWholeRecords, MayCompact}
 use Rattle.chpw_journal.specs.CompactLaws.{IsGiven, CompactGives, CompactIsNext, CompactReads, CompactIsFoundAgain, CompactMayOpen}
-use Rattle.chpw_journal.proofs.CoverLemmas.{Covers, restored_kept, restored_alike, restored_was, restored_none, restored_count, known_alike, next_covered, next_are_known}
+use Rattle.chpw_journal.proofs.CoverLemmas.{Covers, restored_kept, restored_alike, restored_was, restored_none}
+use Rattle.chpw_journal.proofs.CoverLemmas.{restored_count, known_alike, next_covered, next_are_known}
 use Rattle.chpw_journal.proofs.FoundLemmas.{all_next, found_again, count_again, reads_again}
 use Rattle.chpw_journal.proofs.JoinedLemmas.{all_read, records_read, restored_may_open}
 use Rattle.chpw_journal.proofs.RecordsLemmas.{restored_joined, next_joined, next_more}
@@ -40,7 +44,8 @@ is_same_key-Decides a b =
     Decides-like (is_same_key a b)
     (λ e i. record { kvno = e.0 i; count = e.1.0 i; aes128 = e.1.1.0 i; aes256 = e.1.1.1 i })
     (λ e. (ap (λ (k : KeyRow). k.kvno) e, (ap (λ (k : KeyRow). k.count) e, (ap (λ (k : KeyRow). k.aes128) e, ap (λ (k : KeyRow). k.aes256) e))))
-    (Decides-and _ _ (Decides-eqb a.kvno b.kvno) (Decides-and _ _ (Decides-eqb a.count b.count) (Decides-and _ _ (bytes_decides a.aes128 b.aes128) (bytes_decides a.aes256 b.aes256))))
+    (Decides-and _ _ (Decides-eqb a.kvno b.kvno) (Decides-and _ _ (Decides-eqb a.count b.count)
+    (Decides-and _ _ (bytes_decides a.aes128 b.aes128) (bytes_decides a.aes256 b.aes256))))
 
 pub are_same_keys-Decides : (keys others : List KeyRow) → Decides (are_same_keys keys others) (keys ≡ others)
 are_same_keys-Decides keys others = pointwise_decides is_same_key-Decides keys others
@@ -54,7 +59,8 @@ no_keys : (x : Option (List KeyRow)) → x ≡ None → IsSome x → ⊥
 no_keys None e h = cc
 no_keys (Some keys) e h = cc
 
-put_on : (b : Bool) (kept : ℕ) (key : KeyRow) (older : List KeyRow) (x y : Option (List KeyRow)) → x ≡ (if b then option_map (λ (old : List KeyRow). older) y else y) → length (key ∷ older) ≤ kept
+put_on : (b : Bool) (kept : ℕ) (key : KeyRow) (older : List KeyRow) (x y : Option (List KeyRow))
+    → x ≡ (if b then option_map (λ (old : List KeyRow). older) y else y) → length (key ∷ older) ≤ kept
     → (if b then option_map (put kept key) x else x) ≡ (if b then option_map (λ (old : List KeyRow). key ∷ older) y else y)
 put_on true kept key older x None h few = rw h refl
 put_on true kept key older x (Some keys) h few = rw h (ap Some (take_all kept (key ∷ older) few))
@@ -62,7 +68,8 @@ put_on false kept key older x y h few = h
 
 -- the keys of each name behind them
 keys_behind : (t : State) (n : Name) (keys : List KeyRow) (name : Name) → 1 ≤ length keys → length keys ≤ kept_count t
-    → keys_held (restored t (key_records n keys)) name ≡ (if is_same_name n name then option_map (λ (old : List KeyRow). keys) (keys_held t name) else keys_held t name)
+    → keys_held (restored t (key_records n keys)) name ≡ (if is_same_name n name
+    then option_map (λ (old : List KeyRow). keys) (keys_held t name) else keys_held t name)
 keys_behind t n [] name some few = absurd (omega (arith, some))
 keys_behind t n (k ∷ []) name some few = keys_based t n k name
 keys_behind t n (k ∷ l ∷ ls) name some few =
@@ -75,7 +82,8 @@ keys_behind t n (k ∷ l ∷ ls) name some few =
     ∙ (keys_put (kept_count u) n k u.principals name
     ∙ put_on (is_same_name n name) (kept_count u) k (l ∷ ls) (keys_held u name) (keys_held t name) ih much)
 
-held_now : (x : Option (List KeyRow)) (keys : List KeyRow) (n : Name) → IsSome x → (if is_same_name n n then option_map (λ (old : List KeyRow). keys) x else x) ≡ Some keys
+held_now : (x : Option (List KeyRow)) (keys : List KeyRow) (n : Name)
+    → IsSome x → (if is_same_name n n then option_map (λ (old : List KeyRow). keys) x else x) ≡ Some keys
 held_now None keys n some = absurd (cc)
 held_now (Some old) keys n some = rw (is_same_name-itself n) refl
 
@@ -88,14 +96,16 @@ whole_parts [] ys w = (tt, w)
 whole_parts (x ∷ xs) ys w = let rest = whole_parts xs ys w.1 in ((w.0, rest.0), rest.1)
 
 -- they may come next where the name is held
-next_of_name : (t : State) (n : Name) (keys : List KeyRow) → is_name n ≡ true → IsSome (keys_held t n) → length keys ≤ kept_count t → AreInRow keys → AreWholeRecords (key_records n keys) → AreNext t (key_records n keys)
+next_of_name : (t : State) (n : Name) (keys : List KeyRow) → is_name n ≡ true → IsSome (keys_held t n)
+    → length keys ≤ kept_count t → AreInRow keys → AreWholeRecords (key_records n keys) → AreNext t (key_records n keys)
 next_of_name t n [] h known few row w = tt
 next_of_name t n (k ∷ []) h known few row w = (change_fits n k h row.0 w.0, known, tt)
 next_of_name t n (k ∷ l ∷ ls) h known few row w =
     let parts = whole_parts (key_records n (l ∷ ls)) (record_of.Change (key_of n k) ∷ []) w in
     let ih = next_of_name t n (l ∷ ls) h known (omega (arith, few)) row.2 parts.0 in
     let held = keys_behind t n (l ∷ ls) n (omega arith) (omega (arith, few)) ∙ held_now (keys_held t n) (l ∷ ls) n known in
-    next_more t (key_records n (l ∷ ls)) (record_of.Change (key_of n k)) ih (change_fits n k h row.0 parts.1.0) (record { keys = l ∷ ls; held = held; next = row.1 })
+    next_more t (key_records n (l ∷ ls)) (record_of.Change (key_of n k)) ih
+    (change_fits n k h row.0 parts.1.0) (record { keys = l ∷ ls; held = held; next = row.1 })
 
 count_of_name : (t : State) (n : Name) (keys : List KeyRow) → new_count (restored t (key_records n keys)) ≡ new_count t
 count_of_name t n [] = refl
@@ -118,20 +128,25 @@ own_keys t n (Some before) (Some keys) some there w h = at (are_same_keys before
     is_held = ⊎_elim (λ (g : keys_held t n ≡ Some keys). subst IsSome (sym g) there) (λ (g : keys_held t n ≡ Some before). subst IsSome (sym g) some) h
 
     at : (b : Bool) → are_same_keys before keys ≡ b → keys_held (restored t (if b then [] else key_records n keys)) n ≡ Some keys
-    at true e = let same : before ≡ keys = (are_same_keys-Decides before keys).0 e in ⊎_elim (λ (g : keys_held t n ≡ Some keys). g) (λ (g : keys_held t n ≡ Some before). g ∙ ap Some same) h
+    at true e = let same : before ≡ keys = (are_same_keys-Decides before keys).0 e in
+        ⊎_elim (λ (g : keys_held t n ≡ Some keys). g) (λ (g : keys_held t n ≡ Some before). g ∙ ap Some same) h
     at false e = keys_behind t n keys n w.some w.few ∙ held_now (keys_held t n) keys n is_held
 
 -- they leave those of another name
-other_keys : (t : State) (n name : Name) (x y : Option (List KeyRow)) → is_same_name n name ≡ false → IsKept t y → keys_held (restored t (records_between n x y)) name ≡ keys_held t name
+other_keys : (t : State) (n name : Name) (x y : Option (List KeyRow))
+    → is_same_name n name ≡ false → IsKept t y → keys_held (restored t (records_between n x y)) name ≡ keys_held t name
 other_keys t n name None y e w = refl
 other_keys t n name (Some before) None e w = refl
 other_keys t n name (Some before) (Some keys) e w = at (are_same_keys before keys)
   where
     at : (b : Bool) → keys_held (restored t (if b then [] else key_records n keys)) name ≡ keys_held t name
     at true = refl
-    at false = keys_behind t n keys name w.some w.few ∙ ap (λ (b : Bool). if b then option_map (λ (old : List KeyRow). keys) (keys_held t name) else keys_held t name) e
+    at false = keys_behind t n keys name w.some w.few ∙ ap (λ (b : Bool). if b
+        then option_map (λ (old : List KeyRow). keys) (keys_held t name) else keys_held t name) e
 
-between_next : (t : State) (n : Name) (x y : Option (List KeyRow)) → (IsSome y → is_name n ≡ true) → (IsSome x → IsSome (keys_held t n)) → IsKept t y → AreWholeRecords (records_between n x y) → AreNext t (records_between n x y)
+between_next : (t : State) (n : Name) (x y : Option (List KeyRow))
+    → (IsSome y → is_name n ≡ true) → (IsSome x → IsSome (keys_held t n))
+    → IsKept t y → AreWholeRecords (records_between n x y) → AreNext t (records_between n x y)
 between_next t n None y h known k w = tt
 between_next t n (Some before) None h known k w = tt
 between_next t n (Some before) (Some keys) h known k w = at (are_same_keys before keys) w
@@ -162,13 +177,15 @@ stands_in : (ps : List Principal) (name : Name) → IsSome (keys_in ps name) →
 stands_in [] name some = no_keys None refl some
 stands_in (p ∷ ps) name some = at (stands_in ps name) (is_same_name p.name name) refl
   where
-    at : (IsSome (keys_in ps name) → Stands (map (λ (q : Principal). q.name) ps) name) → (b : Bool) → is_same_name p.name name ≡ b → Stands (map (λ (q : Principal). q.name) (p ∷ ps)) name
+    at : (IsSome (keys_in ps name) → Stands (map (λ (q : Principal). q.name) ps) name)
+        → (b : Bool) → is_same_name p.name name ≡ b → Stands (map (λ (q : Principal). q.name) (p ∷ ps)) name
     at rest true e = inl ((is_same_name-Decides p.name name).0 e)
     at rest false e = inr (rest (rw e at some))
 
 -- a name of the opening has the keys that it is to have, or it stands among these and has those of the opening still
 abbrev Settles : State → State → State → List Name → Type 0
-Settles opening s t ns = (name : Name) → IsSome (keys_held opening name) → (keys_held t name ≡ keys_held s name) ⊎ (Stands ns name × (keys_held t name ≡ keys_held opening name))
+Settles opening s t ns = (name : Name) → IsSome (keys_held opening name)
+    → (keys_held t name ≡ keys_held s name) ⊎ (Stands ns name × (keys_held t name ≡ keys_held opening name))
 
 module _ (opening s : State) (may : MayCompact opening s) where
   held_of : (t : State) (ns : List Name) → Settles opening s t ns → (name : Name) → IsSome (keys_held opening name) → IsSome (keys_held t name)
@@ -179,7 +196,8 @@ module _ (opening s : State) (may : MayCompact opening s) where
   kept_of : (t : State) (n : Name) → kept_count t ≡ kept_count s → IsKept t (keys_held s n)
   kept_of t n kept = subst (λ (m : ℕ). IfSome (keys_held s n) (AreKeptInRow m)) (sym kept) (may.row n)
 
-  settles_next : (t : State) (n : Name) (ns : List Name) → kept_count t ≡ kept_count s → Settles opening s t (n ∷ ns) → Settles opening s (restored t (name_records opening s n)) ns
+  settles_next : (t : State) (n : Name) (ns : List Name) → kept_count t ≡ kept_count s
+      → Settles opening s t (n ∷ ns) → Settles opening s (restored t (name_records opening s n)) ns
   settles_next t n ns kept settles name some = at (is_same_name n name) refl
     where
       others : Stands (n ∷ ns) name → is_same_name n name ≡ false → Stands ns name
@@ -188,15 +206,20 @@ module _ (opening s : State) (may : MayCompact opening s) where
           apart : (b : Bool) → b ≡ false → b ≡ true → ⊥
           apart b h k = cc
 
-      at : (b : Bool) → is_same_name n name ≡ b → (keys_held (restored t (name_records opening s n)) name ≡ keys_held s name) ⊎ (Stands ns name × (keys_held (restored t (name_records opening s n)) name ≡ keys_held opening name))
+      at : (b : Bool) → is_same_name n name ≡ b
+          → (keys_held (restored t (name_records opening s n)) name ≡ keys_held s name)
+          ⊎ (Stands ns name × (keys_held (restored t (name_records opening s n)) name ≡ keys_held opening name))
       at true e =
           let same : n ≡ name = (is_same_name-Decides n name).0 e in
           let there : IsSome (keys_held opening n) = subst (λ (m : Name). IsSome (keys_held opening m)) (sym same) some in
           let either : (keys_held t n ≡ keys_held s n) ⊎ (keys_held t n ≡ keys_held opening n) =
-          ⊎_elim (λ (g : keys_held t n ≡ keys_held s n). inl g) (λ (g : Stands (n ∷ ns) n × (keys_held t n ≡ keys_held opening n)). inr g.1) (settles n there) in
-          inl (subst (λ (m : Name). keys_held (restored t (name_records opening s n)) m ≡ keys_held s m) same (own_keys t n (keys_held opening n) (keys_held s n) there (may.known n there) (kept_of t n kept) either))
+          ⊎_elim (λ (g : keys_held t n ≡ keys_held s n). inl g)
+          (λ (g : Stands (n ∷ ns) n × (keys_held t n ≡ keys_held opening n)). inr g.1) (settles n there) in
+          inl (subst (λ (m : Name). keys_held (restored t (name_records opening s n)) m ≡ keys_held s m) same
+          (own_keys t n (keys_held opening n) (keys_held s n) there (may.known n there) (kept_of t n kept) either))
       at false e =
-          let stay : keys_held (restored t (name_records opening s n)) name ≡ keys_held t name = other_keys t n name (keys_held opening n) (keys_held s n) e (kept_of t n kept) in
+          let stay : keys_held (restored t (name_records opening s n)) name ≡ keys_held t name =
+          other_keys t n name (keys_held opening n) (keys_held s n) e (kept_of t n kept) in
           ⊎_elim (λ (g : keys_held t name ≡ keys_held s name). inl (stay ∙ g))
           (λ (g : Stands (n ∷ ns) name × (keys_held t name ≡ keys_held opening name)). inr (others g.0 e, stay ∙ g.1)) (settles name some)
 
@@ -206,7 +229,8 @@ module _ (opening s : State) (may : MayCompact opening s) where
       × (new_count (restored t (flat_map (name_records opening s) ns)) ≡ new_count t)
   all_names t [] kept settles w = (
     tt,
-    λ name some. ⊎_elim (λ (g : keys_held t name ≡ keys_held s name). g) (λ (g : Stands [] name × (keys_held t name ≡ keys_held opening name)). absurd g.0) (settles name some),
+    λ name some. ⊎_elim (λ (g : keys_held t name ≡ keys_held s name). g)
+        (λ (g : Stands [] name × (keys_held t name ≡ keys_held opening name)). absurd g.0) (settles name some),
     refl,
   )
   all_names t (n ∷ ns) kept settles w =
@@ -215,7 +239,8 @@ module _ (opening s : State) (may : MayCompact opening s) where
       let joined : restored t (front ++ more) ≡ restored (restored t front) more = restored_joined t front more in
       let parts = whole_parts front more w in
       let rest = all_names (restored t front) ns (restored_kept t front ∙ kept) (settles_next t n ns kept settles) parts.1 in (
-        next_joined t front more (between_next t n (keys_held opening n) (keys_held s n) (may.sound.names n) (held_of t (n ∷ ns) settles n) (kept_of t n kept) parts.0) rest.0,
+        next_joined t front more (between_next t n (keys_held opening n)
+            (keys_held s n) (may.sound.names n) (held_of t (n ∷ ns) settles n) (kept_of t n kept) parts.0) rest.0,
         λ name some. ap (λ (v : State). keys_held v name) joined ∙ rest.1 name some,
         ap new_count joined ∙ (rest.2 ∙ between_count t n (keys_held opening n) (keys_held s n)),
       )
@@ -230,7 +255,8 @@ raise_next : (t : State) (count : ℕ) (b : Bool) → is_in iteration_counts cou
 raise_next t count true h = (h, tt, tt)
 raise_next t count false h = tt
 
-raise_count : (t : State) (count : ℕ) (b : Bool) → nat_lt (new_count t) count ≡ b → new_count (restored t (if b then record_of.Raise count ∷ [] else [])) ≡ max (new_count t) count
+raise_count : (t : State) (count : ℕ) (b : Bool) → nat_lt (new_count t) count ≡ b
+    → new_count (restored t (if b then record_of.Raise count ∷ [] else [])) ≡ max (new_count t) count
 raise_count t count true e = refl
 raise_count t count false e = not_lower (new_count t) count e
   where
@@ -261,13 +287,15 @@ module _ (opening s : State) (may : MayCompact opening s) where
   all : AreNext start (flat_map (name_records opening s) names)
       × ((name : Name) → IsSome (keys_held opening name) → keys_held (restored start (flat_map (name_records opening s) names)) name ≡ keys_held s name)
       × (new_count (restored start (flat_map (name_records opening s) names)) ≡ new_count start)
-  all = all_names opening s may start names (restored_kept opening raise ∙ may.kept) settles (whole_parts raise (flat_map (name_records opening s) names) may.whole).1
+  all = all_names opening s may start names (restored_kept opening raise ∙ may.kept) settles
+      (whole_parts raise (flat_map (name_records opening s) names) may.whole).1
 
   joined : restored opening (compacted opening s) ≡ restored start (flat_map (name_records opening s) names)
   joined = restored_joined opening raise (flat_map (name_records opening s) names)
 
   next : AreNext opening (compacted opening s)
-  next = next_joined opening raise (flat_map (name_records opening s) names) (raise_next opening (new_count s) (nat_lt (new_count opening) (new_count s)) may.sound.count) all.0
+  next = next_joined opening raise (flat_map (name_records opening s) names)
+      (raise_next opening (new_count s) (nat_lt (new_count opening) (new_count s)) may.sound.count) all.0
 
   given : IsGiven opening s (restored opening (compacted opening s))
   given = record {
@@ -305,7 +333,9 @@ is_there_too : (x y : Option (List KeyRow)) → (x ≡ None → y ≡ None) → 
 is_there_too None y h some = absurd (no_keys y (h refl) some)
 is_there_too (Some keys) y h some = search rules
 
-module _ (opening s before : State) (may : MayCompact opening s) (low : new_count opening ≤ new_count s) (only : (name : Name) → keys_held opening name ≡ None → keys_held s name ≡ None) (like : IsAlike opening before) where
+module _ (opening s before : State) (may : MayCompact opening s) (low : new_count opening ≤ new_count s)
+    (only : (name : Name) → keys_held opening name ≡ None → keys_held s name ≡ None)
+    (like : IsAlike opening before) where
   abbrev over : State
   over = restored before (compacted opening s)
 
@@ -335,16 +365,23 @@ compact_may_open opening s runs cut before new r may low only f c like is =
     let all : List Record = compacted opening s ++ more in
     let text : List ℕ = records_text (compacted opening s) ++ journals runs ++ cut in
     let follows : Follows s more (last_state s runs) = runs_next s s runs (same_itself s) f.each in
-    let known : AreKnown opening more = known_alike s opening more (λ name some. is_there_too (keys_held opening name) (keys_held s name) (only name) some) (next_are_known s more follows.0) in
+    let known : AreKnown opening more = known_alike s opening more (λ name some. is_there_too (keys_held opening name)
+    (keys_held s name) (only name) some) (next_are_known s more follows.0) in
     let there : AreNext opening all = all_next opening s (compacted opening s) (next opening s may) (covers opening s may) runs f known in
     let here : AreNext before.state all =
     next_covered before.state opening all (record { kept = sym like.keys.kept; keys = λ name some. sym (like.keys.keys name) })
     (known_alike opening before.state all (λ name some. subst IsSome (like.keys.keys name) some) (next_are_known opening all there)) there in
-    let begins : Begins before.state text all cut = record { text_is = (reads_again opening s (compacted opening s) (next opening s may) (covers opening s may) runs f known cut c).0.0.text_is; next = here } in
+    let begins : Begins before.state text all cut = record {
+      text_is = (reads_again opening s (compacted opening s)
+          (next opening s may) (covers opening s may) runs f known cut c).0.0.text_is;
+      next = here;
+    } in
     let read : records_text is.whole_records ++ is.rest ≡ text = all_read text (records_text is.whole_records ++ is.rest) new is.read is.end in
     let reading : IsReading before.state text (whole is.whole_records is.rest) =
     subst (λ (xs : List ℕ). IsReading before.state xs (whole is.whole_records is.rest)) read (is.reading before.state (agrees_itself before.state)) in
     let records : is.whole_records ≡ all = ap records_read (reads_one before.state text all cut begins c (whole is.whole_records is.rest) reading) in
-    let put_back : Agrees r.table.state (restored before.state all) = subst (λ (rs : List Record). Agrees r.table.state (restored before.state rs)) records (is.table before.state (agrees_itself before.state)) in
+    let put_back : Agrees r.table.state (restored before.state all) =
+    subst (λ (rs : List Record). Agrees r.table.state (restored before.state rs)) records
+    (is.table before.state (agrees_itself before.state)) in
     restored_may_open s runs (restored before.state (compacted opening s)) r.table.state f (alike opening s before.state may low only like)
     (subst (Agrees r.table.state) (restored_joined before.state (compacted opening s) more) put_back)

@@ -3,13 +3,13 @@ use Rattle.std.proofs.Common.{◌≡◌, ◌≤◌, List, [], ◌∷◌, ◌++�
 use Rattle.std.specs.List.{flat_map}
 use Rattle.std.proofs.lemmas.List.{flat_map_more}
 use Rattle.chpw_rules.specs.declared.name.Name.{Name}
-use Rattle.chpw_table.specs.declared.key.KeyRow.{KeyRow}
-use Rattle.chpw_journal.specs.declared.record.Record.{Record}
-use Rattle.chpw_journal.specs.declared.record.Record.TheVariants as record_of
-use Rattle.chpw_journal.specs.Records.{record_text, records_text}
+use Rattle.chpw_record.specs.declared.key.KeyRow.{KeyRow}
+use Rattle.chpw_record.specs.declared.record.Record.{Record}
+use Rattle.chpw_record.specs.declared.record.Record.TheVariants as record_of
+use Rattle.chpw_record.specs.Records.{record_text, records_text}
 use Rattle.chpw_journal.specs.Compact.{key_records, AreWholeRecords}
 use Rattle.chpw_journal.specs.Runs.{IsWholeKey}
-use Rattle.chpw_journal.proofs.RecordsLemmas.{records_joined, records_more}
+use Rattle.chpw_record.proofs.RecordLemmas.{records_joined, records_more}
 
 -- one name more
 pub names_more : (front : List Record) (records : Name → List Record) (names : List Name) (name : Name)
@@ -31,7 +31,9 @@ pub whole_joined : (xs ys : List Record) → AreWholeRecords xs → AreWholeReco
 whole_joined [] ys v w = w
 whole_joined (x ∷ xs) ys v w = (v.0, whole_joined xs ys v.1 w)
 
-pub change_whole : (name : Name) (keys : List KeyRow) (key : KeyRow) (older : List KeyRow) → keys ≡ key ∷ older → 1 ≤ length older → AreWholeRecords (key_records name older) → IsWholeKey key → AreWholeRecords (key_records name keys)
+pub change_whole : (name : Name) (keys : List KeyRow) (key : KeyRow) (older : List KeyRow)
+    → keys ≡ key ∷ older → 1 ≤ length older
+    → AreWholeRecords (key_records name older) → IsWholeKey key → AreWholeRecords (key_records name keys)
 change_whole name keys key [] e h v w = absurd (omega (arith, h))
 change_whole name keys key (k ∷ ks) e h v w =
     subst (λ (rows : List KeyRow). AreWholeRecords (key_records name rows)) (sym e)

@@ -16,7 +16,8 @@ use Rattle.chpw_journal.specs.Laws.{RestoresCount}
 use Rattle.chpw_journal.proofs.RecordsLemmas.{restored_joined}
 
 -- a raise that is accepted is to a higher count
-higher : (count n : ℕ) (low broken : Bool) → nat_le count n ≡ low → is_raised (if low then raise.NotHigher else if broken then raise.Broken else raise.Raised) ≡ true → n < count
+higher : (count n : ℕ) (low broken : Bool) → nat_le count n ≡ low
+    → is_raised (if low then raise.NotHigher else if broken then raise.Broken else raise.Raised) ≡ true → n < count
 higher count n true broken e h = absurd (cc)
 higher count n false true e h = absurd (cc)
 higher count n false false e h = grind (arith, nat_tests)
@@ -51,7 +52,8 @@ count_history t s (e ∷ es) legal same =
     ∙ count_history (restored t (event_records s e.event)) (step_entry s e) es legal.1
     (count_after t s e.now e.io_failed e.event legal.0 same (is_accepted e.event) refl)
 
-pub count_runs : (t s : State) (runs : List Run) → AreRuns s runs → KeepCount s runs → new_count t ≡ new_count s → new_count (restored t (records_in runs)) ≡ new_count (last_state s runs)
+pub count_runs : (t s : State) (runs : List Run) → AreRuns s runs → KeepCount s runs
+    → new_count t ≡ new_count s → new_count (restored t (records_in runs)) ≡ new_count (last_state s runs)
 count_runs t s [] h k same = same
 count_runs t s (r ∷ rs) h k same =
     ap new_count (restored_joined t (records_of r.opening r.history) (records_in rs))

@@ -1,18 +1,19 @@
 -- Records put back into states that have the same keys of some names.
-use Rattle.std.proofs.Common.{◌≡◌, ℕ, suc, ◌≤◌, max, min, rules, List, [], ◌∷◌, map, take, length, Bool, true, false, if◌then◌else◌, Option, Some, None, refl, sym, ◌∙◌, ap, subst, arith}
+use Rattle.std.proofs.Common.{◌≡◌, ℕ, suc, ◌≤◌, max, min, rules, List, [], ◌∷◌, map, take, length, Bool, true}
+use Rattle.std.proofs.Common.{false, if◌then◌else◌, Option, Some, None, refl, sym, ◌∙◌, ap, subst, arith}
 use Rattle.std.specs.Prelude.{option_map, IsSome, IfSome, ℤ}
 use Rattle.std.proofs.lemmas.List.{length-take}
 use Rattle.chpw_rules.specs.declared.name.Name.{Name}
 use Rattle.chpw_rules.specs.declared.config.Config.{Config}
 use Rattle.chpw_rules.specs.declared.config.PrincipalRow.{PrincipalRow}
 use Rattle.chpw_rules.specs.Names.{is_same_name}
-use Rattle.chpw_table.specs.declared.key.KeyRow.{KeyRow}
+use Rattle.chpw_record.specs.declared.key.KeyRow.{KeyRow}
 use Rattle.chpw_table.specs.State.{State, keys_held, kept_count, new_count, key_row_of, opening_principal, opening_of}
 use Rattle.chpw_table.specs.Laws.{HoldsFew}
 use Rattle.chpw_table.proofs.HoldingLemmas.{kept_at_least}
 use Rattle.chpw_table.proofs.KeyLemmas.{keys_in, keys_put, put}
-use Rattle.chpw_journal.specs.declared.record.Record.{Record}
-use Rattle.chpw_journal.specs.declared.record.Record.TheVariants as record_of
+use Rattle.chpw_record.specs.declared.record.Record.{Record}
+use Rattle.chpw_record.specs.declared.record.Record.TheVariants as record_of
 use Rattle.chpw_journal.specs.JournalText.{with_record, restored, IsNextRecord, AreNext}
 use Rattle.chpw_journal.specs.Known.{IsKnown, AreKnown}
 
@@ -59,20 +60,25 @@ record_some : (s : State) (r : Record) (name : Name) → IsSome (keys_held s nam
 record_some s (record_of.Change c) name h =
     subst IsSome (sym (keys_put (kept_count s) c.name c.key s.principals name)) (put_some (is_same_name c.name name) (kept_count s) c.key (keys_held s name) h)
 record_some s (record_of.Raise count) name h = h
-record_some s (record_of.Base c) name h = subst IsSome (sym (keys_put 1 c.name c.key s.principals name)) (put_some (is_same_name c.name name) 1 c.key (keys_held s name) h)
+record_some s (record_of.Base c) name h = subst IsSome
+    (sym (keys_put 1 c.name c.key s.principals name)) (put_some (is_same_name c.name name) 1 c.key (keys_held s name) h)
 
 record_was : (s : State) (r : Record) (name : Name) → IsSome (keys_held (with_record r s) name) → IsSome (keys_held s name)
 record_was s (record_of.Change c) name h =
     put_was (is_same_name c.name name) (kept_count s) c.key (keys_held s name) (subst IsSome (keys_put (kept_count s) c.name c.key s.principals name) h)
 record_was s (record_of.Raise count) name h = h
-record_was s (record_of.Base c) name h = put_was (is_same_name c.name name) 1 c.key (keys_held s name) (subst IsSome (keys_put 1 c.name c.key s.principals name) h)
+record_was s (record_of.Base c) name h = put_was (is_same_name c.name name) 1 c.key (keys_held s name)
+    (subst IsSome (keys_put 1 c.name c.key s.principals name) h)
 
 record_none : (s : State) (r : Record) (name : Name) → keys_held s name ≡ None → keys_held (with_record r s) name ≡ None
-record_none s (record_of.Change c) name h = keys_put (kept_count s) c.name c.key s.principals name ∙ put_none (is_same_name c.name name) (kept_count s) c.key (keys_held s name) h
+record_none s (record_of.Change c) name h = keys_put (kept_count s) c.name c.key s.principals name
+    ∙ put_none (is_same_name c.name name) (kept_count s) c.key (keys_held s name) h
 record_none s (record_of.Raise count) name h = h
 record_none s (record_of.Base c) name h = keys_put 1 c.name c.key s.principals name ∙ put_none (is_same_name c.name name) 1 c.key (keys_held s name) h
 
-put_few : (b : Bool) (kept n : ℕ) (key : KeyRow) (x : Option (List KeyRow)) → n ≤ kept → IfSome x (λ keys. length keys ≤ kept) → IfSome (if b then option_map (put n key) x else x) (λ keys. length keys ≤ kept)
+put_few : (b : Bool) (kept n : ℕ) (key : KeyRow) (x : Option (List KeyRow))
+    → n ≤ kept → IfSome x (λ keys. length keys ≤ kept)
+    → IfSome (if b then option_map (put n key) x else x) (λ keys. length keys ≤ kept)
 put_few true kept n key None l h = h
 put_few true kept n key (Some keys) l h = simp length-take (omega (arith, l))
 put_few false kept n key x l h = h
@@ -137,7 +143,8 @@ few_rows kept (row ∷ rows) name = at (is_same_name row.name name) refl (few_ro
     at : (b : Bool) → is_same_name row.name name ≡ b → IfSome (keys_in (map (opening_principal kept) rows) name) (λ keys. length keys ≤ kept)
         → IfSome (keys_in (map (opening_principal kept) (row ∷ rows)) name) (λ keys. length keys ≤ kept)
     at true e ih =
-        let n : length (map key_row_of (take kept row.keys)) ≡ min kept (length row.keys) = length_map key_row_of (take kept row.keys) ∙ length-take kept row.keys in
+        let n : length (map key_row_of (take kept row.keys)) ≡ min kept (length row.keys) =
+        length_map key_row_of (take kept row.keys) ∙ length-take kept row.keys in
         rw e (omega (arith, n))
     at false e ih = rw e ih
 

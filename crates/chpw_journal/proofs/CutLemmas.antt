@@ -1,34 +1,17 @@
 -- Records that are cut off.
-use Rattle.std.proofs.Common.{◌≡◌, ℕ, ◌+◌, ◌^◌, ◌≤◌, ◌<◌, List, ◌++◌, length, Bool, true, false, ◌||◌, refl, ◌∙◌, ap, arith, length-append}
-use Rattle.std.specs.Prelude.{nat_lt, ◌==◌}
+use Rattle.std.proofs.Common.{◌≡◌, ℕ, ◌+◌, ◌<◌, List, ◌++◌, length, true, refl, ◌∙◌, ap, arith, length-append}
+use Rattle.std.specs.Prelude.{nat_lt}
 use Rattle.std.proofs.Math.Bool.{or-true}
 use Rattle.std.proofs.lemmas.Bool.Decides.{nat_tests}
 use Rattle.std.proofs.lemmas.Nat.{from_be_bytes-to_be_bytes_2}
-use Rattle.chpw_rules.specs.Limits.{is_in}
 use Rattle.chpw_table.proofs.BoolLemmas.{both}
-use Rattle.chpw_journal.specs.Records.{stated_length, change_lengths, is_record_length}
+use Rattle.chpw_record.specs.Records.{stated_length, is_record_length}
+use Rattle.chpw_record.proofs.LengthLemmas.{length_short}
 use Rattle.chpw_journal.specs.JournalText.{is_cut_off}
 use Rattle.chpw_journal.specs.NextRecord.{IsHeader}
 
 below : (m n : ℕ) → m < n → nat_lt m n ≡ true
 below m n h = grind (arith, nat_tests)
-
--- the length of a change is that of a record
-pub of_change : (n : ℕ) → is_in change_lengths n ≡ true → is_record_length n ≡ true
-of_change n h = rw h (or-true (n == 5))
-
-most_of_change : (n : ℕ) → is_in change_lengths n ≡ true → n ≤ 1090
-most_of_change n h = grind (arith, nat_tests)
-
-pub length_most : (n : ℕ) → is_record_length n ≡ true → n ≤ 1090
-length_most n h = at (n == 5) refl h
-  where
-    at : (b : Bool) → (n == 5) ≡ b → (b || is_in change_lengths n) ≡ true → n ≤ 1090
-    at true e k = let five : n ≡ 5 = grind (arith, nat_tests) in omega (arith, five)
-    at false e k = most_of_change n k
-
-pub length_short : (n : ℕ) → is_record_length n ≡ true → n < 2 ^ 16
-length_short n h = let m = length_most n h in omega (arith, m)
 
 -- the length that a header states
 pub header_states : (header : List ℕ) (n : ℕ) (more : List ℕ) → IsHeader header n → stated_length (header ++ more) ≡ n
@@ -44,7 +27,8 @@ cut_off_body header n rest h l =
     let st : stated_length (header ++ rest) ≡ n = header_states header n rest h in
     let sz : length (header ++ rest) ≡ 2 + length rest = length-append header rest ∙ ap (λ (k : ℕ). k + length rest) (header_length header n h) in
     let inside : is_record_length (stated_length (header ++ rest)) ≡ true = ap is_record_length st ∙ h.1 in
-    rw (both inside (below (length (header ++ rest)) (2 + stated_length (header ++ rest)) (omega (arith, st, sz, l)))) (or-true (nat_lt (length (header ++ rest)) 2))
+    rw (both inside (below (length (header ++ rest)) (2 + stated_length (header ++ rest)) (omega (arith, st, sz, l))))
+    (or-true (nat_lt (length (header ++ rest)) 2))
 
 pub cut_off_header : (header : List ℕ) → length header < 2 → is_cut_off header ≡ true
 cut_off_header header h = rw (below (length header) 2 h) refl

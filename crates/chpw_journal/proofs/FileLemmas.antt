@@ -12,7 +12,8 @@ nothing_before None = refl
 nothing_before (Some xs) = refl
 
 -- a buffer that nothing was read into has what its reader has
-pub unread : {T A : Type 0} (remaining : T → Option (List ℕ)) (r : BufReader T A) (file : T) → reader_inner r ≡ file → reader_buffer r ≡ [] → reader_capacity r ≡ 8192 → reader_remaining remaining r ≡ remaining file
+pub unread : {T A : Type 0} (remaining : T → Option (List ℕ)) (r : BufReader T A) (file : T) → reader_inner r ≡ file
+    → reader_buffer r ≡ [] → reader_capacity r ≡ 8192 → reader_remaining remaining r ≡ remaining file
 unread remaining r file inner empty capacity = rw (capacity, empty, inner) (nothing_before (remaining file))
 
 -- a table as it was is opened, with no record

@@ -1,19 +1,22 @@
 -- What is found again of records that lead to what a state covers, and of the runs that go on from that state.
 use Rattle.std.proofs.Common.{◌≡◌, ℕ, ◌≤◌, List, ◌++◌, true, sym, ◌∙◌, ap, arith}
 use Rattle.chpw_table.specs.State.{State, keys_held, kept_count, new_count}
-use Rattle.chpw_journal.specs.declared.record.Record.{Record}
-use Rattle.chpw_journal.specs.Records.{records_text}
+use Rattle.chpw_record.specs.declared.record.Record.{Record}
+use Rattle.chpw_record.specs.Records.{records_text}
 use Rattle.chpw_journal.specs.JournalText.{restored, is_cut_off, AreNext, Begins, Reading, whole, IsReading}
 use Rattle.chpw_journal.specs.Runs.{Run, journals, records_in, last_state}
 use Rattle.chpw_journal.specs.Joined.{FollowOn}
 use Rattle.chpw_journal.specs.Known.{AreKnown, IsFoundAgain}
 use Rattle.chpw_journal.proofs.CountLemmas.{count_runs}
 use Rattle.chpw_journal.proofs.CoverLemmas.{Covers, restored_kept, restored_alike, restored_some, restored_none, restored_count, known_restored, next_covered}
-use Rattle.chpw_journal.proofs.RecordsLemmas.{records_joined, restored_joined, next_joined}
+use Rattle.chpw_record.proofs.RecordLemmas.{records_joined}
+use Rattle.chpw_journal.proofs.RecordsLemmas.{restored_joined, next_joined}
 use Rattle.chpw_journal.proofs.RunLemmas.{Follows, runs_next, same_itself, records_are_journals}
 use Rattle.chpw_journal.proofs.StopLemmas.{reads_one}
 
-module _ (start next : State) (records : List Record) (front : AreNext start records) (covers : Covers (restored start records) next) (runs : List Run) (f : FollowOn next runs) (known : AreKnown start (records_in runs)) where
+module _ (start next : State)
+    (records : List Record) (front : AreNext start records) (covers : Covers (restored start records) next)
+    (runs : List Run) (f : FollowOn next runs) (known : AreKnown start (records_in runs)) where
   abbrev more : List Record
   more = records_in runs
 
@@ -48,7 +51,8 @@ module _ (start next : State) (records : List Record) (front : AreNext start rec
   }
 
   -- the count too, where it is the same
-  pub count_again : new_count (restored start records) ≡ new_count next → new_count (restored start (records ++ records_in runs)) ≡ new_count (last_state next runs)
+  pub count_again : new_count (restored start records) ≡ new_count next
+      → new_count (restored start (records ++ records_in runs)) ≡ new_count (last_state next runs)
   count_again same = ap new_count joined ∙ count_runs (restored start records) next runs f.each f.counts same
 
   pub reads_again : (cut : List ℕ) → is_cut_off cut ≡ true
@@ -57,6 +61,7 @@ module _ (start next : State) (records : List Record) (front : AreNext start rec
   reads_again cut c =
       let text : List ℕ = records_text records ++ journals runs ++ cut in
       let is : text ≡ records_text all ++ cut =
-      ap (λ (xs : List ℕ). xs ++ cut) (ap (λ (xs : List ℕ). records_text records ++ xs) (sym (records_are_journals runs)) ∙ sym (records_joined records more)) in
+      ap (λ (xs : List ℕ). xs ++ cut) (ap (λ (xs : List ℕ). records_text records ++ xs)
+      (sym (records_are_journals runs)) ∙ sym (records_joined records more)) in
       let begins : Begins start text all cut = record { text_is = is; next = all_next } in
       ((begins, c), λ reading g. reads_one start text all cut begins c reading g)

@@ -4,20 +4,21 @@ use Rattle.std.specs.Prelude.{IsSome, IfSome}
 use Rattle.std.specs.Io.KnownBytes.{Consumes, IsAtEnd}
 use Rattle.chpw_rules.specs.Limits.{is_in, kvnos, iteration_counts}
 use Rattle.chpw_table.specs.declared.history.Entry.{Entry}
-use Rattle.chpw_table.specs.declared.key.KeyRow.{KeyRow}
+use Rattle.chpw_record.specs.declared.key.KeyRow.{KeyRow}
 use Rattle.chpw_table.specs.State.{Fixed, State, new_count, opening_of}
 use Rattle.chpw_table.specs.Decision.{newest_kvno}
 use Rattle.chpw_table.specs.Agreement.{Agrees}
 use Rattle.chpw_table.specs.History.{step_entry, outcome, is_accepted, IsLegal}
 use Rattle.chpw_table.specs.Journal.{journal}
 use Rattle.chpw_table.proofs.AgreementLemmas.{agrees_itself}
-use Rattle.chpw_journal.specs.declared.record.Record.{Record}
-use Rattle.chpw_journal.specs.Records.{records_text}
+use Rattle.chpw_record.specs.declared.record.Record.{Record}
+use Rattle.chpw_record.specs.Records.{records_text}
 use Rattle.chpw_journal.specs.JournalText.{restored, Reading, whole, bad_record, unknown_principal, wrong_version, IsReading}
 use Rattle.chpw_journal.specs.Restoring.{IsRestored}
 use Rattle.chpw_journal.specs.Runs.{SameKeys, IsSound, BringsWhole, AreWhole, Run, AreRuns, KeepCount, journals, records_in, last_state}
 use Rattle.chpw_journal.specs.Joined.{IsAlike, FollowOn, MayOpen}
-use Rattle.chpw_journal.specs.JoinedLaws.{EventsStaySound, HistoriesStaySound, RunsGoOn, RunsAreLast, TablesMayOpen, RestoredMayOpen, ReadMayOpen, TwoRunsFollowOn}
+use Rattle.chpw_journal.specs.JoinedLaws.{EventsStaySound, HistoriesStaySound, RunsGoOn, RunsAreLast}
+use Rattle.chpw_journal.specs.JoinedLaws.{TablesMayOpen, RestoredMayOpen, ReadMayOpen, TwoRunsFollowOn}
 use Rattle.chpw_journal.proofs.CountLemmas.{count_runs}
 use Rattle.chpw_journal.proofs.OpeningLemmas.{openings_are_sound}
 use Rattle.chpw_journal.proofs.RunLemmas.{sound_event, same_next, same_itself, runs_next, reads_journals}
@@ -54,7 +55,8 @@ histories_stay_sound s [] sound legal w = sound
 histories_stay_sound s (e ∷ es) sound legal w = histories_stay_sound (step_entry s e) es (sound_event s e.now e.io_failed e.event sound legal.0 w.0) legal.1 w.1
 
 -- one entry more brings in what is whole
-pub whole_more : (s : State) (es : List Entry) (e : Entry) → AreWhole s es → (is_accepted e.event ≡ true → BringsWhole (outcome s es) e.event) → AreWhole s (es ++ e ∷ [])
+pub whole_more : (s : State) (es : List Entry) (e : Entry)
+    → AreWhole s es → (is_accepted e.event ≡ true → BringsWhole (outcome s es) e.event) → AreWhole s (es ++ e ∷ [])
 whole_more s [] e w h = (h, tt)
 whole_more s (d ∷ es) e w h = (w.0, whole_more (step_entry s d) es e w.1 h)
 
@@ -62,7 +64,8 @@ runs_stay_sound : (s : State) (runs : List Run) → IsSound s → AreRuns s runs
 runs_stay_sound s [] sound h = sound
 runs_stay_sound s (r ∷ rs) sound h = runs_stay_sound (outcome r.opening r.history) rs (histories_stay_sound r.opening r.history h.1 h.2 h.3) h.4
 
-runs_more : (s : State) (runs : List Run) (r : Run) → AreRuns s runs → SameKeys (last_state s runs) r.opening → IsSound r.opening → IsLegal r.opening r.history → AreWhole r.opening r.history → AreRuns s (runs ++ r ∷ [])
+runs_more : (s : State) (runs : List Run) (r : Run) → AreRuns s runs → SameKeys (last_state s runs) r.opening
+    → IsSound r.opening → IsLegal r.opening r.history → AreWhole r.opening r.history → AreRuns s (runs ++ r ∷ [])
 runs_more s [] r h same sound legal w = (same, sound, legal, w, tt)
 runs_more s (q ∷ qs) r h same sound legal w = (h.0, h.1, h.2, h.3, runs_more (outcome q.opening q.history) qs r h.4 same sound legal w)
 
@@ -125,11 +128,13 @@ all_read text read (Some ys) h e = sym (h ∙ (ap (λ (zs : List ℕ). read ++ z
 
 pub read_may_open : ReadMayOpen
 read_may_open s runs cut before new r f c h is =
-    let text : records_text is.whole_records ++ is.rest ≡ journals runs ++ cut = all_read (journals runs ++ cut) (records_text is.whole_records ++ is.rest) new is.read is.end in
+    let text : records_text is.whole_records ++ is.rest ≡ journals runs ++ cut =
+    all_read (journals runs ++ cut) (records_text is.whole_records ++ is.rest) new is.read is.end in
     let reading : IsReading before.state (journals runs ++ cut) (whole is.whole_records is.rest) =
     subst (λ (xs : List ℕ). IsReading before.state xs (whole is.whole_records is.rest)) text (is.reading before.state (agrees_itself before.state)) in
     let are : AreRuns before.state runs = runs_of_alike s before.state runs (same_back s before.state h.keys) f.each in
-    let only : whole is.whole_records is.rest ≡ whole (records_in runs) cut = (reads_journals before.state runs cut are c).1 (whole is.whole_records is.rest) reading in
+    let only : whole is.whole_records is.rest ≡ whole (records_in runs) cut =
+    (reads_journals before.state runs cut are c).1 (whole is.whole_records is.rest) reading in
     let records : is.whole_records ≡ records_in runs = ap records_read only in
     restored_may_open s runs before.state r.table.state f h
     (subst (λ (rs : List Record). Agrees r.table.state (restored before.state rs)) records (is.table before.state (agrees_itself before.state)))
@@ -151,4 +156,5 @@ two_runs_follow_on c quiet later_quiet first before history more cut new r fits 
     (alike_back before.state (opening_of c later_quiet) (agrees_alike before.state (opening_of c later_quiet) again)) in
     let text : journal s history ++ cut ≡ journals (one ∷ []) ++ cut = ap (λ (xs : List ℕ). xs ++ cut) (sym (append-nil (journal s history))) in
     let read : IsRestored before (Some (journals (one ∷ []) ++ cut)) new r = subst (λ (xs : List ℕ). IsRestored before (Some xs) new r) text is in
-    runs_go_on s (one ∷ []) (record { opening = r.table.state; history = more }) begun (read_may_open s (one ∷ []) cut before new r begun torn like read) more_legal more_w
+    runs_go_on s (one ∷ []) (record { opening = r.table.state; history = more }) begun
+    (read_may_open s (one ∷ []) cut before new r begun torn like read) more_legal more_w

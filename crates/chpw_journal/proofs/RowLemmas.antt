@@ -1,5 +1,6 @@
 -- Which states hold keys in a row.
-use Rattle.std.proofs.Common.{◌≡◌, ℕ, zero, suc, ◌+◌, ◌≤◌, max, List, [], ◌∷◌, map, take, length, Bool, true, false, if◌then◌else◌, Option, Some, None, refl, sym, ◌∙◌, ap, subst, arith}
+use Rattle.std.proofs.Common.{◌≡◌, ℕ, zero, suc, ◌+◌, ◌≤◌, max, List, [], ◌∷◌, map, take, length, Bool, true}
+use Rattle.std.proofs.Common.{false, if◌then◌else◌, Option, Some, None, refl, sym, ◌∙◌, ap, subst, arith}
 use Rattle.std.specs.Prelude.{option_map, IsSome, IfSome, ◌==◌}
 use Rattle.std.specs.List.{list_all}
 use Rattle.std.proofs.lemmas.Bool.Decides.{nat_tests}
@@ -10,17 +11,17 @@ use Rattle.chpw_rules.specs.declared.config.PrincipalRow.{PrincipalRow}
 use Rattle.chpw_rules.specs.Names.{is_name, is_same_name}
 use Rattle.chpw_rules.specs.Limits.{is_in, key_counts, kvnos, iteration_counts}
 use Rattle.chpw_rules.specs.Fitting.{key_fits, descend_from, kvnos_descend, principal_fits}
-use Rattle.chpw_table.specs.declared.key.KeyRow.{KeyRow}
+use Rattle.chpw_record.specs.declared.key.KeyRow.{KeyRow}
 use Rattle.chpw_table.specs.State.{Fixed, State, keys_held, kept_count, new_count, key_row_of, opening_principal}
 use Rattle.chpw_table.specs.Decision.{newest_kvno}
 use Rattle.chpw_table.proofs.BoolLemmas.{and_left, and_right}
 use Rattle.chpw_table.proofs.HoldingLemmas.{kept_at_least, principals_of_fits}
 use Rattle.chpw_table.proofs.KeyLemmas.{keys_in, keys_put, put}
 use Rattle.chpw_table.proofs.NameLemmas.{is_same_name-Decides}
-use Rattle.chpw_journal.specs.declared.change.Change.{Change}
-use Rattle.chpw_journal.specs.declared.record.Record.{Record}
-use Rattle.chpw_journal.specs.declared.record.Record.TheVariants as record_of
-use Rattle.chpw_journal.specs.Records.{ChangeFits, RecordFits}
+use Rattle.chpw_record.specs.declared.record.Change.{Change}
+use Rattle.chpw_record.specs.declared.record.Record.{Record}
+use Rattle.chpw_record.specs.declared.record.Record.TheVariants as record_of
+use Rattle.chpw_record.specs.Records.{ChangeFits, RecordFits}
 use Rattle.chpw_journal.specs.JournalText.{with_record, restored, IsNextRecord}
 use Rattle.chpw_journal.specs.Runs.{SameKeys, records_in, last_state}
 use Rattle.chpw_journal.specs.Compact.{KeyInRange, IsAfter, AreInRow, AreKeptInRow, HoldsInRow}
@@ -53,7 +54,8 @@ after_newest key [] h = tt
 after_newest key (k ∷ ks) h = h
 
 -- the next key in front of others in a row, of which the newest are kept
-put_in_row : (kept : ℕ) (c : Change) (keys : List KeyRow) → 1 ≤ kept → ChangeFits c → c.key.kvno ≡ newest_kvno keys + 1 → AreKeptInRow kept keys → AreKeptInRow kept (put kept c.key keys)
+put_in_row : (kept : ℕ) (c : Change) (keys : List KeyRow) → 1 ≤ kept → ChangeFits c
+    → c.key.kvno ≡ newest_kvno keys + 1 → AreKeptInRow kept keys → AreKeptInRow kept (put kept c.key keys)
 put_in_row kept c keys low f next w =
     let many = length_taken kept (c.key ∷ keys) low (omega arith) in
     record {
@@ -151,7 +153,10 @@ row_of_bytes (suc n) (k ∷ ks) f d = (fits, after n ks d, row_of_bytes n ks (an
     fits : KeyInRange (key_row_of k)
     fits =
         let g = and_left (key_fits k) (list_all key_fits ks) f in
-        record { kvno = and_left (is_in kvnos k.kvno) (is_in iteration_counts k.iterations) g; count = and_right (is_in kvnos k.kvno) (is_in iteration_counts k.iterations) g }
+        record {
+          kvno = and_left (is_in kvnos k.kvno) (is_in iteration_counts k.iterations) g;
+          count = and_right (is_in kvnos k.kvno) (is_in iteration_counts k.iterations) g;
+        }
 
     after : (m : ℕ) (older : List KeyBytes) → descend_from k.kvno older ≡ true → IsAfter (key_row_of k) (map key_row_of (take m older))
     after zero older h = tt
@@ -168,7 +173,9 @@ length_map f (x ∷ xs) = let ih = length_map f xs in omega (arith, ih)
 
 row_in_row : (kept : ℕ) (row : PrincipalRow) → 1 ≤ kept → principal_fits row ≡ true → AreKeptInRow kept (map key_row_of (take kept row.keys))
 row_in_row kept row low h =
-    let many : 1 ≤ length row.keys = counted (length row.keys) (and_right (is_name row.name) (is_in key_counts (length row.keys)) (and_left _ (list_all key_fits row.keys) (and_left _ (kvnos_descend row.keys) h))) in
+    let many : 1 ≤ length row.keys =
+    counted (length row.keys) (and_right (is_name row.name) (is_in key_counts (length row.keys))
+    (and_left _ (list_all key_fits row.keys) (and_left _ (kvnos_descend row.keys) h))) in
     let m = length_map key_row_of (take kept row.keys) in
     let t = length-take kept row.keys in
     record {
@@ -180,7 +187,8 @@ row_in_row kept row low h =
 rows_in_row : (kept : ℕ) (rows : List PrincipalRow) → 1 ≤ kept → list_all principal_fits rows ≡ true → (name : Name)
     → IfSome (keys_in (map (opening_principal kept) rows) name) (AreKeptInRow kept)
 rows_in_row kept [] low h name = tt
-rows_in_row kept (row ∷ rows) low h name = at (is_same_name row.name name) refl (rows_in_row kept rows low (and_right (principal_fits row) (list_all principal_fits rows) h) name)
+rows_in_row kept (row ∷ rows) low h name = at (is_same_name row.name name) refl
+    (rows_in_row kept rows low (and_right (principal_fits row) (list_all principal_fits rows) h) name)
   where
     at : (b : Bool) → is_same_name row.name name ≡ b → IfSome (keys_in (map (opening_principal kept) rows) name) (AreKeptInRow kept)
         → IfSome (keys_in (map (opening_principal kept) (row ∷ rows)) name) (AreKeptInRow kept)

@@ -1,5 +1,7 @@
 -- The journal of a run gives the keys that the run left.
-use Rattle.std.proofs.Common.{◌≡◌, ◌≢◌, ℕ, suc, ◌+◌, ◌≤◌, List, [], ◌∷◌, ◌++◌, length, Bool, true, false, ◌&&◌, if◌then◌else◌, Option, Some, None, is_none, unwrap_or, refl, sym, ◌∙◌, ap, subst, arith, rules}
+use Rattle.std.proofs.Common.{◌≡◌, ◌≢◌, ℕ, suc, ◌+◌, ◌≤◌, List, [], ◌∷◌, ◌++◌, length}
+use Rattle.std.proofs.Common.{Bool, true, false, ◌&&◌, if◌then◌else◌, Option, Some, None}
+use Rattle.std.proofs.Common.{is_none, unwrap_or, refl, sym, ◌∙◌, ap, subst, arith, rules}
 use Rattle.std.specs.Prelude.{option_map, IsSome, IfSome}
 use Rattle.std.proofs.lemmas.Bool.Decides.{nat_tests}
 use Rattle.chpw_rules.specs.declared.name.Name.{Name}
@@ -12,7 +14,7 @@ use Rattle.chpw_table.specs.declared.request.Opened.{Opened}
 use Rattle.chpw_table.specs.declared.history.Event.{Event}
 use Rattle.chpw_table.specs.declared.history.Event.TheVariants.{Ask, Raise}
 use Rattle.chpw_table.specs.declared.history.Entry.{Entry}
-use Rattle.chpw_table.specs.declared.key.KeyRow.{KeyRow}
+use Rattle.chpw_record.specs.declared.key.KeyRow.{KeyRow}
 use Rattle.chpw_table.specs.Requests.{target_of}
 use Rattle.chpw_table.specs.State.{State, keys_held, kept_count, new_count}
 use Rattle.chpw_table.specs.Verdicts.{is_done}
@@ -26,12 +28,13 @@ use Rattle.chpw_table.specs.Restoring.{with_kept_key, with_kept_count, IsNextKey
 use Rattle.chpw_table.proofs.AppendLemmas.{verdict_written}
 use Rattle.chpw_table.proofs.DoneLemmas.{done_key_row, done_held, done_version}
 use Rattle.chpw_table.proofs.KeyLemmas.{keys_after, keys_put, put, kept_some, newest_put}
-use Rattle.chpw_journal.specs.declared.record.Record.{Record}
-use Rattle.chpw_journal.specs.Records.{RecordFits, record_text, records_text}
+use Rattle.chpw_record.specs.declared.record.Record.{Record}
+use Rattle.chpw_record.specs.Records.{RecordFits, record_text, records_text}
 use Rattle.chpw_journal.specs.JournalText.{restored, AreNext, Begins}
 use Rattle.chpw_journal.specs.Runs.{record_by, records_of, SameKeys, IsSound, BringsWhole, AreWhole, Run, AreRuns, journals, records_in, last_state}
 use Rattle.chpw_journal.specs.Laws.{ReadsJournals, RecordsAreJournals, RestoresKeys}
-use Rattle.chpw_journal.proofs.RecordsLemmas.{records_joined, restored_joined, next_joined}
+use Rattle.chpw_record.proofs.RecordLemmas.{records_joined}
+use Rattle.chpw_journal.proofs.RecordsLemmas.{restored_joined, next_joined}
 use Rattle.chpw_journal.proofs.StopLemmas.{reads_one}
 
 -- ---- an accepted entry
@@ -48,7 +51,8 @@ append_done io v h = at (is_done v && io) h
     at false k = k
 
 -- no row refuses what was accepted, were its append not to fail
-pub accepted_row : (s : State) (now : Moment) (o : Opened) (io : Bool) (v : Verdict) → IsDecided s now o io v → is_done v ≡ true → is_done (key_row s o false) ≡ true
+pub accepted_row : (s : State) (now : Moment) (o : Opened) (io : Bool) (v : Verdict)
+    → IsDecided s now o io v → is_done v ≡ true → is_done (key_row s o false) ≡ true
 accepted_row s now o io v d h =
     let is : verdict s now o io ≡ Done = sym d.verdict_is ∙ done_is v h in
     done_key_row s now o (append_done io (verdict s now o false) (sym (verdict_written s now o io) ∙ is))
@@ -67,7 +71,8 @@ low_kvno n h = grind (arith, nat_tests)
 next_kvno : (n : ℕ) → n ≤ 4294967295 → n ≢ 4294967295 → is_in kvnos (n + 1) ≡ true
 next_kvno n h g = grind (arith, nat_tests)
 
-newest_low : (o : Option (List KeyRow)) (keys : List KeyRow) → o ≡ Some keys → IfSome o (λ ks. newest_kvno ks ≤ 4294967295) → newest_kvno (unwrap_or o []) ≤ 4294967295
+newest_low : (o : Option (List KeyRow)) (keys : List KeyRow)
+    → o ≡ Some keys → IfSome o (λ ks. newest_kvno ks ≤ 4294967295) → newest_kvno (unwrap_or o []) ≤ 4294967295
 newest_low None keys h low = absurd (cc)
 newest_low (Some others) keys h low = low
 
@@ -106,28 +111,34 @@ module _ (s : State) (now : Moment) (o : Opened) (io : Bool) (v : Verdict) (soun
 
 -- the keys of a name after a decision
 pub after_decision : (s : State) (now : Moment) (o : Opened) (io : Bool) (v : Verdict) → IsDecided s now o io v → (name : Name)
-    → keys_held (step s now o io) name ≡ (if is_done v && is_same_name (target_of o).name name then option_map (put (kept_count s) (new_key s o)) (keys_held s name) else keys_held s name)
+    → keys_held (step s now o io) name ≡ (if is_done v && is_same_name (target_of o).name name
+    then option_map (put (kept_count s) (new_key s o)) (keys_held s name) else keys_held s name)
 after_decision s now o io v d name =
     keys_after s (verdict s now o io) now o io name
-    ∙ ap (λ (w : Verdict). if is_done w && is_same_name (target_of o).name name then option_map (put (kept_count s) (new_key s o)) (keys_held s name) else keys_held s name) (sym d.verdict_is)
+    ∙ ap (λ (w : Verdict). if is_done w && is_same_name (target_of o).name name
+    then option_map (put (kept_count s) (new_key s o)) (keys_held s name) else keys_held s name) (sym d.verdict_is)
 
-same_after_done : (t s : State) (now : Moment) (o : Opened) (io : Bool) (v : Verdict) → IsDecided s now o io v → is_done v ≡ true → SameKeys t s → SameKeys (with_kept_key (target_of o).name (new_key s o) t) (step s now o io)
+same_after_done : (t s : State) (now : Moment) (o : Opened) (io : Bool) (v : Verdict) → IsDecided s now o io v
+    → is_done v ≡ true → SameKeys t s → SameKeys (with_kept_key (target_of o).name (new_key s o) t) (step s now o io)
 same_after_done t s now o io v d h same = record {
   kept = same.kept;
   keys = λ name.
       keys_put (kept_count t) (target_of o).name (new_key s o) t.principals name
       ∙ (ap (λ (k : ℕ). if is_same_name (target_of o).name name then option_map (put k (new_key s o)) (keys_held t name) else keys_held t name) same.kept
       ∙ (ap (λ (x : Option (List KeyRow)). if is_same_name (target_of o).name name then option_map (put (kept_count s) (new_key s o)) x else x) (same.keys name)
-      ∙ (ap (λ (b : Bool). if b && is_same_name (target_of o).name name then option_map (put (kept_count s) (new_key s o)) (keys_held s name) else keys_held s name) (sym h)
+      ∙ (ap (λ (b : Bool). if b && is_same_name (target_of o).name name
+      then option_map (put (kept_count s) (new_key s o)) (keys_held s name) else keys_held s name) (sym h)
       ∙ sym (after_decision s now o io v d name))));
 }
 
-same_after_other : (t s : State) (now : Moment) (o : Opened) (io : Bool) (v : Verdict) → IsDecided s now o io v → is_done v ≡ false → SameKeys t s → SameKeys t (step s now o io)
+same_after_other : (t s : State) (now : Moment) (o : Opened) (io : Bool) (v : Verdict)
+    → IsDecided s now o io v → is_done v ≡ false → SameKeys t s → SameKeys t (step s now o io)
 same_after_other t s now o io v d h same = record {
   kept = same.kept;
   keys = λ name.
       same.keys name
-      ∙ (ap (λ (b : Bool). if b && is_same_name (target_of o).name name then option_map (put (kept_count s) (new_key s o)) (keys_held s name) else keys_held s name) (sym h)
+      ∙ (ap (λ (b : Bool). if b && is_same_name (target_of o).name name
+      then option_map (put (kept_count s) (new_key s o)) (keys_held s name) else keys_held s name) (sym h)
       ∙ sym (after_decision s now o io v d name));
 }
 
@@ -143,14 +154,16 @@ put_some true kept key None h = h
 put_some true kept key (Some keys) h = search rules
 put_some false kept key o h = h
 
-put_low : (kept : ℕ) (key : KeyRow) (o : Option (List KeyRow)) (k : ℕ) → kept ≡ suc k → key.kvno ≤ 4294967295 → IfSome (option_map (put kept key) o) (λ keys. newest_kvno keys ≤ 4294967295)
+put_low : (kept : ℕ) (key : KeyRow) (o : Option (List KeyRow)) (k : ℕ) → kept ≡ suc k
+    → key.kvno ≤ 4294967295 → IfSome (option_map (put kept key) o) (λ keys. newest_kvno keys ≤ 4294967295)
 put_low kept key None k e h = tt
 put_low kept key (Some keys) k e h = subst (λ (n : ℕ). n ≤ 4294967295) (sym (newest_put kept k key keys e)) h
 
 sound_after : (s : State) (now : Moment) (o : Opened) (io : Bool) (v : Verdict) → IsSound s → IsDecided s now o io v → IsSound (step s now o io)
 sound_after s now o io v sound d = record {
   count = sound.count;
-  names = λ name some. sound.names name (put_some (is_done v && is_same_name (target_of o).name name) (kept_count s) (new_key s o) (keys_held s name) (subst IsSome (after_decision s now o io v d name) some));
+  names = λ name some. sound.names name (put_some (is_done v && is_same_name (target_of o).name name)
+      (kept_count s) (new_key s o) (keys_held s name) (subst IsSome (after_decision s now o io v d name) some));
   versions = λ name.
       subst (λ (x : Option (List KeyRow)). IfSome x (λ keys. newest_kvno keys ≤ 4294967295)) (sym (after_decision s now o io v d name))
       (low name (is_done v) refl (is_same_name (target_of o).name name));
@@ -165,11 +178,13 @@ sound_after s now o io v sound d = record {
     low name true h false = sound.versions name
     low name false h c = sound.versions name
 
-count_fits : (m n : ℕ) (b : Bool) → is_in iteration_counts n ≡ true → (b ≡ true → is_in iteration_counts m ≡ true) → is_in iteration_counts (if b then m else n) ≡ true
+count_fits : (m n : ℕ) (b : Bool) → is_in iteration_counts n ≡ true
+    → (b ≡ true → is_in iteration_counts m ≡ true) → is_in iteration_counts (if b then m else n) ≡ true
 count_fits m n true h w = w refl
 count_fits m n false h w = h
 
-pub sound_event : (s : State) (now : Moment) (io : Bool) (event : Event) → IsSound s → IsJudged s now io event → (is_accepted event ≡ true → BringsWhole s event) → IsSound (step_event s now io event)
+pub sound_event : (s : State) (now : Moment) (io : Bool) (event : Event) → IsSound s
+    → IsJudged s now io event → (is_accepted event ≡ true → BringsWhole s event) → IsSound (step_event s now io event)
 sound_event s now io (Ask o v) sound d w = sound_after s now o io v sound d
 sound_event s now io (Raise count v) sound d w = record {
   count = count_fits count (new_count s) (is_raised (raise_verdict s count io)) sound.count (λ h. w (ap is_raised d.verdict_is ∙ h));
@@ -211,7 +226,8 @@ runs_next t s (r ∷ rs) same h =
     let n = history_next t r.opening r.history (same_next t s r.opening same h.0) h.1 h.2 h.3 in
     let m = runs_next (restored t (records_of r.opening r.history)) (outcome r.opening r.history) rs n.1 h.4 in (
       next_joined t (records_of r.opening r.history) (records_in rs) n.0 m.0,
-      subst (λ (u : State). SameKeys u (last_state (outcome r.opening r.history) rs)) (sym (restored_joined t (records_of r.opening r.history) (records_in rs))) m.1,
+      subst (λ (u : State). SameKeys u (last_state (outcome r.opening r.history) rs))
+          (sym (restored_joined t (records_of r.opening r.history) (records_in rs))) m.1,
     )
 
 pub same_itself : (s : State) → SameKeys s s
@@ -225,7 +241,8 @@ event_text s event rs more h false = h
 
 history_records : (s : State) (es : List Entry) → records_text (records_of s es) ≡ journal s es
 history_records s [] = refl
-history_records s (e ∷ es) = event_text s e.event (records_of (step_entry s e) es) (journal (step_entry s e) es) (history_records (step_entry s e) es) (is_accepted e.event)
+history_records s (e ∷ es) = event_text s e.event (records_of (step_entry s e) es)
+    (journal (step_entry s e) es) (history_records (step_entry s e) es) (is_accepted e.event)
 
 pub records_are_journals : RecordsAreJournals
 records_are_journals [] = refl

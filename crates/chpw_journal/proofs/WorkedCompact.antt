@@ -5,8 +5,8 @@ use Rattle.std.specs.Prelude.{codes, pos}
 use Rattle.chpw_table.specs.declared.table.Principal.{Principal}
 use Rattle.chpw_table.specs.State.{State, keys_held, new_count}
 use Rattle.chpw_table.proofs.Worked.{alice, bob, admin, our_realm, key_row}
-use Rattle.chpw_journal.specs.declared.record.Record.TheVariants as record_of
-use Rattle.chpw_journal.specs.Records.{record_text}
+use Rattle.chpw_record.specs.declared.record.Record.TheVariants as record_of
+use Rattle.chpw_record.specs.Records.{record_text}
 use Rattle.chpw_journal.specs.JournalText.{with_record, restored}
 use Rattle.chpw_journal.specs.Compact.{compacted, are_same_keys}
 
@@ -76,7 +76,8 @@ pub one_key_less : are_same_keys (key_row 2 4 0xa2 ∷ key_row 1 4 0xa1 ∷ []) 
 one_key_less = refl
 
 -- a base's bytes, but for the 48 of the keys: length, kind, kvno and iteration count, and the name
-pub front_of_a_base : take 11 (record_text (record_of.Base (record { name = alice; key = key_row 2 4096 0xa2 }))) ≡ 0 ∷ 0x40 ∷ 3 ∷ 0 ∷ 0 ∷ 0 ∷ 2 ∷ 0 ∷ 0 ∷ 0x10 ∷ 0 ∷ []
+pub front_of_a_base : take 11 (record_text (record_of.Base (record { name = alice; key = key_row 2 4096 0xa2 })))
+    ≡ 0 ∷ 0x40 ∷ 3 ∷ 0 ∷ 0 ∷ 0 ∷ 2 ∷ 0 ∷ 0 ∷ 0x10 ∷ 0 ∷ []
 front_of_a_base = refl
 
 pub end_of_a_base : drop 59 (record_text (record_of.Base (record { name = alice; key = key_row 2 4096 0xa2 }))) ≡ 1 ∷ 5 ∷ codes "alice"

@@ -1,15 +1,16 @@
 -- A compact journal: the few records that lead from an opening, the state that a configuration opens with, to
 -- the keys and the count of another state, in place of all that led there.
-use Rattle.std.specs.Prelude.{◌≡◌, ℕ, ◌+◌, ◌≤◌, List, [], ◌∷◌, ◌++◌, length, map, Bool, true, ◌&&◌, ◌==◌, nat_lt, bytes_eq, if◌then◌else◌, Option, Some, IsSome, IfSome}
+use Rattle.std.specs.Prelude.{◌≡◌, ℕ, ◌+◌, ◌≤◌, List, [], ◌∷◌, ◌++◌, length, map, Bool, true, ◌&&◌}
+use Rattle.std.specs.Prelude.{◌==◌, nat_lt, bytes_eq, if◌then◌else◌, Option, Some, IsSome, IfSome}
 use Rattle.std.specs.List.{flat_map}
 use Rattle.std.specs.Cmp.Lexicographic.{pointwise}
 use Rattle.chpw_rules.specs.declared.name.Name.{Name}
 use Rattle.chpw_rules.specs.Limits.{is_in, kvnos, iteration_counts}
-use Rattle.chpw_table.specs.declared.key.KeyRow.{KeyRow}
+use Rattle.chpw_record.specs.declared.key.KeyRow.{KeyRow}
 use Rattle.chpw_table.specs.declared.table.Principal.{Principal}
 use Rattle.chpw_table.specs.State.{State, keys_held, kept_count, new_count}
-use Rattle.chpw_journal.specs.declared.record.Record.{Record}
-use Rattle.chpw_journal.specs.declared.record.Record.TheVariants as record_of
+use Rattle.chpw_record.specs.declared.record.Record.{Record}
+use Rattle.chpw_record.specs.declared.record.Record.TheVariants as record_of
 use Rattle.chpw_journal.specs.Runs.{IsSound, IsWholeKey}
 
 -- the same version, iteration count and bytes
@@ -25,7 +26,7 @@ key_records name [] = []
 key_records name (key ∷ []) = record_of.Base (record { name = name; key = key }) ∷ []
 key_records name (key ∷ older) = key_records name older ++ record_of.Change (record { name = name; key = key }) ∷ []
 
--- those that lead from the keys of a name to others, where it has both: none where they are the same
+-- those that lead from the keys of a name to others, if it has both: none if they are the same
 abbrev pub records_between : Name → Option (List KeyRow) → Option (List KeyRow) → List Record
 records_between name (Some before) (Some keys) = if are_same_keys before keys then [] else key_records name keys
 records_between name before keys = []
@@ -33,7 +34,7 @@ records_between name before keys = []
 abbrev pub name_records : State → State → Name → List Record
 name_records opening s name = records_between name (keys_held opening name) (keys_held s name)
 
--- a raise, where the count is greater than the opening's
+-- a raise, if the count is greater than the opening's
 abbrev pub raise_records : State → State → List Record
 raise_records opening s = if nat_lt (new_count opening) (new_count s) then record_of.Raise (new_count s) ∷ [] else []
 
@@ -53,7 +54,7 @@ abbrev pub IsAfter : KeyRow → List KeyRow → Type 0
 IsAfter key [] = Unit {0}
 IsAfter key (next ∷ older) = key.kvno ≡ next.kvno + 1
 
--- keys within the limits, newest first, whose versions follow on one another
+-- keys within the limits, newest first, whose versions follow each other
 abbrev pub AreInRow : List KeyRow → Type 0
 AreInRow [] = Unit {0}
 AreInRow (key ∷ older) = KeyInRange key × IsAfter key older × AreInRow older
@@ -64,7 +65,7 @@ pub record AreKeptInRow (kept : ℕ) (keys : List KeyRow) : Type 0 where
   pub few : length keys ≤ kept
   pub row : AreInRow keys
 
--- each principal holds such keys: a fitting configuration's opening does, and what comes of it
+-- each principal holds such keys: a fitting configuration's opening does, and what follows from it
 abbrev pub HoldsInRow : State → Type 0
 HoldsInRow s = (name : Name) → IfSome (keys_held s name) (AreKeptInRow (kept_count s))
 
@@ -78,8 +79,9 @@ abbrev pub AreWholeRecords : List Record → Type 0
 AreWholeRecords [] = Unit {0}
 AreWholeRecords (r ∷ rs) = IsWholeRecord r × AreWholeRecords rs
 
--- A compact journal may be made of a state over an opening: the state is within the limits and holds keys in a row, of
--- which those that are written are whole; it has each principal of the opening, and keeps as many keys.
+-- A compact journal may be made for a state over an opening: the state is within the limits and holds keys in a row, of
+-- which those that are written have the lengths of their types; it has each principal of the opening, and keeps as many
+-- keys.
 pub record MayCompact (opening s : State) : Type 0 where
   pub sound : IsSound s
   pub row : HoldsInRow s

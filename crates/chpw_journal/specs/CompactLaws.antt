@@ -5,9 +5,9 @@ use Rattle.chpw_rules.specs.declared.config.Config.{Config}
 use Rattle.chpw_rules.specs.Fitting.{config_fits}
 use Rattle.chpw_table.specs.State.{State, keys_held, kept_count, new_count, opening_of}
 use Rattle.chpw_table.specs.Agreement.{Held, Agrees}
-use Rattle.chpw_journal.specs.declared.record.Record.{Record}
+use Rattle.chpw_record.specs.declared.record.Record.{Record}
 use Rattle.chpw_journal.specs.declared.restoring.Restored.{Restored}
-use Rattle.chpw_journal.specs.Records.{records_text}
+use Rattle.chpw_record.specs.Records.{records_text}
 use Rattle.chpw_journal.specs.JournalText.{restored, is_cut_off, AreNext, Reading, whole, IsReading}
 use Rattle.chpw_journal.specs.Restoring.{IsRestored}
 use Rattle.chpw_journal.specs.Runs.{Run, journals, records_in, last_state}
@@ -30,8 +30,8 @@ CompactGives = (opening s : State) → MayCompact opening s → IsGiven opening 
 abbrev pub CompactIsNext : Type 0
 CompactIsNext = (opening s : State) → MayCompact opening s → AreNext opening (compacted opening s)
 
--- Runs that go on from the state write behind it. All together is read as its records and theirs and in no other way,
--- where none of theirs is of a principal that the opening lacks.
+-- Runs that go on from the state write after it. All together is read as its records and theirs and in no other way, if
+-- none of theirs is of a principal that the opening lacks.
 abbrev pub CompactReads : Type 0
 CompactReads = (opening s : State) (runs : List Run) (cut : List ℕ) → MayCompact opening s → FollowOn s runs →
     AreKnown opening (records_in runs) → is_cut_off cut ≡ true →
@@ -46,8 +46,8 @@ CompactIsFoundAgain = (opening s : State) (runs : List Run) → MayCompact openi
     IsFoundAgain opening (compacted opening s ++ records_in runs) (last_state s runs)
     × (new_count (restored opening (compacted opening s ++ records_in runs)) ≡ new_count (last_state s runs))
 
--- where the state has the opening's names alone, a further run may open with what `restore` makes of a table like the opening
--- and of a reader that has all this
+-- if the state has the opening's names alone, a further run may open with what `restore` makes of a table like the
+-- opening and of a reader that has all this
 abbrev pub CompactMayOpen : Type 0
 CompactMayOpen = (opening s : State) (runs : List Run) (cut : List ℕ) (before : Held) (new : Option (List ℕ)) (r : Restored) →
     MayCompact opening s → new_count opening ≤ new_count s → ((name : Name) → keys_held opening name ≡ None → keys_held s name ≡ None) →
@@ -72,8 +72,9 @@ RunsHoldInRow = (s : State) (runs : List Run) → FollowOn s runs → HoldsInRow
 abbrev pub AgreeHoldInRow : Type 0
 AgreeHoldInRow = (s t : State) → Agrees t s → HoldsInRow s → HoldsInRow t
 
--- So a compact journal may be made over an opening of a table that runs left, where the first of them opened with keys in a
--- row, with each principal of the opening and no lower count, and kept as many keys; the table's count isn't lower either.
+-- So a compact journal may be made over an opening for a table that runs left, if the first of them opened with keys in
+-- a row, with each principal of the opening and no lower count, and kept as many keys; the table's count isn't lower
+-- either.
 abbrev pub RunsMayCompact : Type 0
 RunsMayCompact = (opening s held : State) (runs : List Run) → FollowOn s runs → Agrees held (last_state s runs) → HoldsInRow s →
     kept_count opening ≡ kept_count s → ((name : Name) → IsSome (keys_held opening name) → IsSome (keys_held s name)) →

@@ -1,4 +1,4 @@
--- Laws of runs that follow on one another, and of what is restored from their journal.
+-- Laws of runs that follow each other, and of what is restored from their journal.
 use Rattle.std.specs.Prelude.{◌≡◌, ℕ, ℤ, List, [], ◌∷◌, ◌++◌, Bool, true, Option, Some}
 use Rattle.chpw_rules.specs.declared.config.Config.{Config}
 use Rattle.chpw_rules.specs.Fitting.{config_fits}
@@ -15,7 +15,7 @@ use Rattle.chpw_journal.specs.Restoring.{IsRestored}
 use Rattle.chpw_journal.specs.Runs.{IsSound, BringsWhole, AreWhole, Run, journals, records_in, last_state}
 use Rattle.chpw_journal.specs.Joined.{IsAlike, FollowOn, MayOpen}
 
--- an event leads from a state within the limits to one within them, where what it brings in is whole
+-- an event leads from a state within the limits to one within them, if what it adds is well-formed
 abbrev pub EventsStaySound : Type 0
 EventsStaySound = (s : State) (now : Moment) (io : Bool) (event : Event) → IsSound s → IsJudged s now io event →
     (is_accepted event ≡ true → BringsWhole s event) → IsSound (step_event s now io event)
@@ -25,12 +25,12 @@ abbrev pub HistoriesStaySound : Type 0
 HistoriesStaySound = (s : State) (history : List Entry) → IsSound s → IsLegal s history → AreWhole s history →
     IsSound (outcome s history)
 
--- a run follows on the others that opens with what may be opened with, and has a legal history
+-- a run follows the others if it opens with what may be opened with, and has a legal history
 abbrev pub RunsGoOn : Type 0
 RunsGoOn = (s : State) (runs : List Run) (r : Run) → FollowOn s runs → MayOpen s runs r.opening →
     IsLegal r.opening r.history → AreWhole r.opening r.history → FollowOn s (runs ++ r ∷ [])
 
--- it leaves what its history leads to, and its journal stands behind theirs
+-- it leaves what its history leads to, and its journal follows theirs
 abbrev pub RunsAreLast : Type 0
 RunsAreLast = (s : State) (runs : List Run) (r : Run) →
     (last_state s (runs ++ r ∷ []) ≡ outcome r.opening r.history)
@@ -41,13 +41,13 @@ abbrev pub TablesMayOpen : Type 0
 TablesMayOpen = (s : State) (runs : List Run) (t : State) → FollowOn s runs → Agrees t (last_state s runs) →
     MayOpen s runs t
 
--- and with a table like the one that the first opened with, once their records are put back
+-- and with a table like the one that the first opened with, once their records are replayed
 abbrev pub RestoredMayOpen : Type 0
 RestoredMayOpen = (s : State) (runs : List Run) (before t : State) → FollowOn s runs → IsAlike s before →
     Agrees t (restored before (records_in runs)) → MayOpen s runs t
 
--- so it may with what `restore` makes of such a table and of a reader that has their journal, with a record
--- behind it that is cut off or nothing
+-- so it may with what `restore` makes of such a table and of a reader that has their journal, followed by a record that
+-- is cut off or nothing
 abbrev pub ReadMayOpen : Type 0
 ReadMayOpen = (s : State) (runs : List Run) (cut : List ℕ) (before : Held) (new : Option (List ℕ)) (r : Restored) →
     FollowOn s runs → is_cut_off cut ≡ true → IsAlike s before.state →

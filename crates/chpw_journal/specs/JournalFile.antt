@@ -1,19 +1,19 @@
--- What opening a journal's file gives: the table handed in, with records that go on from it, and where a
--- torn tail behind them was cut off; where the file was made, the table as it was. What bytes the system gives of a file no contract tells.
+-- What opening a journal's file gives: the table, with records that go on from it, and where a torn tail after them was
+-- cut off; for a new file, the table unchanged. No contract says which bytes the system gives of a file.
 use Rattle.std.specs.Prelude.{◌≡◌, ℕ, List, length, true, false, Option, Some, None, if◌then◌else◌}
 use Rattle.chpw_table.specs.State.{State}
 use Rattle.chpw_table.specs.Agreement.{Held, Agrees}
-use Rattle.chpw_journal.specs.declared.record.Record.{Record}
+use Rattle.chpw_record.specs.declared.record.Record.{Record}
 use Rattle.chpw_journal.specs.declared.fault.RestoreFault.{RestoreFault}
 use Rattle.chpw_journal.specs.declared.restoring.Restored.{Restored}
 use Rattle.chpw_journal.specs.declared.journal_file.Journal.{Journal}
 use Rattle.chpw_journal.specs.declared.journal_file.OpenFault.{OpenFault}
 use Rattle.chpw_journal.specs.declared.journal_file.OpenFault.TheVariants.{CannotRead, CannotWrite, Restore}
-use Rattle.chpw_journal.specs.Records.{records_text}
+use Rattle.chpw_record.specs.Records.{records_text}
 use Rattle.chpw_journal.specs.JournalText.{restored, AreNext}
 use Rattle.chpw_journal.specs.Restoring.{is_there, IsRestored, IsRefused}
 
--- of a file that isn't read yet
+-- the fault of a file that isn't read yet
 abbrev pub IsUnopened : OpenFault → Type 0
 IsUnopened CannotRead = Unit {0}
 IsUnopened CannotWrite = Unit {0}
@@ -41,8 +41,8 @@ IsReadFrom before old r = (left : Option (List ℕ)) × IsRestored before old le
 abbrev pub IsRefusedFrom : Held → Option (List ℕ) → RestoreFault → Type 0
 IsRefusedFrom before old fault = (left : Option (List ℕ)) × IsRefused before old left fault
 
--- of a file that was there: what is wrong with what was read of it, or a torn record stood behind the
--- records that were read
+-- the fault of an existing file: what is wrong with what was read of it, or a torn record followed the records that
+-- were read
 abbrev pub IsUnrestored : Held → OpenFault → Type 0
 IsUnrestored before CannotRead = ⊥
 IsUnrestored before CannotWrite = (old : Option (List ℕ)) × (r : Restored) × IsReadFrom before old r × (r.torn ≡ true)

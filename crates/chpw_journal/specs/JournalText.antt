@@ -1,18 +1,18 @@
--- What a journal's text comes to: its whole records, in their order, and behind them one that is cut
--- off; or its first fault. Records are counted from 1, and each is tested as J1, J3, J2.
+-- What a journal's text gives: its complete records, in order, followed by one that is cut off; or its first fault.
+-- Records are counted from 1, and each is checked for J1, J3, J2, in this order.
 use Rattle.std.specs.Prelude.{◌≡◌, ◌≢◌, ℕ, ◌+◌, ◌≤◌, List, [], ◌∷◌, ◌++◌, length, Bool, true, false, ◌&&◌, ◌||◌, nat_lt, ◌⊎◌, Some, None, IsSome}
-use Rattle.chpw_table.specs.declared.key.KeyRow.{KeyRow}
+use Rattle.chpw_record.specs.declared.key.KeyRow.{KeyRow}
 use Rattle.chpw_table.specs.State.{State, keys_held}
 use Rattle.chpw_table.specs.Decision.{newest_kvno}
 use Rattle.chpw_table.specs.Restoring.{with_kept_key, with_kept_count, IsNextKey}
 use Rattle.chpw_table.specs.BaseKeys.{with_base_key}
-use Rattle.chpw_journal.specs.declared.change.Change.{Change}
-use Rattle.chpw_journal.specs.declared.record.Record.{Record}
-use Rattle.chpw_journal.specs.declared.record.Record.TheVariants as record_of
-use Rattle.chpw_journal.specs.Records.{RecordFits, record_text, records_text, stated_length, is_record_length}
+use Rattle.chpw_record.specs.declared.record.Change.{Change}
+use Rattle.chpw_record.specs.declared.record.Record.{Record}
+use Rattle.chpw_record.specs.declared.record.Record.TheVariants as record_of
+use Rattle.chpw_record.specs.Records.{RecordFits, record_text, records_text, stated_length, is_record_length}
 
--- the state after a record: a change does to its principal what an accepted request did, a raise leaves
--- no lower count, and a base leaves its principal no other key
+-- the state after a record: a change does to its principal what an accepted request did, a raise leaves no lower count,
+-- and a base leaves its principal no other key
 abbrev pub with_record : Record → State → State
 with_record (record_of.Change c) s = with_kept_key c.name c.key s
 with_record (record_of.Raise count) s = with_kept_count count s
@@ -41,19 +41,19 @@ abbrev pub AreNext : State → List Record → Type 0
 AreNext s [] = Unit {0}
 AreNext s (r ∷ rs) = RecordFits r × IsNextRecord s r × AreNext (with_record r s) rs
 
--- of a text's first record not all is there, perhaps nothing; its length, where that is there, is one that a record may have
+-- a text's first record is incomplete, or there is none; its length, if that is present, is one that a record may have
 abbrev pub is_cut_off : List ℕ → Bool
 is_cut_off text = nat_lt (length text) 2 || (is_record_length (stated_length text) && nat_lt (length text) (2 + stated_length text))
 
--- J1: the first record's length is there and out of range
+-- J1: the first record's length is present and out of range
 abbrev pub HasBadLength : List ℕ → Type 0
 HasBadLength text = (2 ≤ length text) × (is_record_length (stated_length text) ≡ false)
 
--- J1: the first record is there whole, and it is none within the limits
+-- J1: the first record is complete, and it is none within the limits
 abbrev pub HasBadBody : List ℕ → Type 0
 HasBadBody text = (2 + stated_length text ≤ length text) × ((r : Record) (left : List ℕ) → RecordFits r → text ≢ record_text r ++ left)
 
--- a text that begins with these records, which go on from a state, and has this behind them
+-- a text that begins with these records, which go on from a state, followed by this
 pub record Begins (s : State) (text : List ℕ) (records : List Record) (rest : List ℕ) : Type 0 where
   pub text_is : text ≡ records_text records ++ rest
   pub next : AreNext s records
@@ -73,7 +73,8 @@ pub data Reading : Type 0 where
 
 abbrev pub IsReading : State → List ℕ → Reading → Type 0
 IsReading s text (whole records rest) = Begins s text records rest × (is_cut_off rest ≡ true)
-IsReading s text (bad_record n) = (records : List Record) × (rest : List ℕ) × Begins s text records rest × (HasBadLength rest ⊎ HasBadBody rest) × (n ≡ length records + 1)
+IsReading s text (bad_record n) = (records : List Record)
+    × (rest : List ℕ) × Begins s text records rest × (HasBadLength rest ⊎ HasBadBody rest) × (n ≡ length records + 1)
 IsReading s text (unknown_principal n) = (records : List Record) × (r : Record) × BeginsWith s text records r
     × IsOfUnknown (restored s records) r × (n ≡ length records + 1)
 IsReading s text (wrong_version n) = (records : List Record) × (c : Change) × (keys : List KeyRow) × BeginsWith s text records (record_of.Change c)

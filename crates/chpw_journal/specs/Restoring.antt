@@ -1,15 +1,15 @@
 -- What restoring gives: the table after a journal's records, how many there are, how many bytes they
--- have, and whether a torn record stands behind them; or the journal's first fault.
+-- have, and whether a torn record begins after them; or the journal's first fault.
 use Rattle.std.specs.Prelude.{◌≡◌, ℕ, List, [], ◌∷◌, ◌++◌, length, Bool, true, false, Option, codes}
 use Rattle.std.specs.Fmt.{decimal}
 use Rattle.std.specs.Io.KnownBytes.{Consumes, IsAtEnd}
 use Rattle.chpw_table.specs.State.{State}
 use Rattle.chpw_table.specs.Agreement.{Held, Agrees}
-use Rattle.chpw_journal.specs.declared.record.Record.{Record}
+use Rattle.chpw_record.specs.declared.record.Record.{Record}
 use Rattle.chpw_journal.specs.declared.fault.RestoreFault.{RestoreFault}
 use Rattle.chpw_journal.specs.declared.fault.RestoreFault.TheVariants.{BadRecord, WrongVersion, UnknownPrincipal, CannotRead, Memory}
 use Rattle.chpw_journal.specs.declared.restoring.Restored.{Restored}
-use Rattle.chpw_journal.specs.Records.{records_text}
+use Rattle.chpw_record.specs.Records.{records_text}
 use Rattle.chpw_journal.specs.JournalText.{restored, Reading, whole, bad_record, unknown_principal, wrong_version, IsReading}
 
 -- there is something
@@ -36,7 +36,7 @@ pub record IsRestored (before : Held) (old new : Option (List ℕ)) (r : Restore
 abbrev pub AlwaysReads : Held → List ℕ → Reading → Type 0
 AlwaysReads before read reading = (s : State) (more : List ℕ) → Agrees before.state s → IsReading s (read ++ more) reading
 
--- J1, J2 and J3 are the text's first fault; where it can't be read on, what was read has none
+-- J1, J2 and J3 are the text's first fault; if it can't be read on, what was read has none
 abbrev pub IsRefused : Held → Option (List ℕ) → Option (List ℕ) → RestoreFault → Type 0
 IsRefused before old new (BadRecord n) = (read : List ℕ) × Consumes old new read × AlwaysReads before read (bad_record n)
 IsRefused before old new (WrongVersion n) = (read : List ℕ) × Consumes old new read × AlwaysReads before read (wrong_version n)

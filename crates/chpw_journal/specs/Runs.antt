@@ -6,15 +6,15 @@ use Rattle.chpw_rules.specs.Limits.{is_in, kvnos, iteration_counts, aes128_lengt
 use Rattle.chpw_table.specs.declared.history.Event.{Event}
 use Rattle.chpw_table.specs.declared.history.Event.TheVariants.{Ask, Raise}
 use Rattle.chpw_table.specs.declared.history.Entry.{Entry}
-use Rattle.chpw_table.specs.declared.key.KeyRow.{KeyRow}
+use Rattle.chpw_record.specs.declared.key.KeyRow.{KeyRow}
 use Rattle.chpw_table.specs.Requests.{target_of}
 use Rattle.chpw_table.specs.State.{State, keys_held, kept_count, new_count}
 use Rattle.chpw_table.specs.Decision.{newest_kvno}
 use Rattle.chpw_table.specs.Step.{new_key}
 use Rattle.chpw_table.specs.History.{is_accepted, step_entry, outcome, IsLegal}
 use Rattle.chpw_table.specs.Journal.{journal}
-use Rattle.chpw_journal.specs.declared.record.Record.{Record}
-use Rattle.chpw_journal.specs.declared.record.Record.TheVariants as record_of
+use Rattle.chpw_record.specs.declared.record.Record.{Record}
+use Rattle.chpw_record.specs.declared.record.Record.TheVariants as record_of
 
 -- the record of an event that is accepted
 abbrev pub record_by : State → Event → Record
@@ -34,7 +34,7 @@ pub record SameKeys (s t : State) : Type 0 where
   pub kept : kept_count s ≡ kept_count t
   pub keys : (name : Name) → keys_held s name ≡ keys_held t name
 
--- what a state within the limits holds: a configuration's opening does, and what comes of it
+-- what a state within the limits holds: a configuration's opening does, and what follows from it
 pub record IsSound (s : State) : Type 0 where
   pub count : is_in iteration_counts (new_count s) ≡ true
   pub names : (name : Name) → IsSome (keys_held s name) → is_name name ≡ true
@@ -44,7 +44,8 @@ pub record IsSound (s : State) : Type 0 where
 abbrev pub IsWholeKey : KeyRow → Type 0
 IsWholeKey key = (length key.aes128 ≡ aes128_length) × (length key.aes256 ≡ aes256_length)
 
--- what an accepted event brings in is whole: its keys are, and its count is one that a configuration takes
+-- what an accepted event adds is well-formed: its keys have the lengths of their types, and its count is within the
+-- limits
 abbrev pub BringsWhole : State → Event → Type 0
 BringsWhole s (Ask o v) = IsWholeKey (new_key s o)
 BringsWhole s (Raise count v) = is_in iteration_counts count ≡ true
@@ -58,17 +59,19 @@ pub record Run : Type 0 where
   pub opening : State
   pub history : List Entry
 
--- each run opens with the principals that the one before it left, the first with those of a state, and has a legal history
+-- each run opens with the principals that the one before it left, the first with those of a state, and has a legal
+-- history
 abbrev pub AreRuns : State → List Run → Type 0
 AreRuns s [] = Unit {0}
-AreRuns s (r ∷ rs) = SameKeys s r.opening × IsSound r.opening × IsLegal r.opening r.history × AreWhole r.opening r.history × AreRuns (outcome r.opening r.history) rs
+AreRuns s (r ∷ rs) = SameKeys s r.opening × IsSound r.opening
+    × IsLegal r.opening r.history × AreWhole r.opening r.history × AreRuns (outcome r.opening r.history) rs
 
 -- each also opens with the iteration count of new keys that the one before it left, the first with that of a state
 abbrev pub KeepCount : State → List Run → Type 0
 KeepCount s [] = Unit {0}
 KeepCount s (r ∷ rs) = (new_count s ≡ new_count r.opening) × KeepCount (outcome r.opening r.history) rs
 
--- what the runs left behind: a journal, its records, and a state with the principals and the count
+-- what the runs left: a journal, its records, and a state with the principals and the count
 abbrev pub journals : List Run → List ℕ
 journals [] = []
 journals (r ∷ rs) = journal r.opening r.history ++ journals rs

@@ -1,23 +1,23 @@
--- For the proofs: what one record, from behind its length, does to a table that is being restored.
+-- For proofs alone: what one record, after its length, does to a table that is being restored.
 use Rattle.std.specs.Prelude.{◌≡◌, ◌≢◌, ℕ, ◌+◌, List, length, false, Option, Some}
 use Rattle.std.specs.Io.KnownBytes.{Consumes}
-use Rattle.chpw_table.specs.declared.key.KeyRow.{KeyRow}
+use Rattle.chpw_record.specs.declared.key.KeyRow.{KeyRow}
 use Rattle.chpw_table.specs.declared.table.restoring.KeyFault.{KeyFault}
 use Rattle.chpw_table.specs.State.{State, keys_held}
 use Rattle.chpw_table.specs.Decision.{newest_kvno}
 use Rattle.chpw_table.specs.Agreement.{Held, Agrees}
 use Rattle.chpw_table.specs.Restoring.{IsKeyRefused}
 use Rattle.chpw_table.specs.BaseKeys.{IsBaseRefused}
-use Rattle.chpw_journal.specs.declared.change.Change.{Change}
-use Rattle.chpw_journal.specs.declared.record.Record.{Record}
-use Rattle.chpw_journal.specs.declared.record.Record.TheVariants as record_of
+use Rattle.chpw_record.specs.declared.record.Change.{Change}
+use Rattle.chpw_record.specs.declared.record.Record.{Record}
+use Rattle.chpw_record.specs.declared.record.Record.TheVariants as record_of
 use Rattle.chpw_journal.specs.declared.fault.RestoreFault.{RestoreFault}
 use Rattle.chpw_journal.specs.declared.fault.RestoreFault.TheVariants.{BadRecord, WrongVersion, UnknownPrincipal, CannotRead, Memory}
 use Rattle.chpw_journal.specs.declared.restoring.Restored.{Restored}
-use Rattle.chpw_journal.specs.Records.{ChangeFits, RecordFits, body_text, records_text}
+use Rattle.chpw_record.specs.Records.{ChangeFits, RecordFits, body_text, records_text}
 use Rattle.chpw_journal.specs.JournalText.{IsNextRecord, IsOfUnknown, AreNext, with_record, restored}
 
--- why a record isn't put back: a change or a base for what its key is refused; a raise never
+-- why a record isn't replayed: a change or a base for the fault of its key; a raise never
 abbrev pub IsRecordRefused : Held → Record → KeyFault → Type 0
 IsRecordRefused before (record_of.Change c) fault = (s : State) → Agrees before.state s → IsKeyRefused s c.name c.key fault
 IsRecordRefused before (record_of.Raise count) fault = ⊥

@@ -1,21 +1,21 @@
-//! A compact journal, written.
+//! Writing a compact journal.
 ghost use Rattle.std.specs.Prelude.{◌≡◌, ◌++◌, IfOk, OnOk, true, length};
 ghost use Rattle.chpw_rules.specs.Names.{is_name};
-ghost use Rattle.chpw_journal.specs.declared.record.Record.TheVariants as record_of;
-ghost use Rattle.chpw_journal.specs.Records.{record_text, records_text};
+ghost use Rattle.chpw_record.specs.declared.record.Record.TheVariants as record_of;
+ghost use Rattle.chpw_record.specs.Records.{record_text, records_text};
 ghost use Rattle.chpw_journal.specs.Compact.{are_same_keys, compacted, key_records, name_records, raise_records, AreWholeRecords};
 ghost use Rattle.chpw_journal.specs.Runs.{IsWholeKey};
 
-use crate::record::BASE_KIND;
+use chpw_record::{KeyRow, base_bytes, raise_bytes, record_bytes};
 use chpw_rules::Name;
-use chpw_table::{KeyRow, Table, raise_bytes, record_bytes};
+use chpw_table::Table;
 use std::alloc::{AllocError, Global};
 
-/// The text of a journal that, restored onto the opening, gives each of its principals the keys that the held
-/// table has of it, and the held count where that is the greater: a raise to it first, and then of each
-/// principal with other keys the oldest as a base and the newer ones as changes. It has nothing of those with
-/// the same keys, nor of those that the opening lacks. The opening is the table that the configuration opens
-/// with. The keys in the text are whole, as each key that a table holds is; `laws::compact` asks for that.
+/// The text of a journal that, restored onto the opening, gives each of its principals the keys that the held table has
+/// of it, and the held count if that is greater: first a raise to it, and then for each principal with other keys the
+/// oldest as a base and the newer ones as changes. It has nothing for those with the same keys, nor for those that the
+/// opening lacks. The opening is the table that the configuration opens with. The keys in the text have the lengths of
+/// their types, as each key that a table holds; `laws::compact` requires that.
 pub fn compact_journal(alloc: Global, opening: &Table, held: &Table) -> Result<Vec<u8>, AllocError>
     ensures value { IfOk result (λ text. text.items
         ≡ records_text (compacted opening.now.state held.now.state)) }
@@ -26,7 +26,7 @@ pub fn compact_journal(alloc: Global, opening: &Table, held: &Table) -> Result<V
     let mut place = 0u32;
     while let Some(name) = opening.name_at(place) {
         put_principal(&mut text, opening, held, name)?;
-        // More names than that no memory holds.
+        // No memory holds more names than that.
         let Some(next) = place.checked_add(1) else {
             return Err(AllocError);
         };
@@ -35,7 +35,7 @@ pub fn compact_journal(alloc: Global, opening: &Table, held: &Table) -> Result<V
     Ok(text)
 }
 
-// Adds a raise to the held count, where that is greater than the opening's.
+// Adds a raise to the held count, if that is greater than the opening's.
 fn put_raise(text: &mut Vec<u8>, opening: &Table, held: &Table) -> Result<(), AllocError>
     ensures value { OnOk result (text.new.items
         ≡ text.old.items ++ records_text (raise_records opening.now.state held.now.state)) }
@@ -47,7 +47,7 @@ fn put_raise(text: &mut Vec<u8>, opening: &Table, held: &Table) -> Result<(), Al
     Ok(())
 }
 
-// Adds what a principal of the opening takes.
+// Adds the records that a principal of the opening needs.
 fn put_principal(
     text: &mut Vec<u8>,
     opening: &Table,
@@ -91,8 +91,7 @@ fn put_base(text: &mut Vec<u8>, name: &Name, key: &KeyRow) -> Result<(), AllocEr
     ensures whole { OnOk result (IsWholeKey key.now) }
 {
     read_key(key);
-    let mut record = record_bytes(*text.allocator(), name, key)?;
-    record[2] = BASE_KIND;
+    let record = base_bytes(*text.allocator(), name, key)?;
     text.extend_from_slice(record.as_slice())
 }
 
@@ -108,7 +107,7 @@ fn put_change(text: &mut Vec<u8>, name: &Name, key: &KeyRow) -> Result<(), Alloc
     text.extend_from_slice(record.as_slice())
 }
 
-// A key is whole, as its type says.
+// A key has the lengths of its type.
 fn read_key(key: &KeyRow)
     ensures whole { IsWholeKey key.now }
 {

@@ -1,14 +1,17 @@
 //! Laws of restoring, over its definitions alone.
 ghost use Rattle.chpw_journal.specs.Laws.{ReadsJournals, RecordsAreJournals, RestoresKeys, RestoresCount, FrontsAreCutOff, OpeningsAreSound};
-ghost use Rattle.chpw_journal.specs.CompactLaws.{CompactGives, CompactIsNext, CompactReads, CompactIsFoundAgain, CompactMayOpen, OpeningsHoldInRow, RestoredHoldInRow, RunsHoldInRow, AgreeHoldInRow, RunsMayCompact};
-ghost use Rattle.chpw_journal.specs.JoinedLaws.{EventsStaySound, HistoriesStaySound, RunsGoOn, RunsAreLast, TablesMayOpen, RestoredMayOpen, ReadMayOpen, TwoRunsFollowOn};
+ghost use Rattle.chpw_journal.specs.CompactLaws.{CompactGives, CompactIsNext, CompactReads, CompactIsFoundAgain};
+ghost use Rattle.chpw_journal.specs.CompactLaws.{CompactMayOpen, OpeningsHoldInRow, RestoredHoldInRow};
+ghost use Rattle.chpw_journal.specs.CompactLaws.{RunsHoldInRow, AgreeHoldInRow, RunsMayCompact};
+ghost use Rattle.chpw_journal.specs.JoinedLaws.{EventsStaySound, HistoriesStaySound, RunsGoOn, RunsAreLast};
+ghost use Rattle.chpw_journal.specs.JoinedLaws.{TablesMayOpen, RestoredMayOpen, ReadMayOpen, TwoRunsFollowOn};
 
-/// The journals of runs of the service, each opened with the principals that the one before it left, are
-/// read as their accepted changes and raises and in no other way, whether nothing or a torn record stands
-/// behind them; these records are the journals, so as many bytes are kept; and they give each principal
-/// the keys that the last run left. Where each run also opened with the iteration count that the one
-/// before it left, they give the count that the last run left. A proper front of a record is a torn
-/// record. What a configuration that fits opens with is within the limits that this asks of an opening.
+/// The journals of runs of the service, each opened with the principals that the one before it left, are read as their
+/// accepted changes and raises and in no other way, whether nothing or a torn record follows them; these records are
+/// the journals, so as many bytes are kept; and they give each principal the keys that the last run left. If each run
+/// also opened with the iteration count that the one before it left, they give the count that the last run left. A
+/// proper beginning of a record is a torn record. What a configuration that fits opens with is within the limits that
+/// this requires of an opening.
 pub fn restoring()
     ensures read { ReadsJournals }
     ensures records { RecordsAreJournals }
@@ -18,12 +21,12 @@ pub fn restoring()
     ensures sound { OpeningsAreSound }
 {}
 
-/// Runs that follow on one another, each opened with what the one before it left. An event leads from a
-/// state within the limits to another, and so does a legal history, where what the accepted events bring
-/// in is whole. A run with a legal history follows on the others where it opens with a table that the last
-/// one left, or with one like the first opening's once their records are put back; so with what `restore`
-/// makes of a table like that and of their journal. Of two runs under one configuration, the second opened
-/// from the first one's journal, this holds with no premise but what opening and closing give.
+/// Runs that follow each other, each opened with what the one before it left. An event leads from a state within the
+/// limits to another, and so does a legal history, if what the accepted events add is well-formed. A run with a legal
+/// history follows the others if it opens with a table that the last one left, or with one like the first opening's
+/// once their records are replayed; so with what `restore` makes of a table like that and of their journal. For two
+/// runs under one configuration, the second opened from the first one's journal, this holds with no premise but what
+/// opening and closing give.
 pub fn runs()
     ensures event { EventsStaySound }
     ensures history { HistoriesStaySound }
@@ -35,17 +38,17 @@ pub fn runs()
     ensures two { TwoRunsFollowOn }
 {}
 
-/// Of a compact journal (`compact_journal`), made of a state that is within the limits, holds keys in a row and has
+/// About a compact journal (`compact_journal`), made for a state that is within the limits, holds keys in a row and has
 /// each of the opening's principals, over an opening that keeps as many keys. Restoring it onto the opening gives each
 /// of the opening's names the keys that the state has of it, no other name, and the greater of both counts. Its records
-/// are within the limits, and each may come next. It is read in no other way, with the journals of runs behind it that
-/// go on from the state, and with nothing or a torn record behind those, where none of these changes a principal that
-/// the opening lacks; then a start over it finds what the last run left. Where the state has no principal that the
-/// opening lacks, a further run may open with what `restore` makes of a table like the opening and of all this.
+/// are within the limits, and each may come next. It is read in no other way, with the journals of runs after it that
+/// go on from the state, and with nothing or a torn record after those, if none of these changes a principal that the
+/// opening lacks; then a start over it finds what the last run left. If the state has no principal that the opening
+/// lacks, a further run may open with what `restore` makes of a table like the opening and of all this.
 ///
-/// Keys in a row are held by what a fitting configuration opens with, by what is restored, by what runs leave that
-/// go on from such a state, and by a table that agrees with one. So a compact journal may be made of what runs left,
-/// where the first of them opened with such a state, with each principal of the opening and no lower count.
+/// Keys in a row are held by what a fitting configuration opens with, by what is restored, by what runs leave that go
+/// on from such a state, and by a table that agrees with one. So a compact journal may be made for what runs left, if
+/// the first of them opened with such a state, with each principal of the opening and no lower count.
 pub fn compact()
     ensures gives { CompactGives }
     ensures next { CompactIsNext }

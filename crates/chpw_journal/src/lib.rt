@@ -1,7 +1,6 @@
 //! The journal: where its records go, and how a table is restored from them.
 #![tactic(auto)]
 
-mod change;
 mod compact;
 mod fault;
 mod file_sink;
@@ -10,7 +9,6 @@ pub mod laws;
 mod memory_sink;
 mod quiet;
 mod reading;
-mod record;
 mod replacing;
 mod restoring;
 

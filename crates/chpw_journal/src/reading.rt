@@ -1,30 +1,22 @@
 //! A journal's records, read one after the other.
 ghost use Rattle.std.specs.Prelude.{◌≡◌, ◌≤◌, IfOk, length};
 ghost use Rattle.std.specs.Int.{from_be_bytes, to_be_bytes, w16};
-ghost use Rattle.chpw_journal.specs.Records.{is_record_length};
 ghost use Rattle.chpw_journal.specs.NextRecord.{IsNext, IsBody, CountsDown};
 
-use crate::record::RAISE_LENGTH;
-use chpw_rules::Limits;
-use read_fully::{Filled, fill, fill_vec};
+use chpw_read_fully::{Filled, fill, fill_vec};
+use chpw_record::is_record_length;
 use std::alloc::{AllocError, Global};
 use std::io::Read;
 
-/// Reads for a journal, at the most, interrupted ones counted.
+/// The most reads of a journal, interrupted ones counted.
 pub const MAX_READS: u64 = 4_294_967_296;
-
-/// The lengths of changes and bases: 58 bytes, and 1 to 8 components of 1 to 128 bytes, each behind its length.
-const CHANGE_LENGTHS: Limits = Limits {
-    low: 60,
-    high: 1090,
-};
 
 /// What comes next in a journal.
 #[derive(Drop)]
 pub enum Next {
-    /// A whole record, without its length.
+    /// A complete record, without its length.
     Record(Vec<u8>),
-    /// A record whose length is none that a record has; nothing more of it was read.
+    /// A record whose length no record can have; nothing more of it was read.
     BadLength,
     /// The journal's end.
     Ended,
@@ -34,8 +26,8 @@ pub enum Next {
     CannotRead,
 }
 
-/// Reads the next record of a journal. An interrupted read is tried again; the reads are counted down.
-/// After `AllocError` the record's length was read, and no byte behind it.
+/// Reads the next record of a journal. An interrupted read is tried again; the reads are counted down. After
+/// `AllocError` the record's length was read, and no byte after it.
 pub fn next_record<R: Read>(
     alloc: Global,
     reader: &mut R,
@@ -52,17 +44,10 @@ pub fn next_record<R: Read>(
         Filled::Fault(_) => return Ok(Next::CannotRead),
     }
     let length = length_in(&header);
-    if !is_length(length) {
+    if !is_record_length(length) {
         return Ok(Next::BadLength);
     }
     read_body(alloc, reader, length, reads)
-}
-
-// Whether a record may have this length.
-fn is_length(length: usize) -> bool
-    ensures value { result ≡ is_record_length length }
-{
-    length == RAISE_LENGTH || CHANGE_LENGTHS.allow(length)
 }
 
 // The length in two bytes, high byte first.
@@ -76,7 +61,7 @@ fn length_in(header: &[u8]) -> usize
     usize::from(u16::from_be_bytes(bytes))
 }
 
-// Reads a record behind its length.
+// Reads a record after its length.
 fn read_body<R: Read>(
     alloc: Global,
     reader: &mut R,

@@ -1,4 +1,4 @@
-//! Another journal in the place of one.
+//! Replacing a journal by another one.
 ghost use Rattle.std.specs.Prelude.{◌≡◌, OnOk};
 ghost use Rattle.std.specs.Io.KnownBytes.{Appends};
 
@@ -8,18 +8,18 @@ use std::fs::{self, File, Files, OpenFile, OpenOptions};
 use std::io::{self, ErrorKind, Write};
 use std::os::unix::fs::OpenOptionsExt;
 
-/// What stands behind the journal's name in that of the file which takes its place.
+/// The end of the name of the file that replaces the journal, after the journal's own name.
 const BEHIND_NAME: &str = ".new";
 
-/// A journal that has taken the place of another one, locked and at its end.
+/// A journal that has replaced another one, locked and positioned at its end.
 #[derive(Drop)]
 pub struct Replacement {
     pub file: File,
-    /// Whether its name is on the disk. Where it isn't a loss of power may bring the former one back.
+    /// Whether its name is synced. If it isn't, a loss of power may bring the former one back.
     pub is_kept: bool,
 }
 
-/// Removes what a replacement that was ended early has left beside the journal at a path, if anything. Where it can't be
+/// Removes what a replacement that was ended early left beside the journal at a path, if anything. If it can't be
 /// removed no replacement can be made.
 pub fn remove_unfinished<R: Files>(rt: &R, alloc: Global, path: &str) -> Result<(), AllocError> {
     let beside = beside(alloc, path)?;
@@ -34,9 +34,9 @@ fn beside(alloc: Global, path: &str) -> Result<String, AllocError> {
     Ok(name)
 }
 
-/// Puts a journal of this text in the place of the one at a path, by one change of a name: at each moment the one or the
-/// other stands there, whole and on the disk. It is made beside the former one, under the name with `.new` behind it, where
-/// nothing may stand. After an error the former one stands where it stood.
+/// Replaces the journal at a path by one with this text, by one rename: at each moment one of the two is there, whole
+/// and on the disk. It is made beside the former one, under its name followed by `.new`, where nothing may be. After an
+/// error the former one is still there.
 pub fn replace_journal<R: Files<File = File>>(
     rt: &R,
     alloc: Global,
@@ -54,8 +54,8 @@ pub fn replace_journal<R: Files<File = File>>(
     Ok(Replacement { file, is_kept })
 }
 
-/// Makes a file with this text, locked, readable and writable by its owner alone, and has text and name on the disk. It is an
-/// error where something stands at the path; after another error nothing is left there.
+/// Makes a file with this text, locked, readable and writable by its owner alone, and syncs text and name. It is an
+/// error if something is at the path; after another error nothing is left there.
 pub fn write_new<R: Files<File = File>>(rt: &R, path: &str, text: &[u8]) -> io::Result<File> {
     let mut how = OpenOptions::new();
     how.append(true).create_new(true).mode(0o600);
@@ -70,7 +70,7 @@ pub fn write_new<R: Files<File = File>>(rt: &R, path: &str, text: &[u8]) -> io::
     }
 }
 
-// Writes the text and has it on the disk.
+// Writes the text and syncs it.
 fn put<F: Write + OpenFile>(file: &mut F, text: &[u8]) -> io::Result<()>
     ensures written { OnOk result (Appends (F.contents file.old) (F.contents file.new) text.now) }
 {

@@ -3,19 +3,19 @@ ghost use Rattle.std.specs.Prelude.{◌≡◌, ◌+◌, ◌-◌, ◌*◌, ◌≤
 ghost use Rattle.chpw_rules.specs.Limits.{is_in};
 ghost use Rattle.chpw_table.specs.State.{State};
 ghost use Rattle.chpw_table.specs.Agreement.{Agrees};
-ghost use Rattle.chpw_journal.specs.Records.{RecordFits};
+ghost use Rattle.chpw_record.specs.Records.{RecordFits};
 ghost use Rattle.chpw_journal.specs.JournalText.{IsNextRecord, with_record};
 ghost use Rattle.chpw_journal.specs.Restoring.{IsRestored, IsRefused};
 ghost use Rattle.chpw_journal.specs.Taking.{TakesRecord, IsRecordFault, IsRecordRefused};
 
 use crate::fault::RestoreFault;
 use crate::reading::{MAX_READS, Next, next_record};
-use crate::record::Record;
+use chpw_record::Record;
 use chpw_table::{KeyFault, Table};
 use std::alloc::Global;
 use std::io::Read;
 
-/// A table with a journal's records put back.
+/// A table with a journal's records replayed.
 #[derive(Drop)]
 pub struct Restored {
     pub table: Table,
@@ -23,17 +23,16 @@ pub struct Restored {
     pub records: u64,
     /// Their bytes.
     pub kept: u64,
-    /// Whether a record stands behind them of which not all is there.
+    /// Whether an incomplete record follows them.
     pub torn: bool,
 }
 
-/// Puts the records of a journal back into a table: a change as the accepted request did that made it,
-/// the count of a raise where it is greater than the table's, and a base in place of its principal's
-/// keys. What stands behind the last whole record is torn; it is dropped and not tested, but for its
-/// length.
+/// Replays the records of a journal in a table: a change as the accepted request made it, the count of a raise if it is
+/// greater than the table's, and a base in place of its principal's keys. What follows the last complete record is
+/// torn; it is dropped and not checked, except its length.
 ///
-/// The journal is read to its end, in no more than 4,294,967,296 reads; an interrupted one is tried
-/// again. A fault in a record that was read whole comes before that of a later read.
+/// The journal is read to its end, in at most 4,294,967,296 reads; an interrupted one is tried again. A fault in a
+/// record that was read completely comes before that of a later read.
 pub fn restore<R: Read>(
     alloc: Global,
     table: Table,
@@ -64,7 +63,7 @@ pub fn restore<R: Read>(
 }
 
 impl Restored {
-    // Puts a record back and counts it; the record's text, from behind its length.
+    // Replays a record and counts it; `body` is the record's text after its length.
     fn take_record(&mut self, alloc: Global, body: &[u8]) -> Result<(), RestoreFault>
         requires few { self.old.records < 2 ^ 32 }
         requires short { self.old.kept ≤ 1092 * self.old.records }
@@ -88,7 +87,7 @@ impl Restored {
     }
 }
 
-// Puts a record back. A raise is never refused.
+// Replays a record. A raise is never refused.
 fn put_back(table: &mut Table, taken: Record) -> Result<(), KeyFault>
     requires fits { RecordFits taken }
     ensures step { OnOk result ((s : State) → Agrees table.old.state s

@@ -1,12 +1,13 @@
 -- Fields, and the line that they make.
-use Rattle.std.proofs.Common.{◌≡◌, ◌∙◌, ℕ, ◌<◌, true, List, [], ◌∷◌, ◌++◌, length, length-append, append_assoc, codes, ap, map, Bool, cond, Result, Ok, Err, is_ok, OnOk, ◌^◌, refl, arith}
+use Rattle.std.proofs.Common.{◌≡◌, ◌∙◌, ℕ, ◌<◌, true, List, [], ◌∷◌, ◌++◌, length, length-append, append_assoc}
+use Rattle.std.proofs.Common.{codes, ap, map, Bool, cond, Result, Ok, Err, is_ok, OnOk, ◌^◌, refl, arith}
 use Rattle.std.specs.List.{join_with_byte}
 use Rattle.std.specs.Fmt.{decimal}
 use Rattle.std.proofs.lemmas.Bool.{and_from, and_parts}
 use Rattle.std.proofs.lemmas.List.Folds.{list_all-append}
 use Rattle.chpw_rules.specs.Limits.{range, is_in}
 use Rattle.chpw_printing.specs.Quoting.{are_graphic, are_printed, is_field}
-use Rattle.chpw_printing.proofs.PrintedLemmas.{decimal_graphic, field_of, graphic_printed}
+use Rattle.chpw_printing.proofs.QuotingLemmas.{decimal_graphic, field_of, graphic_printed}
 use Rattle.chpw_log.specs.Lines.{IsRecord, Outcome, address_text, are_fields, outcome_fields}
 
 pub address_field : (address : List ℕ) → length address ≡ 4 → are_graphic (address_text address) ≡ true → is_field (address_text address) ≡ true

@@ -1,9 +1,9 @@
 -- What is printed of a moment.
 use Rattle.std.proofs.Common.{ℤ, rules}
-use Rattle.krb_elements.specs.Times.{IsWritable}
+use Rattle.krb_codec.specs.Times.{IsWritable}
 use Rattle.chpw_table.specs.declared.times.Moment.{Moment}
 use Rattle.chpw_table.specs.Times as table
-use Rattle.chpw_times.proofs.TimeLemmas.{time_told}
+use Rattle.chpw_printing.proofs.TimeLemmas.{time_told}
 use Rattle.chpw_log.specs.Moments.{Tells, moment_text}
 
 -- a moment's seconds can be printed

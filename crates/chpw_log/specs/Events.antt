@@ -1,5 +1,5 @@
 -- The lines of the service's own events: the moment, `service`, and words and numbers with a space between any two. The
--- line of a message has `worker` in the place of `service`.
+-- line of a message has `worker` in place of `service`.
 use Rattle.std.specs.Prelude.{ℕ, ◌<◌, List, ◌++◌, codes, Option}
 use Rattle.std.specs.Option.{ForSome}
 use Rattle.std.specs.Fmt.{decimal}
@@ -26,7 +26,7 @@ IsQuietTold (Ended entries changes) = Unit {0}
 abbrev pub both_words : List ℕ → ℕ → List ℕ → ℕ → List ℕ
 both_words words number further other = words ++ decimal number ++ further ++ decimal other
 
--- `-` where no time is quiet
+-- `-` without a quiet time
 abbrev pub start_words : ℕ → ℕ → Option Moment → List ℕ
 start_words principals iterations quiet_until =
     both_words (codes "started principals ") principals (codes " iterations ") iterations

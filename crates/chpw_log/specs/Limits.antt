@@ -9,7 +9,7 @@ is_apart one other = nat_le 1000000 (one - other) || nat_le 1000000 (other - one
 
 -- ---- the lines
 
--- no line yet; else when the last ten were, newest first
+-- no line yet; otherwise when the last ten were, newest first
 abbrev pub no_lines : List (Option ℕ)
 no_lines = None ∷ None ∷ None ∷ None ∷ None ∷ None ∷ None ∷ None ∷ None ∷ None ∷ []
 
@@ -21,7 +21,7 @@ abbrev pub tenth : List (Option ℕ) → Option ℕ
 tenth (a ∷ b ∷ c ∷ d ∷ e ∷ f ∷ g ∷ h ∷ i ∷ j ∷ more) = j
 tenth lines = None
 
--- a line may stand at this time: the tenth before it is a second away
+-- a line is allowed at this time: the tenth before it is a second away
 abbrev pub is_free : ℕ → List (Option ℕ) → Bool
 is_free now lines = is_gone now (tenth lines)
 
@@ -51,21 +51,21 @@ one_more now peer h =
     then record { loopback = h.loopback + 1; other = h.other; since = first_of now h }
     else record { loopback = h.loopback; other = h.other + 1; since = first_of now h }
 
--- they are told once the first is a second away, or where they are a million
+-- a summary is due once the first is a second away, or when there are a million
 abbrev pub is_due : ℕ → Held → Bool
 is_due now h = not (is_none_held h) && (is_apart now h.since || nat_le 1000000 (h.loopback + h.other))
 
 abbrev pub told_at : ℕ → Held → Option Held
 told_at now h = if is_due now h then Some h else None
 
--- at the end they are told in any case
+-- at the end a summary is due if there are any
 abbrev pub rest_of : Held → Option Held
 rest_of h = if is_none_held h then None else Some h
 
 abbrev pub left_at : ℕ → Held → Held
 left_at now h = if is_due now h then none_held else h
 
--- behind a message that came at this time from this peer
+-- after a message that came at this time from this peer
 abbrev pub held_after : ℕ → List ℕ → List (Option ℕ) → Held → Held
 held_after now peer lines h =
     if is_free now lines then left_at now h else one_more now peer (left_at now h)

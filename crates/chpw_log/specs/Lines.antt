@@ -1,5 +1,5 @@
--- A line of the log: one record for one message, its fields in a fixed order with a space between any
--- two. A field has no space, but for the last one, the reply's text. `-` stands for what there isn't.
+-- A line of the log: one record for one message, its fields in a fixed order with a space between any two. A field has
+-- no space, except the last one, the reply's text. `-` stands for what is absent.
 use Rattle.std.specs.Prelude.{◌≡◌, ℕ, ℤ, Bool, true, false, ◌&&◌, List, [], ◌∷◌, ◌++◌, map, codes, Option, Some, None}
 use Rattle.std.specs.List.{join_with_byte}
 use Rattle.std.specs.Option.{option_map, option_map_or}
@@ -14,10 +14,10 @@ use Rattle.chpw_table.specs.Requests.{client_of, named_or}
 use Rattle.chpw_table.specs.Replies.{Answer, answer_of}
 use Rattle.krb_protocol.specs.declared.refusal.Refusal.{Refusal}
 use Rattle.chpw_log.specs.declared.line.Line.{Line}
-use Rattle.chpw_log.specs.declared.news.Asked.{Asked}
-use Rattle.chpw_log.specs.declared.news.News.{News}
-use Rattle.chpw_log.specs.declared.news.News.TheVariants.{Decided, Full, Unopened}
-use Rattle.chpw_log.specs.declared.news.Party.{Party}
+use Rattle.chpw_log.specs.declared.message_event.Asked.{Asked}
+use Rattle.chpw_log.specs.declared.message_event.MessageEvent.{MessageEvent}
+use Rattle.chpw_log.specs.declared.message_event.MessageEvent.TheVariants.{Decided, Full, Unopened}
+use Rattle.chpw_log.specs.declared.message_event.Party.{Party}
 use Rattle.chpw_log.specs.Moments.{moment_text}
 
 -- ---- whom a request names
@@ -25,7 +25,7 @@ use Rattle.chpw_log.specs.Moments.{moment_text}
 abbrev pub named : Party → Target
 named p = record { realm = p.realm.now; name = p.name.now }
 
--- whose password is to be new: nobody's, where the KRB-PRIV is bad
+-- whose password is to be changed: nobody's, if the KRB-PRIV is bad
 abbrev pub body_asked : Body → Target → Option Target
 body_asked (Ask target digest) client = Some (named_or target client)
 body_asked BadPrivate client = None
@@ -34,7 +34,7 @@ body_asked BadData client = None
 abbrev pub target_asked : Opened → Option Target
 target_asked o = body_asked o.body (client_of o)
 
--- ---- what came of a message
+-- ---- the result of a message
 
 -- client and target, the reply's result code, error code and text, and the new key's version
 pub record Outcome : Type 0 where
@@ -65,7 +65,7 @@ refused client target refusal = record {
   text = refusal.text.now;
 }
 
-abbrev pub outcome_of : News → Outcome
+abbrev pub outcome_of : MessageEvent → Outcome
 outcome_of (Decided asked verdict kvno) = decided asked (answer_of verdict) kvno
 outcome_of (Full asked refusal) =
     refused (Some (named asked.client)) (option_map named asked.target) refusal.now
@@ -92,7 +92,7 @@ outcome_fields o =
     ∷ codes "kvno" ∷ or_dash decimal o.kvno
     ∷ codes "text" ∷ words_text o.text ∷ []
 
--- of a message that this worker answered, from a peer and at a moment
+-- of a message that this worker answered, from this peer and at this moment
 abbrev pub fields_with : Moment → ℕ → List ℕ → Outcome → List (List ℕ)
 fields_with moment worker peer outcome =
     moment_text moment
@@ -111,12 +111,12 @@ line_of l = line_with l.moment l.worker l.peer (outcome_of l.news)
 
 -- ---- what a line is
 
--- fields that can stand between two spaces, and a last one that may have spaces; all of printed ASCII
+-- fields that can stand between two spaces, and a last one that may have spaces; all of printable ASCII
 abbrev pub are_fields : List (List ℕ) → Bool
 are_fields [] = false
 are_fields (text ∷ []) = are_printed text
 are_fields (field ∷ next ∷ more) = is_field field && are_fields (next ∷ more)
 
--- printed ASCII and then a newline, the only one
+-- printable ASCII and then a newline, the only one
 abbrev pub IsRecord : List ℕ → Type 0
 IsRecord line = (text : List ℕ) × (line ≡ text ++ codes "\n") × (are_printed text ≡ true)

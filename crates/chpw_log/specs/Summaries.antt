@@ -1,4 +1,4 @@
--- The line of the messages that didn't open and have no line of their own.
+-- The summary of the messages that didn't open and have no line of their own.
 use Rattle.std.specs.Prelude.{ℕ, ◌+◌, List, [], ◌∷◌, ◌++◌, codes}
 use Rattle.std.specs.List.{join_with_byte}
 use Rattle.std.specs.Fmt.{decimal}
@@ -12,7 +12,7 @@ held_words h =
     ++ decimal h.loopback ++ codes " from 127.0.0.0/8, "
     ++ decimal h.other ++ codes " from elsewhere"
 
--- no worker, no peer and no reply is theirs
+-- it has no worker, no peer and no reply
 abbrev pub held_fields : Moment → Held → List (List ℕ)
 held_fields moment h =
     moment_text moment

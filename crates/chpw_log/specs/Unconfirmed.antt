@@ -1,4 +1,4 @@
--- The line of a change whose reply went out though no follower had said that the KDC has it.
+-- The line for a change whose reply was sent although no follower had confirmed that the KDC has it.
 use Rattle.std.specs.Prelude.{ℕ, List, [], ◌∷◌, ◌++◌, codes}
 use Rattle.std.specs.List.{join_with_byte}
 use Rattle.std.specs.Fmt.{decimal}
@@ -6,11 +6,11 @@ use Rattle.chpw_table.specs.declared.times.Moment.{Moment}
 use Rattle.chpw_log.specs.Lines.{address_text}
 use Rattle.chpw_log.specs.Moments.{moment_text}
 
--- so many bytes of the journal, the change's record among them
+-- this many bytes of the journal, which include the change's record
 abbrev pub unconfirmed_words : ℕ → List ℕ
 unconfirmed_words mark = codes "not confirmed by the follower: the journal up to byte " ++ decimal mark
 
--- the peer is whose reply it was; the change itself has a line of its own before it
+-- the peer whose reply it was; the change itself has a line of its own before it
 abbrev pub unconfirmed_fields : Moment → List ℕ → ℕ → List (List ℕ)
 unconfirmed_fields moment peer mark =
     moment_text moment

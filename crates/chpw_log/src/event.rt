@@ -16,14 +16,14 @@ use std::alloc::{AllocError, Global};
 /// What happens to the service itself.
 #[derive(Clone, Copy, Drop)]
 pub enum ServiceEvent {
-    /// It starts, with so many principals, with this iteration count of new keys, and quiet until this moment, where there
-    /// is one.
+    /// It starts, with this many principals and this iteration count of new keys, quiet until this moment, if there is
+    /// one.
     Started {
         principals: u32,
         iterations: u32,
         quiet_until: Option<Moment>,
     },
-    /// It has read its configuration anew, and has so many principals and this iteration count.
+    /// It has reloaded its configuration, and has this many principals and this iteration count.
     Reloaded {
         principals: u32,
         iterations: u32,
@@ -32,24 +32,24 @@ pub enum ServiceEvent {
     Raised {
         iterations: u32,
     },
-    /// A history ended, with so many entries and so many changes, and the next one begins.
+    /// A history ended, with this many entries and changes, and the next one begins.
     RolledOver {
         entries: u64,
         changes: u64,
     },
-    /// The journal failed: no change is accepted from now on.
+    /// An append to the journal failed: no change is accepted from now on.
     JournalFailed,
-    /// The log was opened anew.
+    /// The log was reopened.
     LogReopened,
-    /// It ends, with so many entries and so many changes since it started.
+    /// It ends, with this many entries and changes since it started.
     Ended {
         entries: u64,
         changes: u64,
     },
 }
 
-/// The text of the line of an event of the service, its newline with it: the moment, `service`, and what happens. No
-/// message's line has that word there.
+/// The line of an event of the service, with its newline: the moment, `service`, and the event. No message's line has
+/// that word there.
 pub fn write_event(
     alloc: Global,
     moment: Moment,
@@ -69,7 +69,7 @@ pub fn write_event(
     Ok(text)
 }
 
-// Puts what happens at the end.
+// Adds the words of an event.
 fn put_event(text: &mut Vec<u8>, event: &ServiceEvent) -> Result<(), AllocError>
     requires quiet { IsQuietTold event.now }
     ensures value { OnOk result (text.new.items ≡ text.old.items ++ event_words event.now) }
@@ -120,7 +120,7 @@ fn put_event(text: &mut Vec<u8>, event: &ServiceEvent) -> Result<(), AllocError>
     }
 }
 
-// Puts the words of a start at the end.
+// Adds the words of a start.
 fn put_start(
     text: &mut Vec<u8>,
     principals: u64,
@@ -142,7 +142,7 @@ fn put_start(
     put_quiet(text, quiet_until)
 }
 
-// Puts a moment at the end, or `-`.
+// Adds a moment, or `-`.
 fn put_quiet(text: &mut Vec<u8>, moment: Option<Moment>) -> Result<(), AllocError>
     requires quiet { ForSome moment IsWholeMoment }
     ensures value { OnOk result (text.new.items ≡ text.old.items ++ or_dash moment_text moment) }
@@ -154,7 +154,7 @@ fn put_quiet(text: &mut Vec<u8>, moment: Option<Moment>) -> Result<(), AllocErro
     }
 }
 
-// Puts words and a number at the end.
+// Adds words and a number.
 fn put_one(text: &mut Vec<u8>, words: &str, number: u64) -> Result<(), AllocError>
     ensures value { OnOk result (text.new.items ≡ text.old.items ++ (words.now ++ decimal number)) }
     ensures printed { are_printed words.now ≡ true → are_printed (words.now ++ decimal number) ≡ true }
@@ -163,7 +163,7 @@ fn put_one(text: &mut Vec<u8>, words: &str, number: u64) -> Result<(), AllocErro
     put_number(text, number)
 }
 
-// Puts words and a number at the end, twice.
+// Adds words and a number, twice.
 fn put_both(
     text: &mut Vec<u8>,
     words: &str,

@@ -1,4 +1,4 @@
-//! Messages that have no line of their own.
+//! Messages without a line of their own.
 
 /// How many messages that didn't open were held back: they have no line of their own.
 #[derive(Clone, Copy, Drop)]

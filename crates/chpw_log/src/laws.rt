@@ -6,7 +6,7 @@ ghost use Rattle.chpw_log.specs.Moments.{Tells, moment_text};
 
 use chpw_table::{Moment, Verdict};
 
-/// What is printed of a moment is a day of the calendar and a time of that day, and it is that moment's.
+/// The printed text of a moment is a calendar day and a time of that day, and it is that moment's.
 pub fn moments(moment: Moment)
     requires range { IsMoment moment }
     ensures tells { Tells (moment_text moment) moment }

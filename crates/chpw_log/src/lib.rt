@@ -1,4 +1,4 @@
-//! The text of a line in the service's log: one record for one message, as printed ASCII.
+//! The lines of the service's log: one record for one message, as printable ASCII.
 #![tactic(auto)]
 
 mod event;
@@ -6,17 +6,17 @@ mod held;
 pub mod laws;
 mod limit;
 mod line;
+mod message_event;
 mod moment;
-mod news;
 mod summing;
 mod unconfirmed;
 mod writing;
 
 pub use event::{ServiceEvent, write_event};
 pub use held::Held;
-pub use limit::{Leave, Limit};
+pub use limit::{LineLimit, LinePermit};
 pub use line::{Line, micros_of};
-pub use news::{Asked, News, Party};
+pub use message_event::{Asked, MessageEvent, Party};
 pub use summing::write_held;
 pub use unconfirmed::write_unconfirmed;
 pub use writing::write_line;

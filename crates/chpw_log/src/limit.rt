@@ -1,28 +1,29 @@
-//! How many messages that didn't open have a line of their own: so few that no flood of them fills a disk.
+//! Which messages that didn't open have a line of their own: so few that no flood of them fills a disk.
 ghost use Rattle.std.specs.Prelude.{◌≡◌, ◌+◌, ◌<◌, ◌≤◌, IfSome};
-ghost use Rattle.chpw_log.specs.Limits.{held_after, is_apart, is_due, is_free, is_gone, is_none_held, left_at, lines_after, no_lines, none_held, one_more, rest_of, told_at};
+ghost use Rattle.chpw_log.specs.Limits.{held_after, is_apart, is_due, is_free, is_gone, is_none_held, left_at};
+ghost use Rattle.chpw_log.specs.Limits.{lines_after, no_lines, none_held, one_more, rest_of, told_at};
 
 use crate::held::Held;
 
 /// A second, in microseconds.
 const SECOND: u64 = 1_000_000;
 
-/// So many are told at once at the most.
+/// The most messages that one summary counts.
 const MOST: u32 = 1_000_000;
 
-/// What is to be written of a message that didn't open.
+/// What is to be written for a message that didn't open.
 #[derive(Clone, Copy, Drop)]
-pub struct Leave {
-    /// First how many were held back, where that is to be told now.
+pub struct LinePermit {
+    /// First the summary of how many were held back, if it is due.
     pub told: Option<Held>,
-    /// Then the line of its own, where it has one.
+    /// Then a line of its own, if it has one.
     pub line: bool,
 }
 
-/// Which messages that didn't open have a line of their own: ten in any one second. The others are counted,
-/// and their number is told once the first of them is a second old, and the count begins anew.
+/// Which messages that didn't open have a line of their own: ten in any one second. The others are counted, and a
+/// summary of them is due once the first of them is a second old; the count then starts again.
 #[derive(Clone, Copy, Drop)]
-pub struct Limit {
+pub struct LineLimit {
     /// When the last ten lines were, newest first.
     lines: [Option<u64>; 10],
     held: Held,
@@ -54,7 +55,7 @@ impl Held {
         !self.is_none() && (are_apart(now, self.since) || self.loopback + self.other >= MOST)
     }
 
-    // These and one from this peer.
+    // These and one more from this peer.
     fn with(self, now: u64, peer: [u8; 4]) -> Held
         requires room { self.loopback + self.other < 1000000 }
         ensures value { result ≡ one_more now peer self }
@@ -76,21 +77,21 @@ impl Held {
     }
 }
 
-impl Limit {
+impl LineLimit {
     /// No line was written and nothing held back.
-    pub fn new() -> Limit
+    pub fn new() -> LineLimit
         ensures lines { result.lines ≡ no_lines }
         ensures held { result.held ≡ none_held }
     {
-        Limit {
+        LineLimit {
             lines: [None; 10],
             held: Held::none(),
         }
     }
 
-    /// What is to be written of a message from this peer that didn't open, at this time in microseconds. Where
-    /// it has no line of its own it is counted.
-    pub fn ask(&mut self, now: u64, peer: [u8; 4]) -> Leave
+    /// What is to be written for a message from this peer that didn't open, at this time in microseconds. If it has no
+    /// line of its own it is counted.
+    pub fn ask(&mut self, now: u64, peer: [u8; 4]) -> LinePermit
         ensures told { result.told ≡ told_at now self.old.held }
         ensures few { IfSome result.told (λ held. held.loopback + held.other ≤ 1000000) }
         ensures line { result.line ≡ is_free now self.old.lines }
@@ -102,10 +103,10 @@ impl Limit {
         if !line {
             self.held = self.held.with(now, peer);
         }
-        Leave { told, line }
+        LinePermit { told, line }
     }
 
-    /// How many were held back, where that is to be told at this time; they are counted anew then.
+    /// How many were held back, if a summary is due at this time; the count then starts again.
     pub fn due(&mut self, now: u64) -> Option<Held>
         ensures told { result ≡ told_at now self.old.held }
         ensures few { IfSome result (λ held. held.loopback + held.other ≤ 1000000) }
@@ -121,7 +122,7 @@ impl Limit {
         Some(told)
     }
 
-    /// How many were held back and not told yet; they are counted anew then.
+    /// How many were held back since the last summary; the count then starts again.
     pub fn rest(&mut self) -> Option<Held>
         ensures told { result ≡ rest_of self.old.held }
         ensures few { IfSome result (λ held. held.loopback + held.other ≤ 1000000) }
@@ -136,7 +137,7 @@ impl Limit {
         Some(told)
     }
 
-    // Notes a line at this time, where it may stand; whether it may.
+    // Notes a line at this time, if there may be one; whether there may.
     fn note(&mut self, now: u64) -> bool
         ensures line { result ≡ is_free now self.old.lines }
         ensures lines { self.new.lines ≡ lines_after now self.old.lines }
@@ -151,7 +152,7 @@ impl Limit {
     }
 }
 
-// Whether a line at this time has none a second before it.
+// Whether a line at this time comes a second or more after this one.
 fn is_past(now: u64, line: Option<u64>) -> bool
     ensures value { result ≡ is_gone now line }
 {

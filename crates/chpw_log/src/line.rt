@@ -1,21 +1,21 @@
-//! What a line tells.
+//! The contents of a line.
 ghost use Rattle.std.specs.Prelude.{◌<◌};
 ghost use Rattle.chpw_table.specs.Times.{IsMoment};
 ghost use Rattle.chpw_log.specs.Moments.{IsInMicros};
 
-use crate::news::News;
+use crate::message_event::MessageEvent;
 use chpw_table::Moment;
 
-/// What a line tells, of one message.
+/// The contents of a line about one message.
 #[derive(Clone, Copy, Drop)]
 pub struct Line<'a> {
     /// When the message was read.
     pub moment: Moment,
     /// The worker that answers it.
     pub worker: u8,
-    /// Whom it came from, an IPv4 address, high byte first.
+    /// The client's IPv4 address, high byte first.
     pub peer: [u8; 4],
-    pub news: News<'a>,
+    pub news: MessageEvent<'a>,
     ghost range: { IsMoment moment × (moment.micros < 1000000) },
 }
 

@@ -4,12 +4,12 @@ ghost use Rattle.chpw_printing.specs.Quoting.{is_field};
 ghost use Rattle.chpw_table.specs.Times.{IsMoment};
 ghost use Rattle.chpw_log.specs.Moments.{moment_text};
 
+use chpw_printing::put_time;
 use chpw_table::Moment;
-use chpw_times::put_time;
 use std::alloc::AllocError;
 
-/// Puts a moment at the end: `2026-11-25T06:31:50.123456Z`. Its seconds are 0 to
-/// `chpw_table::LAST_SECOND`, its microseconds below 1,000,000.
+/// Adds a moment: `2026-11-25T06:31:50.123456Z`. Its seconds are 0 to `chpw_table::LAST_SECOND`, its microseconds below
+/// 1,000,000.
 #[tactic(auto, using(crate::proofs::MomentLemmas::writable))]
 pub(crate) fn put_moment(text: &mut Vec<u8>, moment: Moment) -> Result<(), AllocError>
     requires moment { IsMoment moment }

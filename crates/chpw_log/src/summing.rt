@@ -1,4 +1,4 @@
-//! The line of the messages that have none of their own.
+//! The summary of messages without a line of their own.
 ghost use Rattle.std.specs.Prelude.{◌≡◌, ◌+◌, ◌++◌, ◌<◌, ◌≤◌, codes, true, IfOk, OnOk};
 ghost use Rattle.std.specs.Fmt.{decimal};
 ghost use Rattle.chpw_printing.specs.Quoting.{are_printed};
@@ -12,8 +12,8 @@ use chpw_printing::put_number;
 use chpw_table::Moment;
 use std::alloc::{AllocError, Global};
 
-/// The text of the line that tells how many messages were held back, its newline with it. It has the fields of
-/// every line, with `-` for all but the moment and the text.
+/// The line that says how many messages were held back, with its newline. It has the fields of every line, with `-` for
+/// all but the moment and the text.
 pub fn write_held(alloc: Global, moment: Moment, held: &Held) -> Result<Vec<u8>, AllocError>
     requires moment { IsMoment moment }
     requires micros { moment.micros < 1000000 }
@@ -30,7 +30,7 @@ pub fn write_held(alloc: Global, moment: Moment, held: &Held) -> Result<Vec<u8>,
     Ok(text)
 }
 
-// Puts the numbers at the end, in words.
+// Adds the numbers in words.
 fn put_words(text: &mut Vec<u8>, held: &Held) -> Result<(), AllocError>
     requires few { held.now.loopback + held.now.other ≤ 1000000 }
     ensures value { OnOk result (text.new.items ≡ text.old.items ++ held_words held.now) }
@@ -42,7 +42,7 @@ fn put_words(text: &mut Vec<u8>, held: &Held) -> Result<(), AllocError>
     Ok(())
 }
 
-// Puts how many came from where at the end.
+// Adds how many came from where.
 fn put_kinds(text: &mut Vec<u8>, held: &Held) -> Result<(), AllocError>
     ensures value { OnOk result (text.new.items ≡ text.old.items
         ++ codes " more did not open: " ++ decimal held.now.loopback

@@ -1,4 +1,4 @@
-//! The line of a change that no follower has confirmed.
+//! The line for a change that no follower has confirmed.
 ghost use Rattle.std.specs.Prelude.{◌≡◌, ◌++◌, ◌<◌, codes, true, IfOk, OnOk};
 ghost use Rattle.std.specs.Fmt.{decimal};
 ghost use Rattle.chpw_printing.specs.Quoting.{are_printed, is_field};
@@ -13,9 +13,9 @@ use chpw_printing::put_number;
 use chpw_table::Moment;
 use std::alloc::{AllocError, Global};
 
-/// The text of the line that tells that the reply to a change went out to this peer before the follower had
-/// confirmed the journal's first `mark` bytes, the change among them; its newline with it. It has the fields of
-/// every line, with `-` for all but the moment, the peer and the text.
+/// The line that says that the reply to a change was sent to this peer before the follower had confirmed the journal's
+/// first `mark` bytes, which include the change; with its newline. It has the fields of every line, with `-` for all
+/// but the moment, the peer and the text.
 pub fn write_unconfirmed(
     alloc: Global,
     moment: Moment,
@@ -36,7 +36,7 @@ pub fn write_unconfirmed(
     Ok(text)
 }
 
-// Puts the moment and the peer at the end.
+// Adds the moment and the peer.
 fn put_start(text: &mut Vec<u8>, moment: Moment, peer: [u8; 4]) -> Result<(), AllocError>
     requires moment { IsMoment moment }
     requires micros { moment.micros < 1000000 }
@@ -50,7 +50,7 @@ fn put_start(text: &mut Vec<u8>, moment: Moment, peer: [u8; 4]) -> Result<(), Al
     put_address(text, peer)
 }
 
-// Puts up to where the journal isn't confirmed at the end, in words.
+// Adds up to where the journal isn't confirmed, in words.
 fn put_mark(text: &mut Vec<u8>, mark: u64) -> Result<(), AllocError>
     ensures value { OnOk result (text.new.items ≡ text.old.items ++ unconfirmed_words mark) }
     ensures printed { OnOk result (are_printed (unconfirmed_words mark) ≡ true) }

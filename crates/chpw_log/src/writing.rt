@@ -1,4 +1,4 @@
-//! A line, put together from its fields.
+//! A line, built from its fields.
 ghost use Rattle.std.specs.Prelude.{◌≡◌, ◌++◌, ◌∷◌, [], true, codes, IfOk, OnOk};
 ghost use Rattle.std.specs.Option.{option_map};
 ghost use Rattle.std.specs.List.{join_with_byte};
@@ -9,12 +9,12 @@ ghost use Rattle.chpw_log.specs.Moments.{moment_text};
 ghost use Rattle.chpw_log.specs.Tellings.{said};
 
 use crate::line::Line;
+use crate::message_event::{LogFields, Party};
 use crate::moment::put_moment;
-use crate::news::{Party, Told};
 use chpw_printing::{put_number, put_principal, put_signed, put_words};
 use std::alloc::{AllocError, Global};
 
-/// The text of a line, its newline with it: its fields in their order, a space between any two.
+/// A line with its newline: its fields in their order, a space between any two.
 pub fn write_line(alloc: Global, line: &Line<'_>) -> Result<Vec<u8>, AllocError>
     ensures value { IfOk result (λ text. text.items ≡ line_of line.now) }
     ensures fields { IfOk result (λ _. are_fields (fields_of line.now) ≡ true) }
@@ -27,7 +27,7 @@ pub fn write_line(alloc: Global, line: &Line<'_>) -> Result<Vec<u8>, AllocError>
     Ok(text)
 }
 
-// Puts moment, worker and peer at the end.
+// Adds moment, worker and peer.
 fn put_front(text: &mut Vec<u8>, line: &Line<'_>) -> Result<(), AllocError>
     ensures value { OnOk result (text.new.items ≡ text.old.items ++ moment_text line.now.moment
         ++ codes " worker " ++ decimal line.now.worker
@@ -43,8 +43,8 @@ fn put_front(text: &mut Vec<u8>, line: &Line<'_>) -> Result<(), AllocError>
     put_address(text, line.peer)
 }
 
-// Puts the fields that tell what came of the message at the end, each behind a space.
-fn put_told(text: &mut Vec<u8>, told: &Told<'_>) -> Result<(), AllocError>
+// Adds the fields for the result of the message, each after a space.
+fn put_told(text: &mut Vec<u8>, told: &LogFields<'_>) -> Result<(), AllocError>
     ensures value { OnOk result (text.new.items ≡ text.old.items ++ 32 ∷ join_with_byte 32 (outcome_fields (said told.now))) }
     ensures fields { OnOk result (are_fields (outcome_fields (said told.now)) ≡ true) }
 {
@@ -53,8 +53,8 @@ fn put_told(text: &mut Vec<u8>, told: &Told<'_>) -> Result<(), AllocError>
     put_end(text, told)
 }
 
-// Puts client and target at the end.
-fn put_parties(text: &mut Vec<u8>, told: &Told<'_>) -> Result<(), AllocError>
+// Adds client and target.
+fn put_parties(text: &mut Vec<u8>, told: &LogFields<'_>) -> Result<(), AllocError>
     ensures value { OnOk result (text.new.items ≡ text.old.items
         ++ codes " client " ++ or_dash party_text (said told.now).client
         ++ codes " target " ++ or_dash party_text (said told.now).target) }
@@ -67,8 +67,8 @@ fn put_parties(text: &mut Vec<u8>, told: &Told<'_>) -> Result<(), AllocError>
     put_party(text, told.target)
 }
 
-// Puts result code and error code at the end.
-fn put_codes(text: &mut Vec<u8>, told: &Told<'_>) -> Result<(), AllocError>
+// Adds result code and error code.
+fn put_codes(text: &mut Vec<u8>, told: &LogFields<'_>) -> Result<(), AllocError>
     ensures value { OnOk result (text.new.items ≡ text.old.items
         ++ codes " code " ++ decimal told.now.code
         ++ codes " error " ++ or_dash signed_decimal told.now.error) }
@@ -81,8 +81,8 @@ fn put_codes(text: &mut Vec<u8>, told: &Told<'_>) -> Result<(), AllocError>
     put_error(text, told.error)
 }
 
-// Puts the version and the text at the end.
-fn put_end(text: &mut Vec<u8>, told: &Told<'_>) -> Result<(), AllocError>
+// Adds the version and the text.
+fn put_end(text: &mut Vec<u8>, told: &LogFields<'_>) -> Result<(), AllocError>
     ensures value { OnOk result (text.new.items ≡ text.old.items
         ++ codes " kvno " ++ or_dash decimal told.now.kvno
         ++ codes " text " ++ words_text told.now.text.now) }
@@ -95,7 +95,7 @@ fn put_end(text: &mut Vec<u8>, told: &Told<'_>) -> Result<(), AllocError>
     put_words(text, told.text.as_bytes())
 }
 
-// Puts a principal at the end, or `-`.
+// Adds a principal, or `-`.
 fn put_party(text: &mut Vec<u8>, party: Option<Party<'_>>) -> Result<(), AllocError>
     ensures value { OnOk result (text.new.items ≡ text.old.items ++ or_dash party_text (option_map named party.entry)) }
     ensures field { OnOk result (is_field (or_dash party_text (option_map named party.entry)) ≡ true) }
@@ -106,7 +106,7 @@ fn put_party(text: &mut Vec<u8>, party: Option<Party<'_>>) -> Result<(), AllocEr
     }
 }
 
-// Puts an error code at the end, or `-`.
+// Adds an error code, or `-`.
 fn put_error(text: &mut Vec<u8>, error: Option<i32>) -> Result<(), AllocError>
     ensures value { OnOk result (text.new.items ≡ text.old.items ++ or_dash signed_decimal error) }
     ensures field { OnOk result (is_field (or_dash signed_decimal error) ≡ true) }
@@ -117,7 +117,7 @@ fn put_error(text: &mut Vec<u8>, error: Option<i32>) -> Result<(), AllocError>
     }
 }
 
-// Puts a version at the end, or `-`.
+// Adds a version, or `-`.
 fn put_kvno(text: &mut Vec<u8>, kvno: Option<u32>) -> Result<(), AllocError>
     ensures value { OnOk result (text.new.items ≡ text.old.items ++ or_dash decimal kvno) }
     ensures field { OnOk result (is_field (or_dash decimal kvno) ≡ true) }
@@ -135,7 +135,7 @@ fn put_dash(text: &mut Vec<u8>) -> Result<(), AllocError>
     Ok(())
 }
 
-// Puts an address at the end: its numbers with `.` between them.
+// Adds an address: its numbers with `.` between them.
 pub(crate) fn put_address(text: &mut Vec<u8>, address: [u8; 4]) -> Result<(), AllocError>
     ensures value { OnOk result (text.new.items ≡ text.old.items ++ address_text address) }
     ensures field { OnOk result (is_field (address_text address) ≡ true) }

@@ -2,7 +2,7 @@
 use Rattle.std.proofs.Common.{◌≡◌, ℕ, List, Bool, true, Option, Some, None, option_map, Result, Ok, Err, refl, sym, ◌∙◌, ap, subst, false}
 use Rattle.std.specs.Prelude.{◌==◌, option_and_then}
 use Rattle.krb_keys.specs.Keys.{IsProtocolKey}
-use Rattle.krb_elements.proofs.CompleteLemmas.{one_value}
+use Rattle.krb_codec.proofs.CompleteLemmas.{one_value}
 use Rattle.krb_der.specs.Types.{change_passwd_data}
 use Rattle.krb_der.specs.Values.{change_passwd_data_value}
 use Rattle.krb_der.specs.declared.change_passwd_data.ChangePasswdData.{ChangePasswdData}
@@ -22,7 +22,7 @@ use Rattle.chpw_frame.specs.Asked.{asks}
 use Rattle.chpw_frame.specs.ChangeData.{change_value, Finds}
 use Rattle.chpw_frame.specs.Framing.{ap_of, first_fault, old_request_version, request_versions, tail_of, version_of}
 use Rattle.chpw_frame.proofs.ChangeLemmas.{asks_complete}
-use Rattle.chpw_answer.specs.Requests.{Content, new_password, bad_private, bad_data, opened}
+use Rattle.chpw_serve.specs.Requests.{Content, new_password, bad_private, bad_data, opened}
 use Rattle.chpw_messages.specs.Opening.{Asks, IsContent, IsUserData, OpensAs, OpensFramed, OpensParts, request_of, stamp_in, target_in}
 use Rattle.chpw_messages.specs.OneOpening.{MessagesOpenOnce}
 

@@ -2,15 +2,15 @@
 use Rattle.std.proofs.Common.{◌≡◌, ◌<◌, ℕ, ℤ, pos, negsuc, ◌≤ℤ◌, true, not, List, Ok, arith, inl, inr}
 use Rattle.std.specs.Prelude.{int_lt}
 use Rattle.std.proofs.lemmas.Int.{ints}
-use Rattle.krb_elements.specs.Shapes.{kerberos_time, microseconds}
-use Rattle.krb_elements.specs.Texts.{is_in_range}
-use Rattle.krb_elements.specs.Times.{is_writable, time_of}
-use Rattle.krb_elements.proofs.CompleteLemmas.{and_true, same_or_not}
+use Rattle.krb_codec.specs.Shapes.{kerberos_time, microseconds}
+use Rattle.krb_codec.specs.Texts.{is_in_range}
+use Rattle.krb_codec.specs.Times.{is_writable, time_of}
+use Rattle.krb_codec.proofs.CompleteLemmas.{and_true, same_or_not}
 use Rattle.krb_msgs.specs.ApExchange.{OpensAp}
 use Rattle.krb_msgs.specs.declared.service_keys.ServiceKey.{ServiceKey}
 use Rattle.krb_msgs.specs.declared.ap_exchange.ApOpened.{ApOpened}
 use Rattle.krb_msgs.proofs.OpenedLemmas.{opened_times_fit}
-use Rattle.chpw_answer.specs.Holding.{IsReplyTime}
+use Rattle.chpw_serve.specs.Holding.{IsReplyTime}
 use Rattle.chpw_messages.specs.Opening.{seal_of}
 
 -- a number that isn't less than another

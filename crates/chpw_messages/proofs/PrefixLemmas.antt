@@ -1,17 +1,18 @@
 -- A message that is cut short.
-use Rattle.std.proofs.Common.{◌≡◌, ℕ, suc, ◌+◌, ◌-◌, ◌<◌, ◌≤◌, List, ◌∷◌, ◌++◌, true, false, ◌&&◌, length, take, drop, Option, Some, None, Result, Ok, Err, refl, sym, ◌∙◌, ap, subst, arith, inl, inr}
+use Rattle.std.proofs.Common.{◌≡◌, ℕ, suc, ◌+◌, ◌-◌, ◌<◌, ◌≤◌, List, ◌∷◌, ◌++◌, true, false, ◌&&◌, length, take}
+use Rattle.std.proofs.Common.{drop, Option, Some, None, Result, Ok, Err, refl, sym, ◌∙◌, ap, subst, arith, inl, inr}
 use Rattle.std.specs.Prelude.{◌||◌, ◌==◌, nat_lt, if◌then◌else◌}
 use Rattle.std.specs.Int.{to_be_bytes, w16}
 use Rattle.std.specs.List.{list_any}
 use Rattle.std.proofs.lemmas.List.{drop-take, length-drop, length-take, length-take-le, take-append-drop, take-take}
 use Rattle.std.proofs.lemmas.Bool.{ltb-true}
 use Rattle.std.proofs.lemmas.Nat.{from_be_bytes-to_be_bytes_2}
-use Rattle.krb_elements.specs.Grammar.{Spells}
-use Rattle.krb_elements.proofs.CompleteLemmas.{no_prefix, same_or_not}
+use Rattle.krb_codec.specs.Grammar.{Spells}
+use Rattle.krb_codec.proofs.CompleteLemmas.{no_prefix, same_or_not}
 use Rattle.krb_der.specs.Types.{krb_priv}
 use Rattle.krb_der.specs.Values.{krb_priv_value}
 use Rattle.krb_der.specs.declared.krb_priv.KrbPriv.{KrbPriv}
-use Rattle.krb_elements.specs.declared.numbers.SeqNumber.{SeqNumber}
+use Rattle.krb_codec.specs.declared.numbers.SeqNumber.{SeqNumber}
 use Rattle.krb_keys.specs.declared.key.Key.{Key}
 use Rattle.krb_msgs.specs.Checks.{goes_on, of_none, of_one, stops}
 use Rattle.krb_msgs.specs.ApExchange.{OpensAp}
@@ -28,7 +29,7 @@ use Rattle.chpw_frame.specs.declared.fault.FrameFault.TheVariants.{BadLength, Ba
 use Rattle.chpw_frame.specs.Framing.{ap_length_of, ap_of, first_fault, is_past_end, is_whole, number_at, request_versions, tail_of, version_of}
 use Rattle.chpw_frame.specs.Stream.{longest}
 use Rattle.chpw_frame.proofs.Tests.{is_below, is_same, not_below, not_below_is}
-use Rattle.chpw_answer.specs.Requests.{Opens, Request, bad_data, opened}
+use Rattle.chpw_serve.specs.Requests.{Opens, Request, bad_data, opened}
 use Rattle.chpw_messages.specs.Opening.{IsContent, OpensAs, OpensFramed, OpensParts, OpensTo, request_of, stamp_in}
 use Rattle.chpw_messages.specs.Prefixes.{KrbPrivsFollow, PrefixesOpen, cut_short, shortened}
 use Rattle.chpw_frame.proofs.FramingLemmas.{cleared, neither}
@@ -43,7 +44,8 @@ unfolding OpensPriv
 none_left subkey seq_number tail k m h lt =
     stops priv.Malformed
     (of_none (λ (x : KrbPriv) spelled.
-    let whole : Spells krb_priv (take k tail ++ drop k tail) (krb_priv_value m) = subst (λ (t : List ℕ). Spells krb_priv t (krb_priv_value m)) (sym (take-append-drop k tail)) h in
+    let whole : Spells krb_priv (take k tail ++ drop k tail) (krb_priv_value m) =
+    subst (λ (t : List ℕ). Spells krb_priv t (krb_priv_value m)) (sym (take-append-drop k tail)) h in
     let none = ap length (no_prefix krb_priv refl (take k tail) (drop k tail) (krb_priv_value x) (krb_priv_value m) spelled whole) in
     let left = length-drop k tail in
     absurd (omega (arith, none, left, lt))) refl) refl
@@ -159,7 +161,8 @@ module _ (hi lo c d e f : ℕ) (rest : List ℕ) (m : ℕ) (le : m ≤ length re
             let ap_le : ap_length_of whole ≤ m = (let n = not_below_is _ _ enough in omega (arith, n)) in
             let behind = length-drop (ap_length_of whole) rest in
             let parts = is.1 in
-            let less = less_opens realm (version_of whole) (tail_of whole) (m - ap_length_of whole) k parts.0 q spelled (omega (arith, behind, ap_le, lt)) parts.2 in
+            let less = less_opens realm (version_of whole) (tail_of whole)
+            (m - ap_length_of whole) k parts.0 q spelled (omega (arith, behind, ap_le, lt)) parts.2 in
             let opens : OpensParts realm keys peer (version_of whole) (ap_of left) (tail_of left) (opened (without_content q)) = (
               parts.0,
               subst (λ (b : List ℕ). OpensAp realm keys b peer parts.0) (sym (same_ap ap_le)) parts.1,

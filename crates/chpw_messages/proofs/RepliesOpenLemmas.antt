@@ -4,9 +4,9 @@ use Rattle.std.specs.Prelude.{All}
 use Rattle.std.specs.Int.{to_be_bytes, w16}
 use Rattle.std.proofs.lemmas.List.{length-drop, length-take-le}
 use Rattle.krb_keys.specs.declared.key.Key.{Key}
-use Rattle.krb_elements.specs.Texts.{text}
-use Rattle.krb_elements.specs.declared.kerberos_time.KerberosTime.{KerberosTime}
-use Rattle.krb_elements.specs.declared.numbers.Microseconds.{Microseconds}
+use Rattle.krb_codec.specs.Texts.{text}
+use Rattle.krb_codec.specs.declared.kerberos_time.KerberosTime.{KerberosTime}
+use Rattle.krb_codec.specs.declared.numbers.Microseconds.{Microseconds}
 use Rattle.krb_der.specs.Types.{enc_ap_rep_part, enc_krb_priv_part, krb_error}
 use Rattle.krb_der.specs.Values.{enc_ap_rep_part_value, enc_krb_priv_part_value, krb_error_value}
 use Rattle.krb_msgs.specs.Making.{ap_rep_of, priv_of, word_bytes}

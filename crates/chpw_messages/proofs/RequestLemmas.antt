@@ -1,6 +1,6 @@
 -- What is made of a request opens to it.
 use Rattle.std.proofs.Common.{ℕ, List, Bool, true, false, Option, None, Ok, refl, sym, ◌∙◌, ap, subst}
-use Rattle.krb_elements.proofs.TextLemmas.{text_spells}
+use Rattle.krb_codec.proofs.TextLemmas.{text_spells}
 use Rattle.krb_der.specs.Types.{change_passwd_data}
 use Rattle.krb_msgs.specs.Accepted.{opened_of}
 use Rattle.krb_msgs.specs.PrivateMessages.{private_of}
@@ -11,7 +11,7 @@ use Rattle.chpw_frame.specs.declared.change_data.ChangeData.{ChangeData}
 use Rattle.chpw_frame.specs.declared.change_data.ChangeTarget.{ChangeTarget}
 use Rattle.chpw_frame.specs.ChangeData.{IsChange, change_value}
 use Rattle.chpw_frame.proofs.FramingLemmas.{framed_is_whole}
-use Rattle.chpw_answer.specs.Requests.{new_password}
+use Rattle.chpw_serve.specs.Requests.{new_password}
 use Rattle.chpw_messages.specs.Opening.{IsUserData, OpensFramed, OpensParts, target_in}
 use Rattle.std.specs.Prelude.{option_map, ◌==◌}
 use Rattle.chpw_messages.specs.Laws.{FramesOpen, PartsOpen, SaysChange}

@@ -1,9 +1,9 @@
 -- The worked replies are what the definitions compute.
 use Rattle.std.proofs.Common.{refl}
-use Rattle.krb_elements.specs.Texts.{element, length_octets}
-use Rattle.krb_elements.specs.Integers.{integer_octets}
-use Rattle.krb_elements.specs.Times.{time_of, time_octets}
-use Rattle.krb_elements.specs.CivilTimes.{greatest, year_of, month_of, day_of}
+use Rattle.krb_codec.specs.Texts.{element, length_octets}
+use Rattle.krb_codec.specs.Integers.{integer_octets}
+use Rattle.krb_codec.specs.Times.{time_of, time_octets}
+use Rattle.krb_codec.specs.CivilTimes.{greatest, year_of, month_of, day_of}
 use Rattle.chpw_messages.specs.WorkedReplies.{MalformedReply, VersionReply, TooLongReply}
 
 pub malformed_reply : MalformedReply

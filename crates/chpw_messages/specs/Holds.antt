@@ -1,4 +1,4 @@
--- For proofs alone: what the program holds of a message while it is opened.
+-- For proofs alone: what the program has of a message while it is opened.
 use Rattle.std.specs.Prelude.{◌≡◌, ℕ, ℤ, List, [], Option, Result}
 use Rattle.krb_msgs.specs.declared.service_keys.ServiceKey.{ServiceKey}
 use Rattle.krb_msgs.specs.declared.ap_exchange.ApOpened.{ApOpened}
@@ -6,28 +6,34 @@ use Rattle.krb_msgs.specs.declared.private_message.Private.{Private}
 use Rattle.krb_msgs.specs.declared.fault.PrivFault.{PrivFault}
 use Rattle.krb_msgs.specs.PrivateMessages.{OpensPriv}
 use Rattle.chpw_table.specs.declared.request.Target.{Target}
-use Rattle.chpw_answer.specs.declared.messages.OpenResult as program
-use Rattle.chpw_answer.specs.Requests.{Content, Opens, body_under, password_in}
-use Rattle.chpw_answer.specs.Holding.{IsOpenResult}
+use Rattle.chpw_serve.specs.declared.messages.OpenResult as program
+use Rattle.chpw_serve.specs.Requests.{Content, Opens, body_under, password_in}
+use Rattle.chpw_serve.specs.Holding.{IsOpenResult}
 use Rattle.chpw_messages.specs.declared.content.Content as held
 use Rattle.chpw_messages.specs.Opening.{IsContent, OpensParts, OpensTo, stamp_in}
+use Rattle.chpw_messages.specs.declared.versions.Versions.{Versions}
+use Rattle.chpw_messages.specs.Versions.{OpensUnder}
 
 -- this content and stamp, with no keys yet
 abbrev pub IsHeld : Content → Option ℤ → held.Content → Type 0
 IsHeld content stamp h =
     ((client : Target) → h.body ≡ body_under [] client content) × (h.password ≡ password_in content) × (h.stamp ≡ stamp)
 
--- a KRB-PRIV behind this AP-REQ holds it
+-- a KRB-PRIV after this AP-REQ has it
 abbrev pub HoldsContent : List ℕ → ℕ → ApOpened → List ℕ → held.Content → Type 0
 HoldsContent realm version a tail h =
     (private : Result Private PrivFault) × OpensPriv a.subkey a.seq_number tail private
     × ((content : Content) × IsContent realm version private content × IsHeld content (stamp_in private) h)
 
--- the program holds what these parts open to
+-- the program has what these parts open to
 abbrev pub HoldsParts : List ℕ → List ServiceKey → List ℕ → ℕ → List ℕ → List ℕ → program.OpenResult → Type 0
 HoldsParts realm keys peer version ap_req tail found =
     (o : Opens) × OpensParts realm keys peer version ap_req tail o × IsOpenResult o found
 
--- the program holds what a message opens to
+-- the program has what a message opens to
 abbrev pub HoldsMessage : List ℕ → List ServiceKey → List ℕ → List ℕ → program.OpenResult → Type 0
 HoldsMessage realm keys peer bytes found = (o : Opens) × OpensTo realm keys peer bytes o × IsOpenResult o found
+
+-- likewise, with the rule for versions before
+abbrev pub HoldsUnder : Versions → List ℕ → List ServiceKey → List ℕ → List ℕ → program.OpenResult → Type 0
+HoldsUnder versions realm keys peer bytes found = (o : Opens) × OpensUnder versions realm keys peer bytes o × IsOpenResult o found

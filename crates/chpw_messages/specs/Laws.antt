@@ -1,9 +1,8 @@
--- What is made of a request opens to it, whatever is left open: confounders, the kvnos of
--- authenticator and KRB-PRIV, name-types.
+-- What is made from a request opens to it, for any confounders, kvnos of authenticator and KRB-PRIV, and name-types.
 use Rattle.std.specs.Prelude.{◌≡◌, ◌≤◌, ◌<◌, ◌^◌, ℕ, ◌+◌, ◌==◌, Bool, true, false, List, length, None, option_map}
 use Rattle.std.specs.List.{list_any}
 use Rattle.krb_keys.specs.declared.key.Key.{Key}
-use Rattle.krb_elements.specs.Texts.{text, fits}
+use Rattle.krb_codec.specs.Texts.{text, fits}
 use Rattle.krb_der.specs.Types.{ap_req, krb_priv, change_passwd_data}
 use Rattle.krb_der.specs.Values.{ap_req_value, krb_priv_value}
 use Rattle.krb_der.specs.declared.ap_req.ApReq.{ApReq}
@@ -19,7 +18,7 @@ use Rattle.chpw_frame.specs.declared.change_data.ChangeData.{ChangeData}
 use Rattle.chpw_frame.specs.Framing.{framed, header_length, old_request_version, request_versions}
 use Rattle.chpw_frame.specs.Stream.{longest}
 use Rattle.chpw_frame.specs.ChangeData.{change_value}
-use Rattle.chpw_answer.specs.Requests.{Opens, Request, opened, new_password}
+use Rattle.chpw_serve.specs.Requests.{Opens, Request, opened, new_password}
 use Rattle.chpw_messages.specs.Opening.{OpensParts, OpensTo, request_of, target_in}
 
 -- User-data that asks for a change: in the earlier protocol the new password itself, with no target;
@@ -29,7 +28,7 @@ SaysChange true bytes change = (change.target ≡ None) × (bytes ≡ change.pas
 SaysChange false bytes change =
     (fits change_passwd_data (change_value change) ≡ true) × (bytes ≡ text change_passwd_data (change_value change))
 
--- a KRB-PRIV behind this authenticator that asks for a change, in a request of this version
+-- a KRB-PRIV after this authenticator that asks for a change, in a request of this version
 pub record AsksChange (version : ℕ) (subkey : Key) (a : Authenticator) (m : KrbPriv) (part : EncKrbPrivPart)
     (change : ChangeData) : Type 0 where
   pub private : IsKrbPriv subkey m part
@@ -53,7 +52,7 @@ PartsOpen = (version : ℕ) (realm : List ℕ) (keys : List ServiceKey) (peer : 
     (text ap_req (ap_req_value request)) (text krb_priv (krb_priv_value m))
     (opened (asked_of realm ticket session a subkey part change))
 
--- parts in a frame of a version that is taken, as long as a frame may be, open as they do
+-- parts in a frame of an accepted version, as long as a frame may be, open as they do
 abbrev pub FramesOpen : Type 0
 FramesOpen = (version : ℕ) (realm : List ℕ) (keys : List ServiceKey) (peer ap tail : List ℕ) (o : Opens)
     → list_any (λ v. v == version) request_versions ≡ true → version < 2 ^ 16

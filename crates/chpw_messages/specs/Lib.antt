@@ -1,5 +1,7 @@
 pub mod Replies
 pub mod Opening
+pub mod Versions
+pub mod VersionLaws
 pub mod Service
 pub mod Holds
 pub mod Laws

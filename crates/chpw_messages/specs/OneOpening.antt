@@ -1,5 +1,4 @@
--- A message opens to one answer: what its relation says of an answer leaves no other, so that a
--- message that is refused is no request, and a request asks one thing.
+-- A message opens to one answer only, so that a message that is refused is no request, and a request asks one thing.
 use Rattle.std.specs.Prelude.{ℕ, List}
 use Rattle.krb_msgs.specs.OneAnswer.{AreProtocolKeys, IsOne}
 use Rattle.krb_msgs.specs.declared.service_keys.ServiceKey.{ServiceKey}

@@ -2,7 +2,7 @@
 -- frame, the AP-REQ, the KRB-PRIV and its user-data in turn. The version of the frame says how user-data
 -- is read, and nothing else.
 use Rattle.std.specs.Prelude.{◌≡◌, ℕ, ℤ, List, Bool, true, false, ◌==◌, Option, Some, None, Result, Ok, Err, option_map, unwrap_or}
-use Rattle.krb_elements.specs.BitStrings.{is_set}
+use Rattle.krb_codec.specs.BitStrings.{is_set}
 use Rattle.krb_protocol.specs.Numbers as protocol
 use Rattle.krb_protocol.specs.Refusals.{Refusal}
 use Rattle.krb_der.specs.declared.principal_name.PrincipalName.{PrincipalName}
@@ -24,8 +24,8 @@ use Rattle.chpw_frame.specs.Faults as frame
 use Rattle.chpw_rules.specs.declared.name.Name.{Name}
 use Rattle.chpw_table.specs.declared.request.Target.{Target}
 use Rattle.chpw_table.specs.Replies.{by_error}
-use Rattle.chpw_answer.specs.declared.messages.Seal.{Seal}
-use Rattle.chpw_answer.specs.Requests.{Content, new_password, bad_private, bad_data, Request, Opens, refused, opened}
+use Rattle.chpw_serve.specs.declared.messages.Seal.{Seal}
+use Rattle.chpw_serve.specs.Requests.{Content, new_password, bad_private, bad_data, Request, Opens, refused, opened}
 
 -- ---- the new password
 
@@ -37,7 +37,7 @@ name_in name = record { parts = name.name_string }
 abbrev pub target_in : List ℕ → ChangeTarget → Target
 target_in realm target = record { realm = unwrap_or target.realm realm; name = name_in target.name }
 
--- a ChangePasswdData, or what is none
+-- a ChangePasswdData, or bytes that are none
 abbrev pub Asks : List ℕ → List ℕ → Content → Type 0
 Asks realm bytes (new_password target password) =
     (change : ChangeData) × IsChange bytes change × (target ≡ option_map (target_in realm) change.target) × (password ≡ change.password)
@@ -45,7 +45,7 @@ Asks realm bytes bad_data = (change : ChangeData) → IsChange bytes change → 
 Asks realm bytes bad_private = ⊥
 
 -- The user-data of the earlier protocol is the new password itself, the client's own
--- (draft-ietf-cat-kerb-chg-password-02 section 3); that of the other is a ChangePasswdData.
+-- (draft-ietf-cat-kerb-chg-password-02 section 3); otherwise it is a ChangePasswdData.
 abbrev pub IsUserData : Bool → List ℕ → List ℕ → Content → Type 0
 IsUserData true realm bytes content = content ≡ new_password None bytes
 IsUserData false realm bytes content = Asks realm bytes content
@@ -56,7 +56,7 @@ IsAsked realm version bytes content = IsUserData (version == old_request_version
 
 -- ---- the KRB-PRIV
 
--- of one that doesn't open
+-- the content of one that doesn't open
 abbrev pub content_despite : PrivFault → Content
 content_despite priv.Malformed = bad_data
 content_despite priv.WrongMessage = bad_private
@@ -74,7 +74,7 @@ stamp_in (Err fault) = None
 
 -- ---- the AP-REQ
 
--- what the reply is made with
+-- the keys and times that the reply is made with
 abbrev pub seal_of : ApOpened → Seal
 seal_of a = record { session = a.session; subkey = a.subkey; ctime = a.ctime.0; cusec = a.cusec.0 }
 
@@ -109,13 +109,13 @@ abbrev pub OpensParts : List ℕ → List ServiceKey → List ℕ → ℕ → Li
 OpensParts realm keys peer version ap_req tail o =
     (a : Result ApOpened ApFault) × OpensAp realm keys ap_req peer a × OpensAs realm version tail a o
 
--- of one whose frame has this first fault, or none
+-- what a message opens to whose frame has this first fault, or none
 abbrev pub OpensFramed : List ℕ → List ServiceKey → List ℕ → List ℕ → Option FrameFault → Opens → Type 0
 OpensFramed realm keys peer bytes (Some fault) o = o ≡ refused_by (frame.refusal_of fault)
 OpensFramed realm keys peer bytes None o =
     OpensParts realm keys peer (version_of bytes) (ap_of bytes) (tail_of bytes) o
 
--- of the service's realm and keys, the peer's address and the message
+-- arguments: the service's realm and keys, the peer's address, the message
 abbrev pub OpensTo : List ℕ → List ServiceKey → List ℕ → List ℕ → Opens → Type 0
 OpensTo realm keys peer bytes o =
     OpensFramed realm keys peer bytes (first_fault request_versions false bytes) o

@@ -1,8 +1,7 @@
--- A message that is cut short, its length set to what is left (RFC 3244 section 2): it is no other
--- request.
+-- A message that is cut short, its length set to what is left (RFC 3244 section 2), is no other request.
 use Rattle.std.specs.Prelude.{◌≡◌, ◌≤◌, ◌<◌, ◌+◌, ℕ, List, ◌++◌, length, take, drop, None, nat_lt, if◌then◌else◌}
 use Rattle.std.specs.Int.{to_be_bytes, w16}
-use Rattle.krb_elements.specs.Grammar.{Spells}
+use Rattle.krb_codec.specs.Grammar.{Spells}
 use Rattle.krb_der.specs.Types.{krb_priv}
 use Rattle.krb_der.specs.Values.{krb_priv_value}
 use Rattle.krb_der.specs.declared.krb_priv.KrbPriv.{KrbPriv}
@@ -11,7 +10,7 @@ use Rattle.chpw_frame.specs.Faults.{refusal_of}
 use Rattle.chpw_frame.specs.Framing.{ap_length_of, header_length, tail_of}
 use Rattle.chpw_frame.specs.Stream.{longest}
 use Rattle.chpw_frame.specs.declared.fault.FrameFault.TheVariants.{BadLength, BadParts}
-use Rattle.chpw_answer.specs.Requests.{Opens, Request, bad_data, opened}
+use Rattle.chpw_serve.specs.Requests.{Opens, Request, bad_data, opened}
 use Rattle.chpw_messages.specs.Opening.{OpensTo, refused_by}
 
 -- its first n bytes, with n as message length
@@ -33,7 +32,7 @@ PrefixesOpen = (realm : List ℕ) (keys : List ServiceKey) (peer bytes : List �
     → length bytes ≤ longest → n < length bytes
     → OpensTo realm keys peer (shortened n bytes) (cut_short n bytes q)
 
--- and the tail of a request is one, unless it is bad data
+-- the tail of a request is a KRB-PRIV, unless the request is bad data
 abbrev pub KrbPrivsFollow : Type 0
 KrbPrivsFollow = (realm : List ℕ) (keys : List ServiceKey) (peer bytes : List ℕ) (q : Request)
     → OpensTo realm keys peer bytes (opened q) → (q.content ≡ bad_data → ⊥)

@@ -1,7 +1,7 @@
 -- The reply to a message (RFC 3244 section 2): an AP-REP and a KRB-PRIV, or a KRB-ERROR alone.
 use Rattle.std.specs.Prelude.{ℕ, pos, ◌%◌, ◌^◌, List, [], ◌++◌, take, drop, slice_index, unwrap_or}
 use Rattle.std.specs.Int.{to_be_bytes, w16}
-use Rattle.krb_elements.specs.Texts.{text}
+use Rattle.krb_codec.specs.Texts.{text}
 use Rattle.krb_der.specs.Types as types
 use Rattle.krb_der.specs.Values.{krb_error_value, ap_rep_value, krb_priv_value}
 use Rattle.krb_der.specs.declared.krb_error.KrbError.{KrbError}
@@ -11,7 +11,7 @@ use Rattle.krb_msgs.specs.Making.{ap_rep_of, ap_rep_part_of, error_of, priv_of, 
 use Rattle.chpw_frame.specs.Framing.{framed, reply_version}
 use Rattle.chpw_table.specs.declared.times.Moment.{Moment}
 use Rattle.chpw_table.specs.Replies.{Answer}
-use Rattle.chpw_answer.specs.declared.messages.Seal.{Seal}
+use Rattle.chpw_serve.specs.declared.messages.Seal.{Seal}
 
 -- the result code, and the text
 abbrev pub user_data : Answer → List ℕ
@@ -28,7 +28,7 @@ error_frame realm a now = framed reply_version [] (text types.krb_error (krb_err
 
 -- ---- an AP-REP and a KRB-PRIV (RFC 4120 sections 5.5.2 and 5.7.1), made with nine random words
 
--- the sequence number of both parts, of the fifth word
+-- the sequence number of both parts, made of the fifth word
 abbrev pub seq_number_of : List ℕ → ℕ
 seq_number_of words = slice_index words 4 % 2 ^ 31
 

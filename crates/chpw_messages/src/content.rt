@@ -1,8 +1,8 @@
-//! What a KRB-PRIV asks (RFC 4120 section 3.5.2, RFC 3244 section 2).
+//! The content of a KRB-PRIV (RFC 4120 section 3.5.2, RFC 3244 section 2).
 ghost use Rattle.std.specs.Prelude.{◌≡◌, [], IfOk, option_map};
 ghost use Rattle.chpw_table.specs.declared.request.Target.{Target};
-ghost use Rattle.chpw_answer.specs.Requests as requests;
-ghost use Rattle.chpw_answer.specs.Requests.{body_under, new_password};
+ghost use Rattle.chpw_serve.specs.Requests as requests;
+ghost use Rattle.chpw_serve.specs.Requests.{body_under, new_password};
 ghost use Rattle.chpw_messages.specs.Opening.{Asks, IsAsked, content_despite, target_in};
 ghost use Rattle.chpw_messages.specs.Holds.{HoldsContent, IsHeld};
 
@@ -14,18 +14,18 @@ use krb_der::OctetString;
 use krb_msgs::{ApOpened, OpenError, PrivFault, Private, open_priv};
 use std::alloc::{AllocError, Global};
 
-/// What a KRB-PRIV holds, as it is judged; no keys are derived yet.
+/// The content of a KRB-PRIV, as it is judged; no keys are derived yet.
 #[derive(Drop)]
 pub(crate) struct Content {
     pub body: Body,
-    /// The new password; no bytes where none came.
+    /// The new password; no bytes if none came.
     pub password: Items<u8>,
     /// Its timestamp, if it opened and has one.
     pub stamp: Option<i64>,
 }
 
-/// What the KRB-PRIV behind an AP-REQ holds, in a message of this version. A target without a realm is
-/// in this realm.
+/// The content of the KRB-PRIV after an AP-REQ, in a message of this version. A target without a realm is in this
+/// realm.
 pub(crate) fn open_content(
     alloc: Global,
     realm: &[u8],
@@ -42,7 +42,7 @@ pub(crate) fn open_content(
     }
 }
 
-/// With no password.
+/// A content without a password.
 fn bare(alloc: Global, body: Body, stamp: Option<i64>) -> Content
     ensures value { result ≡ record { body = body; password = []; stamp = stamp } }
 {
@@ -53,7 +53,7 @@ fn bare(alloc: Global, body: Body, stamp: Option<i64>) -> Content
     }
 }
 
-/// What is judged of a KRB-PRIV that didn't open.
+/// The body of a KRB-PRIV that didn't open.
 fn body_despite(fault: PrivFault) -> Body
     ensures value { (client : Target) → result ≡ body_under [] client (content_despite fault) }
 {
@@ -65,7 +65,7 @@ fn body_despite(fault: PrivFault) -> Body
     }
 }
 
-/// What one that opened holds: in the earlier protocol the new password itself, else a ChangePasswdData.
+/// The content of one that opened: in the earlier protocol the new password itself, otherwise a ChangePasswdData.
 fn read_content(
     alloc: Global,
     realm: &[u8],
@@ -87,7 +87,7 @@ fn read_content(
     }
 }
 
-/// What a ChangePasswdData holds, or what is none.
+/// The content of a ChangePasswdData, or of bytes that are none.
 fn read_change(
     alloc: Global,
     realm: &[u8],
@@ -105,7 +105,7 @@ fn read_change(
     }
 }
 
-/// What a change asks.
+/// The content of a change that is asked for.
 fn change_content(
     alloc: Global,
     realm: &[u8],

@@ -1,20 +1,20 @@
 //! A request that opened, as it is judged and replied to.
 ghost use Rattle.std.specs.Prelude.{◌≡◌, ℤ, Option, IfOk};
-ghost use Rattle.chpw_answer.specs.Requests as requests;
-ghost use Rattle.chpw_answer.specs.Holding.{IsIncoming};
+ghost use Rattle.chpw_serve.specs.Requests as requests;
+ghost use Rattle.chpw_serve.specs.Holding.{IsIncoming};
 ghost use Rattle.chpw_messages.specs.Opening.{request_of, seal_of};
 ghost use Rattle.chpw_messages.specs.Holds.{IsHeld};
 
 use crate::content::Content;
 use crate::names::name_of;
-use chpw_answer::{Incoming, Seal};
 use chpw_rules::Items;
+use chpw_serve::{Incoming, Seal};
 use chpw_table::Opened;
 use krb_msgs::ApOpened;
 use krb_protocol::{TICKET_INITIAL, TICKET_INVALID};
 use std::alloc::{AllocError, Global};
 
-/// The request of an AP-REQ and the KRB-PRIV behind it.
+/// The request of an AP-REQ and the KRB-PRIV after it.
 pub(crate) fn incoming_of(
     alloc: Global,
     opened: ApOpened,
@@ -48,7 +48,7 @@ pub(crate) fn incoming_of(
     })
 }
 
-/// What the reply is made with.
+/// The keys and times that the reply is made with.
 fn seal_of(opened: &ApOpened) -> Seal
     ensures value { result ≡ seal_of opened.now }
 {

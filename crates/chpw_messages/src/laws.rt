@@ -1,33 +1,52 @@
 //! Laws of the definitions alone, and worked replies.
+ghost use Rattle.std.specs.Prelude.{List};
+ghost use Rattle.chpw_table.specs.declared.history.Receipt.{Receipt};
 ghost use Rattle.chpw_messages.specs.Laws.{FramesOpen, PartsOpen};
 ghost use Rattle.chpw_messages.specs.OneOpening.{MessagesOpenOnce};
 ghost use Rattle.chpw_messages.specs.Prefixes.{KrbPrivsFollow, PrefixesOpen};
 ghost use Rattle.chpw_messages.specs.RepliesOpen.{ErrorFramesOpen, PrivateFramesOpen};
+ghost use Rattle.chpw_messages.specs.VersionLaws.{AllStay, ItsOwnStay, MessagesOpenOnceUnder, OthersAddNothing, OthersAreRefused, RequestsAreOfIt};
 ghost use Rattle.chpw_messages.specs.WorkedReplies.{MalformedReply, VersionReply, TooLongReply};
 
-/// The two parts of a request for a change of password, made of their records, open to that
-/// request, in either version; and parts in a frame open as they do.
+use chpw_decider::Decider;
+
+/// The two parts of a request for a password change, made from their records, open to that request, in either version;
+/// and parts in a frame open as they do.
 pub fn openings()
     ensures parts { PartsOpen }
     ensures frames { FramesOpen }
 {}
 
-/// A message opens to one answer, so what a call answers is all that its relation allows: one that
-/// is refused opens to no request, and one that opens asks one thing.
+/// A message opens to one answer: one that is refused opens to no request, and one that opens asks one thing.
 pub fn one_opening()
     ensures message { MessagesOpenOnce }
 {}
 
-/// A reply opens, for the client that asked, to the result code, the text and the error code that it
-/// was made of.
+/// A service that answers requests of RFC 3244 alone answers a message of another version `bad version`, so that none of
+/// its requests is of another; it opens one of that version as a service that answers both does, and each message to one
+/// answer.
+pub fn versions()
+    ensures refused { OthersAreRefused }
+    ensures requests { RequestsAreOfIt }
+    ensures own { ItsOwnStay }
+    ensures both { AllStay }
+    ensures once { MessagesOpenOnceUnder }
+{}
+
+/// Whoever decides for such a service has the same receipts after a message of another version: it adds no entry.
+pub fn other_versions<D: Decider>()
+    ensures adds { (decider : D) (receipts : List Receipt) → OthersAddNothing (D.may_be_full decider receipts) }
+{}
+
+/// A reply opens, for the client that asked, to the result code, the text and the error code that it was made from.
 pub fn replies_open()
     ensures krb_error { ErrorFramesOpen }
     ensures private { PrivateFramesOpen }
 {}
 
-/// A request whose tail is a KRB-PRIV, cut short and its length field set to its size, is no other
-/// request: it has a bad length or bad parts, or is the same with bad data and no stamp. The tail
-/// is one unless the request is bad data.
+/// A request whose tail is a KRB-PRIV, cut short with its length field set to match, is no other request: it has a bad
+/// length or bad parts, or is the same with bad data and no stamp. The tail is a KRB-PRIV unless the request is bad
+/// data.
 pub fn prefixes()
     ensures message { PrefixesOpen }
     ensures tail { KrbPrivsFollow }

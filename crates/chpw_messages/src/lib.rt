@@ -1,5 +1,4 @@
-//! What a message to the service opens to, and the replies to it: `Service` opens messages and
-//! makes replies.
+//! What a message to the service opens to, and the replies to it. `Service` opens messages and makes replies.
 #![tactic(auto)]
 
 mod content;
@@ -10,5 +9,7 @@ mod opening;
 mod private_reply;
 mod replies;
 mod service;
+mod versions;
 
 pub use service::Service;
+pub use versions::Versions;

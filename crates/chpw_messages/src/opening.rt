@@ -1,17 +1,37 @@
-//! A message is opened (RFC 3244 section 2): its frame, then its AP-REQ, then its KRB-PRIV.
+//! Opening a message (RFC 3244 section 2): its version, its frame, then its AP-REQ, then its KRB-PRIV.
 ghost use Rattle.std.specs.Prelude.{IfOk};
-ghost use Rattle.chpw_answer.specs.Holding.{IsInTime};
-ghost use Rattle.chpw_messages.specs.Holds.{HoldsMessage, HoldsParts};
+ghost use Rattle.chpw_serve.specs.Holding.{IsInTime};
+ghost use Rattle.chpw_messages.specs.Holds.{HoldsMessage, HoldsParts, HoldsUnder};
 
 use crate::content::open_content;
 use crate::incoming::incoming_of;
-use chpw_answer::OpenResult;
-use chpw_frame::{Parts, split_request};
+use crate::versions::Versions;
+use chpw_frame::{FrameFault, Parts, split_request};
+use chpw_serve::OpenResult;
 use krb_msgs::{OpenError, ServiceKey, open_ap};
 use std::alloc::{AllocError, Global};
 
-/// What a message from this peer, an IPv4 address, high byte first, opens to.
-pub(crate) fn open_message(
+/// What a message from this peer, an IPv4 address, high byte first, opens to, for a service that answers these versions.
+#[tactic(auto, using(crate::proofs::VersionLemmas::holds_refused, crate::proofs::VersionLemmas::holds_opened))]
+pub(crate) fn open_under(
+    alloc: Global,
+    versions: Versions,
+    realm: &[u8],
+    keys: &[ServiceKey],
+    peer: [u8; 4],
+    message: &[u8],
+) -> Result<OpenResult, AllocError>
+    ensures opening { IfOk result (HoldsUnder versions realm.now keys.now peer message.now) }
+    ensures times { IfOk result IsInTime }
+{
+    if versions.refuses(message) {
+        return Ok(OpenResult::Refused(FrameFault::BadVersion.refusal()));
+    }
+    open_message(alloc, realm, keys, peer, message)
+}
+
+/// What a message opens to, for one that answers both.
+fn open_message(
     alloc: Global,
     realm: &[u8],
     keys: &[ServiceKey],
@@ -27,7 +47,7 @@ pub(crate) fn open_message(
     }
 }
 
-/// The same of the parts of a message.
+/// What the parts of a message open to.
 fn open_parts(
     alloc: Global,
     realm: &[u8],

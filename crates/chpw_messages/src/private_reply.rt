@@ -2,31 +2,31 @@
 ghost use Rattle.std.specs.Prelude.{◌≡◌, ◌≤◌, length, IfOk, take, drop};
 ghost use Rattle.krb_msgs.specs.Making.{word_bytes};
 ghost use Rattle.chpw_table.specs.Replies.{by_private};
-ghost use Rattle.chpw_answer.specs.Holding.{IsReplyTime};
+ghost use Rattle.chpw_serve.specs.Holding.{IsReplyTime};
 ghost use Rattle.chpw_messages.specs.Replies.{ap_rep_part, ap_rep_text, priv_part as priv_part_of, priv_text, private_frame, seq_number_of};
 
 use crate::replies::user_data;
-use chpw_answer::Seal;
 use chpw_frame::join_reply;
+use chpw_serve::Seal;
 use krb_der::{EncApRepPart, EncKrbPrivPart, KerberosTime, Microseconds, SeqNumber};
 use krb_msgs::{make_ap_rep, make_priv, priv_part, word_bytes};
 use std::alloc::{AllocError, Global};
 
-/// The confounder of the first four words.
+/// The confounder made of the first four words.
 fn front_confounder(words: [u32; 9]) -> [u8; 16]
     ensures value { result ≡ word_bytes (take 4 words) }
 {
     word_bytes([words[0], words[1], words[2], words[3]])
 }
 
-/// The confounder of the last four words.
+/// The confounder made of the last four words.
 fn back_confounder(words: [u32; 9]) -> [u8; 16]
     ensures value { result ≡ word_bytes (drop 5 words) }
 {
     word_bytes([words[5], words[6], words[7], words[8]])
 }
 
-/// The sequence number of both parts, below 2^31.
+/// The sequence number of both parts, made of the fifth word, below 2^31.
 fn seq_number(words: [u32; 9]) -> u32
     ensures value { result ≡ seq_number_of words }
 {

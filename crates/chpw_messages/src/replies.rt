@@ -2,14 +2,14 @@
 ghost use Rattle.std.specs.Prelude.{◌≡◌, ◌≤◌, ◌<◌, ◌+◌, ◌++◌, length, Some, IfOk};
 ghost use Rattle.std.specs.Int.{to_be_bytes, w16};
 ghost use Rattle.chpw_table.specs.Times.{IsMoment};
-ghost use Rattle.chpw_answer.specs.Holding.{answer_in};
+ghost use Rattle.chpw_serve.specs.Holding.{answer_in};
 ghost use Rattle.chpw_messages.specs.Service.{IsRealm};
 ghost use Rattle.chpw_messages.specs.Replies.{error_frame, error_record};
 
 use chpw_frame::join_reply;
 use chpw_table::Moment;
 use krb_der::{Bytes, KerberosTime, KrbError, Microseconds, OctetString};
-use krb_msgs::{copied, make_error, service_name};
+use krb_msgs::{copy_bytes, make_error, service_name};
 use krb_protocol::{KRB_ERROR, PVNO, Refusal};
 use std::alloc::{AllocError, Global};
 
@@ -22,7 +22,7 @@ pub(crate) fn user_data(alloc: Global, code: u16, text: &str) -> Result<OctetStr
     Ok(Bytes::of(bytes))
 }
 
-/// The KRB-ERROR of this refusal.
+/// The KRB-ERROR for this refusal.
 fn krb_error(
     alloc: Global,
     realm: &[u8],
@@ -41,14 +41,14 @@ fn krb_error(
         error_code: refusal.error,
         crealm: None,
         cname: None,
-        realm: copied(alloc, realm)?,
+        realm: copy_bytes(alloc, realm)?,
         sname: service_name(alloc)?,
         e_text: None,
         e_data: Some(user_data(alloc, refusal.code, refusal.text)?),
     })
 }
 
-/// The reply of a realm of 1 to 255 bytes.
+/// The KRB-ERROR reply, for a realm of 1 to 255 bytes.
 pub(crate) fn error_reply(
     alloc: Global,
     realm: &[u8],

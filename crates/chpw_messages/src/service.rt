@@ -1,16 +1,18 @@
-//! The service: its realm and its keys.
+//! The service: its realm, its keys, and the versions that it answers.
 ghost use Rattle.std.specs.Prelude.{◌≡◌, true, map, IfOk};
 ghost use Rattle.std.specs.List.{list_all};
 ghost use Rattle.krb_keys.specs.Keys.{IsProtocolKey};
 ghost use Rattle.krb_msgs.specs.OneAnswer.{AreProtocolKeys};
 ghost use Rattle.chpw_rules.specs.Fitting.{config_fits, service_key_fits};
 ghost use Rattle.chpw_messages.specs.Service.{configured, held};
+ghost use Rattle.chpw_messages.specs.declared.versions.Versions.TheVariants.{Both, Rfc3244Only};
 
-use crate::opening::open_message;
+use crate::opening::open_under;
 use crate::private_reply::private_reply;
 use crate::replies::error_reply;
-use chpw_answer::{Messages, OpenResult, Seal};
+use crate::versions::Versions;
 use chpw_rules::{Config, Items, ServiceRow};
+use chpw_serve::{Messages, OpenResult, Seal};
 use chpw_table::Moment;
 use krb_keys::key_of;
 use krb_msgs::ServiceKey;
@@ -24,6 +26,7 @@ use std::marker::Model;
 pub struct Service {
     realm: Items<u8>,
     keys: Vec<ServiceKey>,
+    versions: Versions,
 }
 
 impl Model for Service {
@@ -31,25 +34,38 @@ impl Model for Service {
 
     ghost Value = { Identity };
 
-    ghost view = { λ s. record { realm = s.realm; keys = s.keys.items } };
+    ghost view = { λ s. record { realm = s.realm; keys = s.keys.items; versions = s.versions } };
 
     ghost invariant = { λ s. IsRealm s.realm };
 }
 
 impl Service {
-    /// The service of a configuration that fits: its realm, and its service keys in their order,
-    /// each of as many bytes as its encryption type says. So a message opens to one answer
-    /// ([`crate::laws::one_opening`]).
+    /// The service of a configuration that fits: its realm, and its service keys in their order, each of the length of
+    /// its encryption type. So a message opens to one answer ([`crate::laws::one_opening`]). It answers both versions.
     pub fn of(alloc: Global, config: &Config) -> Result<Service, AllocError>
         requires fits { config_fits config.now ≡ true }
         ensures realm { IfOk result (λ s. s.realm ≡ config.now.realm) }
         ensures keys { IfOk result (λ s. map held s.keys ≡ map configured config.now.service) }
         ensures protocol { IfOk result (λ s. AreProtocolKeys s.keys) }
+        ensures versions { IfOk result (λ s. s.versions ≡ Both) }
     {
         Ok(Service {
             realm: Items::of(Vec::from_slice(alloc, config.realm.as_slice())?),
             keys: service_keys(alloc, config.service.as_slice())?,
+            versions: Versions::Both,
         })
+    }
+
+    /// The service with the same realm and keys that answers requests of RFC 3244 alone ([`crate::laws::versions`]).
+    pub fn rfc3244_only(self) -> Service
+        ensures value { result ≡ record self { versions = Rfc3244Only } }
+    {
+        let Service { realm, keys, .. } = self;
+        Service {
+            realm,
+            keys,
+            versions: Versions::Rfc3244Only,
+        }
     }
 }
 
@@ -80,10 +96,10 @@ fn service_key(row: &ServiceRow) -> ServiceKey
 }
 
 impl Messages for Service {
-    ghost use Rattle.chpw_messages.specs.Opening as opening;
+    ghost use Rattle.chpw_messages.specs.Versions.{OpensUnder};
     ghost use Rattle.chpw_messages.specs.Replies.{error_frame as krb_error_reply, private_frame as krb_priv_reply};
 
-    ghost opens = { λ s peer bytes o. opening.OpensTo s.realm s.keys peer bytes o };
+    ghost opens = { λ s peer bytes o. OpensUnder s.versions s.realm s.keys peer bytes o };
 
     ghost error_frame = { λ s a now. krb_error_reply s.realm a now };
 
@@ -96,7 +112,14 @@ impl Messages for Service {
     }
 
     fn open(&self, alloc: Global, peer: [u8; 4], message: &[u8]) -> Result<OpenResult, AllocError> {
-        open_message(alloc, self.realm.as_slice(), &self.keys, peer, message)
+        open_under(
+            alloc,
+            self.versions,
+            self.realm.as_slice(),
+            &self.keys,
+            peer,
+            message,
+        )
     }
 
     fn make_error(

@@ -1,5 +1,7 @@
 -- A datagram as a connection of one message.
-use Rattle.std.proofs.Common.{◌≡◌, ◌≢◌, ℕ, ◌<◌, ◌≤◌, ◌^◌, ◌%◌, ◌==◌, refl, sym, ◌∙◌, ap, subst, arith, Bool, true, false, ◌&&◌, not, nat_lt, cond, List, [], ◌++◌, length, take, Option, Some, None, is_some, option_map, inl, inr, IsSomeAnd}
+use Rattle.std.proofs.Common.{◌≡◌, ◌≢◌, ℕ, ◌<◌, ◌≤◌, ◌^◌, ◌%◌, ◌==◌, refl, sym, ◌∙◌, ap, subst, arith}
+use Rattle.std.proofs.Common.{Bool, true, false, ◌&&◌, not, nat_lt, cond, List, [], ◌++◌, length}
+use Rattle.std.proofs.Common.{take, Option, Some, None, is_some, option_map, inl, inr, IsSomeAnd}
 use Rattle.std.proofs.Math.Logic.{⊎_elim}
 use Rattle.std.proofs.lemmas.Bool.{cases_lt, cases_eq}
 use Rattle.std.proofs.lemmas.List.{take_all}
@@ -9,24 +11,27 @@ use Rattle.chpw_frame.specs.Stream.{sent, longest, stated_length}
 use Rattle.chpw_connections.proofs.PieceLemmas.{wanted_long, wanted_whole}
 use Rattle.chpw_connections.proofs.RoomLemmas.{and_left, ends_waiting}
 use Rattle.chpw_connections.specs.Holding.{held_by}
-use Rattle.chpw_connections.specs.Messages.{wanted_behind}
+use Rattle.chpw_connections.specs.Messages.{wanted_after}
 use Rattle.chpw_connections.specs.Room.{PutsOut, HappensWithRoom, for_message, gives_way_at, is_held_back, is_among}
 use Rattle.chpw_connections.specs.Sets.{Comes, Happens, IsNew, wanted_at, is_ended, is_ended_in, queued_at, queued_by, stage_at, waits}
-use Rattle.chpw_connections.specs.Stages.{Stage, reading, queued, answering, confirming, writing, lingering, abandoned, ended, came, failed, after, stage, read_to, received, wanted_by}
+use Rattle.chpw_connections.specs.Stages.{Stage, reading, queued, answering, confirming, writing, lingering}
+use Rattle.chpw_connections.specs.Stages.{abandoned, ended, came, failed, after, stage, read_to, received, wanted_by}
 use Rattle.chpw_connections.specs.Waiting.{waits_for}
 use Rattle.chpw_connections.specs.declared.connection.Connection.{Connection}
-use Rattle.chpw_connections.specs.declared.bounds.Bounds.{Bounds}
+use Rattle.chpw_connections.specs.declared.limits.ConnectionLimits.{ConnectionLimits}
 use Rattle.chpw_pool.specs.Datagrams.{TakesDatagram, length_before, StaysOrEnds, DropsDatagram, CameOrFailed, CameIfRead}
 
 -- who gives way to a message has ended
-out_ends : (b : Bounds) (now : ℕ) (o : Option Connection) (old new : Option Connection) → gives_way_at (for_message b now o) old ≡ true → Comes 0 failed old new → stage_at new ≡ Some ended
+out_ends : (b : ConnectionLimits) (now : ℕ) (o : Option Connection) (old new : Option Connection)
+    → gives_way_at (for_message b now o) old ≡ true → Comes 0 failed old new → stage_at new ≡ Some ended
 out_ends b now o None new is comes = absurd cc
 out_ends b now o (Some c) None is comes = absurd comes
 out_ends b now o (Some c) (Some d) is comes =
-    let waited : waits (stage c) ≡ true = and_left (waits (stage c)) (nat_lt 0 (held_by c.phase) && (not (is_held_back c) && is_among (for_message b now o) c)) is in
+    let waited : waits (stage c) ≡ true = and_left (waits (stage c))
+    (nat_lt 0 (held_by c.phase) && (not (is_held_back c) && is_among (for_message b now o) c)) is in
     ap Some (comes.stage_is ∙ ends_waiting c.answered (stage c) waited)
 
-stays : (b : Bounds) (now : ℕ) (o : Option Connection) (old new : Option Connection) → PutsOut (for_message b now o) old new → StaysOrEnds old new
+stays : (b : ConnectionLimits) (now : ℕ) (o : Option Connection) (old new : Option Connection) → PutsOut (for_message b now o) old new → StaysOrEnds old new
 stays b now o old new (inl same) = inl same
 stays b now o old new (inr out) = inr (out_ends b now o old new out.0 out.1)
 
@@ -43,21 +48,21 @@ read_ends : (count : ℕ) (bytes : List ℕ) (t : Bool) → after count (cond t 
 read_ends count bytes true = refl
 read_ends count bytes false = refl
 
-ends_behind_came : (k l : ℕ) (s : Stage) (bytes : List ℕ) → after k s failed ≡ ended → after l (after k s (came bytes)) failed ≡ ended
-ends_behind_came k l (reading had) bytes is = read_ends l (had ++ received had bytes) (wanted_behind (had ++ received had bytes) == 0)
-ends_behind_came k l (queued message) bytes is = refl
-ends_behind_came k l answering bytes is = absurd cc
-ends_behind_came k l (confirming reply last mark) bytes is = refl
-ends_behind_came k l (writing left last) bytes is = refl
-ends_behind_came k l lingering bytes is = refl
-ends_behind_came k l abandoned bytes is = absurd cc
-ends_behind_came k l ended bytes is = refl
+ends_after_came : (k l : ℕ) (s : Stage) (bytes : List ℕ) → after k s failed ≡ ended → after l (after k s (came bytes)) failed ≡ ended
+ends_after_came k l (reading had) bytes is = read_ends l (had ++ received had bytes) (wanted_after (had ++ received had bytes) == 0)
+ends_after_came k l (queued message) bytes is = refl
+ends_after_came k l answering bytes is = absurd cc
+ends_after_came k l (confirming reply last mark) bytes is = refl
+ends_after_came k l (writing left last) bytes is = refl
+ends_after_came k l lingering bytes is = refl
+ends_after_came k l abandoned bytes is = absurd cc
+ends_after_came k l ended bytes is = refl
 
 came_ends : (now : ℕ) (bytes : List ℕ) (old new : Option Connection) → EndsAtOnce old → Comes now (came bytes) old new → EndsAtOnce new
 came_ends now bytes None new is comes = absurd is
 came_ends now bytes (Some c) None is comes = absurd comes
 came_ends now bytes (Some c) (Some d) is comes =
-    subst (λ (s : Stage). after d.answered s failed ≡ ended) (sym comes.stage_is) (ends_behind_came c.answered d.answered (stage c) bytes is)
+    subst (λ (s : Stage). after d.answered s failed ≡ ended) (sym comes.stage_is) (ends_after_came c.answered d.answered (stage c) bytes is)
 
 failed_ends : (now : ℕ) (old new : Option Connection) → EndsAtOnce old → Comes now failed old new → EndsAtOnce new
 failed_ends now None new is comes = absurd is
@@ -72,32 +77,33 @@ failed_is_ended now (Some c) (Some d) is comes = ap is_ended (comes.stage_is ∙
 new_ends : (peer : List ℕ) (now number : ℕ) (old new : Slab Connection) (slot : ℕ) → IsNew peer now number old new slot → EndsAtOnce (get new slot)
 new_ends peer now number old new slot is = by_place (get new slot) is.here
   where
-    by_place : (o : Option Connection) → IsSomeAnd o (λ c. (stage c ≡ reading []) × (c.peer ≡ peer) × (c.number ≡ number) × (c.since ≡ now) × (c.answered ≡ 0)) → EndsAtOnce o
+    by_place : (o : Option Connection) → IsSomeAnd o (λ c. (stage c ≡ reading [])
+        × (c.peer ≡ peer) × (c.number ≡ number) × (c.since ≡ now) × (c.answered ≡ 0)) → EndsAtOnce o
     by_place None here = absurd here
     by_place (Some c) here = subst (λ (s : Stage). after c.answered s failed ≡ ended) (sym here.0) refl
 
-came_others : (b : Bounds) (now : ℕ) (old new : Slab Connection) (slot : ℕ) (bytes : List ℕ) → CameOrFailed b now old new slot bytes
+came_others : (b : ConnectionLimits) (now : ℕ) (old new : Slab Connection) (slot : ℕ) (bytes : List ℕ) → CameOrFailed b now old new slot bytes
     → (other : ℕ) → other ≢ slot → StaysOrEnds (get old other) (get new other)
 came_others b now old new slot bytes (inl happens) other differs = stays b now (get old slot) (get old other) (get new other) (happens.others other differs)
 came_others b now old new slot bytes (inr happens) other differs = stays b now (get old slot) (get old other) (get new other) (happens.others other differs)
 
-came_here : (b : Bounds) (now : ℕ) (old new : Slab Connection) (slot : ℕ) (bytes : List ℕ) → CameOrFailed b now old new slot bytes
+came_here : (b : ConnectionLimits) (now : ℕ) (old new : Slab Connection) (slot : ℕ) (bytes : List ℕ) → CameOrFailed b now old new slot bytes
     → EndsAtOnce (get old slot) → EndsAtOnce (get new slot)
 came_here b now old new slot bytes (inl happens) is = came_ends now bytes (get old slot) (get new slot) is happens.here
 came_here b now old new slot bytes (inr happens) is = failed_ends 0 (get old slot) (get new slot) is happens.here
 
-read_others : (b : Bounds) (now : ℕ) (old new : Slab Connection) (slot : ℕ) (bytes : List ℕ) → CameIfRead b now old new slot bytes
+read_others : (b : ConnectionLimits) (now : ℕ) (old new : Slab Connection) (slot : ℕ) (bytes : List ℕ) → CameIfRead b now old new slot bytes
     → (other : ℕ) → other ≢ slot → StaysOrEnds (get old other) (get new other)
 read_others b now old new slot bytes (inl same) other differs = inl (ap (λ (s : Slab Connection). get s other) same)
 read_others b now old new slot bytes (inr comes) other differs = came_others b now old new slot bytes comes other differs
 
-read_here : (b : Bounds) (now : ℕ) (old new : Slab Connection) (slot : ℕ) (bytes : List ℕ) → CameIfRead b now old new slot bytes
+read_here : (b : ConnectionLimits) (now : ℕ) (old new : Slab Connection) (slot : ℕ) (bytes : List ℕ) → CameIfRead b now old new slot bytes
     → EndsAtOnce (get old slot) → EndsAtOnce (get new slot)
 read_here b now old new slot bytes (inl same) is = subst (λ (s : Slab Connection). EndsAtOnce (get s slot)) (sym same) is
 read_here b now old new slot bytes (inr comes) is = came_here b now old new slot bytes comes is
 
 -- what was begun and is dropped leaves no connection
-module _ (first second : Bounds) (now number slot : ℕ) (peer len bytes : List ℕ) (old accepted begun whole over new : Slab Connection)
+module _ (first second : ConnectionLimits) (now number slot : ℕ) (peer len bytes : List ℕ) (old accepted begun whole over new : Slab Connection)
     (is_new : IsNew peer now number old accepted slot) (length_came : CameOrFailed first now accepted begun slot len)
     (bytes_came : CameIfRead second now begun whole slot bytes) (ends : Happens 0 whole over slot failed)
     (removed : is_ended_in (get over slot) ≡ true → Updates over new slot None) where
@@ -131,8 +137,8 @@ queued_of bytes whole true same is = ap Some (sym same)
 queued_of bytes whole false same is = absurd cc
 
 -- of one that waits with its message for as many bytes as that has
-module _ (message : List ℕ) (fits : length message < 2 ^ 32) (some : wanted_behind (length_before message) ≢ 0) where
-  wants : wanted_behind (length_before message) ≡ length message
+module _ (message : List ℕ) (fits : length message < 2 ^ 32) (some : wanted_after (length_before message) ≢ 0) where
+  wants : wanted_after (length_before message) ≡ length message
   wants = ⊎_elim
       (λ (long : longest < stated_length (length_before message)). absurd (some (wanted_long (length_before message) (omega arith) long)))
       (λ (short : stated_length (length_before message) ≤ longest).
@@ -144,7 +150,7 @@ module _ (message : List ℕ) (fits : length message < 2 ^ 32) (some : wanted_be
 
 -- behind its length, it reads on or waits
 read_on : (message : List ℕ) (t : Bool) → wanted_by (cond t (queued (length_before message)) (reading (length_before message))) ≢ 0
-    → (cond t (queued (length_before message)) (reading (length_before message)) ≡ reading (length_before message)) × (wanted_behind (length_before message) ≢ 0)
+    → (cond t (queued (length_before message)) (reading (length_before message)) ≡ reading (length_before message)) × (wanted_after (length_before message) ≢ 0)
 read_on message true some = absurd (some refl)
 read_on message false some = (refl, some)
 
@@ -152,12 +158,13 @@ pub waits_whole : (message : List ℕ) (k l : ℕ) (s t : Stage) → length mess
     → s ≡ after k (reading []) (came (length_before message)) → wanted_by s ≢ 0
     → t ≡ after l s (came message) → is_some (queued_by t) ≡ true → queued_by t ≡ Some (sent message)
 waits_whole message k l s t fits s_is some t_is waits =
-    let on = read_on message (wanted_behind (length_before message) == 0) (subst (λ (x : Stage). wanted_by x ≢ 0) s_is some) in
+    let on = read_on message (wanted_after (length_before message) == 0) (subst (λ (x : Stage). wanted_by x ≢ 0) s_is some) in
     let s_reads : s ≡ reading (length_before message) = s_is ∙ on.0 in
     let t_of : t ≡ read_to (length_before message ++ received (length_before message) message) = t_is ∙ ap (λ (x : Stage). after l x (came message)) s_reads in
-    let same : sent message ≡ length_before message ++ received (length_before message) message = ap (λ (x : List ℕ). length_before message ++ x) (sym (comes_whole message fits on.1)) in
+    let same : sent message ≡ length_before message ++ received (length_before message) message =
+    ap (λ (x : List ℕ). length_before message ++ x) (sym (comes_whole message fits on.1)) in
     ap queued_by t_of ∙ queued_of (length_before message ++ received (length_before message) message) (sent message)
-    (wanted_behind (length_before message ++ received (length_before message) message) == 0) same (ap is_some (sym (ap queued_by t_of)) ∙ waits)
+    (wanted_after (length_before message ++ received (length_before message) message) == 0) same (ap is_some (sym (ap queued_by t_of)) ∙ waits)
 
 mapped : (o : Option (List ℕ)) (n w : ℕ) → option_map (λ (m : List ℕ). n) o ≡ Some w → is_some o ≡ true
 mapped None n w is = absurd cc
@@ -181,7 +188,8 @@ waits_here message peer now number workers worker (Some c) (Some d) (Some e) fit
     (first.stage_is ∙ ap (λ (s : Stage). after c.answered s (came (length_before message))) here.0) some second.stage_is
     (mapped (queued_by (stage e)) (e.number % workers) worker waits)
 
-module _ (b c d : Bounds) (now number slot worker workers : ℕ) (peer message : List ℕ) (old accepted begun new : Slab Connection) (fits : length message < 2 ^ 32)
+module _ (b c d : ConnectionLimits) (now number slot worker workers : ℕ)
+    (peer message : List ℕ) (old accepted begun new : Slab Connection) (fits : length message < 2 ^ 32)
     (bounds : b ≡ d) (same : d ≡ c)
     (is_new : IsNew peer now number old accepted slot) (length_came : CameOrFailed c now accepted begun slot (length_before message))
     (some : wanted_at (get begun slot) ≢ 0)
@@ -199,8 +207,13 @@ module _ (b c d : Bounds) (now number slot worker workers : ℕ) (peer message :
     accepted = accepted;
     begun = begun;
     is_new = is_new;
-    length_came = subst (λ (x : Bounds). HappensWithRoom (for_message x now (get accepted slot)) now accepted begun slot (came (length_before message))) (sym (bounds ∙ same)) length_is;
-    message_came = subst (λ (x : Bounds). HappensWithRoom (for_message x now (get begun slot)) now begun new slot (came message)) (sym bounds) message_came;
-    waits = waits_here message peer now number workers worker (get accepted slot) (get begun slot) (get new slot) fits is_new.here length_is.here some message_came.here is_for;
+    length_came =
+        subst (λ (x : ConnectionLimits). HappensWithRoom (for_message x now (get accepted slot)) now accepted begun slot
+        (came (length_before message))) (sym (bounds ∙ same)) length_is;
+    message_came =
+        subst (λ (x : ConnectionLimits). HappensWithRoom (for_message x now (get begun slot)) now begun new slot
+        (came message)) (sym bounds) message_came;
+    waits = waits_here message peer now number workers worker (get accepted slot)
+        (get begun slot) (get new slot) fits is_new.here length_is.here some message_came.here is_for;
     is_for = is_for;
   }

@@ -1,12 +1,12 @@
 -- What stands at the places of a list behind a write at one of them.
 use Rattle.std.proofs.Common.{◌≡◌, ℕ, zero, suc, ◌<◌, List, [], ◌∷◌, length, set, slice_get, refl, ap, subst, arith, true, Option, Some}
 use Rattle.slab.specs.Slab.{Slab}
-use Rattle.chpw_connections.specs.declared.bounds.Bounds.{Bounds}
+use Rattle.chpw_connections.specs.declared.limits.ConnectionLimits.{ConnectionLimits}
 use Rattle.chpw_connections.specs.declared.connection.Connection.{Connection}
 use Rattle.chpw_datagrams.specs.declared.sender.Sender.{Sender}
 use Rattle.chpw_pool.specs.Deciding.{IsPlaced, IsQueued, Queues, is_decided}
 use Rattle.chpw_pool.specs.Datagrams.{TakesDatagram}
-use Rattle.chpw_pool.specs.declared.sockets.Place.{Place}
+use Rattle.chpw_pool.specs.declared.sockets.Transport.{Transport}
 use Rattle.chpw_pool.specs.declared.state.Progress.{Progress}
 use Rattle.chpw_pool.specs.declared.state.Progress.TheVariants as progress
 use Rattle.chpw_pool.specs.declared.udp.Datagrams.{Datagrams}
@@ -29,7 +29,7 @@ worker_of progress.Some = 0
 worker_of progress.None = 0
 
 -- a datagram that waits, with the copy of its message at its place
-pub is_queued : (sender : Sender) (message copy : List ℕ) (before after : List (Option Place)) (b : Bounds) (now number : ℕ)
+pub is_queued : (sender : Sender) (message copy : List ℕ) (before after : List (Option Transport)) (b : ConnectionLimits) (now number : ℕ)
     (old new : Slab Connection) (slot queued worker workers : ℕ) → progress.Queued queued ≡ progress.Queued worker
     → TakesDatagram b now sender.address number message old new slot queued workers → copy ≡ message
     → (slot < length before → IsPlaced after slot sender copy)
@@ -42,7 +42,7 @@ is_queued sender message copy before after b now number old new slot queued work
   others = others;
 }
 
-pub queues : (d : Datagrams) (sender : Sender) (message : List ℕ) (before after : List (Option Place)) (b : Bounds) (now number : ℕ)
+pub queues : (d : Datagrams) (sender : Sender) (message : List ℕ) (before after : List (Option Transport)) (b : ConnectionLimits) (now number : ℕ)
     (old new : Slab Connection) (worker workers : ℕ) → is_decided d before sender message now ≡ true
     → IsQueued sender message before after b now number old new worker workers
     → Queues d before after b now number old new worker workers

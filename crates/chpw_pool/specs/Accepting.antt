@@ -22,9 +22,9 @@ abbrev pub resumed : ℕ → Accepting → Accepting
 resumed now (Paused until) = if nat_le until now then Ready else Paused until
 resumed now a = a
 
--- an accept that would have waited, one whose fault may pass, and another one
-abbrev pub behind_fault : Bool → Bool → ℕ → Accepting
-behind_fault would_wait may_pass now =
+-- an accept that would have blocked, one whose fault may pass, and another one
+abbrev pub after_fault : Bool → Bool → ℕ → Accepting
+after_fault would_wait may_pass now =
     if would_wait then Waiting else if may_pass then Paused (min (now + 100) (2 ^ 64 - 1)) else Failed
 
 abbrev pub is_waiting : Accepting → Bool

@@ -1,10 +1,11 @@
 -- The bounds of a pool's connections, in bytes and milliseconds.
 use Rattle.std.specs.Prelude.{◌*◌}
-use Rattle.chpw_connections.specs.declared.bounds.Bounds.{Bounds}
-use Rattle.chpw_pool.specs.declared.terms.Terms.{Terms}
+use Rattle.chpw_connections.specs.declared.limits.ConnectionLimits.{ConnectionLimits}
+use Rattle.chpw_pool.specs.declared.options.PoolOptions.{PoolOptions}
 
--- a message on its way is left alone for a second, waits five seconds for its worker at the most, and an end a second
-abbrev pub bounds_asked : Terms → Bounds
+-- a message under way is left alone for a second, waits at most five seconds for its worker, and an end at most a
+-- second
+abbrev pub bounds_asked : PoolOptions → ConnectionLimits
 bounds_asked t = record {
   connections = t.clients;
   bytes = t.buffers * 1048576;

@@ -1,4 +1,4 @@
--- Those at the control socket with their sockets: who comes and goes, and what a read or a write does.
+-- The callers at the control socket with their sockets: how they come and go, and what a read or a write does.
 use Rattle.std.specs.Prelude.{◌≡◌, ◌≢◌, ℕ, ◌+◌, List, [], ◌∷◌, take, length, slice_get, Option, Some, None, IsSome, Bool, true, false, min, if◌then◌else◌, ◌⊎◌}
 use Rattle.std.specs.Io.KnownBytes.{Appends, Consumes, Keeps}
 use Rattle.slab.specs.Slab.{Slab, get}
@@ -12,7 +12,7 @@ use Rattle.chpw_control.specs.Dialogs.{at_start}
 use Rattle.chpw_control.specs.Seats.{Happens, HappensToHear, IsFirst, IsNew, NobodyWaits, left_at, ordering_of, seats_of}
 use Rattle.chpw_control.specs.declared.callers.Callers.{Callers}
 use Rattle.chpw_control.specs.declared.callers.Seat.{Seat}
-use Rattle.chpw_pool.specs.declared.attendant.Standing.{Standing}
+use Rattle.chpw_pool.specs.declared.status_reporter.ConnectionCounts.{ConnectionCounts}
 use Rattle.chpw_pool.specs.declared.state.State.{State}
 
 -- these bytes were read, and came
@@ -21,7 +21,7 @@ pub record Comes (old new : Slab Seat) (slot : ℕ) (before after : Option (List
   pub read : Consumes before after bytes
   pub happens : HappensToHear old new slot bytes
 
--- nothing was read: the other side sends no more, the socket has failed, or nothing has come
+-- nothing was read: the other side will send no more, the socket has failed, or nothing has come
 pub record ComesNone (old new : Slab Seat) (slot : ℕ) (before after : Option (List ℕ)) : Type 0 where
   pub kept : Keeps before after
   pub happens : Happens old new slot closed ⊎ (Happens old new slot failed ⊎ (new ≡ old))
@@ -29,13 +29,13 @@ pub record ComesNone (old new : Slab Seat) (slot : ℕ) (before after : Option (
 abbrev pub IsHeard : Slab Seat → Slab Seat → ℕ → Option (List ℕ) → Option (List ℕ) → Type 0
 IsHeard old new slot before after = Comes old new slot before after ⊎ ComesNone old new slot before after
 
--- so many bytes of what is left of the answer were written, from the front
+-- some bytes of what is left of the answer were written, from the front
 pub record Goes (old new : Slab Seat) (slot : ℕ) (before after : Option (List ℕ)) : Type 0 where
   pub count : ℕ
   pub written : Appends before after (take count (left_at (get old slot)))
   pub happens : Happens old new slot (wrote count)
 
--- nothing was written: the socket has failed, or takes nothing for now
+-- nothing was written: the socket has failed, or would block
 pub record GoesNone (old new : Slab Seat) (slot : ℕ) (before after : Option (List ℕ)) : Type 0 where
   pub kept : Keeps before after
   pub happens : Happens old new slot failed ⊎ (new ≡ old)
@@ -43,28 +43,28 @@ pub record GoesNone (old new : Slab Seat) (slot : ℕ) (before after : Option (L
 abbrev pub IsTold : Slab Seat → Slab Seat → ℕ → Option (List ℕ) → Option (List ℕ) → Type 0
 IsTold old new slot before after = Goes old new slot before after ⊎ GoesNone old new slot before after
 
--- one call of the socket for each
+-- one call of the socket each
 abbrev pub Hears : Slab Seat → Slab Seat → ℕ → Type 0
 Hears old new slot = (before : Option (List ℕ)) × ((after : Option (List ℕ)) × IsHeard old new slot before after)
 
 abbrev pub Tells : Slab Seat → Slab Seat → ℕ → Type 0
 Tells old new slot = (before : Option (List ℕ)) × ((after : Option (List ℕ)) × IsTold old new slot before after)
 
--- what has come is heard, and then what is left to tell is told
+-- what has come is read, and then what is left of the answer is written
 abbrev pub Serves : Slab Seat → Slab Seat → ℕ → Type 0
 Serves old new slot = (mid : Slab Seat) × (Hears old mid slot × Tells mid new slot)
 
--- for whoever has a socket
+-- for a slot with a socket
 abbrev pub ServesAt : Option (Option UnixStream) → Slab Seat → Slab Seat → ℕ → Type 0
 ServesAt (Some (Some stream)) old new slot = Serves old new slot
 ServesAt (Some None) old new slot = new ≡ old
 ServesAt None old new slot = new ≡ old
 
--- what was asked for is done
+-- the answer to a command that was carried out
 abbrev pub done_text : List ℕ
 done_text = lines_text (ok_line ∷ [])
 
--- that is told, where it is to be and there is memory for it, and then what is left to tell
+-- that is answered, if it is due and there is memory for it, and then what is left is written
 abbrev pub TellsDone : Bool → Slab Seat → Slab Seat → ℕ → Type 0
 TellsDone true old mid slot = Happens old mid slot (told done_text) ⊎ (mid ≡ old)
 TellsDone false old mid slot = mid ≡ old
@@ -72,37 +72,37 @@ TellsDone false old mid slot = mid ≡ old
 abbrev pub TellsLast : Bool → Option (Option UnixStream) → Slab Seat → Slab Seat → ℕ → Type 0
 TellsLast done place old new slot = (mid : Slab Seat) × (TellsDone done old mid slot × ServesAt place mid new slot)
 
--- somebody's socket is at this place
+-- a socket is at this place
 abbrev pub IsOpen : List (Option UnixStream) → ℕ → Type 0
 IsOpen streams slot = (stream : UnixStream) × (slice_get streams slot ≡ Some (Some stream))
 
--- somebody came whose line is still to come, with the socket at the slot's place; the others stay
+-- a caller came whose line is still to come, with the socket at the slot's place; the others stay
 pub record Admits (now number : ℕ) (old new : Slab Seat) (before after : List (Option UnixStream)) : Type 0 where
   pub slot : ℕ
   pub came : IsNew now number old new slot (asking at_start)
   pub placed : IsOpen after slot
   pub others : (other : ℕ) → (other ≡ slot → ⊥) → slice_get after other ≡ slice_get before other
 
--- an order is carried out or waits; there is none
+-- an order is being carried out or waits; there is none
 abbrev pub HasOrder : Callers → Type 0
 HasOrder c = IsSome (ordering_of c) ⊎ ((slot : ℕ) × IsFirst (seats_of c) true slot)
 
 abbrev pub HasNoOrder : Callers → Type 0
 HasNoOrder c = (ordering_of c ≡ None) × NobodyWaits (seats_of c) true
 
--- an order may be carried out now: one waits and none is carried out; and none may
+-- an order may be carried out now: one waits and none is being carried out; and none may
 abbrev pub IsDue : Callers → Type 0
 IsDue c = (ordering_of c ≡ None) × ((slot : ℕ) × IsFirst (seats_of c) true slot)
 
 abbrev pub IsIdle : Callers → Type 0
 IsIdle c = IsSome (ordering_of c) ⊎ NobodyWaits (seats_of c) true
 
--- how long to wait: no time where something is to be done there, and a tenth of a second at the most while somebody is there
+-- how long to wait: no time if something is to be done for callers, and at most a tenth of a second while there are any
 abbrev pub patience_with : ℕ → Bool → Bool → ℕ
 patience_with patience due callers = if due then 0 else if callers then min patience 100 else patience
 
 -- how many connections are in each stage
-pub record IsCounted (s : State) (t : Standing) : Type 0 where
+pub record IsCounted (s : State) (t : ConnectionCounts) : Type 0 where
   pub reading : t.reading ≡ count_in counted.Reading (slots_of s.connections)
   pub waiting : t.waiting ≡ count_in counted.Waiting (slots_of s.connections)
   pub answering : t.answering ≡ count_in counted.Answering (slots_of s.connections)
@@ -111,5 +111,5 @@ pub record IsCounted (s : State) (t : Standing) : Type 0 where
   pub ending : t.ending ≡ count_in counted.Ending (slots_of s.connections)
 
 -- how many these are
-abbrev pub sum_of : Standing → ℕ
+abbrev pub sum_of : ConnectionCounts → ℕ
 sum_of t = t.reading + t.waiting + t.answering + t.confirming + t.writing + t.ending

@@ -1,4 +1,5 @@
--- A message in a datagram (RFC 3244 section 2: without the length that it has over TCP) as a connection of this message alone.
+-- A message in a datagram (RFC 3244 section 2: without the length that it has over TCP), as a connection of this
+-- message alone.
 use Rattle.std.specs.Prelude.{◌≡◌, ℕ, ◌⊎◌, List, length, drop, Option, Some}
 use Rattle.std.specs.Int.{to_be_bytes, w32}
 use Rattle.slab.specs.Slab.{Slab, get}
@@ -7,10 +8,10 @@ use Rattle.chpw_connections.specs.Stages.{came, ended, failed}
 use Rattle.chpw_connections.specs.Sets.{IsNew, queued_at, stage_at}
 use Rattle.chpw_connections.specs.Room.{HappensWithRoom, for_message}
 use Rattle.chpw_connections.specs.Waiting.{waits_for}
-use Rattle.chpw_connections.specs.declared.bounds.Bounds.{Bounds}
+use Rattle.chpw_connections.specs.declared.limits.ConnectionLimits.{ConnectionLimits}
 use Rattle.chpw_connections.specs.declared.connection.Connection.{Connection}
 
--- the length that a message has before it over TCP
+-- the length that precedes a message over TCP
 abbrev pub length_before : List ℕ → List ℕ
 length_before message = to_be_bytes w32 (length message)
 
@@ -18,9 +19,10 @@ length_before message = to_be_bytes w32 (length message)
 abbrev pub in_datagram : List ℕ → List ℕ
 in_datagram reply = drop 4 reply
 
--- A new connection of this peer, of which its length came and then the message, each as over TCP; with them it waits for
--- this worker, as the very bytes that it would be over TCP.
-pub record TakesDatagram (b : Bounds) (now : ℕ) (peer : List ℕ) (number : ℕ) (message : List ℕ) (old new : Slab Connection) (slot worker workers : ℕ) : Type 0 where
+-- A new connection of this peer, of which the length came and then the message, each as over TCP; with them it waits
+-- for this worker, as the very bytes that it would be over TCP.
+pub record TakesDatagram (b : ConnectionLimits) (now : ℕ)
+    (peer : List ℕ) (number : ℕ) (message : List ℕ) (old new : Slab Connection) (slot worker workers : ℕ) : Type 0 where
   pub accepted : Slab Connection
   pub begun : Slab Connection
   pub is_new : IsNew peer now number old accepted slot
@@ -29,7 +31,7 @@ pub record TakesDatagram (b : Bounds) (now : ℕ) (peer : List ℕ) (number : �
   pub waits : queued_at (get new slot) ≡ Some (sent message)
   pub is_for : waits_for workers (get new slot) ≡ Some worker
 
--- it is as it was, or it has ended to make room
+-- it is unchanged, or it has ended to make room
 abbrev pub StaysOrEnds : Option Connection → Option Connection → Type 0
 StaysOrEnds old new = (new ≡ old) ⊎ (stage_at new ≡ Some ended)
 
@@ -37,12 +39,12 @@ StaysOrEnds old new = (new ≡ old) ⊎ (stage_at new ≡ Some ended)
 abbrev pub DropsDatagram : Slab Connection → Slab Connection → Type 0
 DropsDatagram old new = (slot : ℕ) → StaysOrEnds (get old slot) (get new slot)
 
--- what is said of the two pieces that it comes in: bytes came, or without room or memory for them it ended
-abbrev pub CameOrFailed : Bounds → ℕ → Slab Connection → Slab Connection → ℕ → List ℕ → Type 0
+-- each of the two pieces of a datagram: bytes came, or without room or memory for them it ended
+abbrev pub CameOrFailed : ConnectionLimits → ℕ → Slab Connection → Slab Connection → ℕ → List ℕ → Type 0
 CameOrFailed b now old new slot bytes =
     HappensWithRoom (for_message b now (get old slot)) now old new slot (came bytes)
     ⊎ HappensWithRoom (for_message b now (get old slot)) 0 old new slot failed
 
 -- or nothing was read
-abbrev pub CameIfRead : Bounds → ℕ → Slab Connection → Slab Connection → ℕ → List ℕ → Type 0
+abbrev pub CameIfRead : ConnectionLimits → ℕ → Slab Connection → Slab Connection → ℕ → List ℕ → Type 0
 CameIfRead b now old new slot bytes = (new ≡ old) ⊎ CameOrFailed b now old new slot bytes

@@ -3,14 +3,14 @@ use Rattle.std.specs.Prelude.{◌≡◌, ℕ, ◌<◌, ◌⊎◌, List, length, 
 use Rattle.std.specs.List.{list_any}
 use Rattle.std.specs.Str.{bytes_eq}
 use Rattle.slab.specs.Slab.{Slab}
-use Rattle.chpw_connections.specs.declared.bounds.Bounds.{Bounds}
+use Rattle.chpw_connections.specs.declared.limits.ConnectionLimits.{ConnectionLimits}
 use Rattle.chpw_connections.specs.declared.connection.Connection.{Connection}
-use Rattle.chpw_datagrams.specs.Answers.{Answer, reply_for, behind_keep}
+use Rattle.chpw_datagrams.specs.Answers.{Answer, reply_for, after_keep}
 use Rattle.chpw_datagrams.specs.Senders.{is_answered, is_same_sender}
 use Rattle.chpw_datagrams.specs.declared.sender.Sender.{Sender}
 use Rattle.chpw_pool.specs.Datagrams.{TakesDatagram}
-use Rattle.chpw_pool.specs.declared.sockets.Place.{Place}
-use Rattle.chpw_pool.specs.declared.sockets.Place.TheVariants as place
+use Rattle.chpw_pool.specs.declared.sockets.Transport.{Transport}
+use Rattle.chpw_pool.specs.declared.sockets.Transport.TheVariants as place
 use Rattle.chpw_pool.specs.declared.udp.Datagram.{Datagram}
 use Rattle.chpw_pool.specs.declared.udp.Datagrams.{Datagrams}
 
@@ -18,30 +18,30 @@ use Rattle.chpw_pool.specs.declared.udp.Datagrams.{Datagrams}
 abbrev pub is_same_datagram : Sender → List ℕ → Datagram → Bool
 is_same_datagram sender message d = is_same_sender d.sender sender && bytes_eq d.message.items message
 
-abbrev pub is_at : Sender → List ℕ → Option Place → Bool
+abbrev pub is_at : Sender → List ℕ → Option Transport → Bool
 is_at sender message None = false
 is_at sender message (Some (place.Stream socket)) = false
 is_at sender message (Some (place.Datagram d)) = is_same_datagram sender message d
 
--- the same datagram of the same sender is being answered: its answer will come
-abbrev pub is_under_way : List (Option Place) → Sender → List ℕ → Bool
+-- the same datagram of the same sender is being answered
+abbrev pub is_under_way : List (Option Transport) → Sender → List ℕ → Bool
 is_under_way places sender message = list_any (is_at sender message) places
 
--- it is to be answered, and wasn't within the last five seconds
+-- it is answerable, and has no kept reply
 abbrev pub is_unanswered : Datagrams → Sender → List ℕ → ℕ → Bool
 is_unanswered d sender message now = is_answered d.port sender message && is_none (reply_for d.answered sender message now)
 
--- it is decided: no other one is
-abbrev pub is_decided : Datagrams → List (Option Place) → Sender → List ℕ → ℕ → Bool
+-- it is decided; no other one is
+abbrev pub is_decided : Datagrams → List (Option Transport) → Sender → List ℕ → ℕ → Bool
 is_decided d places sender message now = is_unanswered d sender message now && not (is_under_way places sender message)
 
 -- at this place is a datagram of this sender with this message: its reply goes to that sender
-abbrev pub IsPlaced : List (Option Place) → ℕ → Sender → List ℕ → Type 0
+abbrev pub IsPlaced : List (Option Transport) → ℕ → Sender → List ℕ → Type 0
 IsPlaced places slot sender message =
     (d : Datagram) × (slice_get places slot ≡ Some (Some (place.Datagram d))) × (d.sender ≡ sender) × (d.message.items ≡ message)
 
 -- a datagram waits for this worker as a connection whose place it has; the other places stay
-pub record IsQueued (sender : Sender) (message : List ℕ) (before after : List (Option Place)) (b : Bounds) (now number : ℕ)
+pub record IsQueued (sender : Sender) (message : List ℕ) (before after : List (Option Transport)) (b : ConnectionLimits) (now number : ℕ)
     (old new : Slab Connection) (worker workers : ℕ) : Type 0 where
   pub slot : ℕ
   pub taken : TakesDatagram b now sender.address number message old new slot worker workers
@@ -49,13 +49,14 @@ pub record IsQueued (sender : Sender) (message : List ℕ) (before after : List 
   pub others : (other : ℕ) → (other ≡ slot → ⊥) → slice_get after other ≡ slice_get before other
 
 -- a datagram that is to be decided waits for this worker
-pub record Queues (d : Datagrams) (before after : List (Option Place)) (b : Bounds) (now number : ℕ) (old new : Slab Connection) (worker workers : ℕ) : Type 0 where
+pub record Queues (d : Datagrams) (before after : List (Option Transport))
+    (b : ConnectionLimits) (now number : ℕ) (old new : Slab Connection) (worker workers : ℕ) : Type 0 where
   pub sender : Sender
   pub message : List ℕ
   pub decided : is_decided d before sender message now ≡ true
   pub queued : IsQueued sender message before after b now number old new worker workers
 
--- this reply is kept for whoever sends the same again, or nothing is, without memory for it
+-- this reply is kept for the case that the same datagram comes again, or nothing is, without memory for it
 abbrev pub KeepsReply : List Answer → List Answer → Sender → List ℕ → List ℕ → ℕ → Type 0
 KeepsReply old new sender message reply now =
-    (new ≡ behind_keep old (record { sender = sender; message = message; reply = reply; moment = now })) ⊎ (new ≡ old)
+    (new ≡ after_keep old (record { sender = sender; message = message; reply = reply; moment = now })) ⊎ (new ≡ old)

@@ -4,31 +4,31 @@ use Rattle.slab.specs.Slab.{Slab, get}
 use Rattle.chpw_connections.specs.Confirming.{Confirms, ReleasesOverdue, NoneIsOverdue}
 use Rattle.chpw_connections.specs.declared.confirming.Unconfirmed.{Unconfirmed}
 use Rattle.chpw_connections.specs.declared.connection.Connection.{Connection}
-use Rattle.chpw_follower.specs.Asks.{State, has_mark, behind_want, asks_now}
+use Rattle.chpw_follower.specs.Asks.{State, has_mark, after_want, asks_now}
 use Rattle.chpw_pool.specs.declared.worker.Reply.{Reply}
 
--- how much of the journal the KDC has to have before the reply to a change goes out: nothing, where there is no change, or
--- the follower has said that it has as much
+-- how much of the journal the KDC has to have before the reply to a change is written: none, if there is no change, or
+-- the follower has confirmed as much
 abbrev pub awaited : State → Option ℕ → Option ℕ
 awaited s None = None
 awaited s (Some mark) = if has_mark s mark then None else Some mark
 
--- what is asked behind a reply that waits for this
-abbrev pub asking_behind : Option ℕ → Option Reply → State → State
-asking_behind None reply s = s
-asking_behind (Some mark) None s = s
-asking_behind (Some mark) (Some r) s = behind_want s mark
+-- what is asked after a reply that waits for this
+abbrev pub asking_after : Option ℕ → Option Reply → State → State
+asking_after None reply s = s
+asking_after (Some mark) None s = s
+asking_after (Some mark) (Some r) s = after_want s mark
 
--- the replies that wait for no more than was confirmed are to be written; where nothing was, all is as it was
+-- the replies that need no more than was confirmed are to be written; if nothing was, nothing changes
 abbrev pub Releases : Option ℕ → ℕ → Slab Connection → Slab Connection → Type 0
 Releases None now old new = new ≡ old
 Releases (Some mark) now old new = (slot : ℕ) → Confirms mark now (get old slot) (get new slot)
 
--- an answer of the follower's is due, or something is to be asked
+-- an answer of the follower is due, or something is to be asked
 abbrev pub is_waited_for : State → Bool
 is_waited_for s = is_some s.asked || asks_now s
 
--- a reply that has waited for so long is to be written; or there is none
+-- a reply that has waited this long is to be written; or there is none
 abbrev pub ReleasesOne : ℕ → ℕ → Slab Connection → Slab Connection → Option Unconfirmed → Type 0
 ReleasesOne wait now old new None = NoneIsOverdue wait now old
 ReleasesOne wait now old new (Some u) = ReleasesOverdue wait now old new u.peer u.mark

@@ -1,4 +1,4 @@
--- How many connections a pool has served that was to serve so many, and whose.
+-- How many connections a pool has served that was to serve this many, and a peer's address.
 use Rattle.std.specs.Prelude.{◌≡◌, ◌<◌, ℕ, List, [], ◌∷◌, Option, Some, None, ◌⊎◌}
 use Rattle.std.specs.Net.Addr.{ipv4_octets}
 use Rattle.std.specs.Net.Socket.{v4_ip}
@@ -8,8 +8,8 @@ use Rattle.chpw_pool.specs.declared.pool.Pool.{Pool}
 use Rattle.chpw_pool.specs.declared.pool.PoolFault.{PoolFault}
 use Rattle.chpw_pool.specs.declared.pool.PoolFault.TheVariants.{Accept, Start, Memory}
 
--- all, where nothing went wrong; else those before the listener couldn't go on, and none where a thread or
--- what watches the sockets is missing, or memory
+-- all, if nothing went wrong; otherwise those before the listener failed, and none if a thread, what watches the
+-- sockets, or memory is missing
 abbrev pub IsCount : ℕ → ℕ → Option PoolFault → Type 0
 IsCount wanted served None = served ≡ wanted
 IsCount wanted served (Some Accept) = served < wanted
@@ -19,7 +19,7 @@ IsCount wanted served (Some Memory) = served ≡ 0
 abbrev pub Ends : ℕ → Pool → Type 0
 Ends wanted pool = IsCount wanted pool.served pool.fault
 
--- the IPv4 address of a peer, high byte first; that of no host where its address is another one
+-- the IPv4 address of a peer, high byte first; 0.0.0.0 if its address is of another kind
 abbrev pub peer_in : SocketAddr → List ℕ
 peer_in (V4 address) = ipv4_octets (v4_ip address)
 peer_in (V6 address) = 0 ∷ 0 ∷ 0 ∷ 0 ∷ []

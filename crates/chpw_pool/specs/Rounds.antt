@@ -1,4 +1,4 @@
--- When whoever has the sockets looks at which of them.
+-- Which sockets the reactor handles, and when.
 use Rattle.std.specs.Prelude.{ℕ, Bool, true, false, not, ◌||◌, ◌&&◌, ◌==◌, nat_le, nat_lt, length, if◌then◌else◌}
 use Rattle.slab.specs.Slab.{slab_len}
 use Rattle.chpw_connections.specs.Held.{slots_of, accepted_by, changed_of}
@@ -10,7 +10,7 @@ use Rattle.chpw_follower.specs.Asks.{asks_now}
 use Rattle.chpw_pool.specs.Following.{is_waited_for}
 use Rattle.chpw_pool.specs.declared.state.State.{State}
 
--- there is something to do for a connection of which nothing was reported: to read, where there was no room
+-- something is to be done for a connection although nothing was reported: to read, if there was no room
 abbrev pub is_looked_at : Bool → Todo → Bool
 is_looked_at reads (todo.Read n) = reads
 is_looked_at reads todo.Write = true
@@ -21,15 +21,15 @@ is_looked_at reads todo.Wait = false
 abbrev pub has_none : State → Bool
 has_none s = slab_len (slots_of s.connections) == 0
 
--- all that were to be accepted were, or no more can be
+-- all connections that were to be accepted were, or no more can be
 abbrev pub has_all : ℕ → Accepting → State → Bool
 has_all wanted accepting s = nat_le wanted (accepted_by s.connections) || has_failed accepting
 
--- and each has ended; or nobody is there to answer
+-- and each has ended; or nobody is left to answer
 abbrev pub is_finished : ℕ → Accepting → State → Bool
 is_finished wanted accepting s = s.is_deserted || (has_all wanted accepting s && has_none s)
 
--- and whoever is at the control socket has no order under way
+-- and no caller at the control socket has an order under way
 abbrev pub is_done : ℕ → Accepting → Bool → State → Bool
 is_done wanted accepting orders s = s.is_deserted || (has_all wanted accepting s && has_none s && not orders)
 
@@ -38,13 +38,13 @@ abbrev pub is_reading : Todo → Bool
 is_reading (todo.Read n) = true
 is_reading other = false
 
--- connections have ended, or want to be looked at again; a client waits for room; or the follower is to be asked
+-- connections have ended, or are noted; a client waits for room; or the follower is to be asked
 abbrev pub wants_reactor : State → Bool
 wants_reactor s = s.has_newcomer || (nat_lt 0 (length (changed_of s.connections)) || asks_now s.asking)
 
--- Where there is something to do at once nothing is waited for, and a second where no connection is there and none can be
--- accepted before the listener is reported. Else a tenth of a second: then time may be up for some; and less while replies
--- wait for the follower.
+-- No time if there is something to do at once, and a second if there is no connection and none can be accepted before
+-- the listener is reported. Otherwise a tenth of a second, after which the time of some may be up, and less while
+-- replies wait for the follower.
 abbrev pub milliseconds_to_wait : Bool → Accepting → State → ℕ
 milliseconds_to_wait can_accept accepting s =
     if can_accept || nat_lt 0 (length (changed_of s.connections)) then 0

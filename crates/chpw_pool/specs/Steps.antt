@@ -1,12 +1,12 @@
--- What a read or a write at its socket does to a connection. The bytes that a reader has left, and those that a
--- writer holds, are told where they are known.
+-- What a read or a write at its socket does to a connection, about the bytes that a reader has left and those that a
+-- writer holds, if they are known.
 use Rattle.std.specs.Prelude.{◌≡◌, ℕ, ◌≤◌, List, length, take, Option, Some, None, Bool, true, ◌&&◌, MatchBool, if◌then◌else◌, ◌⊎◌}
 use Rattle.std.specs.Io.KnownBytes.{Appends, Consumes, Keeps}
 use Rattle.slab.specs.Slab.{Slab, get, Updates}
 use Rattle.chpw_connections.specs.Stages.{Event, came, replied, deferred, unanswered, wrote, closed, failed}
 use Rattle.chpw_connections.specs.Sets.{Happens, wanted_at, left_at, is_answering_in}
 use Rattle.chpw_connections.specs.Room.{HappensWithRoom, has_room_besides, for_message, for_reply}
-use Rattle.chpw_connections.specs.declared.bounds.Bounds.{Bounds}
+use Rattle.chpw_connections.specs.declared.limits.ConnectionLimits.{ConnectionLimits}
 use Rattle.chpw_connections.specs.declared.connection.Connection.{Connection}
 use Rattle.chpw_connections.specs.Todos.{todo_in}
 use Rattle.chpw_connections.specs.declared.todo.Todo.{Todo}
@@ -16,7 +16,7 @@ use Rattle.chpw_pool.specs.declared.worker.Reply.{Reply}
 
 -- these bytes were read, no more than were wanted, and came to the connection; without room or memory for them it
 -- ended
-pub record Takes (b : Bounds) (now : ℕ) (old new : Slab Connection) (slot : ℕ) (before after : Option (List ℕ)) : Type 0 where
+pub record Takes (b : ConnectionLimits) (now : ℕ) (old new : Slab Connection) (slot : ℕ) (before after : Option (List ℕ)) : Type 0 where
   pub bytes : List ℕ
   pub few : length bytes ≤ wanted_at (get old slot)
   pub read : Consumes before after bytes
@@ -28,27 +28,28 @@ pub record TakesNone (old new : Slab Connection) (slot : ℕ) (before after : Op
   pub kept : Keeps before after
   pub happens : Happens 0 old new slot closed ⊎ (Happens 0 old new slot failed ⊎ (new ≡ old))
 
--- what was read behind the last reply is let go
+-- what was read after the last reply is discarded
 pub record LetsGo (old new : Slab Connection) (before after : Option (List ℕ)) : Type 0 where
   pub bytes : List ℕ
   pub read : Consumes before after bytes
   pub same : new ≡ old
 
--- so many of the bytes that are left of its reply were written, from the front
+-- some of the bytes that are left of its reply were written, from the front
 pub record Gives (now : ℕ) (old new : Slab Connection) (slot : ℕ) (before after : Option (List ℕ)) : Type 0 where
   pub count : ℕ
   pub written : Appends before after (take count (left_at (get old slot)))
   pub happens : Happens now old new slot (wrote count)
 
--- nothing was written: the socket has failed, or takes nothing for now
+-- nothing was written: the socket has failed, or would block
 pub record GivesNone (old new : Slab Connection) (slot : ℕ) (before after : Option (List ℕ)) : Type 0 where
   pub kept : Keeps before after
   pub happens : Happens 0 old new slot failed ⊎ (new ≡ old)
 
 -- What one call of its socket does for a connection: what is to be done for it, or nothing. To a message that came in a
--- datagram no more bytes come: its other side has ended as soon as its reply is out.
-abbrev pub Reads : Bounds → ℕ → Slab Connection → Slab Connection → ℕ → Type 0
-Reads b now old new slot = (before : Option (List ℕ)) × ((after : Option (List ℕ)) × (Takes b now old new slot before after ⊎ TakesNone old new slot before after))
+-- datagram no more bytes come: its other side has ended as soon as its reply is sent.
+abbrev pub Reads : ConnectionLimits → ℕ → Slab Connection → Slab Connection → ℕ → Type 0
+Reads b now old new slot = (before : Option (List ℕ))
+    × ((after : Option (List ℕ)) × (Takes b now old new slot before after ⊎ TakesNone old new slot before after))
 
 abbrev pub Writes : ℕ → Slab Connection → Slab Connection → ℕ → Type 0
 Writes now old new slot = (before : Option (List ℕ)) × ((after : Option (List ℕ)) × (Gives now old new slot before after ⊎ GivesNone old new slot before after))
@@ -56,7 +57,7 @@ Writes now old new slot = (before : Option (List ℕ)) × ((after : Option (List
 abbrev pub Drains : Slab Connection → Slab Connection → ℕ → Type 0
 Drains old new slot = (before : Option (List ℕ)) × ((after : Option (List ℕ)) × (LetsGo old new before after ⊎ TakesNone old new slot before after))
 
-abbrev pub Steps : Bounds → ℕ → Todo → Slab Connection → Slab Connection → ℕ → Type 0
+abbrev pub Steps : ConnectionLimits → ℕ → Todo → Slab Connection → Slab Connection → ℕ → Type 0
 Steps b now (todo.Read n) old new slot = Reads b now old new slot ⊎ (new ≡ old)
 Steps b now todo.Write old new slot = Writes now old new slot ⊎ (new ≡ old)
 Steps b now todo.Linger old new slot = Drains old new slot ⊎ (new ≡ old)
@@ -64,34 +65,34 @@ Steps b now todo.Close old new slot = Updates old new slot None
 Steps b now todo.Wait old new slot = new ≡ old
 
 -- one after the other
-pub data RunsTo (b : Bounds) (now slot : ℕ) : Slab Connection → Slab Connection → Type 0 where
+pub data RunsTo (b : ConnectionLimits) (now slot : ℕ) : Slab Connection → Slab Connection → Type 0 where
   stays : {s : Slab Connection} → RunsTo b now slot s s
   goes : {old mid new : Slab Connection} → RunsTo b now slot old mid → Steps b now (todo_in (get mid slot)) mid new slot
       → RunsTo b now slot old new
 
--- A worker's reply is to be written where there is room for it, and its connection waits for it; without one, or without
+-- A worker's reply is to be written if there is room for it and its connection waits for it; without one, or without
 -- room for it, the connection ends.
-abbrev pub can_reply : Bounds → ℕ → Slab Connection → ℕ → Reply → Bool
+abbrev pub can_reply : ConnectionLimits → ℕ → Slab Connection → ℕ → Reply → Bool
 can_reply b now old slot r = has_room_besides b.bytes (for_reply now) old slot (length r.bytes.items) && is_answering_in (get old slot)
 
--- where it waits until the KDC has so many bytes of the journal, not before
+-- if it waits until the KDC has the journal up to a mark, not before that
 abbrev pub reply_event : Option ℕ → Reply → Event
 reply_event None r = replied r.bytes.items r.is_last
 reply_event (Some mark) r = deferred r.bytes.items r.is_last mark
 
-abbrev pub IsAnswered : Bounds → ℕ → Option ℕ → Option Reply → Slab Connection → Slab Connection → ℕ → Type 0
+abbrev pub IsAnswered : ConnectionLimits → ℕ → Option ℕ → Option Reply → Slab Connection → Slab Connection → ℕ → Type 0
 IsAnswered b now mark None old new slot = Happens now old new slot unanswered
 IsAnswered b now mark (Some r) old new slot = MatchBool (can_reply b now old slot r)
     (HappensWithRoom (for_reply now) now old new slot (reply_event mark r)) (Happens now old new slot unanswered)
 
 -- and then one thing is done after the other
-abbrev pub Answers : Bounds → ℕ → Option ℕ → Option Reply → Slab Connection → Slab Connection → ℕ → Type 0
+abbrev pub Answers : ConnectionLimits → ℕ → Option ℕ → Option Reply → Slab Connection → Slab Connection → ℕ → Type 0
 Answers b now mark reply old new slot = (mid : Slab Connection) × (IsAnswered b now mark reply old mid slot × RunsTo b now slot mid new)
 
 -- there was no room for messages of this kind
 abbrev pub is_short_for : Bool → Shortage → Bool
 is_short_for large s = if large then s.of_large else s.of_small
 
--- and from now on there isn't
+-- from now on there is no room for messages of this kind
 abbrev pub short_of : Bool → Shortage → Shortage
 short_of large s = if large then record s { of_large = true } else record s { of_small = true }

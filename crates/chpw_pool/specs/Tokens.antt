@@ -1,11 +1,11 @@
--- What is reported by which token.
+-- What a token reports.
 use Rattle.std.specs.Prelude.{ℕ, ◌-◌, ◌^◌, ◌==◌, nat_lt, if◌then◌else◌}
-use Rattle.chpw_pool.specs.declared.tokens.Reported.{Reported}
-use Rattle.chpw_pool.specs.declared.tokens.Reported.TheVariants.{Listener, Follower, Datagrams, Connection, Control}
+use Rattle.chpw_pool.specs.declared.tokens.EventSource.{EventSource}
+use Rattle.chpw_pool.specs.declared.tokens.EventSource.TheVariants.{Listener, Follower, Datagrams, Connection, Control}
 
--- Three have the greatest numbers but one, which is a wake's; connections have the numbers of their slots; all others are the
--- control socket's, and who is there.
-abbrev pub reported_by : ℕ → ℕ → Reported
+-- Listener, follower and datagram socket have the three greatest numbers besides that of a wake; connections have the
+-- numbers of their slots; all others are the control socket's, its callers' or a wake's.
+abbrev pub reported_by : ℕ → ℕ → EventSource
 reported_by token connections =
     if token == 2 ^ 64 - 1 then Listener
     else if token == 2 ^ 64 - 3 then Follower

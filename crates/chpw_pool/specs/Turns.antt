@@ -1,4 +1,4 @@
--- What a worker answers to one message, and when a history is full behind it.
+-- What a worker answers to one message, and when a history is full after it.
 use Rattle.std.specs.Prelude.{◌≡◌, ℕ, ◌+◌, ◌-◌, List, Bool, true, false, Option, Some, None, IsSomeAnd, nat_le, nat_lt, ◌&&◌, length, slice_get}
 use Rattle.chpw_serve.specs.declared.serving.Ended.{Ended}
 use Rattle.chpw_serve.specs.declared.serving.Ended.TheVariants as end
@@ -9,14 +9,14 @@ use Rattle.chpw_pool.specs.declared.worker.Reply.{Reply}
 abbrev pub IsReplyWith : List ℕ → Bool → Option Reply → Type 0
 IsReplyWith bytes last reply = IsSomeAnd reply (λ r. (r.bytes.items ≡ bytes) × (r.is_last ≡ last))
 
--- what goes out of these bytes, written for a message whose stream ended so: behind a message that was too long the
--- connection ends; a reply that isn't whole doesn't go out
+-- the reply to a message whose stream ended so, after these bytes were written for it: after a message that was too
+-- long the connection ends; a reply that isn't whole isn't sent
 abbrev pub IsReplyBehind : Ended → List ℕ → Option Reply → Type 0
 IsReplyBehind end.Input bytes reply = IsReplyWith bytes false reply
 IsReplyBehind end.TooLong bytes reply = IsReplyWith bytes true reply
 IsReplyBehind e bytes reply = reply ≡ None
 
--- this receipt is of the last of so many entries
+-- this receipt is of the last entry for which there is room
 abbrev pub is_last_of : Option Receipt → Option ℕ → Bool
 is_last_of None room = false
 is_last_of (Some r) None = false
@@ -30,6 +30,6 @@ abbrev pub is_of_change : Option Receipt → Bool
 is_of_change None = false
 is_of_change (Some r) = is_accepted r.entry.event
 
--- there is one more than so many, and the newest is of a change
-abbrev pub has_changed_behind : ℕ → List Receipt → Bool
-has_changed_behind before receipts = nat_lt before (length receipts) && is_of_change (slice_get receipts (length receipts - 1))
+-- there is one more than before, and the newest is of a change
+abbrev pub has_changed_after : ℕ → List Receipt → Bool
+has_changed_after before receipts = nat_lt before (length receipts) && is_of_change (slice_get receipts (length receipts - 1))

@@ -5,26 +5,26 @@ ghost use Rattle.chpw_pool.specs.Accepting.{is_passing as passing};
 
 use std::io::Error;
 
-/// After how many milliseconds an accept that failed is tried again.
+/// The milliseconds after which an accept that failed is tried again.
 pub(crate) const PAUSE: u64 = 100;
 
 /// Whether a connection may be accepted. Moments are milliseconds.
 #[derive(Clone, Copy, PartialEq, Eq, Debug, Drop)]
 pub(crate) enum Accepting {
-    /// There may be one.
+    /// Accept the next one.
     Ready,
-    /// There is none before the listener is reported.
+    /// Wait until the listener is reported.
     Waiting,
     /// An accept failed, and is tried again at this moment.
     Paused(u64),
-    /// The listener can't go on.
+    /// The listener has failed for good.
     Failed,
 }
 
 impl Accepting {
-    ghost use Rattle.chpw_pool.specs.Accepting.{reported, resumed, behind_fault, is_waiting, has_failed};
+    ghost use Rattle.chpw_pool.specs.Accepting.{reported, resumed, after_fault, is_waiting, has_failed};
 
-    /// Once the listener was reported.
+    /// After the listener was reported.
     pub fn reported(self) -> Accepting
         ensures value { result ≡ reported self }
     {
@@ -34,7 +34,7 @@ impl Accepting {
         }
     }
 
-    /// As soon as it is this moment.
+    /// After time has passed up to this moment.
     pub fn resumed(self, now: u64) -> Accepting
         ensures value { result ≡ resumed now self }
     {
@@ -44,9 +44,9 @@ impl Accepting {
         }
     }
 
-    /// Behind a fault of an accept, at this moment: one that would have waited, one that may pass, or another one.
-    pub fn behind_fault(would_wait: bool, may_pass: bool, now: u64) -> Accepting
-        ensures value { result ≡ behind_fault would_wait may_pass now }
+    /// After a fault of an accept, at this moment: one that would have blocked, one that may pass, or another one.
+    pub fn after_fault(would_wait: bool, may_pass: bool, now: u64) -> Accepting
+        ensures value { result ≡ after_fault would_wait may_pass now }
     {
         if would_wait {
             Accepting::Waiting
@@ -57,14 +57,14 @@ impl Accepting {
         }
     }
 
-    /// Whether there is none before the listener is reported.
+    /// Whether nothing is accepted before the listener is reported.
     pub fn is_waiting(self) -> bool
         ensures value { result ≡ is_waiting self }
     {
         matches!(self, Accepting::Waiting)
     }
 
-    /// Whether the listener can't go on.
+    /// Whether the listener has failed for good.
     pub fn has_failed(self) -> bool
         ensures value { result ≡ has_failed self }
     {
@@ -72,25 +72,25 @@ impl Accepting {
     }
 }
 
-/// What accept(2) of Linux gives where a signal came in between.
+/// accept(2) of Linux: a signal interrupted it.
 pub(crate) const EINTR: i32 = 4;
 
-/// Where memory is short.
+/// accept(2): memory is short.
 pub(crate) const ENOMEM: i32 = 12;
 
-/// Where the system has too many open files.
+/// accept(2): the system has too many open files.
 pub(crate) const ENFILE: i32 = 23;
 
-/// Where this process has.
+/// accept(2): this process has too many open files.
 pub(crate) const EMFILE: i32 = 24;
 
-/// Where the connection ended before it was accepted.
+/// accept(2): the connection ended before it was accepted.
 pub(crate) const ECONNABORTED: i32 = 103;
 
-/// Where memory for sockets is short.
+/// accept(2): memory for sockets is short.
 pub(crate) const ENOBUFS: i32 = 105;
 
-/// Whether an accept that failed so may do better in a moment.
+/// Whether an accept that failed so may succeed a moment later.
 pub(crate) fn is_passing(error: &Error) -> bool
     ensures value { result ≡ passing (raw_os_error error.now) }
 {

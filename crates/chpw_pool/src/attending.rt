@@ -2,12 +2,12 @@
 ghost use Rattle.std.specs.Prelude.{◌≡◌, ◌&&◌, is_some, false, true, None};
 ghost use Rattle.chpw_pool.specs.Controlling.{patience_with};
 
-use crate::attendant::Attendant;
 use crate::control::CALLERS;
 use crate::engine::milliseconds;
 use crate::follower::Follower;
 use crate::reactor::Reactor;
 use crate::state::TICK;
+use crate::status_reporter::StatusReporter;
 use crate::tokens::CONTROL;
 use chpw_control::Command;
 use mio::net::{UnixListener, UnixStream};
@@ -21,16 +21,16 @@ use std::time::Clock;
 /// How many bytes of a line are read at once.
 const BUFFER: usize = 1_024;
 
-/// The control socket, where there is one.
+/// The control socket, if there is one.
 #[derive(Drop)]
 pub(crate) struct ControlPort {
     pub listener: Option<UnixListener>,
-    /// Whether there may be something to do there.
+    /// Whether there may be something to do at it.
     pub is_due: bool,
 }
 
 impl ControlPort {
-    /// Has the listener reported. One that can't be is none.
+    /// Registers the listener. One that can't be registered is dropped.
     pub fn open(listener: Option<UnixListener>, registry: &Registry) -> ControlPort
         ensures none { listener ≡ None → result.listener ≡ None }
         ensures due { result.is_due ≡ true }
@@ -52,7 +52,7 @@ impl ControlPort {
         }
     }
 
-    /// Whether there may be something to do there. From now on there isn't until more is reported.
+    /// Whether there may be something to do at it; there is nothing then until more is reported.
     pub fn take_due(&mut self) -> bool
         ensures value { result ≡ (is_some self.old.listener && self.old.is_due) }
         ensures taken { result ≡ true → self.new.is_due ≡ false }
@@ -61,7 +61,7 @@ impl ControlPort {
         self.listener.is_some() && mem::take(&mut self.is_due)
     }
 
-    // The next one who is there.
+    // The next caller to be accepted.
     fn next(&self) -> Option<UnixStream> {
         match self.listener.as_ref()?.accept() {
             Ok((stream, _)) => Some(stream),
@@ -75,10 +75,11 @@ impl<
     R: Wait + Clock,
     L: OpenListener<Stream = TcpStream> + AsRawFd,
     G,
-    F: Follower + Attendant + Drop,
+    F: Follower + StatusReporter + Drop,
 > Reactor<'a, R, L, G, F> {
-    /// Those at the control socket are accepted, heard and answered, as far as their sockets go along; whoever carries out
-    /// orders looks up. So it is whether or not the socket was reported: a report may wait behind those of many connections.
+    /// Callers at the control socket are accepted, read and answered, as far as their sockets allow without blocking;
+    /// the thread for orders is woken. This is done whether or not the socket was reported: a report may come after
+    /// those of many connections.
     pub fn attend(&mut self, registry: &Registry) {
         self.port.is_due = true;
         if self.port.take_due() {
@@ -92,14 +93,14 @@ impl<
         }
     }
 
-    /// Where the service is to end, connections that would wait for their clients end.
+    /// If the service is to stop, ends the connections that would wait for their clients.
     pub fn end_idle_where_stopping(&mut self) {
         if self.is_stopping {
             self.end_idle();
         }
     }
 
-    /// How long to wait for the next event, where it would be so long without those at the control socket.
+    /// How long to wait for the next event, if it would be this long without callers at the control socket.
     pub fn port_patience(&self, patience: u64) -> u64 {
         if self.port.listener.is_none() {
             return patience;
@@ -107,12 +108,12 @@ impl<
         patience_with(patience, self.port.is_due, self.has_callers())
     }
 
-    // Whether somebody is there.
+    // Whether there are callers.
     fn has_callers(&self) -> bool {
         !self.engine.control.lock(self.rt).callers.is_empty()
     }
 
-    // Accepts who is there, as long as there is room.
+    // Accepts new callers, as long as there is room.
     fn admit_callers(&mut self, registry: &Registry) {
         for _ in 0..CALLERS {
             let mut control = self.engine.control.lock(self.rt);
@@ -127,7 +128,7 @@ impl<
         }
     }
 
-    // Hears what they say, and ends the time for it.
+    // Reads what callers send, and ends the time for it.
     fn hear_callers(&mut self) {
         let now = milliseconds(self.rt);
         let mut buffer = [0; BUFFER];
@@ -138,7 +139,7 @@ impl<
         }
     }
 
-    // Answers how the service stands, and begins to end where that is asked for.
+    // Answers `status`, and begins to stop if that is asked for.
     fn answer_questions(&mut self) {
         for _ in 0..CALLERS {
             let question = self.engine.control.lock(self.rt).callers.next_question();
@@ -157,7 +158,7 @@ impl<
         self.engine.control.lock(self.rt).callers.answer(slot, text);
     }
 
-    // No connection is accepted from now on, and no datagram. Whoever asked for it is answered at the end.
+    // Accepts no more connections and datagrams. The caller that asked is answered at the end.
     fn stop(&mut self) {
         self.is_stopping = true;
         self.engine.control.lock(self.rt).is_stopping = true;
@@ -173,7 +174,7 @@ impl<
         }
     }
 
-    // Writes what is left to tell them, and closes the sockets of those who are over.
+    // Writes what is left of the answers, and closes the sockets of callers that are finished.
     fn let_callers_go(&mut self) {
         let mut buffer = [0; BUFFER];
         for slot in 0..CALLERS {
@@ -185,8 +186,8 @@ impl<
         }
     }
 
-    /// Tells those who asked for an end that what was under way is finished, and writes what is left to tell the others.
-    /// Their sockets are closed with the engine.
+    /// Answers `ok` to those who asked for a stop, and writes what is left to the others. Their sockets are closed with
+    /// the engine.
     pub fn tell_last(&mut self) {
         let is_deserted = self.engine.hub.lock(self.rt).state.is_deserted;
         let mut buffer = [0; BUFFER];
@@ -197,8 +198,8 @@ impl<
     }
 }
 
-// How long to wait, where it would be so long without those at the control socket: no time where something is to be done
-// there, and until the next look round at the most while somebody is there.
+// How long to wait, if it would be this long without callers: no time if something is to be done for them, and at most
+// a tenth of a second while there are any.
 fn patience_with(patience: u64, is_due: bool, has_callers: bool) -> u64
     ensures value { result ≡ patience_with patience is_due has_callers }
 {

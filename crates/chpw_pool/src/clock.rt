@@ -19,7 +19,7 @@ pub fn machine_moment<R: time::Clock>(rt: &R) -> Option<Moment>
     moment(since)
 }
 
-// The moment so long after 1970-01-01T00:00:00Z; none past the year 9999.
+// The moment this long after 1970-01-01T00:00:00Z; none past the year 9999.
 fn moment(since: Duration) -> Option<Moment>
     ensures range { IfSome result (λ m. IsMoment m × (m.micros < 1000000)) }
     ensures value { IfSome result (λ m. m ≡ moment_after (as_nanos since)) }
@@ -35,8 +35,8 @@ fn moment(since: Duration) -> Option<Moment>
     })
 }
 
-/// The machine's clock, seen as the last moment that it gave: at first 1970-01-01T00:00:00Z. Where the
-/// machine gives none, it gives that one again. Where the machine's clock goes back, so does this one.
+/// The machine's clock, seen as the last moment that it gave: at first 1970-01-01T00:00:00Z. If the machine gives none,
+/// it gives that one again. If the machine's clock goes back, so does this one.
 #[derive(Drop)]
 pub struct MachineClock<'a, R: time::Clock> {
     rt: &'a R,

@@ -1,4 +1,4 @@
-//! Those at the control socket, as the reactor and whoever carries out their orders share them.
+//! The callers at the control socket, shared by the reactor and the thread that carries out orders.
 ghost use Rattle.std.specs.Prelude.{◌≡◌, ◌≢◌, ◌⊎◌, ◌&&◌, not, ℕ, [], IfOk, length, slice_get, true, false, None};
 ghost use Rattle.slab.specs.Slab.{Slab, get, slab_len, SameValues, Updates};
 ghost use Rattle.chpw_control.specs.Callers.{asking, told, wrote};
@@ -7,32 +7,32 @@ ghost use Rattle.chpw_control.specs.declared.callers.Seat.{Seat};
 ghost use Rattle.chpw_control.specs.Seats.{Happens, IsNew, seats_of, ordering_of, accepted_of, is_over_at, left_at};
 ghost use Rattle.chpw_pool.specs.Controlling.{Admits, HasNoOrder, HasOrder, IsDue, IsHeard, IsIdle, IsOpen, IsTold, ServesAt, TellsDone, TellsLast};
 
-use crate::tokens::token_behind;
+use crate::tokens::token_after;
 use chpw_control::{Callers, put_ok};
 use mio::net::UnixStream;
 use mio::{Interest, Registry};
 use std::alloc::{AllocError, Global};
 use std::io::{ErrorKind, Read, Write};
 
-/// How many may be at the control socket at a time.
+/// The most callers at a time.
 pub(crate) const CALLERS: usize = 64;
 
-/// Those at the control socket. Their lock is their own: no worker takes it.
+/// The callers at the control socket. They have a lock of their own, which no worker takes.
 #[derive(Drop)]
 pub(crate) struct Control {
     pub callers: Callers,
     /// Their sockets, by their slots.
     pub streams: Vec<Option<UnixStream>>,
-    /// The service is to end once what is under way is finished.
+    /// The service is to stop once what is under way is finished.
     pub is_stopping: bool,
     /// No order is carried out for now.
     pub is_paused: bool,
-    /// No order is carried out any more.
+    /// No order will be carried out any more.
     pub is_over: bool,
 }
 
 impl Control {
-    /// Nobody yet.
+    /// No callers yet.
     pub fn new(alloc: Global) -> Result<Control, AllocError>
         ensures nobody { IfOk result (λ c. slab_len (seats_of c.callers) ≡ 0) }
         ensures no_order { IfOk result (λ c. ordering_of c.callers ≡ None) }
@@ -48,8 +48,8 @@ impl Control {
         })
     }
 
-    /// Somebody comes, whose token is behind those of so many connections. One whose socket can't be watched, or for whom there
-    /// is no room, is let go.
+    /// A caller comes, whose token is after those of this many connections. One whose socket can't be watched, or for
+    /// whom there is no room, is dropped.
     #[tactic(auto, using(crate::proofs::ControlLemmas::admits))]
     pub fn admit(
         &mut self,
@@ -59,7 +59,8 @@ impl Control {
         connections: usize,
         now: u64,
     )
-        ensures admitted { Admits now (accepted_of self.old.callers) (seats_of self.old.callers) (seats_of self.new.callers) self.old.streams.items self.new.streams.items
+        ensures admitted { Admits now (accepted_of self.old.callers)
+            (seats_of self.old.callers) (seats_of self.new.callers) self.old.streams.items self.new.streams.items
             ⊎ (SameValues (seats_of self.old.callers) (seats_of self.new.callers) × (self.new.streams ≡ self.old.streams)) }
         ensures ordering { ordering_of self.new.callers ≡ ordering_of self.old.callers }
         ensures same { (self.new.is_stopping ≡ self.old.is_stopping) × (self.new.is_paused ≡ self.old.is_paused) × (self.new.is_over ≡ self.old.is_over) }
@@ -68,7 +69,7 @@ impl Control {
             return;
         };
         let both = Interest::READABLE | Interest::WRITABLE;
-        let token = token_behind(connections, slot);
+        let token = token_after(connections, slot);
         let is_watched = registry.register(&mut stream, token, both).is_ok();
         if is_watched && slot < self.streams.len() {
             self.streams[slot] = Some(stream);
@@ -77,7 +78,7 @@ impl Control {
         }
     }
 
-    // Lets go of somebody who came just now.
+    // Drops a caller that has just come.
     #[tactic(auto, using(crate::proofs::ControlLemmas::leaves_none))]
     fn turn_away(&mut self, slot: usize)
         ensures gone { (now number : ℕ) → (before : Slab Seat) → IsNew now number before (seats_of self.old.callers) slot (asking at_start)
@@ -100,7 +101,7 @@ impl Control {
             && (self.callers.is_ordering() || !self.callers.has_waiting(true))
     }
 
-    /// Whether an order is carried out or waits.
+    /// Whether an order is being carried out or waits.
     pub fn has_orders(&self) -> bool
         ensures none { result ≡ false → HasNoOrder self.now.callers }
         ensures some { result ≡ true → HasOrder self.now.callers }
@@ -108,7 +109,8 @@ impl Control {
         self.callers.is_ordering() || self.callers.has_waiting(true)
     }
 
-    /// Hears what has come of somebody's line, and writes what is left of the answer, as far as the socket goes along.
+    /// Reads what came of a caller's line, and writes what is left of its answer, as far as the socket allows without
+    /// blocking.
     pub fn serve(&mut self, alloc: Global, slot: usize, buffer: &mut [u8])
         ensures served { ServesAt (slice_get self.old.streams.items slot) (seats_of self.old.callers) (seats_of self.new.callers) slot }
         ensures ordering { ordering_of self.new.callers ≡ ordering_of self.old.callers }
@@ -124,17 +126,18 @@ impl Control {
         }
     }
 
-    /// Tells somebody that what was under way is finished, where an end was asked for and somebody was there to finish it, and
-    /// writes what is left to tell.
+    /// Answers a caller `ok`, if a stop was asked for and what was under way could be finished, and writes what is left
+    /// of its answer.
     pub fn tell_last(&mut self, alloc: Global, slot: usize, is_deserted: bool, buffer: &mut [u8])
-        ensures told { TellsLast (self.old.is_stopping && not is_deserted) (slice_get self.old.streams.items slot) (seats_of self.old.callers) (seats_of self.new.callers) slot }
+        ensures told { TellsLast (self.old.is_stopping && not is_deserted)
+            (slice_get self.old.streams.items slot) (seats_of self.old.callers) (seats_of self.new.callers) slot }
     {
         let is_told = self.is_stopping && !is_deserted;
         self.tell_done(alloc, slot, is_told);
         self.serve(alloc, slot, buffer);
     }
 
-    // What somebody asked for is done, where that is to be told. Without memory for the word nothing is told.
+    // Answers `ok`, if that is to be answered. Without memory for the word nothing is answered.
     fn tell_done(&mut self, alloc: Global, slot: usize, is_told: bool)
         ensures told { TellsDone is_told (seats_of self.old.callers) (seats_of self.new.callers) slot }
         ensures places { self.new.streams ≡ self.old.streams }
@@ -147,7 +150,7 @@ impl Control {
         }
     }
 
-    /// Lets go of somebody who is over, and closes the socket; whether there was one.
+    /// Removes a caller that is finished, and closes the socket; whether there was one.
     #[tactic(auto, using(crate::proofs::ControlLemmas::none_there, crate::proofs::ControlLemmas::none_past, crate::proofs::PlaceLemmas::elsewhere))]
     pub fn let_go(&mut self, slot: usize) -> bool
         ensures value { result ≡ is_over_at (get (seats_of self.old.callers) slot) }
@@ -168,7 +171,7 @@ impl Control {
     }
 }
 
-// A place for the socket of each.
+// A place for each caller's socket.
 fn no_streams(alloc: Global) -> Result<Vec<Option<UnixStream>>, AllocError>
     ensures places { IfOk result (λ v. length v.items ≡ 64) }
 {
@@ -179,7 +182,7 @@ fn no_streams(alloc: Global) -> Result<Vec<Option<UnixStream>>, AllocError>
     Ok(streams)
 }
 
-// Hears what has come of somebody's line.
+// Reads what came of a caller's line.
 fn hear<I: Read>(
     callers: &mut Callers,
     alloc: Global,
@@ -200,7 +203,7 @@ fn hear<I: Read>(
     }
 }
 
-// Writes what is left of somebody's answer. One to whom nothing is left to write is over, where there was an answer.
+// Writes what is left of a caller's answer. A caller whose whole answer is written is finished.
 fn tell<W: Write>(callers: &mut Callers, slot: usize, writer: &mut W)
     ensures told { IsTold (seats_of callers.old) (seats_of callers.new) slot (W.contents writer.old) (W.contents writer.new) }
     ensures out { left_at (get (seats_of callers.old) slot) ≡ [] → Happens (seats_of callers.old) (seats_of callers.new) slot (wrote 0) }

@@ -1,16 +1,16 @@
 //! What the reactor does for messages that come in datagrams.
 
-use crate::attendant::Attendant;
 use crate::engine::milliseconds;
 use crate::follower::Follower;
 use crate::reactor::Reactor;
 use crate::state::Progress;
+use crate::status_reporter::StatusReporter;
 use std::net::{OpenListener, TcpStream};
 use std::os::fd::AsRawFd;
 use std::sync::Wait;
 use std::time::Clock;
 
-/// How many datagrams are taken before the others are looked at again.
+/// How many datagrams are read before the other sockets get their turn again.
 const DATAGRAMS_AT_ONCE: u32 = 64;
 
 impl<
@@ -18,10 +18,10 @@ impl<
     R: Wait + Clock,
     L: OpenListener<Stream = TcpStream> + AsRawFd,
     G,
-    F: Follower + Attendant + Drop,
+    F: Follower + StatusReporter + Drop,
 > Reactor<'a, R, L, G, F> {
-    /// Takes the datagrams that are there. Each that waits for a worker is a connection, of which no more are taken than are
-    /// to be accepted.
+    /// Reads the datagrams that have come. Each that waits for a worker is a connection, and no more are read than
+    /// connections are to be accepted.
     pub fn take_datagrams(&mut self) {
         for _ in 0..DATAGRAMS_AT_ONCE {
             let accepted = self.engine.hub.lock(self.rt).state.connections.accepted();
@@ -36,7 +36,7 @@ impl<
         }
     }
 
-    // Takes the next one.
+    // Reads the next one.
     fn take_datagram(&self) -> Progress {
         let now = milliseconds(self.rt);
         self.engine.hub.lock(self.rt).take_datagram(now)

@@ -11,7 +11,7 @@ use crate::pool::{Pool, PoolFault};
 use crate::sockets::{Selector, Sockets};
 use crate::state::State;
 use crate::worker::Reply;
-use chpw_connections::{Bounds, Connections, Taken};
+use chpw_connections::{ConnectionLimits, Connections, TakenMessage};
 use chpw_control::Command;
 use chpw_serve::WorkerWords;
 use mio::Waker;
@@ -21,11 +21,11 @@ use std::sync::{Condvar, Mutex, MutexGuard, Wait};
 use std::thread;
 use std::time::{Clock, Duration};
 
-/// Milliseconds between two looks at what waits for the follower.
+/// Milliseconds between two checks of what waits for the follower.
 const PAUSE: u64 = 5;
 
-/// Where a worker waits for its messages, with its gate and its words. The words go on from one desk to the next,
-/// so that the worker draws each once; before the first desk there are none.
+/// Where a worker waits for its messages, with its gate and its words. The words go on from one desk to the next, so
+/// that the worker draws each once; before the first desk there are none.
 #[derive(Drop)]
 pub(crate) struct WorkerSlot<G> {
     came: Condvar,
@@ -33,8 +33,8 @@ pub(crate) struct WorkerSlot<G> {
     pub words: Mutex<Option<WorkerWords>>,
 }
 
-/// The connections of a service, the queues of its workers, and the sockets. It lasts longer than a desk: messages
-/// that wait when a desk is closed are answered at the next one.
+/// The connections of a service, the queues of its workers, and the sockets. It outlives a desk: messages that wait
+/// when a desk is closed are answered at the next one.
 #[derive(Drop)]
 pub struct Engine<G> {
     pub(crate) alloc: Global,
@@ -44,19 +44,19 @@ pub struct Engine<G> {
     pub(crate) selector: Mutex<Selector>,
     waker: Waker,
     pub(crate) control: Mutex<Control>,
-    /// Where whoever carries out orders waits for them.
+    /// Where the thread for orders waits for them.
     ordered: Condvar,
 }
 
 impl<G: Drop> Engine<G> {
-    /// One for the worker of each of these gates, of which there is one at least; the words of each worker are the
-    /// seed's stream of its number. Messages come over UDP, too, where there is a socket for them. `Accept` where the system
-    /// has no file for it, or can't watch that socket, `Memory` where a growth is refused.
+    /// An engine with a queue for the worker of each of these gates, of which there is at least one; the words of each
+    /// worker are the seed's stream of its number. With a socket for them, messages come over UDP too. `Accept` if the
+    /// system has no file for it, or can't watch that socket, `Memory` if a growth is refused.
     pub fn of<R: Net>(
         rt: &R,
         alloc: Global,
         seed: [u8; 32],
-        bounds: Bounds,
+        bounds: ConnectionLimits,
         gates: Vec<G>,
         datagrams: Option<UdpSocket>,
     ) -> Result<Engine<G>, PoolFault>
@@ -114,7 +114,7 @@ pub(crate) fn milliseconds<R: Clock>(rt: &R) -> u64 {
     }
 }
 
-// How many whole milliseconds there are in it, as far as they can be told.
+// How many whole milliseconds it has, up to the greatest number.
 fn whole_milliseconds(since: Duration) -> u64
     ensures value { as_nanos since / 1000000 < 2 ^ 64 → result ≡ as_nanos since / 1000000 }
 {
@@ -122,9 +122,9 @@ fn whole_milliseconds(since: Duration) -> u64
 }
 
 impl<G> Engine<G> {
-    /// The next message of a worker, as soon as there is one; none where none come any more, or the worker is to take
+    /// The next message of a worker, as soon as there is one; none if none will come any more, or the worker is to take
     /// none for now.
-    pub(crate) fn next<R: Wait + Clock>(&self, rt: &R, worker: usize) -> Option<Taken> {
+    pub(crate) fn next<R: Wait + Clock>(&self, rt: &R, worker: usize) -> Option<TakenMessage> {
         let slot = self.workers.get(worker)?;
         for _ in rt.forever() {
             let mut hub = slot
@@ -141,9 +141,9 @@ impl<G> Engine<G> {
         None
     }
 
-    /// The reply to a worker's message goes out, or there is none and the connection ends. Where it is the reply to a change,
-    /// behind which the journal has so many bytes, it may wait for the follower. The reactor is woken only where something
-    /// is left for it.
+    /// The reply to a worker's message is to be written, or there is none and the connection ends. If it is the reply
+    /// to a change, after which the journal has `change` bytes, it may wait for the follower. The reactor is woken only
+    /// if something is left for it.
     pub(crate) fn answer<R: Wait + Clock>(
         &self,
         rt: &R,
@@ -161,32 +161,32 @@ impl<G> Engine<G> {
         }
     }
 
-    // The reactor has something to look at.
+    // Wakes the reactor.
     fn wake(&self) {
         let _ = self.waker.wake();
     }
 
-    /// A worker has a message.
+    /// Wakes a worker that has a message.
     pub(crate) fn call(&self, worker: usize) {
         if let Some(slot) = self.workers.get(worker) {
             slot.came.notify_one();
         }
     }
 
-    // All workers look up.
+    // Wakes all workers.
     fn call_all(&self) {
         for slot in &self.workers {
             slot.came.notify_one();
         }
     }
 
-    /// The workers take messages, and orders are carried out.
+    /// From now on the workers take messages, and orders are carried out.
     pub fn start<R: Wait>(&self, rt: &R) {
         self.hub.lock(rt).state.is_stopped = false;
         self.control.lock(rt).is_paused = false;
     }
 
-    /// The workers take no more messages until the next start, and no more orders are carried out.
+    /// Until the next start the workers take no more messages, and no more orders are carried out.
     pub fn stop<R: Wait>(&self, rt: &R) {
         self.hub.lock(rt).state.is_stopped = true;
         self.call_all();
@@ -194,7 +194,7 @@ impl<G> Engine<G> {
         self.call_for_order();
     }
 
-    /// No message comes any more.
+    /// No message will come any more.
     pub(crate) fn finish<R: Wait>(&self, rt: &R) {
         self.hub.lock(rt).state.is_over = true;
         self.call_all();
@@ -202,13 +202,13 @@ impl<G> Engine<G> {
         self.call_for_order();
     }
 
-    /// Whoever carries out orders looks up.
+    /// Wakes the thread for orders.
     pub(crate) fn call_for_order(&self) {
         self.ordered.notify_one();
     }
 
-    /// The next order of those at the control socket, as soon as there is one and the one before it was answered. It is to be
-    /// answered by `answer_order`. None where no more is carried out, or none for now.
+    /// The next order at the control socket, as soon as there is one and the one before it was answered. It is to be
+    /// answered by `answer_order`. None if no more will be carried out, or none for now.
     pub fn next_order<R: Wait>(&self, rt: &R) -> Option<Command>
         ensures order { IfSome result (λ command. is_order command ≡ true) }
     {
@@ -229,14 +229,14 @@ impl<G> Engine<G> {
         None
     }
 
-    /// What came of the order that is carried out.
+    /// The answer to the order that is being carried out.
     pub fn answer_order<R: Wait>(&self, rt: &R, answer: Vec<u8>) {
         self.control.lock(rt).callers.answer_order(answer);
         self.wake();
         self.call_for_order();
     }
 
-    /// Whether no reply waits for the follower, at once or within so many milliseconds. No worker may answer meanwhile.
+    /// Whether no reply waits for the follower, now or within this many milliseconds. No worker may answer meanwhile.
     pub fn waits_for_none<R: Wait + Clock>(&self, rt: &R, most: u64) -> bool {
         let begun = milliseconds(rt);
         for _ in rt.forever() {
@@ -251,25 +251,25 @@ impl<G> Engine<G> {
         false
     }
 
-    /// Another journal has taken the place of the one that the follower was asked of: its marks count from the beginning. No
+    /// Another journal has replaced the one that the follower was asked about: its marks count from its beginning. No
     /// reply may wait for the former one.
     pub fn begin_marks_anew<R: Wait>(&self, rt: &R) {
         self.hub.lock(rt).state.begin_marks_anew();
         self.wake();
     }
 
-    /// Whether it ended since somebody at the control socket asked for that.
+    /// Whether it ended because a caller at the control socket asked for that.
     pub fn was_stopped<R: Wait>(&self, rt: &R) -> bool {
         self.control.lock(rt).is_stopping
     }
 
-    /// Nobody answers any more: the reactor ends, and with it all connections.
+    /// Nobody will answer any more: the reactor ends, and with it all connections.
     pub fn desert<R: Wait>(&self, rt: &R) {
         self.hub.lock(rt).state.is_deserted = true;
         self.wake();
     }
 
-    /// Whether no message comes any more.
+    /// Whether no message will come any more.
     pub fn is_over<R: Wait>(&self, rt: &R) -> bool {
         self.hub.lock(rt).state.is_over
     }
@@ -279,7 +279,7 @@ impl<G> Engine<G> {
         self.hub.lock(rt).state.connections.expired()
     }
 
-    /// What the reactor did, once it has ended, where it was to serve so many connections.
+    /// What the reactor did, after it has ended, if it was to serve this many connections.
     pub fn outcome<R: Wait>(&self, rt: &R, wanted: u32) -> Pool
         ensures ends { Ends wanted result }
     {
@@ -287,7 +287,7 @@ impl<G> Engine<G> {
     }
 }
 
-/// So many connections were accepted. Where they are fewer than was wanted, the listener couldn't go on.
+/// This many connections were accepted. If they are fewer than were wanted, the listener failed.
 pub(crate) fn outcome_of(accepted: u32, wanted: u32) -> Pool
     ensures ends { Ends wanted result }
     ensures served { accepted ≤ wanted → result.served ≡ accepted }

@@ -1,29 +1,29 @@
-//! The follower, which carries changes into the KDC's database and says when they are there.
+//! The follower, which carries changes into the KDC's database and confirms them.
 
 use chpw_connections::Unconfirmed;
 use mio::net::UnixStream;
 
-/// A service's side of its follower: where it is, how long replies wait for it, and who is told what came of that.
+/// A service's side of its follower: where it is, how long replies wait for it, and a report of the outcome.
 pub trait Follower {
-    /// How many milliseconds the reply to a change waits at the most.
+    /// The most milliseconds that the reply to a change waits.
     fn wait(&self) -> u64;
 
-    /// A connection to it; none where nobody is there.
+    /// A connection to it; none if nobody listens.
     fn connect(&mut self) -> Option<UnixStream>;
 
-    /// It has said that a change is in the KDC's database.
+    /// It has confirmed that a change is in the KDC's database.
     fn confirmed(&mut self);
 
-    /// Whether the last change that went out was one that it hadn't confirmed.
+    /// Whether the last change that was answered was one that it hadn't confirmed.
     fn is_behind(&self) -> bool;
 
-    /// The reply to this change goes out though it hasn't said that the KDC has the journal up to it.
+    /// The reply to this change is sent although it hasn't confirmed that the KDC has the journal up to it.
     fn unconfirmed(&mut self, change: Unconfirmed);
 }
 
 /// How long the journal is.
 pub trait JournalEnd {
-    /// In bytes, behind all that was written to it before; none where no reply waits for a follower.
+    /// In bytes, after all that was written to it; none if no reply waits for a follower.
     fn journal_end(&self) -> Option<u64>;
 }
 

@@ -13,29 +13,29 @@ use std::os::fd::AsRawFd;
 use std::sync::Wait;
 use std::time::Clock;
 
-/// How many bytes of what it says are read at once.
+/// How many bytes of its answer are read at once.
 const BUFFER: usize = 64;
 
 /// The connection to the follower.
 #[derive(Drop)]
-pub(crate) struct Link<F> {
+pub(crate) struct FollowerLink<F> {
     pub follower: F,
     pub stream: Option<UnixStream>,
-    /// Whether something is to be read there.
+    /// Whether something may be read there.
     pub is_reported: bool,
 }
 
-impl<F: Follower + Drop> Link<F> {
-    /// One that isn't open yet.
-    pub fn new(follower: F) -> Link<F> {
-        Link {
+impl<F: Follower + Drop> FollowerLink<F> {
+    /// A link that isn't open yet.
+    pub fn new(follower: F) -> FollowerLink<F> {
+        FollowerLink {
             follower,
             stream: None,
             is_reported: false,
         }
     }
 
-    // Opens it, where it isn't open.
+    // Opens it, if it isn't open.
     fn open(&mut self, registry: &Registry) {
         if self.stream.is_some() {
             return;
@@ -48,7 +48,7 @@ impl<F: Follower + Drop> Link<F> {
         }
     }
 
-    // Sends a line, opening the connection where it isn't open; whether all of it went out.
+    // Sends a line, opening the connection if it isn't open; whether all of it was sent.
     fn send(&mut self, registry: &Registry, line: &[u8]) -> bool {
         self.open(registry);
         match &mut self.stream {
@@ -65,8 +65,7 @@ impl<
     G,
     F: Follower + Drop,
 > Reactor<'a, R, L, G, F> {
-    /// What the follower has said is heard, what is to be asked is asked, and replies that have waited long enough go
-    /// out.
+    /// Reads what the follower sent, asks what is to be asked, and releases the replies that have waited long enough.
     pub fn follow(&mut self, registry: &Registry) {
         if self.link.is_reported {
             self.link.is_reported = false;
@@ -78,13 +77,13 @@ impl<
         }
     }
 
-    /// Replies that have waited for as long as they may go out.
+    /// Releases the replies that have waited as long as they may.
     pub fn release_overdue(&mut self) {
         let wait = self.link.follower.wait();
         self.release(wait);
     }
 
-    // Hears what the follower has said, to its end.
+    // Reads all that the follower sent.
     fn hear(&mut self) {
         let rt = self.rt;
         let mut buffer = [0; BUFFER];
@@ -104,7 +103,7 @@ impl<
         }
     }
 
-    // The follower said this. One that says anything but what it was asked isn't heard any more.
+    // The follower sent these bytes. One that sends anything but what it was asked is disconnected.
     fn heard(&mut self, bytes: &[u8]) {
         let now = milliseconds(self.rt);
         let heard = self.engine.hub.lock(self.rt).state.heard(bytes, now);
@@ -135,7 +134,7 @@ impl<
         }
     }
 
-    // The connection has ended, or there was none. Where an answer was due, nothing is waited for any more.
+    // The connection has ended, or there was none. If an answer was due, nothing waits any more.
     fn lose(&mut self) {
         self.link.stream = None;
         let was_due = self.engine.hub.lock(self.rt).state.hang_up();
@@ -144,7 +143,7 @@ impl<
         }
     }
 
-    // Replies that have waited for so long go out, and that nobody has confirmed them is told.
+    // Releases replies that have waited this long, and reports that they are unconfirmed.
     fn release(&mut self, wait: u64) {
         let now = milliseconds(self.rt);
         for _ in 0..self.clients {

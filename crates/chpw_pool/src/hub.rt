@@ -1,4 +1,4 @@
-//! The connections with their sockets, as reactor and workers have them under one lock.
+//! The connections with their sockets, which reactor and workers share under one lock.
 ghost use Rattle.slab.specs.Slab.{get};
 ghost use Rattle.std.specs.Prelude.{◌≡◌, ◌⊎◌, ℕ, IfSome};
 ghost use Rattle.chpw_connections.specs.Held.{slots_of, bounds_of, accepted_by};
@@ -18,10 +18,10 @@ use crate::worker::Reply;
 use chpw_connections::Todo;
 use std::net::TcpStream;
 
-/// How many steps a connection makes before the others are looked at again.
+/// How many steps a connection makes before the others get their turn again.
 pub(crate) const STEPS: u32 = 64;
 
-/// The connections and their sockets. Whoever has answered a message writes the reply.
+/// The connections and their sockets. The worker that has answered a message writes the reply.
 #[derive(Drop)]
 pub(crate) struct Hub {
     pub state: State,
@@ -31,13 +31,15 @@ pub(crate) struct Hub {
 impl Hub {
     /// Does what is to be done for a connection, in one call of its socket.
     pub fn step(&mut self, slot: usize, now: u64) -> Progress
-        ensures steps { Steps (bounds_of self.old.state.connections) now (todo_in (get (slots_of self.old.state.connections) slot)) (slots_of self.old.state.connections) (slots_of self.new.state.connections) slot }
+        ensures steps { Steps (bounds_of self.old.state.connections) now
+            (todo_in (get (slots_of self.old.state.connections) slot))
+            (slots_of self.old.state.connections) (slots_of self.new.state.connections) slot }
         ensures bounds { bounds_of self.new.state.connections ≡ bounds_of self.old.state.connections }
     {
         self.sockets.step(&mut self.state, slot, now)
     }
 
-    /// The socket of a connection that was accepted just now. Where it can't be watched, the connection ends.
+    /// Stores the socket of a connection that was just accepted. If it can't be watched, the connection ends.
     pub fn put(&mut self, slot: usize, stream: TcpStream)
         ensures put { Happens 0 (slots_of self.old.state.connections) (slots_of self.new.state.connections) slot failed
             ⊎ (self.new.state ≡ self.old.state) }
@@ -47,10 +49,11 @@ impl Hub {
         }
     }
 
-    /// Takes the next datagram, if one is there.
+    /// Reads the next datagram, if one has come.
     pub fn take_datagram(&mut self, now: u64) -> Progress
         ensures queued { IfSome self.old.sockets.datagrams (λ d. (worker : ℕ) → result ≡ progress.Queued worker
-            → Queues d self.old.sockets.by_slot.items self.new.sockets.by_slot.items (bounds_of self.old.state.connections) now (accepted_by self.old.state.connections)
+            → Queues d self.old.sockets.by_slot.items self.new.sockets.by_slot.items
+            (bounds_of self.old.state.connections) now (accepted_by self.old.state.connections)
             (slots_of self.old.state.connections) (slots_of self.new.state.connections) worker (workers_of self.old.state.connections)) }
         ensures idle { result ≡ progress.None → self.new.state ≡ self.old.state }
         ensures bounds { bounds_of self.new.state.connections ≡ bounds_of self.old.state.connections }
@@ -59,7 +62,7 @@ impl Hub {
         self.sockets.take_datagram(&mut self.state, now)
     }
 
-    /// A connection whose socket has failed ends, and a message of it that waits is dropped.
+    /// Ends a connection whose socket has failed; a message of it that waits is dropped.
     pub fn look_for_error(&mut self, slot: usize)
         ensures looked { Happens 0 (slots_of self.old.state.connections) (slots_of self.new.state.connections) slot failed
             ⊎ (self.new.state ≡ self.old.state) }
@@ -69,18 +72,19 @@ impl Hub {
         }
     }
 
-    /// A worker's reply to a connection's message, or the word that there is none. Unless it waits for the follower, the
-    /// reply is written as far as the socket takes it, and behind it the next message is read as far as it is there: it
-    /// waits for the same worker, which looks into its queue next.
+    /// A worker's reply to a connection's message, or the word that there is none. Unless it waits for the follower, as
+    /// much of the reply is written as the socket takes, and after it as much of the next message is read as has come:
+    /// it waits for the same worker, which checks its queue next.
     pub fn answer(&mut self, slot: usize, reply: Option<Reply>, change: Option<u64>, now: u64)
-        ensures answers { Answers (bounds_of self.old.state.connections) now (awaited self.old.state.asking change) reply (slots_of self.old.state.connections) (slots_of self.new.state.connections) slot }
+        ensures answers { Answers (bounds_of self.old.state.connections) now (awaited self.old.state.asking change)
+            reply (slots_of self.old.state.connections) (slots_of self.new.state.connections) slot }
     {
         self.state.answer(slot, reply, change, now);
         self.run(slot, now);
     }
 
-    // Does one thing after the other for a connection, as far as its socket goes along, or until a message waits for its
-    // worker. A connection that has ended is left to the reactor, which counts them.
+    // Does one thing after the other for a connection, as far as its socket allows without blocking, or until a message
+    // waits for its worker. A connection that has ended is left to the reactor, which counts them.
     fn run(&mut self, slot: usize, now: u64)
         ensures runs { RunsTo (bounds_of self.old.state.connections) now slot (slots_of self.old.state.connections) (slots_of self.new.state.connections) }
     {

@@ -1,9 +1,8 @@
-//! A pool of workers at one desk. One thread, the reactor, has the listener and waits for all sockets; the workers are lent
-//! one message after the other, write their replies as far as the socket takes them at once, and wait for no client.
+//! A pool of workers at one desk. One thread, the reactor, has the listener and waits for all sockets; a worker is
+//! given one message after the other, writes as much of its reply as the socket takes at once, and waits for no client.
 #![tactic(auto)]
 
 mod accepting;
-mod attendant;
 mod attending;
 mod clock;
 mod control;
@@ -13,22 +12,23 @@ mod follower;
 mod following;
 mod hub;
 mod one_message;
+mod options;
 mod pool;
 mod reactor;
 mod sockets;
 mod state;
-mod terms;
+mod status_reporter;
 mod tokens;
 mod udp;
 mod worker;
 
-pub use attendant::{Attendant, Standing};
-pub use chpw_connections::{Bounds, Unconfirmed};
+pub use chpw_connections::{ConnectionLimits, Unconfirmed};
 pub use clock::{MachineClock, machine_moment};
 pub use engine::Engine;
 pub use follower::{Follower, JournalEnd, NoFollower};
+pub use options::PoolOptions;
 pub use pool::{
-    Meanwhile, NotStarted, Pool, PoolFault, no_gates, run_pool, run_pool_by, run_pool_with,
+    BackgroundTask, NotStarted, Pool, PoolFault, no_gates, run_pool, run_pool_by, run_pool_with,
     run_shift,
 };
-pub use terms::Terms;
+pub use status_reporter::{ConnectionCounts, StatusReporter};

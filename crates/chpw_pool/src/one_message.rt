@@ -12,17 +12,17 @@ ghost use Rattle.chpw_pool.specs.declared.state.Progress.TheVariants as progress
 
 use crate::state::{Progress, State};
 
-/// How many bytes the length has that a message or a reply has before it over TCP.
+/// The bytes of the length that precedes a message or a reply over TCP.
 const LENGTH: usize = 4;
 
-/// A reply as it goes into a datagram: without its length.
+/// A reply as it is sent in a datagram: without its length.
 pub(crate) fn reply_of_datagram(reply: &[u8]) -> &[u8]
     ensures value { result.now ≡ in_datagram reply.now }
 {
     &reply[LENGTH.min(reply.len())..]
 }
 
-// The length of a message, as it would stand before it over TCP; none of 4 GiB or more.
+// The length of a message, as it would precede it over TCP; none for 4 GiB or more.
 fn length_of(message: &[u8]) -> Option<[u8; 4]>
     ensures value { IfSome result (λ l. l ≡ length_before message.now) }
     ensures fits { IfSome result (λ _. length message.now < 2 ^ 32) }
@@ -34,9 +34,9 @@ fn length_of(message: &[u8]) -> Option<[u8; 4]>
 }
 
 impl State {
-    /// A message came in a datagram. In a new connection it waits for its worker, as it would if it had come with its length
-    /// over TCP. None where there are as many connections as may be, or no room or memory for it: then no connection is left
-    /// of it. Others may have ended to make room, as for any message.
+    /// A message came in a datagram. In a new connection it waits for its worker, as if it had come with its length
+    /// over TCP. None if there are as many connections as allowed, or no room or memory for it: then no connection is
+    /// left of it. Others may have ended to make room, as for any message.
     pub fn take_datagram(
         &mut self,
         peer: [u8; 4],
@@ -70,13 +70,14 @@ impl State {
         self.connections.receive(slot, length, now);
     }
 
-    // All of a message came, behind its length: the worker for whom it waits now; none where it can't wait.
+    // All of a message came, after its length: the worker for whom it waits now; none if it can't wait.
     fn message_came(&mut self, slot: usize, message: &[u8], now: u64) -> Option<usize>
         ensures queued { IfSome result (λ _. HappensWithRoom (for_message (bounds_of self.old.connections) now (get (slots_of self.old.connections) slot)) now
             (slots_of self.old.connections) (slots_of self.new.connections) slot (came message.now)) }
         ensures waits { IfSome result (λ worker. waits_for (workers_of self.old.connections) (get (slots_of self.new.connections) slot) ≡ Some worker) }
         ensures wanted { IfSome result (λ _. wanted_at (get (slots_of self.old.connections) slot) ≢ 0) }
-        ensures none { IfNone result (CameIfRead (bounds_of self.old.connections) now (slots_of self.old.connections) (slots_of self.new.connections) slot message.now) }
+        ensures none { IfNone result (CameIfRead (bounds_of self.old.connections) now
+            (slots_of self.old.connections) (slots_of self.new.connections) slot message.now) }
         ensures bounds { bounds_of self.new.connections ≡ bounds_of self.old.connections }
     {
         if self.connections.wanted(slot) == 0 || !self.connections.has_room_to_read(slot, now) {
@@ -95,7 +96,7 @@ impl State {
         Progress::Some
     }
 
-    /// All that was left of a connection's reply went out.
+    /// All that was left of a connection's reply was sent.
     pub fn wrote_all(&mut self, slot: usize, now: u64) -> Progress
         ensures value { result ≡ progress.Some }
         ensures happens { Happens now (slots_of self.old.connections) (slots_of self.new.connections) slot

@@ -8,11 +8,10 @@ ghost use Rattle.chpw_pool.specs.Pools.{Ends};
 use crate::clock::MachineClock;
 use crate::engine::{Engine, outcome_of};
 use crate::follower::{JournalEnd, NoFollower};
-use crate::terms::Terms;
+use crate::options::PoolOptions;
 use crate::worker::{Worker, work};
-use chpw_answer::{Gate, Messages, NoGate};
 use chpw_book::{AtDesk, Desk, DeskName, Pass};
-use chpw_serve::WorkerWords;
+use chpw_serve::{Gate, Messages, NoGate, Observer, WorkerWords};
 use chpw_table::JournalSink;
 use std::alloc::{AllocError, Global};
 use std::net::{Net, OpenListener, TcpListener, TcpStream};
@@ -24,7 +23,7 @@ use std::{thread, time};
 /// Why a pool ended early.
 #[derive(Clone, Copy, PartialEq, Eq, Debug, Drop)]
 pub enum PoolFault {
-    /// The listener couldn't go on, or the system has no file for what watches the sockets.
+    /// The listener failed, or the system has no file for what watches the sockets.
     Accept,
     /// A worker's thread could not be started.
     Start,
@@ -32,7 +31,7 @@ pub enum PoolFault {
     Memory,
 }
 
-/// What a pool did.
+/// The result of a pool.
 #[derive(Clone, Copy, PartialEq, Eq, Debug, Drop)]
 pub struct Pool {
     /// The connections that were accepted, each until it ended.
@@ -48,14 +47,14 @@ struct Shared<'a, T: time::Clock, M, D: DeskName, S: JournalSink, J> {
     service: &'a M,
     desk: &'a Desk<D, S>,
     journal: &'a J,
-    // How many entries the history has room for; none where no other desk follows it.
+    // How many entries the history has room for; none if no other desk follows it.
     room: Option<u32>,
 }
 
-/// Serves so many connections at a desk, the messages of connection i (from 0) by worker i modulo their number, one
+/// Serves this many connections at a desk, the messages of connection i (from 0) by worker i modulo their number, one
 /// after the other; a worker draws its words from the stream of its own number, and its moments from the machine's
-/// clock. A connection's next message is read once the reply before it is out. It has the usual bounds
-/// (`Terms::usual`). It returns when each connection has ended, or, after a fault, those before it; each thread has
+/// clock. A connection's next message is read once the reply before it is written. It has the default bounds
+/// (`PoolOptions::usual`). It returns when each connection has ended, or, after a fault, those before it; each thread has
 /// ended then.
 pub fn run_pool<
     R: Threads + Wait + Net + time::Clock + Sync,
@@ -75,17 +74,17 @@ pub fn run_pool<
     requires passes { 0 < length passes.old }
     ensures ends { Ends connections result }
 {
-    let terms = Terms::usual(seed, connections);
+    let terms = PoolOptions::usual(seed, connections);
     run_pool_by(rt, alloc, rt, listener, service, desk, passes, terms)
 }
 
-/// `run_pool` with a gate for each worker.
+/// `run_pool` with a gate for each worker, which is its observer too.
 pub fn run_pool_with<
     R: Threads + Wait + Net + time::Clock + Sync,
     M: Messages + Sync,
     D: DeskName + Send + Sync,
     S: JournalSink + Send,
-    G: Gate + Send + Drop,
+    G: Gate + Observer + Send + Drop,
 >(
     rt: &R,
     alloc: Global,
@@ -109,11 +108,11 @@ pub fn run_pool_with<
         journal: &NoFollower,
         room: None,
     };
-    let terms = Terms::usual(seed, connections);
+    let terms = PoolOptions::usual(seed, connections);
     run_gated(rt, &shared, listener, passes, terms, gates)
 }
 
-/// `run_pool` by any clock, at any listener and within any bounds.
+/// `run_pool` with any clock, listener and bounds.
 pub fn run_pool_by<
     R: Threads + Wait + Net + time::Clock + Sync,
     T: time::Clock + Sync,
@@ -129,7 +128,7 @@ pub fn run_pool_by<
     service: &M,
     desk: &Desk<D, S>,
     passes: &mut [Pass<D>],
-    terms: Terms,
+    terms: PoolOptions,
 ) -> Pool
     requires passes { 0 < length passes.old }
     ensures ends { Ends terms.connections result }
@@ -143,13 +142,13 @@ pub fn run_pool_by<
         room: None,
     };
     match no_gates(alloc, passes.len()) {
-        Err(_) => unserved(PoolFault::Memory, terms.connections),
+        Err(_) => failed_pool(PoolFault::Memory, terms.connections),
         Ok(gates) => run_gated(rt, &shared, listener, passes, terms, gates),
     }
 }
 
 // No connection was accepted.
-fn unserved(fault: PoolFault, connections: u32) -> Pool
+fn failed_pool(fault: PoolFault, connections: u32) -> Pool
     ensures ends { Ends connections result }
 {
     match fault {
@@ -161,7 +160,7 @@ fn unserved(fault: PoolFault, connections: u32) -> Pool
     }
 }
 
-/// As many gates that hold nobody.
+/// This many gates that hold nobody.
 pub fn no_gates(alloc: Global, count: usize) -> Result<Vec<NoGate>, AllocError>
     ensures { IfOk result (λ v. vec_len v ≡ count) }
 {
@@ -176,14 +175,14 @@ fn run_gated<
     M: Messages + Sync,
     D: DeskName + Send + Sync,
     S: JournalSink + Send,
-    G: Gate + Send + Drop,
+    G: Gate + Observer + Send + Drop,
     J: JournalEnd + Sync,
 >(
     rt: &R,
     shared: &Shared<'_, T, M, D, S, J>,
     listener: &L,
     passes: &mut [Pass<D>],
-    terms: Terms,
+    terms: PoolOptions,
     gates: Vec<G>,
 ) -> Pool
     requires passes { 0 < length passes.old }
@@ -192,7 +191,7 @@ fn run_gated<
 {
     let connections = terms.connections;
     match Engine::of(rt, shared.alloc, terms.seed, terms.bounds(), gates, None) {
-        Err(fault) => unserved(fault, connections),
+        Err(fault) => failed_pool(fault, connections),
         Ok(engine) => {
             let reacting = Reacting {
                 rt,
@@ -201,7 +200,7 @@ fn run_gated<
                 connections,
             };
             match run_workers(rt, shared, &engine, passes, reacting) {
-                Err(NotStarted) => unserved(PoolFault::Start, connections),
+                Err(NotStarted) => failed_pool(PoolFault::Start, connections),
                 Ok(()) => engine.outcome(rt, connections),
             }
         }
@@ -209,15 +208,15 @@ fn run_gated<
 }
 
 /// What the thread that runs a shift does while the workers answer messages.
-pub trait Meanwhile {
-    /// What comes of it.
+pub trait BackgroundTask {
+    /// Its result.
     type Done;
 
     /// Does it, and returns once there is no more to do until the workers end.
     fn run(self) -> Self::Done;
 }
 
-// The reactor, for so many connections of a listener, with no follower.
+// The reactor, for this many connections of a listener, without a follower.
 #[derive(Drop)]
 struct Reacting<'a, R, L, G> {
     rt: &'a R,
@@ -226,8 +225,11 @@ struct Reacting<'a, R, L, G> {
     connections: u32,
 }
 
-impl<R: Wait + Net + time::Clock, L: OpenListener<Stream = TcpStream> + AsRawFd, G: Drop> Meanwhile
-    for Reacting<'_, R, L, G> {
+impl<
+    R: Wait + Net + time::Clock,
+    L: OpenListener<Stream = TcpStream> + AsRawFd,
+    G: Drop,
+> BackgroundTask for Reacting<'_, R, L, G> {
     type Done = ();
 
     fn run(self) {
@@ -240,20 +242,21 @@ impl<R: Wait + Net + time::Clock, L: OpenListener<Stream = TcpStream> + AsRawFd,
 #[derive(Clone, Copy, PartialEq, Eq, Debug, Drop)]
 pub struct NotStarted;
 
-/// Answers the messages of an engine's connections at a desk, until no more come, the workers are to take none (`Engine::stop`),
-/// or the desk's history has no room for one more entry: it has room for so many. They take some only once `Engine::start` was
-/// called behind a stop. The workers then finish the messages that they have, and the others wait for the next desk. The reply
-/// to a change waits for the follower where `journal` says how long the journal is. This thread does
-/// something else meanwhile, and gives back what came of that. After `NotStarted` the workers that had started may have answered some.
+/// Answers the messages of an engine's connections at a desk, until none will come any more, the workers are to take
+/// none (`Engine::stop`), or the desk's history, which has room for `room` entries, is full. They take messages only
+/// once `Engine::start` was called after a stop. The workers then finish the messages that they have, and the others
+/// wait for the next desk. The reply to a change waits for the follower if `journal` says how long the journal is. This
+/// thread runs `meanwhile`, and returns its result. After `NotStarted` the workers that had started may have answered
+/// some.
 pub fn run_shift<
     R: Threads + Wait + time::Clock + Sync,
     T: time::Clock + Sync,
     M: Messages + Sync,
     D: DeskName + Send + Sync,
     S: JournalSink + Send,
-    G: Gate + Send + Drop,
+    G: Gate + Observer + Send + Drop,
     J: JournalEnd + Sync,
-    W: Meanwhile + Drop,
+    W: BackgroundTask + Drop,
 >(
     rt: &R,
     alloc: Global,
@@ -279,16 +282,16 @@ pub fn run_shift<
     run_workers(rt, &shared, engine, passes, meanwhile)
 }
 
-// A thread for each worker, while this one does something else. It returns once they have ended.
+// A thread for each worker, while this one runs `meanwhile`. It returns once they have ended.
 fn run_workers<
     R: Threads + Wait + time::Clock + Sync,
     T: time::Clock + Sync,
     M: Messages + Sync,
     D: DeskName + Send + Sync,
     S: JournalSink + Send,
-    G: Gate + Send + Drop,
+    G: Gate + Observer + Send + Drop,
     J: JournalEnd + Sync,
-    W: Meanwhile + Drop,
+    W: BackgroundTask + Drop,
 >(
     rt: &R,
     shared: &Shared<'_, T, M, D, S, J>,
@@ -330,7 +333,7 @@ fn begin<
     M: Messages,
     D: DeskName,
     S: JournalSink,
-    G: Gate,
+    G: Gate + Observer,
     J: JournalEnd,
 >(
     rt: &'a R,

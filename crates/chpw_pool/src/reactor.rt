@@ -1,16 +1,16 @@
-//! The reactor: one thread that has the listener and waits for all sockets, and never for one of them alone. The sockets
-//! lie under the lock that it shares with the workers.
+//! The reactor: one thread that has the listener and waits for all sockets, and never for one of them alone. The
+//! sockets are under the lock that it shares with the workers.
 
 use crate::accepting::{Accepting, is_passing};
-use crate::attendant::Attendant;
 use crate::attending::ControlPort;
 use crate::engine::{Engine, milliseconds};
 use crate::follower::Follower;
-use crate::following::Link;
+use crate::following::FollowerLink;
 use crate::hub::STEPS;
 use crate::sockets::Selector;
 use crate::state::{Progress, Shortage, TICK};
-use crate::tokens::{LISTENER, Reported};
+use crate::status_reporter::StatusReporter;
+use crate::tokens::{EventSource, LISTENER};
 use crate::worker::peer_of;
 use mio::event::Event;
 use mio::unix::SourceFd;
@@ -22,19 +22,19 @@ use std::os::fd::AsRawFd;
 use std::sync::{MutexGuard, Wait};
 use std::time::{Clock, Duration};
 
-/// How many connections are accepted before the others are looked at again.
+/// How many connections are accepted before the other sockets get their turn again.
 const ACCEPTS: u32 = 64;
 
-/// After how many connections of a round the control socket is looked at.
+/// After how many connections of a round the control socket is checked.
 const BETWEEN: usize = 64;
 
-/// What happens at the sockets is told to the connections, and what they want is done.
+/// Reports to the connections what happens at the sockets, and does what they ask for.
 #[derive(Drop)]
 pub(crate) struct Reactor<'a, R, L, G, F> {
     pub rt: &'a R,
     pub engine: &'a Engine<G>,
     listener: &'a L,
-    pub link: Link<F>,
+    pub link: FollowerLink<F>,
     /// How many connections it accepts.
     pub connections: u32,
     /// How many there may be at a time: the slots are the numbers below.
@@ -42,11 +42,11 @@ pub(crate) struct Reactor<'a, R, L, G, F> {
     accepting: Accepting,
     /// A connection for which there is no room yet.
     pending: Option<(TcpStream, SocketAddr)>,
-    /// When the connections whose time is up were looked for.
+    /// When connections whose time is up were last looked for.
     looked: u64,
     /// The slot at which the next round over all begins.
     first: usize,
-    /// Whether datagrams may be there.
+    /// Whether datagrams may have come.
     pub has_datagrams: bool,
     pub port: ControlPort,
     /// Whether it ends once what is under way is finished.
@@ -54,16 +54,16 @@ pub(crate) struct Reactor<'a, R, L, G, F> {
 }
 
 impl<G> Engine<G> {
-    /// Accepts so many connections, or as many as the listener can; reads their messages and hands them to the
+    /// Accepts this many connections, or as many as the listener can; reads their messages and passes them to the
     /// workers, connection i (from 0) to worker i modulo their number; and writes the replies. It returns once each
-    /// connection has ended, or the engine is deserted. Then no message comes any more. Replies to changes wait for the
-    /// follower, as the workers ask for it. Questions at the control socket it answers itself; orders are for whoever takes
-    /// them (`next_order`). Where it is to stop, it accepts no more, ends the connections that wait for their clients'
-    /// messages, and goes on until each reply is out and each order answered.
+    /// connection has ended, or the engine is deserted. Then no message will come any more. Replies to changes wait for
+    /// the follower, as the workers ask for it. It answers questions at the control socket itself; orders are for the
+    /// thread that takes them (`next_order`). When it is to stop, it accepts no more, ends the connections that wait
+    /// for their clients' messages, and goes on until each reply is written and each order answered.
     pub fn react<
         R: Wait + Clock,
         L: OpenListener<Stream = TcpStream> + AsRawFd,
-        F: Follower + Attendant + Drop,
+        F: Follower + StatusReporter + Drop,
     >(&self, rt: &R, listener: &L, connections: u32, mut follower: F) {
         let clients = self.hub.lock(rt).sockets.by_slot.len();
         let mut selector = self.selector.lock(rt);
@@ -72,7 +72,7 @@ impl<G> Engine<G> {
             rt,
             engine: self,
             listener,
-            link: Link::new(follower),
+            link: FollowerLink::new(follower),
             connections,
             clients,
             accepting: Accepting::Ready,
@@ -95,9 +95,9 @@ impl<
     R: Wait + Clock,
     L: OpenListener<Stream = TcpStream> + AsRawFd,
     G,
-    F: Follower + Attendant + Drop,
+    F: Follower + StatusReporter + Drop,
 > Reactor<'a, R, L, G, F> {
-    // Has the listener reported.
+    // Registers the listener.
     fn listen(&mut self, registry: &Registry) {
         let descriptor = self.listener.as_raw_fd();
         let is_watched = self.listener.set_nonblocking(true).is_ok()
@@ -109,7 +109,7 @@ impl<
         }
     }
 
-    // Looks at what is ready, until there is nothing left to do.
+    // Handles what is ready, until there is nothing left to do.
     fn run(&mut self, selector: &mut Selector) {
         let rt = self.rt;
         let Selector { poll, events } = selector;
@@ -132,7 +132,7 @@ impl<
         }
     }
 
-    // Whether nothing is left to do, or nobody is there to answer.
+    // Whether nothing is left to do, or nobody is left to answer.
     fn is_done(&self) -> bool {
         let has_orders = self.engine.control.lock(self.rt).has_orders();
         let hub = self.engine.hub.lock(self.rt);
@@ -150,19 +150,19 @@ impl<
         self.port_patience(patience)
     }
 
-    // Whether a connection more may be there, where so many were accepted.
+    // Whether one more connection may be accepted, after this many.
     fn can_accept(&self, accepted: u32) -> bool {
         accepted < self.connections
             && self.pending.is_none()
             && matches!(self.accepting, Accepting::Ready)
     }
 
-    // Whether a datagram may be there, and be taken as one connection more, where so many were accepted.
+    /// Whether a datagram may have come, and may count as one more connection, after this many.
     pub fn can_take_datagram(&self, accepted: u32) -> bool {
         self.has_datagrams && accepted < self.connections
     }
 
-    // Each socket that was reported.
+    // Handles each socket that was reported.
     fn look_at_events(&mut self, events: &Events) {
         for event in events.iter() {
             self.look_at(event);
@@ -170,12 +170,12 @@ impl<
     }
 
     fn look_at(&mut self, event: &Event) {
-        match Reported::of(event.token(), self.clients) {
-            Reported::Listener => self.accepting = self.accepting.reported(),
-            Reported::Follower => self.link.is_reported = true,
-            Reported::Datagrams => self.has_datagrams = true,
-            Reported::Control => self.port.is_due = true,
-            Reported::Connection(slot) => {
+        match EventSource::of(event.token(), self.clients) {
+            EventSource::Listener => self.accepting = self.accepting.reported(),
+            EventSource::Follower => self.link.is_reported = true,
+            EventSource::Datagrams => self.has_datagrams = true,
+            EventSource::Control => self.port.is_due = true,
+            EventSource::Connection(slot) => {
                 if event.is_error() {
                     self.engine.hub.lock(self.rt).look_for_error(slot);
                 }
@@ -184,7 +184,7 @@ impl<
         }
     }
 
-    // The connections that ended, and those for which more is to be done.
+    // Handles the connections that ended, and those for which more is to be done.
     fn look_at_changed(&mut self) {
         for _ in 0..self.clients {
             let changed = self.engine.hub.lock(self.rt).state.connections.changed();
@@ -195,7 +195,7 @@ impl<
         }
     }
 
-    // Ends the connections whose time is up, once in a while.
+    // Ends the connections whose time is up, once a tick.
     fn look_for_late(&mut self, registry: &Registry) {
         let now = milliseconds(self.rt);
         if now.saturating_sub(self.looked) < TICK {
@@ -209,15 +209,15 @@ impl<
         self.look_round(registry, had.is_any());
     }
 
-    // Time passes for all connections, and a round begins: what there was no room for in the last one.
+    // Time passes for all connections, and a round begins, with the shortage of room in the last one.
     fn pass(&self, now: u64) -> Shortage {
         let mut hub = self.engine.hub.lock(self.rt);
         hub.state.connections.pass(now);
         mem::take(&mut hub.state.shortage)
     }
 
-    // Looks at each connection for which there is something to be done though nothing came of it. The next round begins
-    // at the one for which there was no room in this one, so that all get room in turn.
+    // Handles each connection for which something is to be done although nothing was reported. The next round begins at
+    // the one for which there was no room in this one, so that all get room in turn.
     fn look_round(&mut self, registry: &Registry, reads: bool) {
         let slots = self.clients;
         let first = self.first;
@@ -244,7 +244,7 @@ impl<
         self.engine.hub.lock(self.rt).state.shortage.is_any()
     }
 
-    /// Does what is to be done for a connection, as far as its socket goes along.
+    /// Does what is to be done for a connection, as far as its socket allows without blocking.
     pub fn drive(&mut self, slot: usize) {
         for _ in 0..STEPS {
             if self.step(slot) == Progress::None {
@@ -269,7 +269,7 @@ impl<
         progress
     }
 
-    // Accepts what is there.
+    // Accepts the connections that have come.
     fn accept(&mut self) {
         for _ in 0..ACCEPTS {
             let accepted = self.engine.hub.lock(self.rt).state.connections.accepted();
@@ -294,14 +294,14 @@ impl<
             Err(error) => {
                 let now = milliseconds(self.rt);
                 let would_wait = error.kind() == ErrorKind::WouldBlock;
-                self.accepting = Accepting::behind_fault(would_wait, is_passing(&error), now);
+                self.accepting = Accepting::after_fault(would_wait, is_passing(&error), now);
                 None
             }
         }
     }
 
-    // Admits a connection. Where there are as many as may be, the one that has waited for its client the longest ends
-    // to make room; where none waits for its client, the new one is kept until there is room.
+    // Admits a connection. If there are as many as allowed, the one that has waited longest for its client ends to make
+    // room; if none waits for its client, the new one is kept until there is room.
     fn admit(&mut self, stream: TcpStream, address: SocketAddr) -> bool {
         if self.make_room() {
             self.look_at_changed();
@@ -325,7 +325,7 @@ impl<
         }
     }
 
-    /// The connection for which there is no room yet is let go.
+    /// Drops the connection for which there is no room yet.
     pub fn drop_pending(&mut self) {
         self.pending = None;
         self.engine.hub.lock(self.rt).state.has_newcomer = false;

@@ -22,15 +22,15 @@ use std::alloc::{AllocError, Global};
 use std::io::ErrorKind;
 use std::net::{self, Net, Shutdown};
 
-/// How many events are taken at once. Between two takes the control socket is looked at.
+/// How many events are taken at once. Between two takes the control socket is checked.
 const EVENTS: usize = 64;
 
 /// How many bytes are read at once.
 const BUFFER: usize = 16_384;
 
-/// What a connection has come by: a socket of its own, or a datagram.
+/// How a connection came: with a socket of its own, or as a datagram.
 #[derive(Drop)]
-pub(crate) enum Place {
+pub(crate) enum Transport {
     Stream(Socket),
     Datagram(Datagram),
 }
@@ -52,7 +52,7 @@ impl Socket {
         }
     }
 
-    // Shuts the writing side, and lets go what still comes.
+    // Shuts the writing side, and discards what still comes.
     fn linger(&mut self, state: &mut State, slot: usize, buffer: &mut [u8]) -> Progress
         ensures drained { Drains (slots_of state.old.connections) (slots_of state.new.connections) slot }
         ensures bounds { bounds_of state.new.connections ≡ bounds_of state.old.connections }
@@ -62,7 +62,7 @@ impl Socket {
     }
 }
 
-/// What tells which sockets are ready.
+/// Watches which sockets are ready.
 #[derive(Drop)]
 pub(crate) struct Selector {
     pub poll: Poll,
@@ -70,7 +70,7 @@ pub(crate) struct Selector {
 }
 
 impl Selector {
-    /// One that watches nothing yet, and what ends a wait of its.
+    /// A selector that watches nothing yet, and the waker that ends its waits.
     pub fn new<R: Net>(rt: &R, alloc: Global) -> Result<(Selector, Waker), PoolFault>
         ensures fault { IfErr result IsUnmade }
     {
@@ -91,7 +91,7 @@ impl Selector {
 #[derive(Drop)]
 pub(crate) struct Sockets {
     pub registry: Registry,
-    pub by_slot: Vec<Option<Place>>,
+    pub by_slot: Vec<Option<Transport>>,
     pub buffer: Vec<u8>,
     pub datagrams: Option<Datagrams>,
     /// The bytes of a datagram.
@@ -99,7 +99,7 @@ pub(crate) struct Sockets {
 }
 
 impl Sockets {
-    /// None yet, for so many connections, and maybe one for datagrams.
+    /// None yet, for this many connections, and possibly one for datagrams.
     pub fn new(
         alloc: Global,
         selector: &Selector,
@@ -134,7 +134,7 @@ impl Sockets {
         })
     }
 
-    /// The socket of a connection that was accepted just now, which doesn't wait from now on; whether it is watched.
+    /// Stores the socket of a connection that was just accepted, and makes it non-blocking; whether it is watched.
     pub fn put(&mut self, slot: usize, stream: net::TcpStream) -> bool {
         let is_set = stream.set_nonblocking(true).is_ok();
         let _ = stream.set_nodelay(true);
@@ -147,7 +147,7 @@ impl Sockets {
         match self.by_slot.get_mut(slot) {
             None => false,
             Some(place) => {
-                *place = Some(Place::Stream(Socket {
+                *place = Some(Transport::Stream(Socket {
                     stream,
                     is_shut: false,
                 }));
@@ -159,14 +159,19 @@ impl Sockets {
     /// Whether the socket of a connection has failed.
     pub fn has_failed(&self, slot: usize) -> bool {
         match self.by_slot.get(slot) {
-            Some(Some(Place::Stream(socket))) => !matches!(socket.stream.take_error(), Ok(None)),
+            Some(Some(Transport::Stream(socket))) => !matches!(
+                socket.stream.take_error(),
+                Ok(None)
+            ),
             _ => false,
         }
     }
 
     /// Does what is to be done for a connection, in one call of its socket.
     pub fn step(&mut self, state: &mut State, slot: usize, now: u64) -> Progress
-        ensures steps { Steps (bounds_of state.old.connections) now (todo_in (get (slots_of state.old.connections) slot)) (slots_of state.old.connections) (slots_of state.new.connections) slot }
+        ensures steps { Steps (bounds_of state.old.connections) now
+            (todo_in (get (slots_of state.old.connections) slot))
+            (slots_of state.old.connections) (slots_of state.new.connections) slot }
         ensures bounds { bounds_of state.new.connections ≡ bounds_of state.old.connections }
     {
         let Sockets {
@@ -177,24 +182,24 @@ impl Sockets {
         } = self;
         match state.todo(slot) {
             Todo::Read(_) => match by_slot.get_mut(slot) {
-                Some(Some(Place::Stream(socket))) => {
+                Some(Some(Transport::Stream(socket))) => {
                     state.read(slot, &mut socket.stream, buffer, now)
                 }
-                Some(Some(Place::Datagram(_))) => state.end_input(slot),
+                Some(Some(Transport::Datagram(_))) => state.end_input(slot),
                 _ => Progress::None,
             },
             Todo::Write => match (by_slot.get_mut(slot), datagrams) {
-                (Some(Some(Place::Stream(socket))), _) => {
+                (Some(Some(Transport::Stream(socket))), _) => {
                     state.write(slot, &mut socket.stream, now)
                 }
-                (Some(Some(Place::Datagram(datagram))), Some(datagrams)) => {
+                (Some(Some(Transport::Datagram(datagram))), Some(datagrams)) => {
                     datagrams.reply(state, slot, datagram, now)
                 }
                 _ => Progress::None,
             },
             Todo::Linger => match by_slot.get_mut(slot) {
-                Some(Some(Place::Stream(socket))) => socket.linger(state, slot, buffer),
-                Some(Some(Place::Datagram(_))) => state.end_input(slot),
+                Some(Some(Transport::Stream(socket))) => socket.linger(state, slot, buffer),
+                Some(Some(Transport::Datagram(_))) => state.end_input(slot),
                 _ => Progress::None,
             },
             Todo::Close => {
@@ -208,10 +213,10 @@ impl Sockets {
         }
     }
 
-    /// Takes the next datagram, if one is there. One that has no whole frame with an AP-REQ in it, or comes from a service,
-    /// is dropped, and one that is under way already. One that was answered within the last five seconds gets that reply
-    /// again. Any other one waits for its worker, where there is room for it. After a fault none is taken before the socket
-    /// is reported again.
+    /// Reads the next datagram, if one has come. One that isn't a whole frame with an AP-REQ in it, or comes from a
+    /// service, is dropped, and so is one that is already under way. One that was answered less than five seconds ago
+    /// gets that reply again. Any other one waits for its worker, if there is room for it. After a fault none is read
+    /// before the socket is reported again.
     pub fn take_datagram(&mut self, state: &mut State, now: u64) -> Progress
         ensures queued { IfSome self.old.datagrams (λ d. (worker : ℕ) → result ≡ progress.Queued worker
             → Queues d self.old.by_slot.items self.new.by_slot.items (bounds_of state.old.connections) now (accepted_by state.old.connections)
@@ -240,10 +245,10 @@ impl Sockets {
     }
 }
 
-// What is done with a datagram that came.
+// Handles a datagram that came.
 #[tactic(auto, using(crate::proofs::PlaceLemmas::queues))]
 fn decide(
-    by_slot: &mut [Option<Place>],
+    by_slot: &mut [Option<Transport>],
     datagrams: &Datagrams,
     state: &mut State,
     sender: Sender,
@@ -268,25 +273,25 @@ fn decide(
 }
 
 // Whether the same datagram of the same sender is being answered.
-fn is_under_way(by_slot: &[Option<Place>], sender: Sender, message: &[u8]) -> bool
+fn is_under_way(by_slot: &[Option<Transport>], sender: Sender, message: &[u8]) -> bool
     ensures value { result ≡ is_under_way by_slot.now sender message.now }
 {
     by_slot.iter().any(|place| is_at(place, sender, message))
 }
 
-fn is_at(place: &Option<Place>, sender: Sender, message: &[u8]) -> bool
+fn is_at(place: &Option<Transport>, sender: Sender, message: &[u8]) -> bool
     ensures value { result ≡ is_at sender message.now place.now }
 {
     match place {
-        Some(Place::Datagram(other)) => other.is(sender, message),
-        Some(Place::Stream(_)) | None => false,
+        Some(Transport::Datagram(other)) => other.is(sender, message),
+        Some(Transport::Stream(_)) | None => false,
     }
 }
 
-// A datagram waits for its worker, where it can.
+// Lets a datagram wait for its worker, if it can.
 fn queue(
     alloc: Global,
-    by_slot: &mut [Option<Place>],
+    by_slot: &mut [Option<Transport>],
     state: &mut State,
     sender: Sender,
     message: &[u8],
@@ -311,18 +316,18 @@ fn queue(
     }
 }
 
-// The datagram that a connection has come by.
+// Stores the datagram that a connection came as.
 #[tactic(auto, using(crate::proofs::PlaceLemmas::elsewhere))]
-fn put_datagram(by_slot: &mut [Option<Place>], slot: usize, sender: Sender, message: Vec<u8>)
+fn put_datagram(by_slot: &mut [Option<Transport>], slot: usize, sender: Sender, message: Vec<u8>)
     ensures placed { slot < length by_slot.old → IsPlaced by_slot.new slot sender message.items }
     ensures others { (other : ℕ) → (other ≡ slot → ⊥) → slice_get by_slot.new other ≡ slice_get by_slot.old other }
 {
     if slot < by_slot.len() {
-        by_slot[slot] = Some(Place::Datagram(Datagram { sender, message }));
+        by_slot[slot] = Some(Transport::Datagram(Datagram { sender, message }));
     }
 }
 
-fn no_sockets(alloc: Global, count: usize) -> Result<Vec<Option<Place>>, AllocError> {
+fn no_sockets(alloc: Global, count: usize) -> Result<Vec<Option<Transport>>, AllocError> {
     let mut sockets = Vec::with_capacity(alloc, count)?;
     for _ in 0..count {
         sockets.push(None)?;

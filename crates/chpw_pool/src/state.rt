@@ -9,27 +9,27 @@ ghost use Rattle.chpw_connections.specs.Stages.{came, taken, failed};
 ghost use Rattle.chpw_connections.specs.Room.{HappensWithRoom, for_message, is_large_in, has_room_to_read};
 ghost use Rattle.chpw_connections.specs.Counting.{count_in};
 ghost use Rattle.chpw_connections.specs.declared.counting.Counted.TheVariants as counted;
-ghost use Rattle.chpw_follower.specs.Asks.{asked_by, at_start, behind_ask, behind_bytes, behind_loss, confirmed_by};
-ghost use Rattle.chpw_pool.specs.Following.{awaited, asking_behind, Releases, ReleasesOne, is_waited_for as is_waited};
+ghost use Rattle.chpw_follower.specs.Asks.{asked_by, at_start, after_ask, after_bytes, after_loss, confirmed_by};
+ghost use Rattle.chpw_pool.specs.Following.{awaited, asking_after, Releases, ReleasesOne, is_waited_for as is_waited};
 ghost use Rattle.chpw_pool.specs.Steps.{IsAnswered, Takes, TakesNone, LetsGo, Gives, GivesNone, is_short_for, short_of};
 ghost use Rattle.chpw_pool.specs.Controlling.{IsCounted, sum_of};
 ghost use Rattle.chpw_pool.specs.Rounds.{is_done, is_finished, is_looked_at, is_reading, milliseconds_to_wait, wants_reactor};
 ghost use Rattle.chpw_pool.specs.declared.state.Progress.TheVariants as progress;
 
 use crate::accepting::Accepting;
-use crate::attendant::Standing;
+use crate::status_reporter::ConnectionCounts;
 use crate::worker::Reply;
-use chpw_connections::{Connections, Counted, Taken, Todo, Unconfirmed};
-use chpw_follower::{Asking, Misspoken};
+use chpw_connections::{Connections, Counted, TakenMessage, Todo, Unconfirmed};
+use chpw_follower::{FollowerDialog, ProtocolFault};
 use std::io::{ErrorKind, Read, Write};
 
-/// After how many milliseconds the connections whose time is up are looked for.
+/// The milliseconds between two searches for connections whose time is up.
 pub(crate) const TICK: u64 = 100;
 
-/// After how many milliseconds replies that wait for the follower are looked for.
+/// The milliseconds between two searches for replies that wait for the follower.
 const SOON: u64 = 20;
 
-/// After how many milliseconds a reactor without connections looks round.
+/// The milliseconds between two rounds of a reactor without connections.
 const REST: u64 = 1_000;
 
 /// The connections, and whether workers are to take messages.
@@ -38,17 +38,17 @@ pub(crate) struct State {
     pub connections: Connections,
     /// The workers take no message until the next desk.
     pub is_stopped: bool,
-    /// No message comes any more.
+    /// No message will come any more.
     pub is_over: bool,
-    /// Nobody is there to answer any more.
+    /// Nobody is left to answer.
     pub is_deserted: bool,
-    /// A client is there for whose connection there is no room yet.
+    /// A client has connected for whom there is no room yet.
     pub has_newcomer: bool,
-    /// For what there was no room in this round.
+    /// What there was no room for in this round.
     pub shortage: Shortage,
     /// What the follower is asked.
-    pub asking: Asking,
-    /// The connection to the follower is of a journal that another one has replaced since: what comes there isn't heard.
+    pub asking: FollowerDialog,
+    /// The connection to the follower concerns a journal that another one has replaced: what comes there is ignored.
     pub is_of_former: bool,
 }
 
@@ -61,7 +61,7 @@ pub(crate) struct Shortage {
 }
 
 impl Shortage {
-    /// Whether there is one for messages of this kind.
+    /// Whether there is a shortage for messages of this kind.
     fn is_for(self, is_large: bool) -> bool
         ensures value { result ≡ is_short_for is_large self }
     {
@@ -72,7 +72,7 @@ impl Shortage {
         }
     }
 
-    /// There is one for messages of this kind from now on.
+    /// There is a shortage for messages of this kind from now on.
     fn begin(&mut self, is_large: bool)
         ensures value { self.new ≡ short_of is_large self.old }
     {
@@ -91,12 +91,12 @@ impl Shortage {
     }
 }
 
-/// What came of a read or a write.
+/// The result of a read or a write.
 #[derive(Clone, Copy, PartialEq, Eq, Debug, Drop)]
 pub(crate) enum Progress {
     /// Something happened, and more may be done at once.
     Some,
-    /// A message is whole: it waits for this worker.
+    /// A message is complete: it waits for this worker.
     Queued(usize),
     /// Nothing can be done before the socket is reported again.
     None,
@@ -105,7 +105,16 @@ pub(crate) enum Progress {
 impl State {
     /// These connections, which workers may serve.
     pub fn new(connections: Connections) -> State
-        ensures value { result ≡ record { connections = connections; is_stopped = false; is_over = false; is_deserted = false; has_newcomer = false; shortage = record { of_large = false; of_small = false }; asking = at_start; is_of_former = false } }
+        ensures value { result ≡ record {
+          connections = connections;
+          is_stopped = false;
+          is_over = false;
+          is_deserted = false;
+          has_newcomer = false;
+          shortage = record { of_large = false; of_small = false };
+          asking = at_start;
+          is_of_former = false;
+        } }
     {
         State {
             connections,
@@ -114,7 +123,7 @@ impl State {
             is_deserted: false,
             has_newcomer: false,
             shortage: Shortage::default(),
-            asking: Asking::new(),
+            asking: FollowerDialog::new(),
             is_of_former: false,
         }
     }
@@ -127,8 +136,8 @@ impl State {
         !self.is_stopped && !self.is_over && !self.connections.has_message(worker)
     }
 
-    /// The next message for a worker; none where it is to take none, or the next one waited too long.
-    pub fn take(&mut self, worker: usize, now: u64) -> Option<Taken>
+    /// The next message for a worker; none if it is to take none, or the next one waited too long.
+    pub fn take(&mut self, worker: usize, now: u64) -> Option<TakenMessage>
         ensures stopped { self.old.is_stopped ≡ true → (result ≡ None) × (self.new ≡ self.old) }
         ensures message { IfSome result (λ t. queued_at (get (slots_of self.old.connections) t.slot) ≡ Some t.message.items) }
         ensures in_time { IfSome result (λ t. is_late_in (bounds_of self.old.connections) now (get (slots_of self.old.connections) t.slot) ≡ false) }
@@ -141,15 +150,16 @@ impl State {
         self.connections.take(worker, now)
     }
 
-    /// A worker's reply to a connection's message is to be written, or there is none and the connection ends. Where it is
-    /// the reply to a change, behind which the journal has so many bytes, it waits until the follower has said that the
-    /// KDC has as many, unless it has already.
+    /// A worker's reply to a connection's message is to be written, or there is none and the connection ends. If it is
+    /// the reply to a change, after which the journal has `change` bytes, it waits until the follower has confirmed
+    /// that the KDC has as many, unless it has already.
     pub fn answer(&mut self, slot: usize, reply: Option<Reply>, change: Option<u64>, now: u64)
-        ensures answered { IsAnswered (bounds_of self.old.connections) now (awaited self.old.asking change) reply (slots_of self.old.connections) (slots_of self.new.connections) slot }
-        ensures asking { self.new.asking ≡ asking_behind (awaited self.old.asking change) reply self.old.asking }
+        ensures answered { IsAnswered (bounds_of self.old.connections) now (awaited self.old.asking change) reply
+            (slots_of self.old.connections) (slots_of self.new.connections) slot }
+        ensures asking { self.new.asking ≡ asking_after (awaited self.old.asking change) reply self.old.asking }
         ensures bounds { bounds_of self.new.connections ≡ bounds_of self.old.connections }
     {
-        match (reply, self.awaited(change)) {
+        match (reply, self.length_awaited(change)) {
             (None, _) => self.connections.leave_unanswered(slot, now),
             (Some(Reply { bytes, is_last }), None) => {
                 self.connections.answer(slot, bytes, is_last, now);
@@ -161,8 +171,8 @@ impl State {
         }
     }
 
-    // How much of the journal the follower has to have before the reply to a change goes out.
-    fn awaited(&self, change: Option<u64>) -> Option<u64>
+    // How much of the journal the follower has to confirm before the reply to a change is written.
+    fn length_awaited(&self, change: Option<u64>) -> Option<u64>
         ensures value { result ≡ awaited self.now.asking change }
     {
         match change {
@@ -171,14 +181,14 @@ impl State {
         }
     }
 
-    // The follower said this. Where it has confirmed so many bytes of the journal with it, the replies that waited for no
-    // more are to be written.
-    fn hear(&mut self, bytes: &[u8], now: u64) -> Result<Option<u64>, Misspoken>
-        ensures asking { OnOk result (behind_bytes self.old.asking bytes.now ≡ Some self.new.asking) }
+    // The follower sent these bytes. If they confirm a mark of the journal, the replies that need no more are to be
+    // written.
+    fn hear(&mut self, bytes: &[u8], now: u64) -> Result<Option<u64>, ProtocolFault>
+        ensures asking { OnOk result (after_bytes self.old.asking bytes.now ≡ Some self.new.asking) }
         ensures confirmed { IfOk result (λ mark. mark ≡ confirmed_by self.old.asking.asked bytes.now) }
         ensures released { IfOk result (λ mark. Releases mark now (slots_of self.old.connections) (slots_of self.new.connections)) }
-        ensures misspoken { OnErr result (behind_bytes self.old.asking bytes.now ≡ None) }
-        ensures lost { OnErr result (self.new.asking ≡ behind_loss self.old.asking) }
+        ensures misspoken { OnErr result (after_bytes self.old.asking bytes.now ≡ None) }
+        ensures lost { OnErr result (self.new.asking ≡ after_loss self.old.asking) }
         ensures same { OnErr result (self.new.connections ≡ self.old.connections) }
         ensures bounds { bounds_of self.new.connections ≡ bounds_of self.old.connections }
     {
@@ -189,14 +199,15 @@ impl State {
         Ok(confirmed)
     }
 
-    /// As `hear`, unless the connection is of a former journal: of that nothing is heard.
-    pub fn heard(&mut self, bytes: &[u8], now: u64) -> Result<Option<u64>, Misspoken>
+    /// As `hear`, unless the connection concerns a former journal: that is ignored.
+    pub fn heard(&mut self, bytes: &[u8], now: u64) -> Result<Option<u64>, ProtocolFault>
         ensures former { self.old.is_of_former ≡ true → (result ≡ Ok None) × (self.new ≡ self.old) }
-        ensures asking { self.old.is_of_former ≡ false → OnOk result (behind_bytes self.old.asking bytes.now ≡ Some self.new.asking) }
+        ensures asking { self.old.is_of_former ≡ false → OnOk result (after_bytes self.old.asking bytes.now ≡ Some self.new.asking) }
         ensures confirmed { self.old.is_of_former ≡ false → IfOk result (λ mark. mark ≡ confirmed_by self.old.asking.asked bytes.now) }
-        ensures released { self.old.is_of_former ≡ false → IfOk result (λ mark. Releases mark now (slots_of self.old.connections) (slots_of self.new.connections)) }
-        ensures misspoken { OnErr result (behind_bytes self.old.asking bytes.now ≡ None) }
-        ensures lost { OnErr result (self.new.asking ≡ behind_loss self.old.asking) }
+        ensures released { self.old.is_of_former ≡ false
+            → IfOk result (λ mark. Releases mark now (slots_of self.old.connections) (slots_of self.new.connections)) }
+        ensures misspoken { OnErr result (after_bytes self.old.asking bytes.now ≡ None) }
+        ensures lost { OnErr result (self.new.asking ≡ after_loss self.old.asking) }
         ensures same { OnErr result (self.new.connections ≡ self.old.connections) }
     {
         if self.is_of_former {
@@ -205,7 +216,7 @@ impl State {
         self.hear(bytes, now)
     }
 
-    /// The first reply that has waited for the follower for so long: it is to be written.
+    /// The first reply that has waited this long for the follower: it is to be written.
     pub fn overdue(&mut self, wait: u64, now: u64) -> Option<Unconfirmed>
         ensures released { ReleasesOne wait now (slots_of self.old.connections) (slots_of self.new.connections) result }
         ensures unchanged { result ≡ None → self.new ≡ self.old }
@@ -214,7 +225,7 @@ impl State {
         self.connections.overdue(wait, now)
     }
 
-    /// Whether an answer of the follower's is due, or something is to be asked.
+    /// Whether an answer of the follower is due, or something is to be asked.
     pub fn is_waited_for(&self) -> bool
         ensures value { result ≡ is_waited self.now.asking }
     {
@@ -225,7 +236,7 @@ impl State {
     /// nothing is asked until another change is made.
     pub fn hang_up(&mut self) -> bool
         ensures due { result ≡ is_some self.old.asking.asked }
-        ensures asking { self.new.asking ≡ (if result then behind_loss self.old.asking else self.old.asking) }
+        ensures asking { self.new.asking ≡ (if result then after_loss self.old.asking else self.old.asking) }
         ensures same { self.new.connections ≡ self.old.connections }
     {
         let is_due = self.asking.is_asked();
@@ -242,22 +253,23 @@ impl State {
         self.connections.count(Counted::Confirming) > 0
     }
 
-    /// Another journal has taken the place of the one that the follower was asked of: marks count from its beginning, and
-    /// what is still said of the former one isn't heard.
+    /// Another journal has replaced the one that the follower was asked about: marks count from its beginning, and what
+    /// still comes about the former one is ignored.
     pub fn begin_marks_anew(&mut self)
         ensures asking { self.new.asking ≡ at_start }
         ensures of_former { self.new.is_of_former ≡ true }
         ensures same { self.new.connections ≡ self.old.connections }
     {
-        self.asking = Asking::new();
+        self.asking = FollowerDialog::new();
         self.is_of_former = true;
     }
 
-    /// What is to be asked now, and whether the connection to the follower is of a former journal: then it is closed first.
+    /// What is to be asked now, and whether the connection to the follower concerns a former journal: then it is closed
+    /// first.
     pub fn ask(&mut self) -> (bool, Option<u64>)
         ensures of_former { result.0 ≡ self.old.is_of_former }
         ensures mark { result.1 ≡ asked_by self.old.asking }
-        ensures asking { self.new.asking ≡ behind_ask self.old.asking }
+        ensures asking { self.new.asking ≡ after_ask self.old.asking }
         ensures of_present { self.new.is_of_former ≡ false }
         ensures same { self.new.connections ≡ self.old.connections }
     {
@@ -266,8 +278,8 @@ impl State {
         (is_of_former, self.asking.ask())
     }
 
-    /// Reads what is wanted of a connection's message, as far as it is there, the buffer takes it and there is room. Where
-    /// there is none it is left where it is.
+    /// Reads what is wanted of a connection's message, as far as it has come, fits into the buffer and has room. If
+    /// there is no room, it is left in the socket.
     pub fn read<I: Read>(
         &mut self,
         slot: usize,
@@ -295,12 +307,13 @@ impl State {
         }
     }
 
-    // Whether the next bytes of a connection's message may be read; none where there was no room for one of its kind in
+    // Whether the next bytes of a connection's message may be read; not if there was no room for one of its kind in
     // this round.
     fn may_read(&mut self, slot: usize, now: u64) -> bool
         ensures value { result ≡ (not (is_short_for (is_large_in (get (slots_of self.old.connections) slot)) self.old.shortage)
             && has_room_to_read (bounds_of self.old.connections) now (slots_of self.old.connections) slot) }
-        ensures shortage { self.new.shortage ≡ (if result then self.old.shortage else short_of (is_large_in (get (slots_of self.old.connections) slot)) self.old.shortage) }
+        ensures shortage { self.new.shortage ≡ (if result then self.old.shortage
+            else short_of (is_large_in (get (slots_of self.old.connections) slot)) self.old.shortage) }
         ensures same { self.new.connections ≡ self.old.connections }
     {
         let is_large = self.connections.is_large(slot);
@@ -314,8 +327,11 @@ impl State {
 
     // These bytes came.
     fn receive(&mut self, slot: usize, bytes: &[u8], now: u64) -> Progress
-        ensures happens { HappensWithRoom (for_message (bounds_of self.old.connections) now (get (slots_of self.old.connections) slot)) now (slots_of self.old.connections) (slots_of self.new.connections) slot (came bytes.now)
-            ⊎ HappensWithRoom (for_message (bounds_of self.old.connections) now (get (slots_of self.old.connections) slot)) 0 (slots_of self.old.connections) (slots_of self.new.connections) slot failed }
+        ensures happens { HappensWithRoom (for_message (bounds_of self.old.connections) now
+            (get (slots_of self.old.connections) slot)) now
+            (slots_of self.old.connections) (slots_of self.new.connections) slot (came bytes.now)
+            ⊎ HappensWithRoom (for_message (bounds_of self.old.connections) now (get (slots_of self.old.connections)
+            slot)) 0 (slots_of self.old.connections) (slots_of self.new.connections) slot failed }
         ensures bounds { bounds_of self.new.connections ≡ bounds_of self.old.connections }
     {
         match self.connections.receive(slot, bytes, now) {
@@ -324,7 +340,7 @@ impl State {
         }
     }
 
-    /// Writes what is left of a connection's reply, as far as the socket takes it.
+    /// Writes what is left of a connection's reply, as much as the socket takes.
     pub fn write<W: Write>(&mut self, slot: usize, writer: &mut W, now: u64) -> Progress
         ensures written { Gives now (slots_of self.old.connections) (slots_of self.new.connections) slot
             (W.contents writer.old) (W.contents writer.new)
@@ -350,7 +366,7 @@ impl State {
         }
     }
 
-    /// Reads what a client still sends behind its last reply, and lets it go.
+    /// Reads and discards what a client still sends after its last reply.
     pub fn drain<I: Read>(&mut self, slot: usize, reader: &mut I, buffer: &mut [u8]) -> Progress
         ensures drained { LetsGo (slots_of self.old.connections) (slots_of self.new.connections)
             (I.remaining reader.old) (I.remaining reader.new)
@@ -368,7 +384,7 @@ impl State {
         }
     }
 
-    /// A read or a write failed: one that would have waited is tried again once the socket is reported, one that a
+    /// A read or a write failed: one that would have blocked is tried again once the socket is reported, one that a
     /// signal interrupted at once; at any other fault the connection ends.
     pub fn stumble(&mut self, slot: usize, kind: ErrorKind) -> Progress
         ensures happens { Happens 0 (slots_of self.old.connections) (slots_of self.new.connections) slot failed
@@ -386,8 +402,8 @@ impl State {
         }
     }
 
-    /// Whether something is to be done that is the reactor's: connections have ended, a client waits for room, or the
-    /// follower is to be asked.
+    /// Whether something is left for the reactor: connections have ended, a client waits for room, or the follower is
+    /// to be asked.
     pub fn wants_reactor(&self) -> bool
         ensures value { result ≡ wants_reactor self.now }
     {
@@ -401,7 +417,7 @@ impl State {
         self.connections.todo(slot)
     }
 
-    /// Whether there is something to be done for a connection though nothing came of it: to read, where there was no room.
+    /// Whether something is to be done for a connection although nothing was reported: to read, if there was no room.
     pub fn is_to_be_looked_at(&self, slot: usize, reads: bool) -> bool
         ensures value { result ≡ is_looked_at reads (todo_in (get (slots_of self.now.connections) slot)) }
     {
@@ -412,8 +428,8 @@ impl State {
         }
     }
 
-    /// Whether nothing is left to do: so many connections were accepted, or no more can be, and each has ended; or nobody is
-    /// there to answer.
+    /// Whether nothing is left to do: this many connections were accepted, or no more can be, and each has ended; or
+    /// nobody is left to answer.
     pub fn is_finished(&self, wanted: u32, accepting: Accepting) -> bool
         ensures value { result ≡ is_finished wanted accepting self.now }
     {
@@ -421,8 +437,8 @@ impl State {
         self.is_deserted || (has_all && self.connections.is_empty())
     }
 
-    /// Whether the reactor has nothing left to do: nothing is left of the connections, and no order is carried out or waits; or
-    /// nobody is there to answer.
+    /// Whether the reactor has nothing left to do: the connections are finished, and no order is carried out or waits;
+    /// or nobody is left to answer.
     pub fn is_done(&self, wanted: u32, accepting: Accepting, has_orders: bool) -> bool
         ensures value { result ≡ is_done wanted accepting has_orders self.now }
     {
@@ -431,7 +447,8 @@ impl State {
 
     /// Ends a connection that waits for its client's next bytes.
     pub fn end_if_reading(&mut self, slot: usize)
-        ensures reading { is_reading (todo_in (get (slots_of self.old.connections) slot)) ≡ true → Happens 0 (slots_of self.old.connections) (slots_of self.new.connections) slot failed }
+        ensures reading { is_reading (todo_in (get (slots_of self.old.connections) slot)) ≡ true
+            → Happens 0 (slots_of self.old.connections) (slots_of self.new.connections) slot failed }
         ensures others { is_reading (todo_in (get (slots_of self.old.connections) slot)) ≡ false → self.new ≡ self.old }
     {
         if matches!(self.todo(slot), Todo::Read(_)) {
@@ -439,14 +456,14 @@ impl State {
         }
     }
 
-    /// How the connections stand, and whether the follower is asked about a change.
+    /// How many connections are in each stage, and whether the follower is asked about a change.
     #[tactic(auto, using(crate::proofs::ControlLemmas::all_counted))]
-    pub fn standing(&self) -> Standing
+    pub fn standing(&self) -> ConnectionCounts
         ensures value { IsCounted self.now result }
         ensures all { sum_of result ≡ slab_len (slots_of self.now.connections) }
         ensures behind { result.is_behind ≡ is_waited self.now.asking }
     {
-        Standing {
+        ConnectionCounts {
             reading: self.connections.count(Counted::Reading),
             waiting: self.connections.count(Counted::Waiting),
             answering: self.connections.count(Counted::Answering),
@@ -457,7 +474,7 @@ impl State {
         }
     }
 
-    /// How many milliseconds to wait for the next event: none where there is something to do at once.
+    /// How many milliseconds to wait for the next event: none if there is something to do at once.
     pub fn patience(&self, can_accept: bool, accepting: Accepting) -> u64
         ensures value { result ≡ milliseconds_to_wait can_accept accepting self.now }
     {

@@ -1,28 +1,28 @@
-//! Whose events are reported by which token.
+//! Which token reports whose events.
 ghost use Rattle.std.specs.Prelude.{◌≡◌, ◌+◌, ◌<◌, ◌^◌};
 ghost use Rattle.chpw_pool.specs.Tokens.{reported_by};
-ghost use Rattle.chpw_pool.specs.declared.tokens.Reported.TheVariants as reported;
+ghost use Rattle.chpw_pool.specs.declared.tokens.EventSource.TheVariants as reported;
 
 use mio::Token;
 
 /// The listener's events.
 pub(crate) const LISTENER: Token = Token(usize::MAX);
 
-/// Those of a worker that has something for the reactor.
+/// The events of a worker that has something for the reactor.
 pub(crate) const WAKER: Token = Token(usize::MAX - 1);
 
-/// The follower's.
+/// The follower's events.
 pub(crate) const FOLLOWER: Token = Token(usize::MAX - 2);
 
-/// Those of the socket for datagrams.
+/// The events of the socket for datagrams.
 pub(crate) const DATAGRAMS: Token = Token(usize::MAX - 3);
 
-/// The control socket's listener's.
+/// The events of the control socket's listener.
 pub(crate) const CONTROL: Token = Token(usize::MAX - 4);
 
 /// What was reported.
 #[derive(Clone, Copy, PartialEq, Eq, Debug, Drop)]
-pub(crate) enum Reported {
+pub(crate) enum EventSource {
     /// The listener.
     Listener,
     /// The connection to the follower.
@@ -31,31 +31,31 @@ pub(crate) enum Reported {
     Datagrams,
     /// The socket of the connection in this slot.
     Connection(usize),
-    /// The control socket, somebody there, or a wake: an order may have been answered.
+    /// The control socket, a caller at it, or a wake: an order may have been answered.
     Control,
 }
 
-impl Reported {
-    /// What is reported by a token, where connections have the tokens below this number.
-    pub fn of(token: Token, connections: usize) -> Reported
+impl EventSource {
+    /// What a token reports, if connections have the tokens below this number.
+    pub fn of(token: Token, connections: usize) -> EventSource
         ensures value { result ≡ reported_by token.0 connections }
     {
         if token == LISTENER {
-            Reported::Listener
+            EventSource::Listener
         } else if token == FOLLOWER {
-            Reported::Follower
+            EventSource::Follower
         } else if token == DATAGRAMS {
-            Reported::Datagrams
+            EventSource::Datagrams
         } else if token.0 < connections {
-            Reported::Connection(token.0)
+            EventSource::Connection(token.0)
         } else {
-            Reported::Control
+            EventSource::Control
         }
     }
 }
 
-/// The token of somebody at the control socket, in this slot, behind those of so many connections.
-pub(crate) fn token_behind(connections: usize, slot: usize) -> Token
+/// The token of the caller in this slot, after those of this many connections.
+pub(crate) fn token_after(connections: usize, slot: usize) -> Token
     ensures reported { connections + slot + 4 < 2 ^ 64 → reported_by result.0 connections ≡ reported.Control }
 {
     Token(connections.saturating_add(slot))

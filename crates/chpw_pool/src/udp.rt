@@ -52,7 +52,7 @@ pub(crate) struct Datagrams {
 }
 
 impl Datagrams {
-    /// Nothing has been answered at this socket yet, which doesn't wait from now on and is watched.
+    /// Nothing has been answered at this socket yet, which is made non-blocking and watched.
     pub fn new(
         alloc: Global,
         socket: net::UdpSocket,
@@ -63,7 +63,7 @@ impl Datagrams {
         let Ok(answered) = Answered::new(alloc) else {
             return Err(PoolFault::Memory);
         };
-        match watched(socket, registry) {
+        match watch(socket, registry) {
             Err(_) => Err(PoolFault::Accept),
             Ok((socket, port)) => Ok(Datagrams {
                 alloc,
@@ -74,7 +74,7 @@ impl Datagrams {
         }
     }
 
-    /// The next datagram, whose bytes the buffer has then, and whose it is.
+    /// The next datagram: its sender, and its bytes in the buffer.
     pub fn receive<'a>(&self, buffer: &'a mut [u8]) -> io::Result<(Sender, &'a [u8])> {
         let (count, from) = self.socket.recv_from(buffer)?;
         let sender = Sender {
@@ -84,7 +84,7 @@ impl Datagrams {
         Ok((sender, &buffer[..count]))
     }
 
-    /// Whether a datagram is to be answered and wasn't within the last five seconds; one that was gets that reply again.
+    /// Whether a datagram is to be answered and wasn't less than five seconds ago; one that was gets that reply again.
     pub fn is_to_be_decided(&self, sender: Sender, message: &[u8], now: u64) -> bool
         ensures value { result ≡ is_unanswered self.now sender message.now now }
     {
@@ -100,13 +100,13 @@ impl Datagrams {
         }
     }
 
-    // Sends a reply, without its length, to whom it is for.
+    // Sends a reply, without its length, to its receiver.
     fn send(&self, sender: Sender, reply: &[u8]) -> io::Result<usize> {
         let to = SocketAddr::from((Ipv4Addr::from(sender.address), sender.port));
         self.socket.send_to(reply_of_datagram(reply), to)
     }
 
-    /// Sends a connection's reply, whole, and keeps it. Where the socket takes nothing for now, nothing happens.
+    /// Sends a connection's reply as a whole, and keeps it. If the socket would block, nothing happens.
     pub fn reply(
         &mut self,
         state: &mut State,
@@ -130,7 +130,7 @@ impl Datagrams {
         }
     }
 
-    // Keeps a reply that went out; without memory for it, it isn't kept.
+    // Keeps a reply that was sent; without memory for it, it isn't kept.
     fn keep(&mut self, datagram: &mut Datagram, reply: &[u8], now: u64)
         ensures kept { KeepsReply self.old.answered self.new.answered datagram.old.sender datagram.old.message.items reply.now now }
     {
@@ -142,7 +142,7 @@ impl Datagrams {
 }
 
 // The socket, watched, and its port.
-fn watched(socket: net::UdpSocket, registry: &Registry) -> io::Result<(UdpSocket, u16)> {
+fn watch(socket: net::UdpSocket, registry: &Registry) -> io::Result<(UdpSocket, u16)> {
     socket.set_nonblocking(true)?;
     let port = socket.local_addr()?.port();
     let mut socket = UdpSocket::from_std(socket);

@@ -1,27 +1,26 @@
-//! A worker, and what it answers to a message.
+//! A worker, and its answer to a message.
 ghost use Rattle.std.specs.Prelude.{◌≡◌, ℕ, List, Option, Some, []};
-ghost use Rattle.chpw_answer.specs.Answering.{Answering, Unanswered};
+ghost use Rattle.chpw_serve.specs.Answering.{Answering, Unanswered};
 ghost use Rattle.chpw_serve.specs.Serving.{stream_state, message_too_long, IsServed};
 ghost use Rattle.chpw_serve.specs.declared.serving.Ended.{Ended};
 ghost use Rattle.chpw_pool.specs.Pools.{peer_in};
-ghost use Rattle.chpw_pool.specs.Turns.{IsReplyBehind, fills_at, has_changed_behind};
+ghost use Rattle.chpw_pool.specs.Turns.{IsReplyBehind, fills_at, has_changed_after};
 
 use crate::engine::Engine;
 use crate::follower::JournalEnd;
-use chpw_answer::{Gate, Messages};
-use chpw_connections::Taken;
+use chpw_connections::TakenMessage;
 use chpw_decider::Decider;
-use chpw_serve::{Clock, Ended, Words, serve_stream};
+use chpw_serve::{Clock, Ended, Gate, Messages, Observer, Words, serve_stream};
 use chpw_table::Receipt;
 use std::alloc::Global;
 use std::net::SocketAddr;
 use std::sync::Wait;
 use std::time;
 
-/// What a worker answers each message with. The next one goes on where the last one left off: so a worker draws each
-/// word once.
+/// What a worker answers each message with. The next message goes on where the last one left off, so that a worker
+/// draws each word once.
 #[derive(Drop)]
-pub(crate) struct Worker<'a, M, K: Decider, G: Gate, C: Clock, X: Words> {
+pub(crate) struct Worker<'a, M, K: Decider, G: Gate + Observer, C: Clock, X: Words> {
     pub alloc: Global,
     pub service: &'a M,
     pub decider: K,
@@ -30,22 +29,22 @@ pub(crate) struct Worker<'a, M, K: Decider, G: Gate, C: Clock, X: Words> {
     pub words: X,
 }
 
-/// A reply as it goes out, its length before it; and whether the connection ends behind it.
+/// A reply as it is sent, with its length before it; and whether the connection ends after it.
 #[derive(Drop)]
 pub(crate) struct Reply {
     pub bytes: Vec<u8>,
     pub is_last: bool,
 }
 
-/// Answers the messages of a worker's queue, until none come any more, or it is to take none for now. `room` is how
-/// many entries the desk's history has room for at its start; none where no other desk follows. The worker whose
-/// entry is the last that fits has all of them stop. The reply to a change may wait for the follower, until the KDC has the
-/// journal up to its end behind the change.
+/// Answers the messages of a worker's queue, until none will come any more, or it is to take none for now. `room` is
+/// how many entries the desk's history has room for at its start; none if no other desk follows. The worker whose entry
+/// is the last that fits stops all of them. The reply to a change may wait for the follower, until the KDC has the
+/// journal up to the change.
 pub(crate) fn work<
     R: Wait + time::Clock,
     M: Messages,
     K: Decider,
-    G: Gate,
+    G: Gate + Observer,
     C: Clock,
     X: Words,
     E,
@@ -62,7 +61,7 @@ pub(crate) fn work<
         let Some(taken) = engine.next(rt, number) else {
             return;
         };
-        let Taken {
+        let TakenMessage {
             slot,
             peer,
             message,
@@ -82,9 +81,9 @@ pub(crate) fn work<
     }
 }
 
-// Whether there is one receipt more than so many, and the newest is of a change.
+// Whether there is one more receipt than `before`, and the newest is of a change.
 fn has_changed(receipts: &[Receipt], before: usize) -> bool
-    ensures value { result ≡ has_changed_behind before receipts.now }
+    ensures value { result ≡ has_changed_after before receipts.now }
 {
     match receipts.last() {
         Some(receipt) => receipts.len() > before && receipt.entry.event.is_accepted(),
@@ -102,20 +101,20 @@ fn fills(receipts: &[Receipt], room: Option<u32>) -> bool
     }
 }
 
-// Answers a message of a peer, from memory to memory. The message stands behind its length, one that is too long is
-// its length alone. None where memory ran out.
-fn reply_to<M: Messages, K: Decider, G: Gate, C: Clock, X: Words>(
+// Answers a message of a peer, in memory. The message follows its length; one that is too long is its length alone.
+// None if memory ran out.
+fn reply_to<M: Messages, K: Decider, G: Gate + Observer, C: Clock, X: Words>(
     peer: [u8; 4],
     message: &[u8],
     worker: &mut Worker<'_, M, K, G, C, X>,
 ) -> Option<Reply>
     ensures replied { (ended : Ended) × (bytes : List ℕ) × (left : Option (List ℕ))
         × IsServed (Answering (M.error_frame worker.old.service.now)
-        (M.private_frame worker.old.service.now) K.may_be_full K.gathered K.follows K.made G.hears
+        (M.private_frame worker.old.service.now) K.may_be_full K.gathered K.follows K.made G.passes G.hears
         (M.opens worker.old.service.now peer) peer)
-        (Unanswered K.gathered K.follows K.made G.hears (M.opens worker.old.service.now peer) peer)
+        (Unanswered K.gathered K.follows K.made G.passes G.hears (M.opens worker.old.service.now peer) peer)
         (λ now. M.error_frame worker.old.service.now message_too_long now)
-        C.gives X.gives G.hears peer ended
+        C.gives X.gives G.passes G.hears peer ended
         (stream_state (Some message.now) worker.old.decider (Some []) worker.old.clock worker.old.words worker.old.gate.now)
         (stream_state left worker.new.decider (Some bytes) worker.new.clock worker.new.words worker.new.gate.now)
         × IsReplyBehind ended bytes result }
@@ -136,8 +135,8 @@ fn reply_to<M: Messages, K: Decider, G: Gate, C: Clock, X: Words>(
     reply_of(ended, bytes)
 }
 
-// What goes out of a message whose stream ended so. Behind a message that was too long the connection ends; a reply
-// that isn't whole doesn't go out.
+// The reply to a message whose stream ended so. After a message that was too long the connection ends; a reply that
+// isn't whole isn't sent.
 fn reply_of(ended: Ended, bytes: Vec<u8>) -> Option<Reply>
     ensures value { IsReplyBehind ended bytes.items result }
 {
@@ -154,7 +153,7 @@ fn reply_of(ended: Ended, bytes: Vec<u8>) -> Option<Reply>
     }
 }
 
-/// An IPv4 address, high byte first; that of no host where it is another one.
+/// An IPv4 address, high byte first; 0.0.0.0 for an address of another kind.
 pub(crate) fn peer_of(address: SocketAddr) -> [u8; 4]
     ensures value { result ≡ peer_in address }
 {

@@ -1,1 +1,2 @@
-pub mod PrintedLemmas
+pub mod QuotingLemmas
+pub mod TimeLemmas

@@ -1,4 +1,4 @@
--- How names, texts and numbers are printed: as printed ASCII, a name with no space in it.
+-- How names, texts and numbers are printed: as printable ASCII, a name without spaces.
 use Rattle.std.specs.Prelude.{ℕ, Bool, ◌&&◌, ◌||◌, nat_lt, List, [], ◌∷◌, ◌++◌, length, map, codes, if◌then◌else◌}
 use Rattle.std.specs.List.{flat_map, join_with_byte, list_all}
 use Rattle.std.specs.Fmt.{decimal}
@@ -6,14 +6,14 @@ use Rattle.hex.specs.Hex.{encode_lower}
 use Rattle.chpw_rules.specs.declared.name.Name.{Name}
 use Rattle.chpw_rules.specs.Limits.{range, is_in}
 
--- ASCII that is printed, from the space on; and the same without the space
+-- printable ASCII, from the space on; and without the space
 abbrev pub are_printed : List ℕ → Bool
 are_printed text = list_all (is_in (range 0x20 0x7e)) text
 
 abbrev pub are_graphic : List ℕ → Bool
 are_graphic text = list_all (is_in (range 0x21 0x7e)) text
 
--- what can stand between two spaces: a byte at least
+-- what can stand between two spaces: at least one byte
 abbrev pub is_field : List ℕ → Bool
 is_field text = nat_lt 0 (length text) && are_graphic text
 
@@ -23,7 +23,7 @@ escaped byte = codes "\\x" ++ encode_lower (byte ∷ [])
 
 -- ---- names
 
--- ASCII that is printed, but the space, `/`, `@` and `\`
+-- printable ASCII except the space, `/`, `@` and `\`
 abbrev pub is_plain : ℕ → Bool
 is_plain byte =
     is_in (range 0x21 0x2e) byte || is_in (range 0x30 0x3f) byte
@@ -46,7 +46,7 @@ principal_text realm name = name_text name ++ codes "@" ++ quoted realm
 
 -- ---- texts
 
--- ASCII that is printed, the space among it, but `\`
+-- printable ASCII, with the space, except `\`
 abbrev pub is_plain_in_words : ℕ → Bool
 is_plain_in_words byte = is_in (range 0x20 0x5b) byte || is_in (range 0x5d 0x7e) byte
 
@@ -59,6 +59,6 @@ words_text words = flat_map words_byte words
 
 -- ---- numbers
 
--- behind a space
+-- after a space
 abbrev pub number_text : ℕ → List ℕ
 number_text number = codes " " ++ decimal number

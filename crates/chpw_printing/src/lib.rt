@@ -1,8 +1,11 @@
-//! How names, bytes, texts and numbers are printed, as printed ASCII: put at the end of a text.
+//! How names, bytes, texts and numbers are printed, as printable ASCII: each is added at the end of a text.
 #![tactic(auto)]
 
+pub mod laws;
 mod numbers;
 mod quoting;
+mod times;
 
 pub use numbers::{put_behind_space, put_number, put_signed};
 pub use quoting::{put_hex, put_name, put_principal, put_quoted, put_words};
+pub use times::put_time;

@@ -6,7 +6,7 @@ ghost use Rattle.chpw_printing.specs.Quoting.{is_field, number_text};
 use std::alloc::AllocError;
 
 /// Puts a number at the end, in decimal digits.
-#[tactic(auto, using(crate::proofs::PrintedLemmas::decimal_field))]
+#[tactic(auto, using(crate::proofs::QuotingLemmas::decimal_field))]
 pub fn put_number(text: &mut Vec<u8>, number: u64) -> Result<(), AllocError>
     ensures value { OnOk result (text.new.items ≡ text.old.items ++ decimal number) }
     ensures field { is_field (decimal number) ≡ true }
@@ -16,7 +16,7 @@ pub fn put_number(text: &mut Vec<u8>, number: u64) -> Result<(), AllocError>
 }
 
 /// Puts a number at the end, in decimal digits, a negative one behind `-`.
-#[tactic(auto, using(crate::proofs::PrintedLemmas::signed_field))]
+#[tactic(auto, using(crate::proofs::QuotingLemmas::signed_field))]
 pub fn put_signed(text: &mut Vec<u8>, number: i64) -> Result<(), AllocError>
     ensures value { OnOk result (text.new.items ≡ text.old.items ++ signed_decimal number) }
     ensures field { is_field (signed_decimal number) ≡ true }
@@ -25,7 +25,7 @@ pub fn put_signed(text: &mut Vec<u8>, number: i64) -> Result<(), AllocError>
     text.extend_from_slice(digits.as_bytes())
 }
 
-/// Puts a number at the end, behind a space.
+/// Adds a space and a number.
 pub fn put_behind_space(text: &mut Vec<u8>, number: u32) -> Result<(), AllocError>
     ensures value { OnOk result (text.new.items ≡ text.old.items ++ number_text number) }
 {

@@ -1,13 +1,15 @@
 //! Names, texts and bytes as they are printed.
 ghost use Rattle.std.specs.Prelude.{◌≡◌, ◌++◌, true, OnOk};
 ghost use Rattle.hex.specs.Hex.{encode_lower};
-ghost use Rattle.chpw_printing.specs.Quoting.{are_graphic, are_printed, is_field, is_plain as is_plain_byte, is_plain_in_words as is_plain_byte_in_words, byte_text, escaped, quoted, name_text, principal_text, words_byte, words_text};
+ghost use Rattle.chpw_printing.specs.Quoting.{are_graphic, are_printed, is_field, is_plain as is_plain_byte};
+ghost use Rattle.chpw_printing.specs.Quoting.{is_plain_in_words as is_plain_byte_in_words, byte_text, escaped};
+ghost use Rattle.chpw_printing.specs.Quoting.{quoted, name_text, principal_text, words_byte, words_text};
 
 use chpw_rules::Name;
 use std::alloc::AllocError;
 
 /// Puts a principal at the end as it is printed: its name, `@` and its realm.
-#[tactic(auto, using(crate::proofs::PrintedLemmas::principal_field))]
+#[tactic(auto, using(crate::proofs::QuotingLemmas::principal_field))]
 pub fn put_principal(text: &mut Vec<u8>, realm: &[u8], name: &Name) -> Result<(), AllocError>
     ensures value { OnOk result (text.new.items ≡ text.old.items ++ principal_text realm.now name.now) }
     ensures field { OnOk result (is_field (principal_text realm.now name.now) ≡ true) }
@@ -17,7 +19,7 @@ pub fn put_principal(text: &mut Vec<u8>, realm: &[u8], name: &Name) -> Result<()
     put_quoted(text, realm)
 }
 
-/// Puts a name at the end as it is printed: its components with `/` between them.
+/// Adds a name as it is printed: its components with `/` between them.
 pub fn put_name(text: &mut Vec<u8>, name: &Name) -> Result<(), AllocError>
     ensures value { OnOk result (text.new.items ≡ text.old.items ++ name_text name.now) }
     ensures graphic { OnOk result (are_graphic (name_text name.now) ≡ true) }
@@ -33,7 +35,7 @@ pub fn put_name(text: &mut Vec<u8>, name: &Name) -> Result<(), AllocError>
     Ok(())
 }
 
-/// Puts a name's bytes at the end as they are printed.
+/// Adds a name's bytes as they are printed.
 pub fn put_quoted(text: &mut Vec<u8>, bytes: &[u8]) -> Result<(), AllocError>
     ensures value { OnOk result (text.new.items ≡ text.old.items ++ quoted bytes.now) }
     ensures graphic { OnOk result (are_graphic (quoted bytes.now) ≡ true) }
@@ -46,7 +48,7 @@ pub fn put_quoted(text: &mut Vec<u8>, bytes: &[u8]) -> Result<(), AllocError>
     Ok(())
 }
 
-/// Puts a text's bytes at the end as they are printed; its spaces stand as they are.
+/// Adds a text's bytes as they are printed; spaces stay.
 pub fn put_words(text: &mut Vec<u8>, words: &[u8]) -> Result<(), AllocError>
     ensures value { OnOk result (text.new.items ≡ text.old.items ++ words_text words.now) }
     ensures printed { OnOk result (are_printed (words_text words.now) ≡ true) }
@@ -59,7 +61,7 @@ pub fn put_words(text: &mut Vec<u8>, words: &[u8]) -> Result<(), AllocError>
     Ok(())
 }
 
-// A name's byte as it is, where it is plain; else `\x` and two hexadecimal digits.
+// A name's byte unchanged if it is plain; otherwise `\x` and two hexadecimal digits.
 fn put_byte(text: &mut Vec<u8>, byte: u8) -> Result<(), AllocError>
     ensures value { OnOk result (text.new.items ≡ text.old.items ++ byte_text byte) }
     ensures graphic { are_graphic (byte_text byte) ≡ true }
@@ -71,7 +73,7 @@ fn put_byte(text: &mut Vec<u8>, byte: u8) -> Result<(), AllocError>
 }
 
 // A text's byte as it is, where it is printed and no `\`; else `\x` and two hexadecimal digits.
-#[tactic(auto, using(crate::proofs::PrintedLemmas::graphic_printed))]
+#[tactic(auto, using(crate::proofs::QuotingLemmas::graphic_printed))]
 fn put_words_byte(text: &mut Vec<u8>, byte: u8) -> Result<(), AllocError>
     ensures value { OnOk result (text.new.items ≡ text.old.items ++ words_byte byte) }
     ensures printed { are_printed (words_byte byte) ≡ true }
@@ -91,21 +93,21 @@ fn put_escaped(text: &mut Vec<u8>, byte: u8) -> Result<(), AllocError>
     put_hex(text, &[byte])
 }
 
-// ASCII that is printed, but the space, `/`, `@` and `\`.
+// Printable ASCII except the space, `/`, `@` and `\`.
 fn is_plain(byte: u8) -> bool
     ensures value { result ≡ is_plain_byte byte }
 {
     matches!(byte, 0x21..=0x2e | 0x30..=0x3f | 0x41..=0x5b | 0x5d..=0x7e)
 }
 
-// ASCII that is printed, the space among it, but `\`.
+// Printable ASCII, with the space, except `\`.
 fn is_plain_in_words(byte: u8) -> bool
     ensures value { result ≡ is_plain_byte_in_words byte }
 {
     matches!(byte, 0x20..=0x5b | 0x5d..=0x7e)
 }
 
-/// Puts bytes at the end in hexadecimal digits, in lower case.
+/// Adds bytes in lower-case hexadecimal digits.
 pub fn put_hex(text: &mut Vec<u8>, bytes: &[u8]) -> Result<(), AllocError>
     ensures value { OnOk result (text.new.items ≡ text.old.items ++ encode_lower bytes.now) }
 {

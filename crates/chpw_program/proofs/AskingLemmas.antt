@@ -12,7 +12,9 @@ use Rattle.chpw_invocation.specs.declared.invocation.ClientOptions.{ClientOption
 use Rattle.chpw_program.specs.Asking.{Asks, HasAsked, IsUnasked, Names, Tells}
 use Rattle.chpw_program.specs.NewPasswords.{IsPassword}
 use Rattle.chpw_program.specs.declared.ending.Ending.{Ending}
-use Rattle.chpw_program.specs.declared.ending.Ending.TheVariants.{Good, Faulty, Early, Unread, Unserved, Unbrought, EmptyPassword, ManyLines, BadArgument, Unconnected, Unanswered, Refused, Misused, NotText}
+use Rattle.chpw_program.specs.declared.ending.Ending.TheVariants.{Good, Faulty, Early, Unread, Unserved, Unbrought}
+use Rattle.chpw_program.specs.declared.ending.Ending.TheVariants.{EmptyPassword, ManyLines, BadArgument, Unconnected}
+use Rattle.chpw_program.specs.declared.ending.Ending.TheVariants.{Unanswered, Refused, Misused, NotText}
 
 pub asks : (options : ClientOptions) (config : Config) (q : Question) (target : Option Name) (drawn : _)
     (sent : Sent) → config_fits config ≡ true → q.realm ≡ config.realm → IsFirstKey config.service q.service

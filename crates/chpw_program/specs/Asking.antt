@@ -1,4 +1,4 @@
--- What `client` sends for what its options ask, and which of its endings tell what the service said.
+-- What `client` sends for its options, and which of its endings report what the service said.
 use Rattle.std.specs.Prelude.{◌≡◌, ◌<◌, ℕ, not, true, List, Option, Some, None, option_map}
 use Rattle.chpw_rules.specs.declared.config.Config.{Config}
 use Rattle.chpw_rules.specs.declared.name.Name.{Name}
@@ -14,7 +14,7 @@ use Rattle.chpw_program.specs.NewPasswords.{IsPassword}
 use Rattle.chpw_program.specs.declared.ending.Ending.{Ending}
 use Rattle.chpw_program.specs.declared.ending.Ending.TheVariants.{Good, Refused, Unanswered, Early}
 
--- the name of a text, where there is one
+-- the name of a text, if there is one
 abbrev pub Names : Option (List ℕ) → Option Name → Type 0
 Names None None = Unit {0}
 Names (Some text) (Some name) = name_of text ≡ Some name
@@ -37,7 +37,7 @@ pub record IsAsked (options : ClientOptions) (q : Question) : Type 0 where
 abbrev pub Asks : ClientOptions → Sent → Type 0
 Asks options sent = (question : Question) × IsAsked options question × (drawn : _) × IsRequest question drawn sent
 
--- well just where the reply says code 0
+-- it ends well exactly if the reply says code 0
 abbrev pub Tells : Sent → List ℕ → Ending → Type 0
 Tells sent reply Good = (line : List ℕ) × IsLine sent reply (Some (line, 0))
 Tells sent reply Refused = (line : List ℕ) × (status : ℕ) × IsLine sent reply (Some (line, status)) × (0 < status)
@@ -51,7 +51,7 @@ IsUnasked Good = ⊥
 IsUnasked Refused = ⊥
 IsUnasked _ = Unit {0}
 
--- so it ends, where a reply to that request came
+-- how it ends if a reply to that request came
 abbrev pub HasAsked : ClientOptions → Ending → Type 0
 HasAsked options Good = (sent : Sent) × (reply : List ℕ) × Asks options sent × Tells sent reply Good
 HasAsked options Refused = (sent : Sent) × (reply : List ℕ) × Asks options sent × Tells sent reply Refused

@@ -1,4 +1,4 @@
--- What `control` says to a running service, and how it ends by what the service answers.
+-- What `control` says to a running service, and how it ends by the service's answer.
 use Rattle.std.specs.Prelude.{◌++◌, ◌==◌, ◌||◌, ℕ, Bool, false, List, [], length, codes, if◌then◌else◌}
 use Rattle.std.specs.List.{ends_with, list_any}
 use Rattle.std.specs.Option.{option_map_or}
@@ -8,7 +8,7 @@ use Rattle.chpw_invocation.specs.declared.invocation.ControlCommand.{ControlComm
 use Rattle.chpw_program.specs.declared.ending.Ending.{Ending}
 use Rattle.chpw_program.specs.declared.ending.Ending.TheVariants.{Good, Unanswered, Refused}
 
--- the line of a command: its word and, behind a space, its file where it has one
+-- the line of a command: its word and, after a space, its file if it has one
 abbrev pub line_of : ControlCommand → List ℕ
 line_of command = word_of command ++ option_map_or (λ file. codes " " ++ file) (file_of command) [] ++ codes "\n"
 
@@ -20,11 +20,11 @@ is_broken command = option_map_or (λ file. list_any (λ b. b == 10) file) (file
 abbrev pub says_ok : List ℕ → Bool
 says_ok answer = bytes_eq answer (codes "ok\n") || ends_with ◌==◌ answer (codes "\nok\n")
 
--- so it ends by an answer
+-- how it ends by an answer
 abbrev pub ending_by : List ℕ → Ending
 ending_by answer = if length answer == 0 then Unanswered else if says_ok answer then Good else Refused
 
--- an ending that only an answer brings
+-- an ending that only an answer gives
 abbrev pub IsAnswered : Ending → Type 0
 IsAnswered Good = Unit {0}
 IsAnswered Refused = Unit {0}

@@ -2,13 +2,15 @@
 use Rattle.std.specs.Prelude.{ℕ, Bool, true, false, List, [], ◌∷◌, ◌++◌, Result, Ok, Err, codes, string_bytes, if◌then◌else◌}
 use Rattle.chpw_commands.specs.Drilled.{fault_text}
 use Rattle.chpw_commands.specs.declared.drill.DrillFault.{DrillFault}
-use Rattle.chpw_keys.specs.Faults.{line_of as keys_line}
-use Rattle.chpw_keys.specs.declared.fault.KeysFault.{KeysFault}
-use Rattle.chpw_keys.specs.declared.fault.KeysFault.TheVariants.{BadName}
+use Rattle.chpw_import.specs.Faults.{line_of as keys_line}
+use Rattle.chpw_import.specs.declared.fault.KeysFault.{KeysFault}
+use Rattle.chpw_import.specs.declared.fault.KeysFault.TheVariants.{BadName}
 use Rattle.chpw_service.specs.Faults.{line_of as service_line}
 use Rattle.chpw_service.specs.declared.fault.ServeFault.{ServeFault}
 use Rattle.chpw_program.specs.declared.ending.Ending.{Ending}
-use Rattle.chpw_program.specs.declared.ending.Ending.TheVariants.{Good, Faulty, Early, Unread, Unserved, Unbrought, EmptyPassword, ManyLines, BadArgument, Unconnected, Unanswered, Refused, Misused, NotText}
+use Rattle.chpw_program.specs.declared.ending.Ending.TheVariants.{Good, Faulty, Early, Unread, Unserved, Unbrought}
+use Rattle.chpw_program.specs.declared.ending.Ending.TheVariants.{EmptyPassword, ManyLines, BadArgument, Unconnected}
+use Rattle.chpw_program.specs.declared.ending.Ending.TheVariants.{Unanswered, Refused, Misused, NotText}
 
 abbrev pub status_of : Ending → ℕ
 status_of Good = 0

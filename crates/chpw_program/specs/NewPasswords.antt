@@ -7,7 +7,7 @@ use Rattle.chpw_invocation.specs.declared.invocation.PasswordSource.TheVariants 
 abbrev pub EndsIn : ℕ → List ℕ → Type 0
 EndsIn byte bytes = (front : List ℕ) × (bytes ≡ front ++ byte ∷ [])
 
--- the bytes without one such byte at their end, where it stands there
+-- the bytes without one such byte at their end, if it is there
 abbrev pub IsWithoutLast : ℕ → List ℕ → List ℕ → Type 0
 IsWithoutLast byte bytes rest = (bytes ≡ rest ++ byte ∷ []) ⊎ ((bytes ≡ rest) × ¬ (EndsIn byte bytes))
 

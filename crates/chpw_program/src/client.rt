@@ -24,8 +24,8 @@ use std::io::Write;
 use std::net::{Net, TcpStream};
 use std::time::Clock;
 
-/// Sends the request, and prints what the reply says. The names, the password and the moment are looked at
-/// first, then the configuration and the seed are read, and then the service is called.
+/// Sends the request, and prints what the reply says. The names, the password and the moment are checked first, then
+/// the configuration and the seed are read, and then the service is called.
 #[tactic(auto, using(crate::proofs::AskingLemmas::unasked, crate::proofs::AskingLemmas::replied))]
 pub fn ask<'a, R>(rt: &R, options: ClientOptions<'a>) -> Ending<'a>
 where
@@ -36,7 +36,7 @@ where
         Err(ending) => ending,
         Ok(sent) => match exchange(rt, options.port, sent.message.as_slice()) {
             Err(ending) => ending,
-            Ok(reply) => told(rt, &sent, reply.as_slice()),
+            Ok(reply) => print_reply(rt, &sent, reply.as_slice()),
         },
     }
 }
@@ -79,7 +79,7 @@ where
     }
     let now = moment(rt)?;
     let config = settings(rt, options.config)?;
-    let seed = seed(rt, options.seed)?;
+    let seed = seed_of(rt, options.seed)?;
     if config.service.as_slice().is_empty() {
         return Err(Ending::BadArgument);
     }
@@ -90,7 +90,7 @@ where
         now,
         client,
         password,
-        lent(target),
+        borrow_target(target),
         !options.no_initial,
         options.old,
         &mut words,
@@ -113,7 +113,7 @@ where
     }
 }
 
-fn seed<'a, R: Files<File = File>>(rt: &R, file: &'a str) -> Result<[u8; 32], Ending<'a>>
+fn seed_of<'a, R: Files<File = File>>(rt: &R, file: &'a str) -> Result<[u8; 32], Ending<'a>>
     ensures early { IfErr result IsUnasked }
 {
     match read_seed(rt, file) {
@@ -146,8 +146,8 @@ fn target_of<'a>(alloc: Global, text: Option<&str>) -> Result<Option<Name>, Endi
     }
 }
 
-// The target's name; written out, since so the fact that it fits comes with it.
-fn lent(target: &Option<Name>) -> Option<&Name>
+// The target's name; written out, since that gives the fact that it fits.
+fn borrow_target(target: &Option<Name>) -> Option<&Name>
     requires fits { IfSome target.now (λ name. is_name name ≡ true) }
     ensures fits { IfSome result (λ name. is_name name.now ≡ true) }
     ensures value { option_map (λ name. name.now) result ≡ target.now }
@@ -159,7 +159,7 @@ fn lent(target: &Option<Name>) -> Option<&Name>
     }
 }
 
-// The machine's moment, where a ticket of an hour ends within the year 9999.
+// The machine's moment, if a ticket of an hour ends within the year 9999.
 fn moment<'a, R: Clock>(rt: &R) -> Result<Moment, Ending<'a>>
     ensures start { IfOk result (λ now. pos 0 ≤ℤ now.seconds) }
     ensures end { IfOk result (λ now. now.seconds ≤ℤ pos latest_second) }
@@ -192,7 +192,7 @@ where
 }
 
 // Prints what a reply says.
-fn told<'a>(rt: &(impl Print + AllocGlobal), sent: &Sent, reply: &[u8]) -> Ending<'a>
+fn print_reply<'a>(rt: &(impl Print + AllocGlobal), sent: &Sent, reply: &[u8]) -> Ending<'a>
     ensures tells { Tells sent.now reply.now result }
 {
     match client_line(rt.alloc(), sent, reply) {

@@ -10,13 +10,13 @@ use std::{env, io};
 
 /// The words, the program's name first.
 pub fn words<'a>(rt: &(impl Env + AllocGlobal)) -> Result<Vec<String>, Ending<'a>> {
-    match copied(rt) {
+    match copy_words(rt) {
         Ok(words) => Ok(words),
         Err(error) => Err(without_words(&error)),
     }
 }
 
-fn copied(rt: &(impl Env + AllocGlobal)) -> io::Result<Vec<String>> {
+fn copy_words(rt: &(impl Env + AllocGlobal)) -> io::Result<Vec<String>> {
     let mut words = Vec::new(rt.alloc());
     for word in env::args(rt)? {
         words.push(word)?;
@@ -24,7 +24,7 @@ fn copied(rt: &(impl Env + AllocGlobal)) -> io::Result<Vec<String>> {
     Ok(words)
 }
 
-// How the program ends where they can't be had. A word that isn't UTF-8 is the one fault besides memory.
+// How the program ends if they can't be had. A word that isn't UTF-8 is the only fault besides memory.
 fn without_words<'a>(error: &io::Error) -> Ending<'a>
     ensures memory { error_kind error.now ≡ ErrorKind.OutOfMemory
         → result ≡ Ending.Early DrillFault.Memory }

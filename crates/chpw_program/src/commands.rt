@@ -7,8 +7,8 @@ use crate::client::ask;
 use crate::control::send_command;
 use crate::ending::Ending;
 use chpw_commands::{DrillFault, explain_check, run_check, run_drill};
+use chpw_import::{KeysFault, tell_keytab, tell_password};
 use chpw_invocation::{Invocation, command_of};
-use chpw_keys::{KeysFault, tell_keytab, tell_password};
 use chpw_service::{ServeFault, serve, tell_table};
 use clap::Error;
 use clap::error::ErrorKind;
@@ -16,12 +16,13 @@ use std::alloc::AllocError;
 use std::fs::{File, Files};
 use std::io::Write;
 use std::net::{Net, TcpListener, TcpStream};
+use std::rt::Env;
 use std::sync::Wait;
 use std::thread::Threads;
 use std::time::Clock;
 use std::{fs, io};
 
-/// Runs the command of these words; clap's text, where they ask for none, is an error.
+/// Runs the command of these words; if they ask for none, clap's text is an error.
 pub fn run<'a, R, W: Write>(rt: &R, errors: &mut W, words: &'a [String]) -> Ending<'a>
 where
     R: Files<File = File>
@@ -29,6 +30,7 @@ where
         + Threads
         + Wait
         + Clock
+        + Env
         + Input
         + Print
         + Eprint
@@ -36,20 +38,20 @@ where
         + Sync,
 {
     match command_of(rt.alloc(), words) {
-        Err(error) => misused(errors, error),
+        Err(error) => explain_misuse(errors, error),
         Ok(Invocation::Drill) => drill(rt),
         Ok(Invocation::Check { config }) => check(rt, config),
-        Ok(Invocation::Table(options)) => served(tell_table(rt, options)),
-        Ok(Invocation::Import(options)) => brought(tell_keytab(rt, options)),
-        Ok(Invocation::Key(options)) => brought(tell_password(rt, options)),
-        Ok(Invocation::Serve(options)) => served(serve(rt, options)),
+        Ok(Invocation::Table(options)) => ending_of_service(tell_table(rt, options)),
+        Ok(Invocation::Import(options)) => ending_of_keys(tell_keytab(rt, options)),
+        Ok(Invocation::Key(options)) => ending_of_keys(tell_password(rt, options)),
+        Ok(Invocation::Serve(options)) => ending_of_service(serve(rt, options)),
         Ok(Invocation::Control(options)) => send_command(rt, options),
         Ok(Invocation::Client(options)) => ask(rt, options),
     }
 }
 
 /// The command line asks for no command: clap's text says why, on standard error.
-pub fn misused<'a, W: Write>(errors: &mut W, error: Error) -> Ending<'a>
+pub fn explain_misuse<'a, W: Write>(errors: &mut W, error: Error) -> Ending<'a>
     ensures memory { kind_of error ≡ ErrorKind.OutOfMemory → result ≡ Ending.Early DrillFault.Memory }
     ensures text { kind_of error ≢ ErrorKind.OutOfMemory → result ≡ Ending.Misused }
 {
@@ -60,8 +62,8 @@ pub fn misused<'a, W: Write>(errors: &mut W, error: Error) -> Ending<'a>
     Ending::Misused
 }
 
-// The service, or the table that is held.
-fn served(ended: Result<(), ServeFault<'_>>) -> Ending<'_>
+// The ending of the service, or of the table.
+fn ending_of_service(ended: Result<(), ServeFault<'_>>) -> Ending<'_>
     ensures value { result ≡ ending_served ended.entry }
 {
     match ended {
@@ -70,8 +72,8 @@ fn served(ended: Result<(), ServeFault<'_>>) -> Ending<'_>
     }
 }
 
-// The keys of a keytab or a password.
-fn brought(told: Result<(), KeysFault<'_>>) -> Ending<'_>
+// The ending of a keytab's or a password's keys.
+fn ending_of_keys(told: Result<(), KeysFault<'_>>) -> Ending<'_>
     ensures value { result ≡ ending_brought told.entry }
 {
     match told {
@@ -83,10 +85,10 @@ fn brought(told: Result<(), KeysFault<'_>>) -> Ending<'_>
 
 // The script on standard input.
 fn drill<'a>(rt: &(impl Input + Print + AllocGlobal)) -> Ending<'a> {
-    drilled(run_drill(rt.alloc(), &mut rt.reader(), &mut io::writer(rt)))
+    ending_of_drill(run_drill(rt.alloc(), &mut rt.reader(), &mut io::writer(rt)))
 }
 
-fn drilled<'a>(ended: Result<(), DrillFault>) -> Ending<'a>
+fn ending_of_drill<'a>(ended: Result<(), DrillFault>) -> Ending<'a>
     ensures value { result ≡ ending_drilled ended }
 {
     match ended {
@@ -98,14 +100,14 @@ fn drilled<'a>(ended: Result<(), DrillFault>) -> Ending<'a>
 // The configuration in a file.
 fn check<'a>(rt: &(impl Files + Print + AllocGlobal), file: &'a str) -> Ending<'a> {
     let read = match fs::read(rt, file) {
-        Ok(text) => checked(rt, file, text.as_slice()),
+        Ok(text) => print_check(rt, file, text.as_slice()),
         Err(error) if error.kind() == io::ErrorKind::OutOfMemory => Err(AllocError),
         Err(_) => Ok(Ending::Unread(file)),
     };
     read.unwrap_or(Ending::Early(DrillFault::Memory))
 }
 
-fn checked<'a>(
+fn print_check<'a>(
     rt: &(impl Print + AllocGlobal),
     file: &'a str,
     text: &[u8],

@@ -1,4 +1,4 @@
-//! `control`: a command for a running service, and what the service answers.
+//! `control`: a command for a running service, and its answer.
 ghost use Rattle.std.specs.Prelude.{◌≡◌, ◌==◌, true, IfOk, IfSome, string_bytes};
 ghost use Rattle.std.specs.Io.KnownBytes.{Appends};
 ghost use Rattle.chpw_program.specs.Controlling as controlling;
@@ -12,7 +12,7 @@ use std::io::{self, ErrorKind, Read, Write};
 use std::net::Net;
 use std::os::unix::net::UnixStream;
 
-/// Sends the command to the service that listens at the socket, prints what it answers, and ends by that.
+/// Sends the command to the service that listens at the socket, prints its answer, and ends accordingly.
 pub fn send_command<'a, R: Net + Print + AllocGlobal>(
     rt: &R,
     options: ControlOptions<'a>,
@@ -44,7 +44,7 @@ fn is_broken(command: &ControlCommand<'_>) -> bool
     }
 }
 
-/// Writes the command's line to a service, and what the service answers to `out`, and ends by that.
+/// Writes the command's line to a service, and the service's answer to `out`, and ends accordingly.
 pub fn tell_service<'a, S: Write, A: Read, W: Write>(
     alloc: Global,
     command: &ControlCommand<'_>,
@@ -66,7 +66,7 @@ pub fn tell_service<'a, S: Write, A: Read, W: Write>(
     }
     let mut answer = Vec::new(alloc);
     match answers.read_to_end(&mut answer) {
-        Ok(_) => ended(answer.as_slice(), out),
+        Ok(_) => print_answer(answer.as_slice(), out),
         Err(error) => broken_off(answer.as_slice(), &error, out),
     }
 }
@@ -80,8 +80,8 @@ fn command_line(alloc: Global, command: &ControlCommand<'_>) -> Result<String, A
     }
 }
 
-// Prints a whole answer, and ends by it.
-fn ended<'a, W: Write>(answer: &[u8], out: &mut W) -> Ending<'a>
+// Prints a whole answer, and ends accordingly.
+fn print_answer<'a, W: Write>(answer: &[u8], out: &mut W) -> Ending<'a>
     ensures ends { IsAnswered result → result ≡ ending_by answer.now }
     ensures printed { IsAnswered result → Appends (W.contents out.old) (W.contents out.new) answer.now }
 {

@@ -4,7 +4,7 @@ ghost use Rattle.std.specs.Io.KnownBytes.{Appends};
 ghost use Rattle.chpw_program.specs.Endings.{has_line, line_of, status_of, told_of};
 
 use chpw_commands::DrillFault;
-use chpw_keys::KeysFault;
+use chpw_import::KeysFault;
 use chpw_service::ServeFault;
 use std::fmt;
 use std::io::{self, Write};
@@ -22,20 +22,20 @@ pub enum Ending<'a> {
     Unread(&'a str),
     /// The service ended early, or a file that `client` reads has a fault.
     Unserved(ServeFault<'a>),
-    /// No keys were brought in.
+    /// The keys could not be imported or made.
     Unbrought(KeysFault<'a>),
     /// This file, or standard input, has no password.
     EmptyPassword(&'a str),
-    /// More than one line stands where the password is to be.
+    /// There is more than one line where the password should be.
     ManyLines(&'a str),
-    /// A name, a password or the clock that no request can be made with, or a file that a command for a
-    /// running service can't name.
+    /// A name, a password or the clock with which no request can be made, or a file that a command for a running
+    /// service can't name.
     BadArgument,
     /// There is no service at the port.
     Unconnected,
     /// No reply came that can be read.
     Unanswered,
-    /// The service answered, and not with code 0; or not with `ok` at the end.
+    /// The service answered with another code than 0; or without `ok` at the end.
     Refused,
     /// The command line asks for no command, or for help.
     Misused,
@@ -44,8 +44,8 @@ pub enum Ending<'a> {
 }
 
 impl Ending<'_> {
-    /// The exit status: 0; 1 after a fault; 2 where the command line asks for no command or isn't UTF-8,
-    /// or `client` for no request.
+    /// The exit status: 0; 1 after a fault; 2 if the command line asks for no command or isn't UTF-8, or `client` for
+    /// no request.
     pub fn status(&self) -> u8
         ensures value { result ≡ status_of self.now }
         ensures few { result ≤ 2 }

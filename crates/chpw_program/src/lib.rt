@@ -1,5 +1,5 @@
-//! What the program does for each command line, and how it ends: the service, a request to it, a command for it
-//! while it runs, the table that is held, keys brought in, a check of a configuration, and a script of decisions.
+//! What the program does for each command line, and how it ends: the service, a request to it, a command for a running
+//! one, the table that is held, imported keys, a check of a configuration, and a script of decisions.
 #![tactic(auto)]
 
 mod client;
@@ -14,7 +14,7 @@ mod running;
 
 pub use client::ask;
 pub use command_line::words;
-pub use commands::misused;
+pub use commands::explain_misuse;
 pub use control::{send_command, tell_service};
 pub use ending::{Ending, tell};
 pub use reasons::Reason;

@@ -26,13 +26,13 @@ pub(crate) fn password_of<'a, R: Files + Input + AllocGlobal>(
         PasswordSource::Text(text) => copy_of(rt.alloc(), text.as_bytes()),
         PasswordSource::File(file) => match fs::read(rt, file) {
             Ok(bytes) => only_line(rt.alloc(), file, bytes.as_slice()),
-            Err(error) => Err(unread(file, &error)),
+            Err(error) => Err(unread_ending(file, &error)),
         },
         PasswordSource::StandardInput => line_from(rt.alloc(), &mut rt.reader()),
     }
 }
 
-// The line that a reader has, which is standard input.
+// The line of a reader, which is standard input.
 fn line_from<'a, A: Read>(alloc: Global, reader: &mut A) -> Result<Vec<u8>, Ending<'a>>
     ensures line { IfOk result (λ line. (bytes : List ℕ) × IsOnlyLine bytes line.items
         × IfSome (A.remaining reader.old) (λ known. known ≡ bytes)) }
@@ -41,11 +41,11 @@ fn line_from<'a, A: Read>(alloc: Global, reader: &mut A) -> Result<Vec<u8>, Endi
     let mut bytes = Vec::new(alloc);
     match reader.read_to_end(&mut bytes) {
         Ok(_) => only_line(alloc, STANDARD_INPUT, bytes.as_slice()),
-        Err(error) => Err(unread(STANDARD_INPUT, &error)),
+        Err(error) => Err(unread_ending(STANDARD_INPUT, &error)),
     }
 }
 
-fn unread<'a>(name: &'a str, error: &io::Error) -> Ending<'a>
+fn unread_ending<'a>(name: &'a str, error: &io::Error) -> Ending<'a>
     ensures early { IsUnasked result }
 {
     if error.kind() == ErrorKind::OutOfMemory {
@@ -55,7 +55,7 @@ fn unread<'a>(name: &'a str, error: &io::Error) -> Ending<'a>
     }
 }
 
-// The one line of these bytes, which come from what has this name.
+// The only line of these bytes, which come from the source with this name.
 fn only_line<'a>(alloc: Global, name: &'a str, bytes: &[u8]) -> Result<Vec<u8>, Ending<'a>>
     ensures line { IfOk result (λ line. IsOnlyLine bytes.now line.items) }
     ensures early { IfErr result IsUnasked }
@@ -80,7 +80,7 @@ fn copy_of<'a>(alloc: Global, bytes: &[u8]) -> Result<Vec<u8>, Ending<'a>>
     }
 }
 
-// The bytes without the end of a line at their end.
+// The bytes without a line ending at their end.
 fn without_end(bytes: &[u8]) -> &[u8]
     ensures value { IsWithoutEnd bytes.now result.now }
 {

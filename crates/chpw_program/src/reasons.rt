@@ -1,12 +1,12 @@
-//! Why a file can't be read, or a port not be listened at: what can be seen of it behind the fault.
+//! Why a file can't be read, or a port not be listened at, as far as that can be seen: a second line after the fault's.
 ghost use Rattle.std.specs.Prelude.{◌≡◌};
 ghost use Rattle.chpw_program.specs.Reasons.{is_privileged};
 
 use crate::ending::Ending;
 use crate::new_password::STANDARD_INPUT;
 use chpw_commands::explain_check;
+use chpw_import::KeysFault;
 use chpw_invocation::{Invocation, command_of};
-use chpw_keys::KeysFault;
 use chpw_service::ServeFault;
 use std::alloc::Global;
 use std::fmt;
@@ -17,19 +17,19 @@ use std::net::{Ipv4Addr, Net, TcpListener, TcpStream};
 /// How many bytes a seed has.
 const SEED: u64 = 32;
 
-/// The ports that want a privilege are below this one.
+/// The ports that require a privilege are below this one.
 const FIRST_FREE: u16 = 1_024;
 
-/// Why a fault came, displayed as a line behind the fault's.
+/// Why a fault came, displayed as a line after the fault's.
 #[derive(Drop)]
 pub enum Reason<'a> {
-    /// The file isn't there, or its folder isn't.
+    /// The file doesn't exist, or its directory doesn't.
     Missing(&'a str),
-    /// Its folder isn't there.
+    /// Its directory doesn't exist.
     NoFolder(&'a str),
     /// This process may not open it.
     Forbidden(&'a str),
-    /// It is a folder.
+    /// It is a directory.
     Folder(&'a str),
     /// It is a pipe, a socket or a device.
     Special(&'a str),
@@ -41,7 +41,7 @@ pub enum Reason<'a> {
     InWords(&'a str, String),
     /// Another socket has the port.
     InUse(u16),
-    /// The port is one of those that want a privilege.
+    /// The port is one of those that require a privilege.
     Privileged(u16),
 }
 
@@ -54,22 +54,22 @@ impl fmt::Display for Reason<'_> {
     fn fmt<W: fmt::Write>(&self, f: &mut fmt::Formatter<W>) -> fmt::Result {
         match self {
             Reason::Missing(file) => write!(f, "{file}: no such file"),
-            Reason::NoFolder(file) => write!(f, "{file}: no such folder"),
+            Reason::NoFolder(file) => write!(f, "{file}: no such directory"),
             Reason::Forbidden(file) => write!(f, "{file}: permission denied"),
-            Reason::Folder(file) => write!(f, "{file}: a folder"),
+            Reason::Folder(file) => write!(f, "{file}: is a directory"),
             Reason::Special(file) => write!(f, "{file}: not a regular file"),
             Reason::Short(file) => write!(f, "{file}: fewer than 32 bytes"),
-            Reason::Held(file) => write!(f, "{file}: another process has it"),
+            Reason::Held(file) => write!(f, "{file}: in use by another process"),
             Reason::InWords(file, words) => write!(f, "{file}: {}", words.as_str()),
             Reason::InUse(port) => write!(f, "port {port}: in use"),
             Reason::Privileged(port) => {
-                write!(f, "port {port}: a privilege is wanted below port 1024")
+                write!(f, "port {port}: ports below 1024 require a privilege")
             }
         }
     }
 }
 
-/// What the command line names, as far as faults are about it.
+/// The files and the port that the command line names, for faults about them.
 #[derive(Clone, Copy, Default, Drop)]
 struct Named<'a> {
     config: Option<&'a str>,
@@ -103,7 +103,7 @@ impl<'a> Named<'a> {
     }
 }
 
-/// Why a run with these words ended so, as far as it can be seen.
+/// Why a run with these words ended so, if that can be seen.
 pub(crate) fn reason_of<'a, R>(
     rt: &R,
     words: &'a [String],
@@ -204,7 +204,7 @@ fn of_port<'a, R: Net<Listener = TcpListener, Stream = TcpStream>>(
     }
 }
 
-// Whether a port wants a privilege.
+// Whether a port requires a privilege.
 fn is_privileged(port: u16) -> bool
     ensures value { result ≡ is_privileged port }
 {

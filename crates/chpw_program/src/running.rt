@@ -15,9 +15,9 @@ use std::sync::Wait;
 use std::thread::Threads;
 use std::time::Clock;
 
-/// Runs the command that the command line asks for; `errors` is standard error. The exit status: 0; 1 after
-/// a fault, which is told in a line there, and in a second one why, where that can be seen; 2 where the command line asks for no command or for help, whose
-/// text stands there, or isn't UTF-8, or `client` for no request.
+/// Runs the command that the command line asks for; `errors` is standard error. The exit status: 0; 1 after a fault,
+/// which has a line there, and a second one with the reason if that can be seen; 2 if the command line asks for no
+/// command or for help, whose text is written there, or isn't UTF-8, or `client` for no request.
 pub fn run_program<R, W: Write>(rt: &R, errors: &mut W) -> u8
 where
     R: Files<File = File>
@@ -49,7 +49,7 @@ where
     }
 }
 
-// Tells how the run ended; its status.
+// Reports how the run ended; its status.
 fn end<W: Write>(errors: &mut W, ending: &Ending<'_>) -> u8
     ensures status { result ≡ status_of ending.now }
     ensures few { result ≤ 2 }

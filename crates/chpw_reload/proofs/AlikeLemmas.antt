@@ -1,19 +1,20 @@
 -- Two files whose principals have the same newest keys, and the same records put back onto both.
-use Rattle.std.proofs.Common.{◌≡◌, ℕ, zero, suc, ◌+◌, ◌≤◌, max, min, List, [], ◌∷◌, take, Bool, true, false, if◌then◌else◌, Option, Some, None, refl, sym, ◌∙◌, ap, subst, arith, rules}
+use Rattle.std.proofs.Common.{◌≡◌, ℕ, zero, suc, ◌+◌, ◌≤◌, max, min, List, [], ◌∷◌, take, Bool, true, false}
+use Rattle.std.proofs.Common.{if◌then◌else◌, Option, Some, None, refl, sym, ◌∙◌, ap, subst, arith, rules}
 use Rattle.std.specs.Prelude.{option_map, IsSome}
 use Rattle.std.proofs.lemmas.List.{take-take}
 use Rattle.chpw_rules.specs.declared.name.Name.{Name}
 use Rattle.chpw_rules.specs.Names.{is_same_name}
-use Rattle.chpw_table.specs.declared.key.KeyRow.{KeyRow}
+use Rattle.chpw_record.specs.declared.key.KeyRow.{KeyRow}
 use Rattle.chpw_table.specs.State.{Fixed, State, keys_held, kept_count}
 use Rattle.chpw_table.specs.Decision.{newest_kvno}
 use Rattle.chpw_table.proofs.KeyLemmas.{keys_put, put, kept_some}
-use Rattle.chpw_journal.specs.declared.record.Record.{Record}
-use Rattle.chpw_journal.specs.declared.record.Record.TheVariants as record_of
+use Rattle.chpw_record.specs.declared.record.Record.{Record}
+use Rattle.chpw_record.specs.declared.record.Record.TheVariants as record_of
 use Rattle.chpw_journal.specs.JournalText.{with_record, restored, IsNextRecord, AreNext}
 use Rattle.chpw_journal.specs.Known.{IsKnown, AreKnown}
 use Rattle.chpw_journal.proofs.CoverLemmas.{restored_was, known_after}
-use Rattle.chpw_held.specs.Held.{opening}
+use Rattle.chpw_report.specs.Held.{opening}
 use Rattle.chpw_reload.specs.Comparing.{kept_by_both, HoldAlike}
 use Rattle.chpw_reload.specs.Laws.{FilesGoOn}
 
@@ -54,7 +55,8 @@ put_alike true m k l key xs ys a c h = front_alike m k l key xs ys a c h
 put_alike false m k l key xs ys a c h = h
 
 -- a key alone, or the same keys
-base_alike : (b : Bool) (m : ℕ) (key : KeyRow) (xs ys : List KeyRow) → take m xs ≡ take m ys → take m (if b then take 1 (key ∷ xs) else xs) ≡ take m (if b then take 1 (key ∷ ys) else ys)
+base_alike : (b : Bool) (m : ℕ) (key : KeyRow) (xs ys : List KeyRow) → take m xs ≡ take m ys
+    → take m (if b then take 1 (key ∷ xs) else xs) ≡ take m (if b then take 1 (key ∷ ys) else ys)
 base_alike true m key xs ys h = refl
 base_alike false m key xs ys h = h
 
@@ -84,7 +86,8 @@ newest_taken j [] = refl
 newest_taken j (x ∷ xs) = refl
 
 -- the newest version is the same
-newest_alike : (s t : State) (name : Name) (xs ys : List KeyRow) → HoldAlike s t name → keys_held s name ≡ Some xs → keys_held t name ≡ Some ys → newest_kvno xs ≡ newest_kvno ys
+newest_alike : (s t : State) (name : Name) (xs ys : List KeyRow)
+    → HoldAlike s t name → keys_held s name ≡ Some xs → keys_held t name ≡ Some ys → newest_kvno xs ≡ newest_kvno ys
 newest_alike s t name xs ys h a b =
     let m = both_some s t in
     let same : take (suc m.0) xs ≡ take (suc m.0) ys = subst (λ (n : ℕ). take n xs ≡ take n ys) m.1 (h xs ys a b) in

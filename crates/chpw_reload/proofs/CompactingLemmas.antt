@@ -4,12 +4,12 @@ use Rattle.std.specs.Prelude.{IsSome}
 use Rattle.chpw_rules.specs.declared.config.Config.{Config}
 use Rattle.chpw_table.specs.State.{Fixed, State, keys_held, kept_count, new_count, opening_of}
 use Rattle.chpw_table.specs.Agreement.{Agrees}
-use Rattle.chpw_journal.specs.declared.record.Record.{Record}
+use Rattle.chpw_record.specs.declared.record.Record.{Record}
 use Rattle.chpw_journal.specs.JournalText.{restored}
 use Rattle.chpw_journal.specs.Compact.{HoldsInRow}
 use Rattle.chpw_journal.proofs.CoverLemmas.{restored_kept, restored_some}
 use Rattle.chpw_journal.proofs.RowLemmas.{openings_hold_in_row, restored_hold_in_row, agree_hold_in_row, runs_may_compact, count_grows}
-use Rattle.chpw_held.specs.Held.{opening}
+use Rattle.chpw_report.specs.Held.{opening}
 use Rattle.chpw_reload.specs.Next.{settings_of, next_config, next_state}
 use Rattle.chpw_reload.specs.Reloads.{IsReload}
 use Rattle.chpw_reload.specs.Laws.{ReloadsMayCompact, StartsMayCompact}

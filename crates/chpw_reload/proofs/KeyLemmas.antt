@@ -1,5 +1,6 @@
 -- The keys of a name in the next state.
-use Rattle.std.proofs.Common.{◌≡◌, ℕ, max, List, [], ◌∷◌, ◌++◌, map, filter, take, Bool, true, false, not, ◌&&◌, if◌then◌else◌, Option, Some, None, is_none, refl, sym, ◌∙◌, ap}
+use Rattle.std.proofs.Common.{◌≡◌, ℕ, max, List, [], ◌∷◌, ◌++◌, map, filter, take, Bool, true, false}
+use Rattle.std.proofs.Common.{not, ◌&&◌, if◌then◌else◌, Option, Some, None, is_none, refl, sym, ◌∙◌, ap}
 use Rattle.std.specs.Prelude.{option_map}
 use Rattle.std.specs.List.{list_any}
 use Rattle.std.proofs.lemmas.List.{take-map}
@@ -8,12 +9,12 @@ use Rattle.chpw_rules.specs.declared.config.Config.{Config}
 use Rattle.chpw_rules.specs.declared.config.KeyBytes.{KeyBytes}
 use Rattle.chpw_rules.specs.declared.config.PrincipalRow.{PrincipalRow}
 use Rattle.chpw_rules.specs.Names.{is_same_name}
-use Rattle.chpw_table.specs.declared.key.KeyRow.{KeyRow}
+use Rattle.chpw_record.specs.declared.key.KeyRow.{KeyRow}
 use Rattle.chpw_table.specs.declared.table.Principal.{Principal}
 use Rattle.chpw_table.specs.State.{State, keys_held, key_row_of, opening_principal}
 use Rattle.chpw_table.proofs.KeyLemmas.{keys_in}
 use Rattle.chpw_table.proofs.NameLemmas.{is_same_name-Decides}
-use Rattle.chpw_held.specs.Configurations.{key_bytes_of, names_of, row_of}
+use Rattle.chpw_report.specs.Configurations.{key_bytes_of, names_of, row_of}
 use Rattle.chpw_reload.specs.Next.{is_unknown, lacked, next_state}
 
 -- the first of two, where it is there
@@ -107,8 +108,10 @@ abbrev pub chosen : ℕ → Option (List KeyRow) → Option (List KeyRow) → Op
 chosen kept (Some keys) other = Some (take kept keys)
 chosen kept None other = option_map (take kept) other
 
-either_row : (closed renewed : State) (kept : ℕ) (name : Name) (found other : Option (List KeyRow)) → keys_held renewed name ≡ found → keys_held closed name ≡ other
-    → first_of_both (if not (is_none found) then Some (row_keys renewed kept name) else None) (if is_none found && not (is_none other) then Some (row_keys closed kept name) else None)
+either_row : (closed renewed : State) (kept : ℕ) (name : Name) (found other : Option (List KeyRow))
+    → keys_held renewed name ≡ found → keys_held closed name ≡ other
+    → first_of_both (if not (is_none found) then Some (row_keys renewed kept name)
+    else None) (if is_none found && not (is_none other) then Some (row_keys closed kept name) else None)
     ≡ chosen kept found other
 either_row closed renewed kept name (Some keys) other h g = ap Some (keys_of_row renewed kept name keys h)
 either_row closed renewed kept name None None h g = refl
@@ -124,8 +127,11 @@ next_keys settings closed renewed name =
     ap (λ (ps : List Principal). keys_in ps name) (map_joined (opening_principal kept) front back)
     ∙ (keys_joined (map (opening_principal kept) front) (map (opening_principal kept) back) name
     ∙ (ap (λ (x : Option (List KeyRow)). first_of_both x (keys_in (map (opening_principal kept) back) name)) (keys_in_rows renewed kept (names_of renewed) name)
-    ∙ (ap (λ (b : Bool). first_of_both (if b then Some (row_keys renewed kept name) else None) (keys_in (map (opening_principal kept) back) name)) (among_principals renewed.principals name)
-    ∙ (ap (λ (x : Option (List KeyRow)). first_of_both (if not (is_none (keys_held renewed name)) then Some (row_keys renewed kept name) else None) x) (keys_in_rows closed kept (lacked closed renewed) name)
-    ∙ (ap (λ (b : Bool). first_of_both (if not (is_none (keys_held renewed name)) then Some (row_keys renewed kept name) else None) (if b then Some (row_keys closed kept name) else None))
+    ∙ (ap (λ (b : Bool). first_of_both (if b then Some (row_keys renewed kept name) else None)
+    (keys_in (map (opening_principal kept) back) name)) (among_principals renewed.principals name)
+    ∙ (ap (λ (x : Option (List KeyRow)). first_of_both (if not (is_none (keys_held renewed name))
+    then Some (row_keys renewed kept name) else None) x) (keys_in_rows closed kept (lacked closed renewed) name)
+    ∙ (ap (λ (b : Bool). first_of_both (if not (is_none (keys_held renewed name))
+    then Some (row_keys renewed kept name) else None) (if b then Some (row_keys closed kept name) else None))
     (among_lacked renewed (names_of closed) name ∙ ap (λ (b : Bool). is_unknown renewed name && b) (among_principals closed.principals name))
     ∙ either_row closed renewed kept name (keys_held renewed name) (keys_held closed name) refl refl)))))

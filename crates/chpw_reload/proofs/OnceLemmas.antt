@@ -16,7 +16,7 @@ use Rattle.chpw_rules.specs.Fitting.{are_distinct, is_same_principal, none_again
 use Rattle.chpw_table.specs.State.{State}
 use Rattle.chpw_table.proofs.BoolLemmas.{and_left, and_right, both}
 use Rattle.chpw_table.proofs.OrderLemmas.{same_name_ties, same_name_turned}
-use Rattle.chpw_held.specs.Configurations.{names_of, row_of}
+use Rattle.chpw_report.specs.Configurations.{names_of, row_of}
 use Rattle.chpw_reload.specs.Next.{is_unknown, lacked, next_config}
 use Rattle.chpw_reload.proofs.KeyLemmas.{is_among, among_principals}
 
@@ -28,7 +28,8 @@ HasNone s rows name = list_any (is_same_principal (row_of s name)) rows ≡ fals
 later_differs : (n m : Name) → name_cmp n m ≡ Less → is_same_name m n ≡ false
 later_differs n m h = same_name_turned m n ∙ (same_name_ties n m ∙ ap is_eq h)
 
-still_none : (s : State) (before : List PrincipalRow) (n : Name) (ms : List Name) → AllByRecursion (HasNone s before) ms → AllByRecursion (λ m. name_cmp n m ≡ Less) ms
+still_none : (s : State) (before : List PrincipalRow) (n : Name) (ms : List Name)
+    → AllByRecursion (HasNone s before) ms → AllByRecursion (λ m. name_cmp n m ≡ Less) ms
     → AllByRecursion (HasNone s (before ++ row_of s n ∷ [])) ms
 still_none s before n [] none later = tt
 still_none s before n (m ∷ ms) none later = (
@@ -71,7 +72,8 @@ pub next_once : (settings : Config) (closed renewed : State) → IsStrictlySorte
 next_once settings closed renewed first second =
     let known : List PrincipalRow = map (row_of renewed) (names_of renewed) in
     let none = recursion_from_All (HasNone closed known) (lacked closed renewed)
-    (All-weaker (λ name. is_unknown renewed name ≡ true) (HasNone closed known) (unknown_has_none closed renewed) (lacked closed renewed) (filter_passes (is_unknown renewed) (names_of closed))) in
+    (All-weaker (λ name. is_unknown renewed name ≡ true) (HasNone closed known) (unknown_has_none closed renewed)
+    (lacked closed renewed) (filter_passes (is_unknown renewed) (names_of closed))) in
     both_once is_same_principal [] known (map (row_of closed) (lacked closed renewed))
     (rows_once renewed [] (names_of renewed) second (none_in_nothing renewed (names_of renewed)))
     (rows_once closed known (lacked closed renewed) (IsStrictlySortedBy-filter name_cmp (is_unknown renewed) (names_of closed) first) none)

@@ -1,16 +1,18 @@
 -- A journal that is read in two parts, and the reload that two parts give.
-use Rattle.std.proofs.Common.{◌≡◌, ℕ, ◌+◌, List, ◌++◌, drop, length, Option, Some, None, refl, sym, ◌∙◌, ap, subst, arith, append_assoc, append-nil, length-append}
+use Rattle.std.proofs.Common.{◌≡◌, ℕ, ◌+◌, List, ◌++◌, drop, length, Option, Some, None, refl}
+use Rattle.std.proofs.Common.{sym, ◌∙◌, ap, subst, arith, append_assoc, append-nil, length-append}
 use Rattle.std.specs.Io.KnownBytes.{Consumes, IsAtEnd}
 use Rattle.std.proofs.Math.Seq.{drop-append_seam}
 use Rattle.chpw_rules.specs.declared.config.Config.{Config}
 use Rattle.chpw_table.specs.State.{State}
 use Rattle.chpw_table.specs.Agreement.{Held, Agrees}
-use Rattle.chpw_journal.specs.declared.record.Record.{Record}
-use Rattle.chpw_journal.specs.Records.{records_text}
+use Rattle.chpw_record.specs.declared.record.Record.{Record}
+use Rattle.chpw_record.specs.Records.{records_text}
 use Rattle.chpw_journal.specs.JournalText.{restored, whole, IsReading}
 use Rattle.chpw_journal.specs.Restoring.{IsRestored}
-use Rattle.chpw_journal.proofs.RecordsLemmas.{records_joined, restored_joined, next_joined}
-use Rattle.chpw_held.specs.Held.{opening}
+use Rattle.chpw_record.proofs.RecordLemmas.{records_joined}
+use Rattle.chpw_journal.proofs.RecordsLemmas.{restored_joined, next_joined}
+use Rattle.chpw_report.specs.Held.{opening}
 use Rattle.chpw_reload.specs.Next.{next_state}
 use Rattle.chpw_reload.specs.Comparing.{MayFollow}
 use Rattle.chpw_reload.specs.Laws.{TwoPartsAreOne, ReloadedIsReload}
@@ -21,9 +23,9 @@ all_read text read None h e = absurd h
 all_read text read (Some ys) h e = h ∙ (ap (λ (zs : List ℕ). read ++ zs) e ∙ append-nil read)
 
 -- what was read of a text behind a front is read of the whole
-read_behind : (front text read : List ℕ) (new : Option (List ℕ)) → Consumes (Some text) new read → Consumes (Some (front ++ text)) new (front ++ read)
-read_behind front text read None h = absurd h
-read_behind front text read (Some ys) h = ap (λ (zs : List ℕ). front ++ zs) h ∙ sym (append_assoc front read ys)
+read_after : (front text read : List ℕ) (new : Option (List ℕ)) → Consumes (Some text) new read → Consumes (Some (front ++ text)) new (front ++ read)
+read_after front text read None h = absurd h
+read_after front text read (Some ys) h = ap (λ (zs : List ℕ). front ++ zs) h ∙ sym (append_assoc front read ys)
 
 -- the records of both readings, one behind the other
 joined_text : (cs ds : List Record) (rest : List ℕ) → records_text cs ++ (records_text ds ++ rest) ≡ records_text (cs ++ ds) ++ rest
@@ -37,9 +39,11 @@ two_parts_are_one before front more new later first second a b =
     let all : front ++ more ≡ records_text cs ++ (a.rest ++ more) = ap (λ (xs : List ℕ). xs ++ more) text ∙ append_assoc (records_text cs) a.rest more in
     let behind : drop first.kept (front ++ more) ≡ a.rest ++ more =
     ap (λ (n : ℕ). drop n (front ++ more)) a.kept ∙ (ap (drop (length (records_text cs))) all ∙ drop-append_seam (records_text cs) (a.rest ++ more)) in
-    let rest_read : Consumes (Some (a.rest ++ more)) later (records_text ds ++ b.rest) = subst (λ (xs : List ℕ). Consumes (Some xs) later (records_text ds ++ b.rest)) behind b.read in
+    let rest_read : Consumes (Some (a.rest ++ more)) later (records_text ds ++ b.rest) =
+    subst (λ (xs : List ℕ). Consumes (Some xs) later (records_text ds ++ b.rest)) behind b.read in
     let read : Consumes (Some (front ++ more)) later (records_text cs ++ (records_text ds ++ b.rest)) =
-    subst (λ (xs : List ℕ). Consumes (Some xs) later (records_text cs ++ (records_text ds ++ b.rest))) (sym all) (read_behind (records_text cs) (a.rest ++ more) (records_text ds ++ b.rest) later rest_read) in
+    subst (λ (xs : List ℕ). Consumes (Some xs) later (records_text cs ++ (records_text ds ++ b.rest)))
+    (sym all) (read_after (records_text cs) (a.rest ++ more) (records_text ds ++ b.rest) later rest_read) in
     record {
       whole_records = cs ++ ds;
       rest = b.rest;
@@ -57,7 +61,9 @@ two_parts_are_one before front more new later first second a b =
           let n : length (cs ++ ds) ≡ length cs + length ds = length-append cs ds in
           omega (arith, n, a.records, b.records);
       kept =
-          let n : length (records_text (cs ++ ds)) ≡ length (records_text cs) + length (records_text ds) = ap (λ (xs : List ℕ). length xs) (records_joined cs ds) ∙ length-append (records_text cs) (records_text ds) in
+          let n : length (records_text (cs ++ ds)) ≡ length (records_text cs) + length (records_text ds) =
+          ap (λ (xs : List ℕ). length xs) (records_joined cs ds)
+          ∙ length-append (records_text cs) (records_text ds) in
           omega (arith, n, a.kept, b.kept);
       torn = b.torn;
     }

@@ -4,10 +4,10 @@ use Rattle.std.specs.Prelude.{option_map, IsSome, IfSome, ℤ, negsuc}
 use Rattle.std.proofs.lemmas.List.{take_all, take-take}
 use Rattle.chpw_rules.specs.declared.name.Name.{Name}
 use Rattle.chpw_rules.specs.declared.config.Config.{Config}
-use Rattle.chpw_table.specs.declared.key.KeyRow.{KeyRow}
+use Rattle.chpw_record.specs.declared.key.KeyRow.{KeyRow}
 use Rattle.chpw_table.specs.State.{Fixed, State, keys_held, kept_count, new_count, opening_of}
 use Rattle.chpw_table.specs.Times.{is_later}
-use Rattle.chpw_journal.specs.declared.record.Record.{Record}
+use Rattle.chpw_record.specs.declared.record.Record.{Record}
 use Rattle.chpw_journal.specs.JournalText.{restored, AreNext}
 use Rattle.chpw_journal.specs.Runs.{SameKeys, IsSound, Run, records_in, last_state}
 use Rattle.chpw_journal.specs.Known.{AreKnown}
@@ -16,13 +16,16 @@ use Rattle.chpw_journal.proofs.OpeningLemmas.{openings_are_sound}
 use Rattle.chpw_journal.proofs.CountLemmas.{count_runs}
 use Rattle.chpw_journal.proofs.RunLemmas.{Follows, runs_next}
 use Rattle.chpw_journal.proofs.JoinedLemmas.{tables_may_open}
-use Rattle.chpw_journal.proofs.CoverLemmas.{Covers, restored_kept, restored_alike, restored_some, restored_was, restored_none, restored_few, restored_count, opening_few, known_alike, next_covered, next_are_known}
+use Rattle.chpw_journal.proofs.CoverLemmas.{Covers, restored_kept, restored_alike, restored_some}
+use Rattle.chpw_journal.proofs.CoverLemmas.{restored_was, restored_none, restored_few, restored_count}
+use Rattle.chpw_journal.proofs.CoverLemmas.{opening_few, known_alike, next_covered, next_are_known}
 use Rattle.chpw_journal.proofs.FoundLemmas.{found_again, reads_again}
-use Rattle.chpw_held.specs.Held.{opening}
+use Rattle.chpw_report.specs.Held.{opening}
 use Rattle.chpw_reload.specs.Next.{settings_of, next_config, next_state}
 use Rattle.chpw_reload.specs.Comparing.{kept_by_both}
 use Rattle.chpw_reload.specs.Reloads.{IsRenewed, IsReload}
-use Rattle.chpw_reload.specs.Laws.{IdsStay, KeysStay, KeysAreGiven, CountStays, TimesStay, ReloadsAreSound, LaterStartsFind, LaterStartsRead, StartsKnowAll, StartsFindAgain}
+use Rattle.chpw_reload.specs.Laws.{IdsStay, KeysStay, KeysAreGiven, CountStays, TimesStay, ReloadsAreSound}
+use Rattle.chpw_reload.specs.Laws.{LaterStartsFind, LaterStartsRead, StartsKnowAll, StartsFindAgain}
 use Rattle.chpw_reload.proofs.KeyLemmas.{chosen, next_keys}
 
 -- ---- what stays
@@ -78,7 +81,8 @@ keys_are_given file records left next h name =
           (subst (λ (k : ℕ). IfSome (keys_held renewed name) (λ keys. length keys ≤ k)) (restored_kept (opening file) records)
           (restored_few (opening file) records (opening_few file (negsuc 0)) name)),
       λ none. keys_next file records left next h name
-          ∙ chosen_other kept (kept_count next) (keys_held renewed name) (keys_held left name) (sym (next_kept file records left next h)) (restored_none (opening file) records name none),
+          ∙ chosen_other kept (kept_count next) (keys_held renewed name) (keys_held left name)
+          (sym (next_kept file records left next h)) (restored_none (opening file) records name none),
     )
 
 pub keys_stay : KeysStay
@@ -124,7 +128,8 @@ reloads_are_sound file records left next h =
 -- ---- a later start
 
 pub starts_know_all : StartsKnowAll
-starts_know_all file quiet records n = known_alike (opening_of file quiet) (opening file) records (λ name some. some) (next_are_known (opening_of file quiet) records n)
+starts_know_all file quiet records n = known_alike (opening_of file quiet)
+    (opening file) records (λ name some. some) (next_are_known (opening_of file quiet) records n)
 
 module _ (file : Config) (records : List Record) (left next : State) (quiet : ℤ) (h : IsReload file records left next) where
   covers : Covers (restored (opening_of file quiet) records) next
@@ -138,11 +143,13 @@ module _ (file : Config) (records : List Record) (left next : State) (quiet : �
   front : AreNext (opening_of file quiet) records
   front =
       next_covered (opening_of file quiet) (opening file) records (record { kept = refl; keys = λ name some. refl })
-      (known_alike (opening file) (opening_of file quiet) records (λ name some. some) (next_are_known (opening file) records h.is_renewed.next)) h.is_renewed.next
+      (known_alike (opening file) (opening_of file quiet) records
+      (λ name some. some) (next_are_known (opening file) records h.is_renewed.next)) h.is_renewed.next
 
   lower : new_count (restored (opening_of file quiet) records) ≤ new_count next
   lower =
-      let a : new_count (restored (opening_of file quiet) records) ≤ new_count (restored (opening file) records) = restored_count (opening_of file quiet) (opening file) records (omega arith) in
+      let a : new_count (restored (opening_of file quiet) records) ≤ new_count (restored (opening file) records) =
+      restored_count (opening_of file quiet) (opening file) records (omega arith) in
       let b : h.renewed.count ≡ new_count (restored (opening file) records) = h.is_renewed.table.count in
       let c : new_count next ≡ max h.closed.count h.renewed.count = h.opens.count in
       omega (arith, a, b, c)

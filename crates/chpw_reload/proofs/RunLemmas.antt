@@ -1,5 +1,6 @@
 -- Histories and reloads, one after the other.
-use Rattle.std.proofs.Common.{◌≡◌, ℕ, ◌≤◌, List, [], ◌∷◌, ◌++◌, Bool, true, false, ◌&&◌, ◌||◌, if◌then◌else◌, Option, Some, None, refl, sym, ◌∙◌, ap, subst, arith, inl, inr, rules}
+use Rattle.std.proofs.Common.{◌≡◌, ℕ, ◌≤◌, List, [], ◌∷◌, ◌++◌, Bool, true, false, ◌&&◌, ◌||◌, if◌then◌else◌}
+use Rattle.std.proofs.Common.{Option, Some, None, refl, sym, ◌∙◌, ap, subst, arith, inl, inr, rules}
 use Rattle.std.specs.Prelude.{ℤ, IsSome, option_map, int_le}
 use Rattle.std.specs.Int.{int_max}
 use Rattle.std.specs.List.{list_any}
@@ -14,7 +15,7 @@ use Rattle.chpw_table.specs.declared.verdict.Verdict.TheVariants.{Skew, Replay}
 use Rattle.chpw_table.specs.declared.history.Event.{Event}
 use Rattle.chpw_table.specs.declared.history.Event.TheVariants.{Ask, Raise}
 use Rattle.chpw_table.specs.declared.history.Entry.{Entry}
-use Rattle.chpw_table.specs.declared.key.KeyRow.{KeyRow}
+use Rattle.chpw_record.specs.declared.key.KeyRow.{KeyRow}
 use Rattle.chpw_table.specs.Requests.{id_of, is_same_id, target_of}
 use Rattle.chpw_table.specs.State.{Fixed, State, keys_held, is_used, kept_count, new_count}
 use Rattle.chpw_table.specs.Times.{is_far, is_later, clock_at}
@@ -29,7 +30,8 @@ use Rattle.chpw_table.proofs.KeyLemmas.{keys_after, put, same_fixed}
 use Rattle.chpw_journal.specs.Runs.{IsSound, AreWhole, Run, last_state}
 use Rattle.chpw_journal.proofs.JoinedLemmas.{tables_may_open, histories_stay_sound, runs_are_last}
 use Rattle.chpw_reload.specs.ReloadRuns.{GoesOn, AreHistories}
-use Rattle.chpw_reload.specs.RunLaws.{RunsStaySound, UsedOverReloads, NamesOverReloads, CountOverReloads, QuietOverReloads, RunsBegin, RunsGoOn, RunsReload, InARowFollowOn}
+use Rattle.chpw_reload.specs.RunLaws.{RunsStaySound, UsedOverReloads, NamesOverReloads, CountOverReloads}
+use Rattle.chpw_reload.specs.RunLaws.{QuietOverReloads, RunsBegin, RunsGoOn, RunsReload, InARowFollowOn}
 use Rattle.chpw_reload.proofs.PartsLemmas.{reloaded_is_reload}
 use Rattle.chpw_reload.proofs.ReloadLemmas.{ids_stay, keys_stay, count_stays, times_stay, reloads_are_sound}
 
@@ -119,10 +121,12 @@ used_over_reloads s runs now o io h used =
   where
     at : (last : State) → StaysUsed s last (id_of o) → (b : Bool) → is_later last.clock o.ctime ≡ b → adds_id (verdict last now o io) ≡ false
     at last stays true e =
-        skewed (is_far (clock_at last now) o.ctime) (int_le o.ctime last.fixed.quiet_until) (if is_used last (id_of o) then Replay else message_row last (clock_at last now) o io)
+        skewed (is_far (clock_at last now) o.ctime) (int_le o.ctime last.fixed.quiet_until)
+        (if is_used last (id_of o) then Replay else message_row last (clock_at last now) o io)
         (old_is_far last.clock now.seconds o.ctime e)
     at last stays false e =
-        replayed (is_far (clock_at last now) o.ctime || int_le o.ctime last.fixed.quiet_until) (is_used last (id_of o)) (message_row last (clock_at last now) o io)
+        replayed (is_far (clock_at last now) o.ctime || int_le o.ctime last.fixed.quiet_until)
+        (is_used last (id_of o)) (message_row last (clock_at last now) o io)
         (stays.used e used)
 
 -- ---- names
@@ -132,7 +136,8 @@ put_some true kept key None h = h
 put_some true kept key (Some keys) h = h
 put_some false kept key x h = h
 
-name_event : (s : State) (now : Moment) (io : Bool) (event : Event) (name : Name) → IsSome (keys_held s name) → IsSome (keys_held (step_event s now io event) name)
+name_event : (s : State) (now : Moment) (io : Bool) (event : Event) (name : Name)
+    → IsSome (keys_held s name) → IsSome (keys_held (step_event s now io event) name)
 name_event s now io (Ask o v) name h =
     subst IsSome (sym (keys_after s (verdict s now o io) now o io name))
     (put_some (is_done (verdict s now o io) && is_same_name (target_of o).name name) (kept_count s) (new_key s o) (keys_held s name) h)
@@ -180,7 +185,8 @@ count_over_reloads s [] h = omega arith
 count_over_reloads s (r ∷ rs) h =
     let a : new_count s ≤ new_count r.opening = count_next s r.opening h.0 in
     let b : new_count r.opening ≤ new_count (outcome r.opening r.history) = count_history r.opening r.history in
-    let c : new_count (outcome r.opening r.history) ≤ new_count (last_state (outcome r.opening r.history) rs) = count_over_reloads (outcome r.opening r.history) rs h.3 in
+    let c : new_count (outcome r.opening r.history) ≤ new_count (last_state (outcome r.opening r.history) rs) =
+    count_over_reloads (outcome r.opening r.history) rs h.3 in
     omega (arith, a, b, c)
 
 -- ---- the quiet time and the realm
@@ -224,7 +230,8 @@ goes_on_from t s next same (inr h) = inr (
   },
 )
 
-histories_more : (s : State) (runs : List Run) (r : Run) → AreHistories s runs → GoesOn (last_state s runs) r.opening → IsLegal r.opening r.history → AreWhole r.opening r.history → AreHistories s (runs ++ r ∷ [])
+histories_more : (s : State) (runs : List Run) (r : Run) → AreHistories s runs → GoesOn (last_state s runs) r.opening
+    → IsLegal r.opening r.history → AreWhole r.opening r.history → AreHistories s (runs ++ r ∷ [])
 histories_more s [] r h goes legal whole = (goes, legal, whole, tt)
 histories_more s (q ∷ qs) r h goes legal whole = (h.0, h.1, h.2, histories_more (outcome q.opening q.history) qs r h.3 goes legal whole)
 
@@ -235,7 +242,8 @@ runs_go_on opening next table last h goes g =
     record {
       history = h.history;
       more = h.more ++ r ∷ [];
-      follow = histories_more opening (first ∷ h.more) r h.follow (goes_on_from table.state (last_state opening (first ∷ h.more)) next h.leaves goes) g.legal g.whole;
+      follow = histories_more opening (first ∷ h.more) r h.follow
+          (goes_on_from table.state (last_state opening (first ∷ h.more)) next h.leaves goes) g.legal g.whole;
       leaves = subst (λ (s : State). Agrees last.state s) (sym (runs_are_last opening (first ∷ h.more) r).0) g.agrees;
     }
 
@@ -252,3 +260,14 @@ in_a_row_follow_on s (r ∷ rs) sound h =
     let opens = tables_may_open s [] r.opening (record { sound = sound; each = tt; counts = tt }) h.0 in
     let rest = in_a_row_follow_on (outcome r.opening r.history) rs (histories_stay_sound r.opening r.history opens.sound h.1 h.2) h.3 in
     record { sound = sound; each = (opens.left.keys, opens.sound, h.1, h.2, rest.each); counts = (opens.left.count, rest.counts) }
+
+-- the laws of runs
+pub ruleset run_laws = (
+  runs_stay_sound,
+  used_over_reloads,
+  names_over_reloads,
+  count_over_reloads,
+  quiet_over_reloads,
+  runs_begin,
+  runs_go_on,
+)

@@ -10,20 +10,20 @@ use Rattle.chpw_journal.specs.declared.restoring.Restored.{Restored}
 use Rattle.chpw_journal.specs.JournalFile.{IsReadFrom, IsRefusedFrom}
 use Rattle.chpw_reload.specs.declared.fault.ReloadFault.{ReloadFault}
 use Rattle.chpw_reload.specs.declared.fault.ReloadFault.TheVariants.{Realm, Journal, Keys, Limits, Memory}
-use Rattle.chpw_reload.specs.declared.renewal.Renewal.{Renewal}
+use Rattle.chpw_reload.specs.declared.prepared_reload.PreparedReload.{PreparedReload}
 use Rattle.chpw_reload.specs.declared.reloading.Reloaded.{Reloaded}
 use Rattle.chpw_reload.specs.Next.{next_config, next_state}
 use Rattle.chpw_reload.specs.Reasons.{fault_of, fault_behind}
 use Rattle.chpw_reload.specs.Reloading.{IsRefused, IsReloaded}
 use Rattle.chpw_reload.specs.Starting.{IsStarted, IsStartedFrom, IsRefusedOver}
 
-pub started_from : (r : Renewal) (rest : Option (List ℕ)) (closed : State) (renewed : Restored) (result : Result Reloaded ReloadFault)
+pub started_from : (r : PreparedReload) (rest : Option (List ℕ)) (closed : State) (renewed : Restored) (result : Result Reloaded ReloadFault)
     → closed.fixed.realm ≡ r.settings.realm → IsReadFrom r.table rest renewed
     → IfOk result (IsStarted r.settings closed renewed.table.state) → IfOk result (IsStartedFrom r rest closed)
 started_from r rest closed renewed (Ok next) realm read h = record { realm = realm; renewed = renewed; read = read; started = h }
 started_from r rest closed renewed (Err fault) realm read h = h
 
-refused_of : (r : Renewal) (rest : Option (List ℕ)) (closed : Held) (renewed : Restored) (fault : ReloadFault)
+refused_of : (r : PreparedReload) (rest : Option (List ℕ)) (closed : Held) (renewed : Restored) (fault : ReloadFault)
     → closed.state.fixed.realm ≡ r.settings.realm → IsReadFrom r.table rest renewed
     → IsRefusedOver r.settings closed.state renewed.table.state fault → IsRefused r rest closed fault
 refused_of r rest closed renewed Realm realm read h = absurd h
@@ -32,14 +32,14 @@ refused_of r rest closed renewed (Keys name) realm read h = (realm, renewed, rea
 refused_of r rest closed renewed Limits realm read h = (realm, renewed, read, h.0, h.1)
 refused_of r rest closed renewed Memory realm read h = tt
 
-pub refused_over : (r : Renewal) (rest : Option (List ℕ)) (closed : Held) (renewed : Restored) (result : Result Reloaded ReloadFault)
+pub refused_over : (r : PreparedReload) (rest : Option (List ℕ)) (closed : Held) (renewed : Restored) (result : Result Reloaded ReloadFault)
     → closed.state.fixed.realm ≡ r.settings.realm → IsReadFrom r.table rest renewed
     → IfErr result (IsRefusedOver r.settings closed.state renewed.table.state) → IfErr result (IsRefused r rest closed)
 refused_over r rest closed renewed (Ok next) realm read h = h
 refused_over r rest closed renewed (Err fault) realm read h = refused_of r rest closed renewed fault realm read h
 
 -- the journal's fault, of the rest
-pub refused_rest : (r : Renewal) (rest : Option (List ℕ)) (closed : Held) (fault : RestoreFault) → closed.state.fixed.realm ≡ r.settings.realm
+pub refused_rest : (r : PreparedReload) (rest : Option (List ℕ)) (closed : Held) (fault : RestoreFault) → closed.state.fixed.realm ≡ r.settings.realm
     → IsRefusedFrom r.table rest fault → IsRefused r rest closed (fault_of (fault_behind r.records fault))
 refused_rest r rest closed (journal.BadRecord n) realm h = (realm, journal.BadRecord n, h, refl)
 refused_rest r rest closed (journal.WrongVersion n) realm h = (realm, journal.WrongVersion n, h, refl)
@@ -59,7 +59,8 @@ taken_over settings closed renewed t a = record {
 }
 
 -- the table that was started, once it goes on from the closed one
-pub reloaded_from : (r : Renewal) (rest : Option (List ℕ)) (closed : Held) (started : Reloaded) (table : Held) → IsStartedFrom r rest closed.state started
+pub reloaded_from : (r : PreparedReload) (rest : Option (List ℕ)) (closed : Held) (started : Reloaded) (table : Held)
+    → IsStartedFrom r rest closed.state started
     → table ≡ record started.table {
       state = record started.table.state { used = closed.state.used; clock = closed.state.clock; broken = closed.state.broken };
       events = 0;
@@ -69,7 +70,8 @@ reloaded_from r rest closed started table h e = record {
   renewed = h.renewed;
   read = h.read;
   may = record { realm = h.realm; keys = h.started.keys; fits = h.started.fits };
-  table = subst (λ (t : Held). Agrees t.state (next_state r.settings closed.state h.renewed.table.state)) (sym e) (taken_over r.settings closed.state h.renewed.table.state started.table.state h.started.table);
+  table = subst (λ (t : Held). Agrees t.state (next_state r.settings closed.state h.renewed.table.state))
+      (sym e) (taken_over r.settings closed.state h.renewed.table.state started.table.state h.started.table);
   counts = (ap (λ (t : Held). t.events) e, ap (λ (t : Held). t.seen) e, ap (λ (t : Held). t.max_entries) e ∙ h.started.counts.2);
   lacked = h.started.lacked;
 }

@@ -4,27 +4,27 @@ use Rattle.chpw_rules.specs.declared.name.Name.{Name}
 use Rattle.chpw_rules.specs.declared.config.Config.{Config}
 use Rattle.chpw_rules.specs.Fitting.{config_fits}
 use Rattle.chpw_table.specs.declared.request.RequestId.{RequestId}
-use Rattle.chpw_table.specs.declared.key.KeyRow.{KeyRow}
+use Rattle.chpw_record.specs.declared.key.KeyRow.{KeyRow}
 use Rattle.chpw_table.specs.State.{State, keys_held, is_used, kept_count, new_count, opening_of}
 use Rattle.chpw_table.specs.Times.{is_later}
 use Rattle.chpw_table.specs.Agreement.{Held, Agrees}
-use Rattle.chpw_journal.specs.declared.record.Record.{Record}
+use Rattle.chpw_record.specs.declared.record.Record.{Record}
 use Rattle.chpw_journal.specs.declared.restoring.Restored.{Restored}
-use Rattle.chpw_journal.specs.Records.{records_text}
+use Rattle.chpw_record.specs.Records.{records_text}
 use Rattle.chpw_journal.specs.JournalText.{restored, is_cut_off, AreNext, Reading, whole, IsReading}
 use Rattle.chpw_journal.specs.Restoring.{IsRestored}
 use Rattle.chpw_journal.specs.Runs.{IsSound, Run, journals, records_in, last_state}
 use Rattle.chpw_journal.specs.Joined.{FollowOn}
 use Rattle.chpw_journal.specs.Known.{AreKnown, IsFoundAgain}
 use Rattle.chpw_journal.specs.Compact.{compacted, AreWholeRecords, MayCompact}
-use Rattle.chpw_held.specs.Held.{opening}
-use Rattle.chpw_reload.specs.declared.renewal.Renewal.{Renewal}
+use Rattle.chpw_report.specs.Held.{opening}
+use Rattle.chpw_reload.specs.declared.prepared_reload.PreparedReload.{PreparedReload}
 use Rattle.chpw_reload.specs.declared.reloading.Reloaded.{Reloaded}
 use Rattle.chpw_reload.specs.Comparing.{kept_by_both, HoldAlike}
 use Rattle.chpw_reload.specs.Reloading.{IsPrepared, IsReloaded}
 use Rattle.chpw_reload.specs.Reloads.{IsReload}
 
--- an id was used before where it is used after, but for those too old to be judged
+-- an id was used before if it is used after, except those too old to be judged
 abbrev pub IdsStay : Type 0
 IdsStay = (file : Config) (records : List Record) (left next : State) → IsReload file records left next →
     (id : RequestId) → is_later left.clock id.ctime ≡ false → is_used next id ≡ is_used left id
@@ -56,14 +56,14 @@ TimesStay = (file : Config) (records : List Record) (left next : State) → IsRe
 abbrev pub ReloadsAreSound : Type 0
 ReloadsAreSound = (file : Config) (records : List Record) (left next : State) → IsReload file records left next → IsSound next
 
--- A start over the new file finds what the journal has of before the reload and of the runs behind it, where none of
--- these changes a principal that the file lacks
+-- A start over the new file finds what the journal has of before the reload and of the runs after it, if none of these
+-- changes a principal that the file lacks
 abbrev pub LaterStartsFind : Type 0
 LaterStartsFind = (file : Config) (records : List Record) (left next : State) (runs : List Run) (quiet : ℤ) →
     IsReload file records left next → FollowOn next runs → AreKnown (opening file) (records_in runs) →
     IsFoundAgain (opening_of file quiet) (records ++ records_in runs) (last_state next runs)
 
--- and it reads the journal so and in no other way
+-- and it reads the journal in this way only
 abbrev pub LaterStartsRead : Type 0
 LaterStartsRead = (file : Config) (records : List Record) (left next : State) (runs : List Run) (quiet : ℤ) (cut : List ℕ) →
     IsReload file records left next → FollowOn next runs → AreKnown (opening file) (records_in runs) → is_cut_off cut ≡ true →
@@ -71,17 +71,17 @@ LaterStartsRead = (file : Config) (records : List Record) (left next : State) (r
     IsReading (opening_of file quiet) text (whole (records ++ records_in runs) cut)
     × ((reading : Reading) → IsReading (opening_of file quiet) text reading → reading ≡ whole (records ++ records_in runs) cut)
 
--- no start is possible where a change is of a principal that the file lacks
+-- no start is possible if a change is of a principal that the file lacks
 abbrev pub StartsKnowAll : Type 0
 StartsKnowAll = (file : Config) (quiet : ℤ) (records : List Record) → AreNext (opening_of file quiet) records → AreKnown (opening file) records
 
--- of a service that began with a file and these records, a start over the file finds the same again
+-- for a service that began with a file and these records, a start over the file finds the same again
 abbrev pub StartsFindAgain : Type 0
 StartsFindAgain = (file : Config) (records : List Record) (quiet : ℤ) (s : State) (runs : List Run) →
     AreNext (opening file) records → Agrees s (restored (opening_of file quiet) records) → FollowOn s runs →
     IsFoundAgain (opening file) (records ++ records_in runs) (last_state s runs)
 
--- Where a start over the first file finds what was left, a new file is not refused for the journal or for keys: its
+-- If a start over the first file finds what was left, a new file is not refused for the journal or for keys when: its
 -- principals have the same newest keys there, as many as both depths keep; it has those that a record is of; and of
 -- those that were left it has only such as the first file has too
 abbrev pub FilesGoOn : Type 0
@@ -92,7 +92,7 @@ FilesGoOn = (first file : Config) (records : List Record) (left closed renewed :
     Agrees closed left → Agrees renewed (restored (opening file) records) →
     AreNext (opening file) records × ((name : Name) → HoldAlike closed renewed name)
 
--- a journal that is read in two parts, the second from behind the whole records of the first, is read as at once
+-- a journal that is read in two parts, the second from after the complete records of the first, is read as if at once
 abbrev pub TwoPartsAreOne : Type 0
 TwoPartsAreOne = (before : Held) (front more : List ℕ) (new later : Option (List ℕ)) (first second : Restored) →
     IsRestored before (Some front) new first → IsRestored first.table (Some (drop first.kept (front ++ more))) later second →
@@ -101,18 +101,18 @@ TwoPartsAreOne = (before : Held) (front more : List ℕ) (new later : Option (Li
 
 -- what `prepare` and `finish` give is a reload
 abbrev pub ReloadedIsReload : Type 0
-ReloadedIsReload = (file : Config) (journal rest : Option (List ℕ)) (renewal : Renewal) (closed : Held) (next : Reloaded) (left : State) →
+ReloadedIsReload = (file : Config) (journal rest : Option (List ℕ)) (renewal : PreparedReload) (closed : Held) (next : Reloaded) (left : State) →
     IsPrepared file journal renewal → IsReloaded renewal rest closed next → Agrees closed.state left →
     (records : List Record) × IsReload file records left next.table.state
 
--- A compact journal may be made over a table of the new file, of a table that was left by what a reload opened with and
--- by the runs behind it. The file's count isn't greater than the one that was left.
+-- A compact journal may be made over a table of the new file, for a table that was left by what a reload opened with
+-- and by the runs after it. The file's count isn't greater than the one that was left.
 abbrev pub ReloadsMayCompact : Type 0
 ReloadsMayCompact = (file : Config) (records : List Record) (left next start held : State) (runs : List Run) (quiet : ℤ) →
     IsReload file records left next → FollowOn next runs → Agrees start (opening_of file quiet) → Agrees held (last_state next runs) →
     AreWholeRecords (compacted start held) → MayCompact start held × (new_count start ≤ new_count held)
 
--- and over one of the file that a service began with, of a table that it left
+-- and over one of the file that a service began with, for a table that it left
 abbrev pub StartsMayCompact : Type 0
 StartsMayCompact = (file : Config) (records : List Record) (start held s : State) (runs : List Run) (quiet later : ℤ) →
     config_fits file ≡ true → AreNext (opening_of file quiet) records → Agrees s (restored (opening_of file quiet) records) →

@@ -1,10 +1,10 @@
--- The table that the next desk opens with after a reload. It is made of two: the closed table, which the last desk
--- left, and the renewed one, which is the new file's table with all of the journal put back.
+-- The table that the next desk opens with after a reload. It is made from two: the closed table, which the last desk
+-- left, and the renewed one, which is the new file's table with the whole journal replayed.
 use Rattle.std.specs.Prelude.{ℕ, max, List, [], ◌++◌, map, filter, Bool, is_none}
 use Rattle.chpw_rules.specs.declared.name.Name.{Name}
 use Rattle.chpw_rules.specs.declared.config.Config.{Config}
 use Rattle.chpw_table.specs.State.{State, keys_held, new_count, opening_of}
-use Rattle.chpw_held.specs.Configurations.{names_of, row_of}
+use Rattle.chpw_report.specs.Configurations.{names_of, row_of}
 
 -- what a file sets beside its principals; the service's own keys are no part of a table
 abbrev pub settings_of : Config → Config
@@ -22,7 +22,7 @@ lacked closed renewed = filter (is_unknown renewed) (names_of closed)
 abbrev pub next_count : State → State → ℕ
 next_count closed renewed = max (new_count closed) (new_count renewed)
 
--- the new settings, the renewed table's principals with their keys, and behind them those that it lacks
+-- the new settings, the renewed table's principals with their keys, followed by those that it lacks
 abbrev pub next_config : Config → State → State → Config
 next_config settings closed renewed = record settings {
   policy = record settings.policy { iterations = next_count closed renewed };
@@ -30,7 +30,7 @@ next_config settings closed renewed = record settings {
 }
 
 -- what that configuration opens with, quiet as long as the closed table; the used ids, the clock and whether the
--- journal is broken are the closed table's too
+-- journal is broken are the closed table's, too
 abbrev pub next_state : Config → State → State → State
 next_state settings closed renewed = record (opening_of (next_config settings closed renewed) closed.fixed.quiet_until) {
   used = closed.used;

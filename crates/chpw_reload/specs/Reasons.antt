@@ -16,11 +16,11 @@ fault_of (journal.UnknownPrincipal n) = Journal (journal.UnknownPrincipal n)
 fault_of journal.CannotRead = Journal journal.CannotRead
 fault_of journal.Memory = Memory
 
--- a record's number behind others, as far as 64 bits have it
+-- a record's number after others, up to 64 bits
 abbrev pub number_behind : ℕ → ℕ → ℕ
 number_behind records n = min (records + n) 18446744073709551615
 
--- a fault that was found behind so many records
+-- a fault that was found after this many records
 abbrev pub fault_behind : ℕ → RestoreFault → RestoreFault
 fault_behind records (journal.BadRecord n) = journal.BadRecord (number_behind records n)
 fault_behind records (journal.WrongVersion n) = journal.WrongVersion (number_behind records n)

@@ -1,31 +1,31 @@
 -- A run of a service that reloads: histories one after the other, each opened with the table that the one before it
--- left, or with what a reload made of that.
+-- left, or with a reload of it.
 use Rattle.std.specs.Prelude.{List, [], ◌∷◌, ◌⊎◌}
 use Rattle.chpw_rules.specs.declared.config.Config.{Config}
 use Rattle.chpw_table.specs.State.{State}
 use Rattle.chpw_table.specs.Agreement.{Held, Agrees}
 use Rattle.chpw_table.specs.History.{IsLegal, outcome}
 use Rattle.chpw_table.specs.declared.history.Entry.{Entry}
-use Rattle.chpw_journal.specs.declared.record.Record.{Record}
+use Rattle.chpw_record.specs.declared.record.Record.{Record}
 use Rattle.chpw_journal.specs.Runs.{AreWhole, Run, last_state}
 use Rattle.chpw_reload.specs.Reloads.{IsReload}
 
--- what a reload makes of what was left, with some file and some records
+-- a reload of what was left, with some file and some records
 abbrev pub IsReloadOf : State → State → Type 0
 IsReloadOf left next = (file : Config) × (records : List Record) × IsReload file records left next
 
--- a further history may open with this: with what was left, or with what a reload makes of that
+-- a further history may open with this: with what was left, or with a reload of it
 abbrev pub GoesOn : State → State → Type 0
 GoesOn left next = Agrees next left ⊎ IsReloadOf left next
 
--- each history goes on from what the one before it left, the first from this state, and is legal from its opening;
--- what its accepted entries bring in is whole
+-- each history goes on from what the one before it left, the first from this state, and is legal from its opening; what
+-- its accepted entries add is well-formed
 abbrev pub AreHistories : State → List Run → Type 0
 AreHistories s [] = Unit {0}
 AreHistories s (r ∷ rs) = GoesOn s r.opening × IsLegal r.opening r.history × AreWhole r.opening r.history
     × AreHistories (outcome r.opening r.history) rs
 
--- histories with no reload between them: each opens with a table that agrees with what the one before it left
+-- histories without a reload between them: each opens with a table that agrees with what the one before it left
 abbrev pub AreInARow : State → List Run → Type 0
 AreInARow s [] = Unit {0}
 AreInARow s (r ∷ rs) = Agrees r.opening s × IsLegal r.opening r.history × AreWhole r.opening r.history

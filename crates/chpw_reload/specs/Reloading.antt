@@ -1,4 +1,4 @@
--- What a reload gives: a next table that agrees with the next state of a closed table and a renewed one, or a reason
+-- The result of a reload: a next table that agrees with the next state of a closed table and a renewed one, or a reason
 -- why there is none.
 use Rattle.std.specs.Prelude.{◌≡◌, ◌≢◌, ℕ, List, Option, false}
 use Rattle.chpw_rules.specs.declared.name.Name.{Name}
@@ -8,17 +8,17 @@ use Rattle.chpw_table.specs.Agreement.{Held, Agrees}
 use Rattle.chpw_journal.specs.declared.fault.RestoreFault.{RestoreFault}
 use Rattle.chpw_journal.specs.declared.restoring.Restored.{Restored}
 use Rattle.chpw_journal.specs.JournalFile.{IsReadFrom, IsRefusedFrom}
-use Rattle.chpw_held.specs.Held.{opening}
+use Rattle.chpw_report.specs.Held.{opening}
 use Rattle.chpw_reload.specs.declared.fault.ReloadFault.{ReloadFault}
 use Rattle.chpw_reload.specs.declared.fault.ReloadFault.TheVariants.{Realm, Journal, Keys, Limits, Memory}
-use Rattle.chpw_reload.specs.declared.renewal.Renewal.{Renewal}
+use Rattle.chpw_reload.specs.declared.prepared_reload.PreparedReload.{PreparedReload}
 use Rattle.chpw_reload.specs.declared.reloading.Reloaded.{Reloaded}
 use Rattle.chpw_reload.specs.Reasons.{fault_of, fault_behind}
 use Rattle.chpw_reload.specs.Next.{settings_of, lacked, next_config, next_state}
 use Rattle.chpw_reload.specs.Comparing.{HoldAlike, HoldApart, MayFollow}
 
 -- a table that agrees with the file's opening, as all that a reader had of a journal restores it
-pub record IsPrepared (file : Config) (journal : Option (List ℕ)) (r : Renewal) : Type 0 where
+pub record IsPrepared (file : Config) (journal : Option (List ℕ)) (r : PreparedReload) : Type 0 where
   pub before : Held
   pub opens : Agrees before.state (opening file)
   pub after : Restored
@@ -35,8 +35,8 @@ IsUnprepared file journal fault =
     (before : Held) × (found : RestoreFault) × Agrees before.state (opening file)
     × IsRefusedFrom before journal found × (fault ≡ fault_of found)
 
--- the rest of the journal is put back, and the next table is made of that and the closed one
-pub record IsReloaded (r : Renewal) (rest : Option (List ℕ)) (closed : Held) (next : Reloaded) : Type 0 where
+-- the rest of the journal is replayed, and the next table is made from that and the closed one
+pub record IsReloaded (r : PreparedReload) (rest : Option (List ℕ)) (closed : Held) (next : Reloaded) : Type 0 where
   pub renewed : Restored
   pub read : IsReadFrom r.table rest renewed
   pub may : MayFollow r.settings closed.state renewed.table.state
@@ -45,7 +45,7 @@ pub record IsReloaded (r : Renewal) (rest : Option (List ℕ)) (closed : Held) (
   pub lacked : next.lacked.items ≡ lacked closed.state renewed.table.state
 
 -- the first reason: the realm; the journal's first fault, numbered in the whole of it; a name's keys; the limits
-abbrev pub IsRefused : Renewal → Option (List ℕ) → Held → ReloadFault → Type 0
+abbrev pub IsRefused : PreparedReload → Option (List ℕ) → Held → ReloadFault → Type 0
 IsRefused r rest closed Realm = closed.state.fixed.realm ≢ r.settings.realm
 IsRefused r rest closed (Journal fault) = (closed.state.fixed.realm ≡ r.settings.realm)
     × (found : RestoreFault) × IsRefusedFrom r.table rest found × (Journal fault ≡ fault_of (fault_behind r.records found))

@@ -3,13 +3,13 @@ use Rattle.std.specs.Prelude.{List}
 use Rattle.chpw_rules.specs.declared.config.Config.{Config}
 use Rattle.chpw_table.specs.State.{State}
 use Rattle.chpw_table.specs.Agreement.{Agrees}
-use Rattle.chpw_journal.specs.declared.record.Record.{Record}
+use Rattle.chpw_record.specs.declared.record.Record.{Record}
 use Rattle.chpw_journal.specs.JournalText.{restored, AreNext}
-use Rattle.chpw_held.specs.Held.{opening}
+use Rattle.chpw_report.specs.Held.{opening}
 use Rattle.chpw_reload.specs.Next.{settings_of, next_state}
 use Rattle.chpw_reload.specs.Comparing.{MayFollow}
 
--- the new file's table, with these records of the journal put back
+-- the new file's table, with these records of the journal replayed
 pub record IsRenewed (file : Config) (records : List Record) (renewed : State) : Type 0 where
   pub next : AreNext (opening file) records
   pub table : Agrees renewed (restored (opening file) records)

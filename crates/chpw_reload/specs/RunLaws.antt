@@ -11,7 +11,7 @@ use Rattle.chpw_table.specs.Verdicts.{adds_id}
 use Rattle.chpw_table.specs.Decision.{verdict}
 use Rattle.chpw_journal.specs.Runs.{IsSound, Run, last_state}
 use Rattle.chpw_journal.specs.Joined.{FollowOn}
-use Rattle.chpw_reload.specs.declared.renewal.Renewal.{Renewal}
+use Rattle.chpw_reload.specs.declared.prepared_reload.PreparedReload.{PreparedReload}
 use Rattle.chpw_reload.specs.declared.reloading.Reloaded.{Reloaded}
 use Rattle.chpw_reload.specs.Reloading.{IsPrepared, IsReloaded}
 use Rattle.chpw_reload.specs.ReloadRuns.{AreHistories, AreInARow, GoesOn, IsHistory, IsServiceRun}
@@ -20,7 +20,7 @@ use Rattle.chpw_reload.specs.ReloadRuns.{AreHistories, AreInARow, GoesOn, IsHist
 abbrev pub RunsStaySound : Type 0
 RunsStaySound = (s : State) (runs : List Run) → IsSound s → AreHistories s runs → IsSound (last_state s runs)
 
--- an id that was used is never judged past Replay again, however many histories end and reloads come in between
+-- an id that was used is never judged past Replay again, however many histories and reloads come in between
 abbrev pub UsedOverReloads : Type 0
 UsedOverReloads = (s : State) (runs : List Run) (now : Moment) (o : Opened) (io : Bool) → AreHistories s runs →
     is_used s (id_of o) ≡ true → adds_id (verdict (last_state s runs) now o io) ≡ false
@@ -39,7 +39,7 @@ abbrev pub QuietOverReloads : Type 0
 QuietOverReloads = (s : State) (runs : List Run) → AreHistories s runs →
     ((last_state s runs).fixed.quiet_until ≡ s.fixed.quiet_until) × ((last_state s runs).fixed.realm ≡ s.fixed.realm)
 
--- a first history is a run; one more, which goes on from the table that was left, leads the run on
+-- a first history is a run; one more, which goes on from the table that was left, extends the run
 abbrev pub RunsBegin : Type 0
 RunsBegin = (opening : State) (table : Held) → IsHistory opening table → IsServiceRun opening table
 
@@ -47,13 +47,13 @@ abbrev pub RunsGoOn : Type 0
 RunsGoOn = (opening next : State) (table last : Held) → IsServiceRun opening table → GoesOn table.state next → IsHistory next last →
     IsServiceRun opening last
 
--- so does one behind a reload
+-- so does one after a reload
 abbrev pub RunsReload : Type 0
-RunsReload = (opening : State) (table : Held) (file : Config) (journal rest : Option (List ℕ)) (renewal : Renewal) (next : Reloaded) (last : Held) →
+RunsReload = (opening : State) (table : Held) (file : Config) (journal rest : Option (List ℕ)) (renewal : PreparedReload) (next : Reloaded) (last : Held) →
     IsServiceRun opening table → IsPrepared file journal renewal → IsReloaded renewal rest table next →
     IsHistory next.table.state last → IsServiceRun opening last
 
--- from an opening within the limits, histories with no reload between them follow on one another as the runs do that
--- wrote one journal, so that what is said of those holds of them
+-- from an opening within the limits, histories without a reload between them follow each other as the runs do that
+-- wrote one journal, so that the laws of those hold for them
 abbrev pub InARowFollowOn : Type 0
 InARowFollowOn = (s : State) (runs : List Run) → IsSound s → AreInARow s runs → FollowOn s runs

@@ -1,4 +1,4 @@
--- For the proofs: what a next table starts as, before it takes over what the closed one has used.
+-- For proofs alone: what a next table starts as, before it takes over what the closed one has used.
 use Rattle.std.specs.Prelude.{◌≡◌, ◌≤◌, ◌^◌, ℕ, List, length, Option, true, false}
 use Rattle.chpw_rules.specs.declared.name.Name.{Name}
 use Rattle.chpw_rules.specs.declared.config.Config.{Config}
@@ -9,7 +9,7 @@ use Rattle.chpw_journal.specs.declared.restoring.Restored.{Restored}
 use Rattle.chpw_journal.specs.JournalFile.{IsReadFrom}
 use Rattle.chpw_reload.specs.declared.fault.ReloadFault.{ReloadFault}
 use Rattle.chpw_reload.specs.declared.fault.ReloadFault.TheVariants.{Realm, Journal, Keys, Limits, Memory}
-use Rattle.chpw_reload.specs.declared.renewal.Renewal.{Renewal}
+use Rattle.chpw_reload.specs.declared.prepared_reload.PreparedReload.{PreparedReload}
 use Rattle.chpw_reload.specs.declared.reloading.Reloaded.{Reloaded}
 use Rattle.chpw_reload.specs.Next.{lacked, next_config}
 use Rattle.chpw_reload.specs.Comparing.{HoldAlike, HoldApart}
@@ -24,7 +24,7 @@ pub record IsStarted (settings : Config) (closed renewed : State) (next : Reload
   pub few : length closed.used ≤ 2 ^ 31
 
 -- and over a renewed table that the rest of the journal gives
-pub record IsStartedFrom (r : Renewal) (rest : Option (List ℕ)) (closed : State) (next : Reloaded) : Type 0 where
+pub record IsStartedFrom (r : PreparedReload) (rest : Option (List ℕ)) (closed : State) (next : Reloaded) : Type 0 where
   pub realm : closed.fixed.realm ≡ r.settings.realm
   pub renewed : Restored
   pub read : IsReadFrom r.table rest renewed

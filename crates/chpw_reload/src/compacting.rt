@@ -2,13 +2,13 @@
 ghost use Rattle.std.specs.Prelude.{◌≡◌, IfOk, true};
 ghost use Rattle.chpw_reload.specs.Compacting.{GoesWith};
 
-use crate::lacking::lacked;
+use crate::lacking::missing_names;
 use chpw_table::Table;
 use std::alloc::{AllocError, Global};
 
-/// Whether a compact journal may be made of the held table over a base, the table that the configuration opens with now:
-/// they are of one realm and keep as many keys, each of the base's principals is held, and its count of new keys isn't
-/// greater than the held one. `laws::compacting` and chpw_journal's laws ask for this.
+/// Whether a compact journal may be made for the held table over a base, the table that the configuration opens with
+/// now: they have one realm and keep as many keys, each of the base's principals is held, and its count of new keys
+/// isn't greater than the held one. `laws::compacting` and chpw_journal's laws require this.
 pub fn goes_with(alloc: Global, base: &Table, held: &Table) -> Result<bool, AllocError>
     ensures goes { IfOk result (λ goes. goes ≡ true → GoesWith base.now.state held.now.state) }
 {
@@ -18,5 +18,5 @@ pub fn goes_with(alloc: Global, base: &Table, held: &Table) -> Result<bool, Allo
     {
         return Ok(false);
     }
-    Ok(lacked(alloc, base, held)?.is_empty())
+    Ok(missing_names(alloc, base, held)?.is_empty())
 }

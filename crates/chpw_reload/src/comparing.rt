@@ -8,8 +8,8 @@ use chpw_rules::Name;
 use chpw_table::{Table, are_same_keys, newest};
 use std::alloc::AllocError;
 
-/// A name that both tables have, with other newest keys, as far as both keep keys; none where there is no such
-/// name.
+/// The first name that both tables have with different newest keys, among as many as both keep; none if there is no
+/// such name.
 pub(crate) fn first_apart<'c>(
     closed: &'c Table,
     renewed: &Table,
@@ -24,7 +24,7 @@ pub(crate) fn first_apart<'c>(
         if are_apart(closed, renewed, name, kept) {
             return Ok(Some(name));
         }
-        // More names than that no memory holds.
+        // No memory holds more names than that.
         let Some(next) = place.checked_add(1) else {
             return Err(AllocError);
         };
@@ -46,7 +46,7 @@ fn kept_by(table: &Table) -> usize
     usize::from(table.policy().depth.max(1))
 }
 
-// Whether both have the name, with other newest keys, of so many.
+// Whether both have the name, with different newest `kept` keys.
 fn are_apart(closed: &Table, renewed: &Table, name: &Name, kept: usize) -> bool
     requires kept { kept ≡ kept_by_both closed.now.state renewed.now.state }
     ensures apart { IsTrue result → HoldApart closed.now.state renewed.now.state name.now }

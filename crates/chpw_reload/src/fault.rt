@@ -8,17 +8,17 @@ use chpw_printing::put_name;
 use chpw_rules::Name;
 use std::alloc::AllocError;
 
-/// Why a reload is refused, in the order of the checks. The service then goes on with the table that it has.
+/// Why a reload is refused, in the order of the checks. The service then goes on with its present table.
 #[derive(Drop)]
 pub enum ReloadFault {
     /// The new configuration is of another realm.
     Realm,
-    /// The journal can't be put back onto the new configuration: its first fault, and the number of its record
-    /// in the whole journal.
+    /// The journal can't be replayed over the new configuration: its first fault, and the number of its record in the
+    /// whole journal.
     Journal(RestoreFault),
     /// This principal's newest keys aren't those that the new configuration and the journal give.
     Keys(Name),
-    /// The principals of both are more than a configuration has.
+    /// Both together have more principals than a configuration may.
     Limits,
     /// A growth was refused.
     Memory,
@@ -36,7 +36,7 @@ impl From<AllocError> for ReloadFault {
 }
 
 impl ReloadFault {
-    /// A fault of a journal.
+    /// The fault of a journal, as a reload's.
     pub(crate) fn of(fault: RestoreFault) -> ReloadFault
         ensures value { result ≡ fault_of fault }
     {
@@ -47,7 +47,7 @@ impl ReloadFault {
     }
 }
 
-/// Puts the fault at the end of a text, as it is printed: `other keys of alice`.
+/// Adds the fault to a text as it is printed: `other keys of alice`.
 pub fn put_fault(text: &mut Vec<u8>, fault: &ReloadFault) -> Result<(), AllocError>
     ensures value { OnOk result (text.new.items ≡ text.old.items ++ fault_text fault.now) }
 {

@@ -8,8 +8,8 @@ use chpw_rules::{
     Config, ITERATION_COUNTS, Items, KEY_COUNTS, KVNOS, KeyBytes, PRINCIPAL_COUNTS, PrincipalRow,
 };
 
-/// The configuration, where it is within the limits. No name stands twice in it: so no names are compared, as
-/// `Config::fits` compares each with those before it, and the time it takes grows as the number of keys does.
+/// The configuration, if it is within the limits. No name is repeated in it, so no names are compared, as
+/// `Config::fits` compares each with those before it, and the time is linear in the number of keys.
 pub(crate) fn fitting(config: Config) -> Option<Config>
     requires once { are_distinct is_same_principal config.principals ≡ true }
     ensures fits { IfSome result (λ same. (same ≡ config) × (config_fits same ≡ true)) }
@@ -29,7 +29,7 @@ pub(crate) fn fitting(config: Config) -> Option<Config>
     })
 }
 
-// Whether there are no more principals than a configuration has, and each is within its limits.
+// Whether there are no more principals than allowed, and each is within its limits.
 fn rows_fit(rows: &[PrincipalRow]) -> bool
     ensures value { result
         ≡ (is_in principal_counts (length rows.now) && list_all principal_fits rows.now) }

@@ -7,7 +7,7 @@ use chpw_table::Table;
 use std::alloc::{AllocError, Global};
 
 /// The names of the closed table that the renewed one lacks, in their order.
-pub(crate) fn lacked(
+pub(crate) fn missing_names(
     alloc: Global,
     closed: &Table,
     renewed: &Table,
@@ -18,7 +18,7 @@ pub(crate) fn lacked(
     let mut place = 0u32;
     while let Some(name) = closed.name_at(place) {
         add_unknown(&mut names, renewed, name)?;
-        // More names than that no memory holds.
+        // No memory holds more names than that.
         let Some(next) = place.checked_add(1) else {
             return Err(AllocError);
         };
@@ -27,7 +27,7 @@ pub(crate) fn lacked(
     Ok(names)
 }
 
-// Adds the name where the table has no such principal.
+// Adds the name if the table has no such principal.
 fn add_unknown(names: &mut Vec<Name>, table: &Table, name: &Name) -> Result<(), AllocError>
     ensures value { OnOk result (names.new.items
         ≡ names.old.items ++ filter (is_unknown table.now.state) (name.now ∷ [])) }

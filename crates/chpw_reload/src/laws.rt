@@ -1,6 +1,9 @@
 //! Laws of a reload, over its definitions alone.
-ghost use Rattle.chpw_reload.specs.Laws.{IdsStay, KeysStay, KeysAreGiven, CountStays, TimesStay, ReloadsAreSound, LaterStartsFind, LaterStartsRead, StartsKnowAll, StartsFindAgain, FilesGoOn, TwoPartsAreOne, ReloadedIsReload, ReloadsMayCompact, StartsMayCompact};
-ghost use Rattle.chpw_reload.specs.RunLaws.{RunsStaySound, UsedOverReloads, NamesOverReloads, CountOverReloads, QuietOverReloads, RunsBegin, RunsGoOn, RunsReload, InARowFollowOn};
+ghost use Rattle.chpw_reload.specs.Laws.{IdsStay, KeysStay, KeysAreGiven, CountStays, TimesStay, ReloadsAreSound};
+ghost use Rattle.chpw_reload.specs.Laws.{LaterStartsFind, LaterStartsRead, StartsKnowAll, StartsFindAgain, FilesGoOn};
+ghost use Rattle.chpw_reload.specs.Laws.{TwoPartsAreOne, ReloadedIsReload, ReloadsMayCompact, StartsMayCompact};
+ghost use Rattle.chpw_reload.specs.RunLaws.{RunsStaySound, UsedOverReloads, NamesOverReloads, CountOverReloads};
+ghost use Rattle.chpw_reload.specs.RunLaws.{QuietOverReloads, RunsBegin, RunsGoOn, RunsReload, InARowFollowOn};
 
 /// What a reload keeps of what the history before it left: an id that was used is used; each name that was held is
 /// held, with the same newest keys, as many as both depths keep; the count of new keys never falls; the clock and the
@@ -15,18 +18,18 @@ pub fn reloads()
     ensures sound { ReloadsAreSound }
 {}
 
-/// What `prepare` and `finish` give is a reload. A journal that is read in two parts, as they do it, is read as it is
-/// at once.
+/// What `prepare` and `finish` give is a reload. A journal that is read in two parts, as they do, is read as if at
+/// once.
 #[tactic(auto, using(crate::proofs::PartsLemmas::two_parts_are_one, crate::proofs::PartsLemmas::reloaded_is_reload))]
 pub fn parts()
     ensures parts { TwoPartsAreOne }
     ensures reload { ReloadedIsReload }
 {}
 
-/// What a start over the new file finds in the journal of all that was before a reload and of the runs behind it:
-/// each of the file's names with the keys that were held at last, and no other name, provided that no record behind
-/// the reload is of a name that the file lacks. Where one is, no start is possible. Without a reload a start finds
-/// what the runs left that began with the same file.
+/// What a start over the new file finds in the journal of all that was before a reload and of the runs after it: each
+/// of the file's names with the keys that were held last, and no other name, provided that no record after the reload
+/// is of a name that the file lacks. If one is, no start is possible. Without a reload a start finds what the runs left
+/// that began with the same file.
 pub fn later_starts()
     ensures find { LaterStartsFind }
     ensures read { LaterStartsRead }
@@ -34,27 +37,28 @@ pub fn later_starts()
     ensures again { StartsFindAgain }
 {}
 
-/// When a compact journal (`chpw_journal::compact_journal`) may be made: over a table that a file opens with, of a table
-/// that a service left which began with that file, or reloaded it last. `chpw_journal::laws::compact` says what it gives.
+/// When a compact journal (`chpw_journal::compact_journal`) may be made: over a table that a file opens with, for a
+/// table that was left by a service which began with that file or reloaded it last. `chpw_journal::laws::compact` says
+/// what it gives.
 pub fn compacting()
     ensures reload { ReloadsMayCompact }
     ensures start { StartsMayCompact }
 {}
 
-/// A new file is not refused for the journal or for keys where its principals have the same newest keys as in a file
-/// over which a start would find what was left, and it has those that the journal has a record of. So policy, rules
-/// and limits may change, principals that are new may come in, and those that nobody has changed may be left out.
+/// A new file is not refused for the journal or for keys if its principals have the same newest keys as in a file over
+/// which a start would find what was left, and it has those that the journal has a record of. So policy, rules and
+/// limits may change, new principals may be added, and principals that were never changed may be left out.
 #[tactic(auto, using(crate::proofs::AlikeLemmas::files_go_on))]
 pub fn files()
     ensures go_on { FilesGoOn }
 {}
 
-/// Of the histories of a service, each opened with the table that the one before it left or with what a reload made
-/// of that: all stays within the limits; an id that was used is never judged past Replay again; no name is lost; the
-/// count of new keys never falls; quiet time and realm stay. A first history is such a run, and one more that goes on
-/// from the table that was left, by itself or by a reload, leads it on. With no reload between them histories follow
-/// on one another as the runs do that wrote one journal (`chpw_journal::laws`).
-#[tactic(auto, using(crate::proofs::RunLemmas::runs_stay_sound, crate::proofs::RunLemmas::used_over_reloads, crate::proofs::RunLemmas::names_over_reloads, crate::proofs::RunLemmas::count_over_reloads, crate::proofs::RunLemmas::quiet_over_reloads, crate::proofs::RunLemmas::runs_begin, crate::proofs::RunLemmas::runs_go_on))]
+/// Along the histories of a service, each opened with the table that the one before it left or with a reload of it: all
+/// stays within the limits; an id that was used is never judged past Replay again; no name is lost; the count of new
+/// keys never falls; quiet time and realm stay. A first history is such a run, and one more history, which opens with
+/// the table that was left or with a reload of it, extends it. Histories without a reload between them are runs that
+/// wrote one journal (`chpw_journal::laws`).
+#[tactic(auto, using(crate::proofs::RunLemmas::run_laws))]
 pub fn runs()
     ensures sound { RunsStaySound }
     ensures used { UsedOverReloads }

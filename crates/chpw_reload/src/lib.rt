@@ -1,4 +1,4 @@
-//! A reload: the table that the next desk opens with, made of the closed one, the new configuration and all of the
+//! A reload: the table that the next desk opens with, made from the closed one, the new configuration and the whole
 //! journal.
 #![tactic(auto)]
 
@@ -9,10 +9,10 @@ mod fitting;
 mod lacking;
 pub mod laws;
 mod next;
+mod prepared_reload;
 mod reloading;
-mod renewal;
 
 pub use compacting::goes_with;
 pub use fault::{ReloadFault, put_fault};
+pub use prepared_reload::{PreparedReload, prepare};
 pub use reloading::{Refused, Reloaded, finish};
-pub use renewal::{Renewal, prepare};

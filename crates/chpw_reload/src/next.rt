@@ -1,18 +1,18 @@
-//! The configuration that the next table is made of, and that table.
+//! The configuration that the next table is made from, and that table.
 ghost use Rattle.std.specs.Prelude.{◌≡◌, ◌++◌, IfOk, OnOk, map, max, true};
 ghost use Rattle.std.specs.List.Sorted.{IsStrictlySortedBy};
 ghost use Rattle.chpw_rules.specs.Fitting.{are_distinct, is_same_principal};
 ghost use Rattle.chpw_rules.specs.Names.{name_cmp};
-ghost use Rattle.chpw_held.specs.Configurations.{names_of, row_of};
+ghost use Rattle.chpw_report.specs.Configurations.{names_of, row_of};
 ghost use Rattle.chpw_reload.specs.Next.{lacked as lacked_names, next_config};
 
-use chpw_held::{held_config, held_row};
+use chpw_report::{held_config, held_row};
 use chpw_rules::{Config, Items, Name, Policy, PrincipalRow};
 use chpw_table::Table;
 use std::alloc::{AllocError, Global};
 
-/// The settings with the renewed table's principals and keys, behind them the closed table's principals of these
-/// names, and the greater of the counts of new keys. No name stands twice in it, as none does in a table.
+/// The settings with the renewed table's principals and keys, followed by the closed table's principals of these names,
+/// and the greater of the counts of new keys. No name is repeated in it, as none is in a table.
 pub(crate) fn next_config(
     alloc: Global,
     settings: Config,
@@ -44,7 +44,7 @@ pub(crate) fn next_config(
     })
 }
 
-// Tells the proof that a table's names are in their order, each once.
+// Gives a proof that a table's names are sorted, each once.
 fn tell_order(table: &Table)
     ensures order { IsStrictlySortedBy name_cmp (names_of table.now.state) }
 {

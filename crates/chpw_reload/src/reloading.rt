@@ -11,9 +11,9 @@ ghost use Rattle.chpw_reload.specs.Starting.{IsRefusedOver, IsStarted, IsStarted
 use crate::comparing::first_apart;
 use crate::fault::ReloadFault;
 use crate::fitting::fitting;
-use crate::lacking::lacked;
+use crate::lacking::missing_names;
 use crate::next::next_config;
-use crate::renewal::{Renewal, read_on};
+use crate::prepared_reload::{PreparedReload, read_on};
 use chpw_journal::RestoreFault;
 use chpw_rules::{Config, Name};
 use chpw_table::{MOST_CARRIED, Table};
@@ -27,22 +27,22 @@ pub struct Reloaded {
     pub lacked: Vec<Name>,
 }
 
-/// A reload that was refused, and the closed table as it was.
+/// A reload that was refused, and the unchanged closed table.
 #[derive(Drop)]
 pub struct Refused {
     pub fault: ReloadFault,
     pub closed: Table,
 }
 
-/// The table that the next desk opens with, once a history is closed. The rest of the journal is read from behind
-/// the bytes that the renewal has kept, to its end.
+/// The table that the next desk opens with, once a history is closed. The rest of the journal is read from after the
+/// bytes that the renewal has read, to its end.
 ///
-/// It has the new settings; the principals of the new configuration with the journal's changes, and those of the
-/// closed table that the new configuration lacks; the greater of the counts of new keys. Used ids, clock and quiet
-/// time are the closed table's. Of several faults the first in `ReloadFault`'s order is given.
+/// It has the new settings; the principals of the new configuration with the journal's changes, and those of the closed
+/// table that the new configuration lacks; the greater of the counts of new keys. Used ids, clock and quiet time are
+/// the closed table's. Of several faults the first in `ReloadFault`'s order is returned.
 pub fn finish<F: Read + Drop>(
     alloc: Global,
-    renewal: Renewal,
+    renewal: PreparedReload,
     rest: F,
     closed: Table,
 ) -> Result<Reloaded, Refused>
@@ -51,7 +51,7 @@ pub fn finish<F: Read + Drop>(
         IsRefused renewal (F.remaining rest) closed refused.fault) }
     ensures unchanged { IfErr result (λ refused. refused.closed ≡ closed) }
 {
-    match started(alloc, renewal, rest, &closed) {
+    match start_table(alloc, renewal, rest, &closed) {
         Ok(started) => Ok(Reloaded {
             table: started.table.going_on_from(closed),
             lacked: started.lacked,
@@ -60,10 +60,10 @@ pub fn finish<F: Read + Drop>(
     }
 }
 
-// The next configuration's table, before the closed one goes on in it.
-fn started<F: Read + Drop>(
+// The next configuration's table, before it takes over what the closed one used.
+fn start_table<F: Read + Drop>(
     alloc: Global,
-    renewal: Renewal,
+    renewal: PreparedReload,
     rest: F,
     closed: &Table,
 ) -> Result<Reloaded, ReloadFault>
@@ -73,7 +73,7 @@ fn started<F: Read + Drop>(
     if closed.realm() != renewal.settings.realm.as_slice() {
         return Err(ReloadFault::Realm);
     }
-    let Renewal {
+    let PreparedReload {
         settings,
         table,
         records,
@@ -85,7 +85,7 @@ fn started<F: Read + Drop>(
     }
 }
 
-// A fault that was found behind so many records.
+// A fault that was found after this many records.
 fn fault_behind(records: u64, fault: RestoreFault) -> RestoreFault
     ensures value { result ≡ fault_after records fault }
 {
@@ -106,7 +106,7 @@ fn number_behind(records: u64, number: u64) -> u64
     records.saturating_add(number)
 }
 
-// The next configuration's table, made of the closed one and this renewed one.
+// The next configuration's table, made from the closed one and this renewed one.
 fn start_over(
     alloc: Global,
     settings: Config,
@@ -126,7 +126,7 @@ fn start_over(
     start_next(alloc, settings, closed, renewed)
 }
 
-// No name has other keys in both.
+// No name has different keys in both.
 fn check_keys(closed: &Table, renewed: &Table) -> Result<(), ReloadFault>
     ensures alike { OnOk result ((name : TheName) → HoldAlike closed.now.state renewed.now.state name) }
     ensures refused { IfErr result (λ fault. (settings : Settings)
@@ -138,7 +138,7 @@ fn check_keys(closed: &Table, renewed: &Table) -> Result<(), ReloadFault>
     }
 }
 
-// The next configuration's table, where it is within the limits.
+// The next configuration's table, if it is within the limits.
 fn start_next(
     alloc: Global,
     settings: Config,
@@ -151,7 +151,7 @@ fn start_next(
     ensures refused { IfErr result
         (IsRefusedOver settings closed.now.state renewed.now.state) }
 {
-    let lacked = lacked(alloc, closed, renewed)?;
+    let lacked = missing_names(alloc, closed, renewed)?;
     let config = next_config(alloc, settings, closed, renewed, lacked.as_slice())?;
     let Some(config) = fitting(config) else {
         return Err(ReloadFault::Limits);

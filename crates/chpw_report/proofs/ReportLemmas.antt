@@ -25,8 +25,11 @@ texts_more f (b ∷ xs) zero a h =
 texts_more f (b ∷ xs) (suc n) a h =
     let rest = texts_more f xs n a h in
     let few = rest.0 in
-    let more : suc n + 1 ≡ suc (n + 1) = omega arith in
-    (omega (arith, few), ap (λ (k : ℕ). flat_map f (take k (b ∷ xs))) more ∙ (ap (λ (ys : List ℕ). f b ++ ys) rest.1 ∙ sym (append_assoc (f b) (flat_map f (take n xs)) (f a))))
+    let more : suc n + 1 ≡ suc (n + 1) = omega arith in (
+      omega (arith, few),
+      ap (λ (k : ℕ). flat_map f (take k (b ∷ xs))) more
+          ∙ (ap (λ (ys : List ℕ). f b ++ ys) rest.1 ∙ sym (append_assoc (f b) (flat_map f (take n xs)) (f a))),
+    )
 
 -- no text more
 pub texts_all : {A : Type 0} (f : A → List ℕ) (xs : List A) (n : ℕ) → slice_get xs n ≡ None
@@ -38,3 +41,11 @@ texts_all f (b ∷ xs) (suc n) h =
     let rest = texts_all f xs n h in
     let few = rest.0 in
     (omega (arith, few), ap (λ (ys : List ℕ). f b ++ ys) rest.1)
+
+-- what a report goes by, text by text
+pub ruleset reporting = (
+  texts_more,
+  texts_all,
+  appends_none,
+  appends_more,
+)

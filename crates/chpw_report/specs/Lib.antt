@@ -1,1 +1,3 @@
+pub mod Configurations
+pub mod Held
 pub mod Reports

@@ -1,11 +1,11 @@
 //! The forms that a report has.
 
-/// What is told of each principal.
+/// What is printed for each principal.
 #[derive(Clone, Copy, PartialEq, Eq, Drop)]
 pub enum Form {
     /// A line for a person: `alice kvno 3 counts 4096 4096`; at the end how many principals there are.
     Lines,
-    /// A line for each key, the newest first, for a KDC's tool: principal, kvno, etype, iteration count,
-    /// key in hexadecimal, salt. They are secret.
+    /// A line for each key, the newest first, for a KDC's tools: principal, kvno, etype, iteration count, key in
+    /// hexadecimal, salt. They are secret.
     Keys,
 }

@@ -1,4 +1,4 @@
-//! A principal's lines for a KDC's tool.
+//! A principal's lines for a KDC's tools.
 ghost use Rattle.std.specs.Prelude.{◌≡◌, ◌++◌, IfOk, OnOk};
 ghost use Rattle.std.specs.List.{flat_map};
 ghost use Rattle.chpw_printing.specs.Quoting.{principal_text, quoted};
@@ -9,7 +9,7 @@ use chpw_rules::Name;
 use chpw_table::KeyRow;
 use std::alloc::{AllocError, Global};
 
-/// What all lines of a principal have in common, as it is printed.
+/// What all lines of a principal share, as it is printed.
 #[derive(Drop)]
 struct Printed {
     /// Its name and its realm, with `@` between them.
@@ -27,8 +27,8 @@ struct Key<'a> {
     bytes: &'a [u8],
 }
 
-/// Puts the lines of a principal's keys at the end, those of the newest first; of each version the key of
-/// etype 18 and then that of etype 17 (RFC 3962 section 7).
+/// Adds the lines of a principal's keys, newest first; for each version the key of etype 18 and then that of etype 17
+/// (RFC 3962 section 7).
 pub(crate) fn put_keys(
     text: &mut Vec<u8>,
     realm: &[u8],
@@ -58,7 +58,7 @@ fn make_printed(alloc: Global, realm: &[u8], name: &Name) -> Result<Printed, All
     Ok(Printed { principal, salt })
 }
 
-// Puts the components at the end, with nothing between them.
+// Adds the components, with nothing between them.
 fn put_parts(text: &mut Vec<u8>, name: &Name) -> Result<(), AllocError>
     ensures value { OnOk result (text.new.items
         ≡ text.old.items ++ quoted (flat_map (λ part. part) name.now.parts)) }
@@ -71,7 +71,7 @@ fn put_parts(text: &mut Vec<u8>, name: &Name) -> Result<(), AllocError>
     Ok(())
 }
 
-// Puts both keys of a version at the end.
+// Adds both keys of a version.
 fn put_row(text: &mut Vec<u8>, printed: &Printed, row: &KeyRow) -> Result<(), AllocError>
     ensures value { OnOk result (text.new.items ≡ text.old.items
         ++ row_lines printed.now.principal.items printed.now.salt.items row.now) }

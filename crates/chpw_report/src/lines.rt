@@ -9,7 +9,7 @@ use chpw_rules::Name;
 use chpw_table::Lookup;
 use std::alloc::AllocError;
 
-/// Puts the line at the end: `alice kvno 3 counts 4096 4096`.
+/// Adds the line: `alice kvno 3 counts 4096 4096`.
 pub(crate) fn put_line(text: &mut Vec<u8>, name: &Name, shown: &Lookup) -> Result<(), AllocError>
     ensures value { OnOk result (text.new.items ≡ text.old.items ++ shown_line name.now shown.now) }
 {
@@ -22,7 +22,7 @@ pub(crate) fn put_line(text: &mut Vec<u8>, name: &Name, shown: &Lookup) -> Resul
     Ok(())
 }
 
-// Each count behind a space.
+// Adds each count after a space.
 fn put_counts(text: &mut Vec<u8>, counts: &[u32]) -> Result<(), AllocError>
     ensures value { OnOk result (text.new.items ≡ text.old.items ++ flat_map number_text counts.now) }
 {

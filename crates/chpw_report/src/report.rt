@@ -1,4 +1,4 @@
-//! The whole of what is told of a table, written piece by piece.
+//! The whole report of a table, written piece by piece.
 ghost use Rattle.std.specs.Prelude.{◌≡◌, ◌++◌, IfOk, OnOk};
 ghost use Rattle.std.specs.Io.KnownBytes.{Appends};
 ghost use Rattle.chpw_report.specs.Reports.{end_of, report, told_of};
@@ -12,7 +12,7 @@ use chpw_table::Table;
 use std::alloc::{AllocError, Global};
 use std::io::Write;
 
-/// Why a report ended early; a part of it may be out.
+/// Why a report ended early; a part of it may be written.
 #[derive(Clone, Copy, PartialEq, Eq, Drop)]
 pub enum ReportFault {
     /// A growth was refused.
@@ -21,10 +21,10 @@ pub enum ReportFault {
     Write,
 }
 
-/// Writes what is told of a table's principals, in the order of their names, a write for each; behind the
-/// lines for a person one with their number and that of the changes that a journal had. `realm` is the
-/// principals'. It takes no more memory than a principal's text.
-#[tactic(auto, using(crate::proofs::ReportLemmas::texts_more, crate::proofs::ReportLemmas::texts_all, crate::proofs::ReportLemmas::appends_none, crate::proofs::ReportLemmas::appends_more))]
+/// Writes the report of a table's principals, in the order of their names, with one write for each; after the lines for
+/// a person one with their number and that of the changes of a journal. `realm` is the principals'. It takes no more
+/// memory than a principal's text.
+#[tactic(auto, using(crate::proofs::ReportLemmas::reporting))]
 pub fn write_report<W: Write>(
     alloc: Global,
     form: Form,
@@ -40,7 +40,7 @@ pub fn write_report<W: Write>(
     while let Some(name) = table.name_at(place) {
         let text = told(alloc, form, realm, table, name)?;
         put(writer, &text)?;
-        // More names than that no memory holds.
+        // No memory holds more names than that.
         let Some(next) = place.checked_add(1) else {
             return Err(ReportFault::Memory);
         };
@@ -50,7 +50,7 @@ pub fn write_report<W: Write>(
     put(writer, &text)
 }
 
-// What is told of the principal of this name.
+// The text for the principal of this name.
 fn told(
     alloc: Global,
     form: Form,
@@ -76,7 +76,7 @@ fn told(
     Ok(text)
 }
 
-// What stands behind all principals, of whom there are so many.
+// The text after all principals, of which there are `principals`.
 fn end(alloc: Global, form: Form, principals: u32, changes: u64) -> Result<Vec<u8>, AllocError>
     ensures value { IfOk result (λ text. text.items ≡ end_of form principals changes) }
 {

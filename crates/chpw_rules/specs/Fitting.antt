@@ -8,10 +8,12 @@ use Rattle.chpw_rules.specs.declared.config.Config.{Config}
 use Rattle.chpw_rules.specs.declared.config.KeyBytes.{KeyBytes}
 use Rattle.chpw_rules.specs.declared.config.PrincipalRow.{PrincipalRow}
 use Rattle.chpw_rules.specs.declared.config.ServiceRow.{ServiceRow}
-use Rattle.chpw_rules.specs.Limits.{is_in, realm_lengths, entry_counts, kvnos, iteration_counts, min_lengths, min_class_counts, depths, etypes, key_length, service_key_counts, key_counts, rule_counts, principal_counts}
+use Rattle.chpw_rules.specs.Limits.{is_in, realm_lengths, entry_counts, kvnos, iteration_counts}
+use Rattle.chpw_rules.specs.Limits.{min_lengths, min_class_counts, depths, etypes, key_length}
+use Rattle.chpw_rules.specs.Limits.{service_key_counts, key_counts, rule_counts, principal_counts}
 use Rattle.chpw_rules.specs.Names.{is_same_name, is_name}
 
--- no element is the same as one that stands before it
+-- no element is the same as an earlier one
 abbrev pub none_again : {A : Type 0} → (A → A → Bool) → List A → List A → Bool
 none_again same before [] = true
 none_again same before (x ∷ xs) =
@@ -75,7 +77,7 @@ principal_fits row =
 abbrev pub is_same_principal : PrincipalRow → PrincipalRow → Bool
 is_same_principal a b = is_same_name a.name b.name
 
--- at most 16, no encryption type with one version number twice; an empty list will do
+-- at most 16, no encryption type twice with one version number; an empty list fits
 abbrev pub service_fits : List ServiceRow → Bool
 service_fits keys =
     nat_le (length keys) service_key_counts.high
@@ -85,7 +87,7 @@ service_fits keys =
 abbrev pub rules_fit : List Rule → Bool
 rules_fit rules = is_in rule_counts (length rules) && list_all rule_fits rules
 
--- no name twice
+-- no name is repeated
 abbrev pub principals_fit : List PrincipalRow → Bool
 principals_fit principals =
     is_in principal_counts (length principals)

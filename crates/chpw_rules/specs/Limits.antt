@@ -2,7 +2,7 @@
 use Rattle.std.specs.Prelude.{ℕ, Bool, ◌&&◌, ◌==◌, nat_le, if◌then◌else◌}
 use Rattle.chpw_rules.specs.declared.limits.Limits.{Limits}
 
--- the numbers from `low` to `high`, both among them
+-- the numbers from `low` to `high`, both included
 abbrev pub range : ℕ → ℕ → Limits
 range low high = record { low = low; high = high }
 
@@ -21,7 +21,7 @@ entry_counts = range 1 1048576
 abbrev pub kvnos : Limits
 kvnos = range 1 4294967295
 
--- iteration counts of string-to-key (RFC 3962 section 4)
+-- iteration counts of PBKDF2 in string-to-key (RFC 3962 section 4)
 abbrev pub iteration_counts : Limits
 iteration_counts = range 1 16777216
 

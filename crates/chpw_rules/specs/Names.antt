@@ -14,11 +14,11 @@ is_same_name a b = pointwise bytes_eq a.parts b.parts
 abbrev pub name_cmp : Name → Name → Ordering
 name_cmp a b = slice_cmp (slice_cmp nat_cmp) a.parts b.parts
 
--- a component as long as a configuration takes it
+-- a component of an allowed length
 abbrev pub is_component : List ℕ → Bool
 is_component part = is_in component_lengths (length part)
 
--- as many components as a configuration takes, each of them as it takes it
+-- an allowed number of components, each of an allowed length
 abbrev pub is_name : Name → Bool
 is_name name = is_in component_counts (length name.parts) && list_all is_component name.parts
 

@@ -1,4 +1,4 @@
--- What a policy asks of a password: its bytes, and how many classes of characters stand in it.
+-- What a policy asks of a password: its number of bytes, and its number of character classes.
 use Rattle.std.specs.Prelude.{ℕ, min, Bool, ◌||◌, ◌==◌, List, [], ◌∷◌, length, count_by, if◌then◌else◌}
 use Rattle.std.specs.List.{list_any}
 use Rattle.chpw_rules.specs.declared.password.Class.{Class}
@@ -24,7 +24,7 @@ class_of byte =
 abbrev pub classes : List Class
 classes = Lower ∷ Upper ∷ Digit ∷ Punctuation ∷ Other ∷ []
 
--- a class by its place among them
+-- a class by its position among them
 abbrev pub number_of : Class → ℕ
 number_of Lower = 0
 number_of Upper = 1
@@ -39,7 +39,7 @@ is_of_class class byte = number_of (class_of byte) == number_of class
 abbrev pub class_count : List ℕ → ℕ
 class_count password = count_by (λ class. list_any (is_of_class class) password) classes
 
--- the length in bytes, at most what a u32 holds
+-- the length in bytes, at most the greatest u32
 abbrev pub facts_of : List ℕ → Facts
 facts_of password = record {
   length = min (length password) 4294967295;

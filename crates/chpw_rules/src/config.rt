@@ -29,7 +29,7 @@ pub struct KeyBytes {
     pub aes256: [u8; AES256_LENGTH],
 }
 
-/// A principal as the file has it.
+/// A principal as a configuration's file has it.
 #[derive(Drop)]
 pub struct PrincipalRow {
     pub name: Name,
@@ -37,14 +37,14 @@ pub struct PrincipalRow {
     pub keys: Items<KeyBytes>,
 }
 
-/// What the service is started with. `Config::fits` tells whether all of it is within the limits.
+/// What the service is started with. `Config::fits` says whether all of it is within the limits.
 #[derive(Drop)]
 pub struct Config {
     /// 1 to 255 bytes.
     pub realm: Items<u8>,
-    /// The events that a history may have, 1 to 1,048,576.
+    /// The most events of a history, 1 to 1,048,576.
     pub max_entries: u32,
-    /// At most 16, no encryption type with one version number twice.
+    /// At most 16, no encryption type twice with one version number.
     pub service: Items<ServiceRow>,
     pub policy: Policy,
     /// At most 10,000.

@@ -1,7 +1,10 @@
 //! Whether a configuration is within the limits.
 ghost use Rattle.std.specs.Prelude.{Bool, ◌≡◌};
 ghost use Rattle.std.specs.List.{list_any};
-ghost use Rattle.chpw_rules.specs.Fitting.{are_distinct, config_fits, descend_from, is_aes_key, is_same_principal, is_same_service_key, key_fits, kvnos_descend, policy_fits, principal_fits, principals_fit, rule_fits, rules_fit, service_fits, service_key_fits, target_fits};
+ghost use Rattle.chpw_rules.specs.Fitting.{are_distinct, config_fits, descend_from, is_aes_key};
+ghost use Rattle.chpw_rules.specs.Fitting.{is_same_principal, is_same_service_key, key_fits, kvnos_descend};
+ghost use Rattle.chpw_rules.specs.Fitting.{policy_fits, principal_fits, principals_fit, rule_fits};
+ghost use Rattle.chpw_rules.specs.Fitting.{rules_fit, service_fits, service_key_fits, target_fits};
 
 use crate::config::{Config, KeyBytes, PrincipalRow, ServiceRow};
 use crate::limits::{
@@ -14,10 +17,10 @@ use crate::policy::Policy;
 use crate::rules::Rule;
 
 impl Config {
-    /// Whether every value is within its limits, no service key and no name stands twice, and each
-    /// principal's version numbers go down by one. An empty list of service keys fits.
+    /// Whether every value is within its limits, no service key and no name is repeated, and each principal's version
+    /// numbers go down by one. An empty list of service keys fits.
     ///
-    /// Each name is compared with those before it: some 50 million comparisons at 10,000.
+    /// Each name is compared with those before it, which is quadratic in the number of principals.
     pub fn fits(&self) -> bool
         ensures value { result ≡ config_fits self.now }
     {
@@ -129,11 +132,11 @@ fn descend_from(mut newer: u32, keys: &[KeyBytes]) -> bool
     true
 }
 
-/// What stands at most once in its list.
+/// What may be in its list only once.
 pub trait Identified {
     ghost same: { Self → Self → Bool };
 
-    /// Whether the two may not stand in one list.
+    /// Whether the two may not be in one list.
     fn is_same(&self, other: &Self) -> bool
         ensures { result ≡ same self.now other.now };
 }

@@ -6,8 +6,8 @@ use std::alloc::{AllocError, Global};
 use std::cmp::Ordering;
 use std::marker::Model;
 
-/// A `Vec` whose value, in contracts, is the list of its elements alone. So two records are equal
-/// where their elements are, whatever room their vectors have.
+/// A `Vec` whose value, in contracts, is the list of its elements alone. So two records are equal if their elements
+/// are, whatever the capacities of their vectors.
 #[derive(Drop)]
 pub struct Items<T> {
     vec: Vec<T>,
@@ -22,7 +22,7 @@ impl<T> Model for Items<T> {
 }
 
 impl<T> Items<T> {
-    /// The elements of the vector, which is kept as it is.
+    /// The elements of the vector, which is kept.
     pub fn of(vec: Vec<T>) -> Items<T>
         ensures value { result ≡ vec.items }
     {
@@ -51,7 +51,7 @@ impl<T> Items<T> {
 }
 
 impl Items<u8> {
-    /// The same bytes in memory of their own, from the same allocator.
+    /// A copy of the bytes in new memory, from the same allocator.
     pub fn clone(&self) -> Result<Items<u8>, AllocError>
         ensures value { IfOk result (λ copy. copy ≡ self.now) }
     {
@@ -89,7 +89,7 @@ impl<T: PartialOrd> PartialOrd for Items<T> {
     }
 }
 
-// The elements in turn, a prefix first.
+// The elements one by one, a prefix first.
 impl<T: Ord> Ord for Items<T> {
     ghost use Rattle.std.specs.Cmp.Lexicographic.{slice_cmp, lists_total, lists_agrees, lists_ties};
 

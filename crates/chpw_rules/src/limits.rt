@@ -3,7 +3,7 @@ ghost use Rattle.std.specs.Prelude.{Bool, ◌≡◌};
 ghost use Rattle.std.specs.List.{list_all};
 ghost use Rattle.chpw_rules.specs.Limits.{is_in, key_length as key_length_of};
 
-/// A range of numbers, both ends among them.
+/// A range of numbers, both ends included.
 #[derive(Clone, Copy, Drop)]
 pub struct Limits {
     pub low: usize,
@@ -22,7 +22,7 @@ pub const KVNOS: Limits = Limits {
     low: 1,
     high: 4_294_967_295,
 };
-/// Iteration counts of string-to-key (RFC 3962 section 4).
+/// Iteration counts of PBKDF2 in string-to-key (RFC 3962 section 4).
 pub const ITERATION_COUNTS: Limits = Limits {
     low: 1,
     high: 16_777_216,

@@ -7,16 +7,16 @@ use crate::items::Items;
 use crate::limits::{COMPONENT_COUNTS, COMPONENT_LENGTHS, Limited, all_fit};
 use std::alloc::{AllocError, Global};
 
-/// A principal's name: its components (RFC 4120 section 6.2); the name-type is no part of it. Names
-/// are in the order of their components, each compared as bytes, a prefix first.
+/// A principal's name: its components (RFC 4120 section 6.2); the name-type is no part of it. Names are ordered by
+/// their components, each compared as bytes, a prefix first.
 #[derive(PartialEq, Eq, PartialOrd, Ord, Drop)]
 pub struct Name {
     pub parts: Items<Items<u8>>,
 }
 
 impl Name {
-    /// The name whose components stand in the text with `/` between them: `None` unless they are
-    /// 1 to 8 components of 1 to 128 bytes. A component has no `/`.
+    /// The name whose components are the parts of the text between `/`: `None` unless they are 1 to 8 components of 1
+    /// to 128 bytes. A component has no `/`.
     pub fn parse(alloc: Global, text: &str) -> Result<Option<Name>, AllocError>
         ensures value { IfOk result (λ found. found ≡ name_of text.now) }
         ensures whole { IfOk result (λ found.
@@ -39,7 +39,7 @@ impl Name {
         COMPONENT_COUNTS.allow(parts.len()) && all_fit(parts)
     }
 
-    /// The same name in memory of its own, from the same allocator.
+    /// A copy of the name in new memory, from the same allocator.
     pub fn clone(&self) -> Result<Name, AllocError>
         ensures value { IfOk result (λ copy. copy ≡ self.now) }
     {
@@ -53,7 +53,7 @@ impl Name {
         })
     }
 
-    /// Whether the components are the same, one by one.
+    /// Whether the components are equal, one by one.
     pub fn is_same(&self, other: &Name) -> bool
         ensures value { result ≡ is_same_name self.now other.now }
     {
@@ -70,7 +70,7 @@ impl Limited for Items<u8> {
     }
 }
 
-// What stands between the text's bytes `/`.
+// The parts of the text between its bytes `/`.
 fn pieces<'a>(alloc: Global, text: &'a str) -> Result<Vec<&'a str>, AllocError>
     ensures value { IfOk result (λ pieces. map (λ part. part.now) pieces.items
         ≡ parts_of text.now) }
@@ -78,7 +78,7 @@ fn pieces<'a>(alloc: Global, text: &'a str) -> Result<Vec<&'a str>, AllocError>
     text.split('/').collect(alloc)
 }
 
-// The texts' bytes.
+// Copies of the texts' bytes.
 fn copies(alloc: Global, parts: &[&str]) -> Result<Vec<Items<u8>>, AllocError>
     ensures value { IfOk result (λ copies. copies.items ≡ map (λ part. part.now) parts.now) }
 {

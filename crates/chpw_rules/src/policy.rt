@@ -10,6 +10,6 @@ pub struct Policy {
     pub depth: u8,
     /// The iteration count of new keys, 1 to 16,777,216.
     pub iterations: u32,
-    /// Whether setting another's password needs an initial ticket, as changing one's own does.
+    /// Whether setting another principal's password needs an initial ticket, as changing one's own does.
     pub set_needs_initial: bool,
 }

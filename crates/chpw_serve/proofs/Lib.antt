@@ -1,3 +1,8 @@
+pub mod AnsweringLemmas
+pub mod CompletingLemmas
+pub mod HearingLemmas
+pub mod JudgingLemmas
+pub mod TextLemmas
 pub mod StreamRepliesLemmas
 pub mod ChainLemmas
 pub mod ServedAloneLemmas

@@ -16,11 +16,11 @@ use Rattle.chpw_table.specs.History.{IsDecided, IsJudged, IsLegal, outcome, step
 use Rattle.chpw_table.specs.Replies.{Answer}
 use Rattle.chpw_decider.specs.Deciding.{AddsReceipt}
 use Rattle.chpw_decider.specs.Keeping.{entries}
-use Rattle.chpw_answer.specs.declared.messages.Seal.{Seal}
-use Rattle.chpw_answer.specs.Requests.{Request, Opens, refused, opened, opened_under}
-use Rattle.chpw_answer.specs.Answers.{IsAnswer, history_full, reply}
-use Rattle.chpw_answer.specs.Judging.{judged}
-use Rattle.chpw_answer.proofs.JudgingLemmas.{judged_alike}
+use Rattle.chpw_serve.specs.declared.messages.Seal.{Seal}
+use Rattle.chpw_serve.specs.Requests.{Request, Opens, refused, opened, opened_under}
+use Rattle.chpw_serve.specs.Answers.{IsAnswer, history_full, reply}
+use Rattle.chpw_serve.specs.Judging.{judged}
+use Rattle.chpw_serve.proofs.JudgingLemmas.{judged_alike}
 use Rattle.chpw_serve.specs.StreamReplies.{Draw, Run, is_full, run_after, reply_to}
 use Rattle.chpw_serve.specs.ServedAlone.{AreOwnOf}
 
@@ -72,7 +72,8 @@ module _ (error_frame : Answer → Moment → List ℕ) (private_frame : Seal �
     abbrev pub IsFront : List Receipt → Type 0
     IsFront receipts = (more : List Receipt) × (all ≡ receipts ++ more)
 
-    not_opened : (old new : List Receipt) (text words : List ℕ) (now : Moment) (bytes : List ℕ) (a : Answer) → opens text (refused a) → new ≡ old → bytes ≡ error_frame a now → Answered old new text words now bytes
+    not_opened : (old new : List Receipt) (text words : List ℕ) (now : Moment) (bytes : List ℕ) (a : Answer)
+        → opens text (refused a) → new ≡ old → bytes ≡ error_frame a now → Answered old new text words now bytes
     not_opened old new text words now bytes a o same h = record {
       draw = record { moment = now; words = words; io = false; opens = refused a };
       moment_is = refl;
@@ -85,11 +86,14 @@ module _ (error_frame : Answer → Moment → List ℕ) (private_frame : Seal �
       own_are = refl;
     }
 
-    full : (old new : List Receipt) (text words : List ℕ) (now : Moment) (bytes : List ℕ) (q : Request) → opens text (opened q) → new ≡ old → opening.events + length new ≡ opening.max_entries → bytes ≡ error_frame history_full now
+    full : (old new : List Receipt) (text words : List ℕ) (now : Moment) (bytes : List ℕ) (q : Request)
+        → opens text (opened q)
+        → new ≡ old → opening.events + length new ≡ opening.max_entries → bytes ≡ error_frame history_full now
         → Answered old new text words now bytes
     full old new text words now bytes q o same h is =
         let d : Draw = record { moment = now; words = words; io = false; opens = opened q } in
-        let b : is_full opening.max_entries (run_at old) ≡ true = same_number (opening.events + length old) opening.max_entries (ap (λ (rs : List Receipt). opening.events + length rs) (sym same) ∙ h) in
+        let b : is_full opening.max_entries (run_at old) ≡ true = same_number (opening.events
+        + length old) opening.max_entries (ap (λ (rs : List Receipt). opening.events + length rs) (sym same) ∙ h) in
         record {
           draw = d;
           moment_is = refl;
@@ -102,7 +106,8 @@ module _ (error_frame : Answer → Moment → List ℕ) (private_frame : Seal �
           own_are = rw b refl;
         }
 
-    decided : (old new : List Receipt) (text words : List ℕ) (now : Moment) (bytes : List ℕ) (q : Request) (v : Verdict) (counts : List ℕ) → IsFront new → opens text (opened q)
+    decided : (old new : List Receipt) (text words : List ℕ) (now : Moment)
+        (bytes : List ℕ) (q : Request) (v : Verdict) (counts : List ℕ) → IsFront new → opens text (opened q)
         → AddsReceipt old new now (opened_under counts q) v → bytes ≡ reply error_frame private_frame q.seal v words now → Answered old new text words now bytes
     decided old new text words now bytes q v counts front o h is =
         let r = h.receipt in
@@ -111,28 +116,45 @@ module _ (error_frame : Answer → Moment → List ℕ) (private_frame : Seal �
         let whole : all ≡ (old ++ r ∷ []) ++ front.0 = front.1 ∙ ap (λ (rs : List Receipt). rs ++ front.0) h.added in
         let io : Bool = r.entry.io_failed in
         let legal_here = legal_at opening.state old r front.0 (subst (λ (rs : List Receipt). IsLegal opening.state (entries rs)) whole legal) in
-        let judge = judged_as s now io q counts v (subst (λ (e : Event). IsJudged s now io e) h.event_is (subst (λ (m : Moment). IsJudged s m io r.entry.event) h.now_is legal_here)) in
-        let size : length all ≡ length old + 1 + length front.0 = ap length whole ∙ (length-append (old ++ r ∷ []) front.0 ∙ ap (λ (n : ℕ). n + length front.0) (length-append old (r ∷ []))) in
+        let judge = judged_as s now io q counts v (subst (λ (e : Event). IsJudged s now io e) h.event_is
+        (subst (λ (m : Moment). IsJudged s m io r.entry.event) h.now_is legal_here)) in
+        let size : length all ≡ length old + 1 + length front.0 =
+        ap length whole ∙ (length-append (old ++ r ∷ []) front.0
+        ∙ ap (λ (n : ℕ). n + length front.0) (length-append old (r ∷ []))) in
         let less : opening.events + length old < opening.max_entries = omega (arith, size, room) in
         let b : is_full opening.max_entries (run_at old) ≡ false = less_is_other (opening.events + length old) opening.max_entries less in
         let stepped : outcome opening.state (entries new) ≡ step s now (judged s q) io =
         ap (λ (rs : List Receipt). outcome opening.state (entries rs)) h.added
-        ∙ (outcome_with opening.state old r ∙ (ap (λ (m : Moment). step_event s m io r.entry.event) h.now_is ∙ (ap (λ (e : Event). step_event s now io e) h.event_is ∙ judge.1))) in
-        let counted : opening.events + length new ≡ opening.events + length old + 1 = let e = ap length h.added ∙ length-append old (r ∷ []) in omega (arith, e) in
+        ∙ (outcome_with opening.state old r ∙ (ap (λ (m : Moment). step_event s m io r.entry.event) h.now_is
+        ∙ (ap (λ (e : Event). step_event s now io e) h.event_is ∙ judge.1))) in
+        let counted : opening.events + length new ≡ opening.events + length old + 1 =
+        let e = ap length h.added ∙ length-append old (r ∷ []) in omega (arith, e) in
         record {
           draw = d;
           moment_is = refl;
           words_are = refl;
           opens_so = o;
           reply_is = rw b (is ∙ ap (λ (w : Verdict). reply error_frame private_frame q.seal w words now) judge.0);
-          goes_on = rw b (ap (λ (t : State). record { state = t; events = opening.events + length new }) stepped ∙ ap (λ (n : ℕ). record { state = step s now (judged s q) io; events = n }) counted);
+          goes_on = rw b (ap (λ (t : State). record { state = t; events = opening.events + length new }) stepped
+              ∙ ap (λ (n : ℕ). record { state = step s now (judged s q) io; events = n }) counted);
           own = r ∷ [];
           added = h.added;
-          own_are = rw b (r, refl, record { counts = counts; event_is = h.event_is ∙ ap (λ (w : Verdict). Ask (opened_under counts q) w) judge.0; now_is = h.now_is; io_is = refl });
+          own_are = rw b (
+            r,
+            refl,
+            record {
+              counts = counts;
+              event_is = h.event_is
+                  ∙ ap (λ (w : Verdict). Ask (opened_under counts q) w) judge.0;
+              now_is = h.now_is;
+              io_is = refl;
+            },
+          );
         }
 
     -- what answers a message is what the machine answers
-    pub answered : (full_now : Type 0) (old new : List Receipt) (text words : List ℕ) (now : Moment) (bytes : List ℕ) → IsFront new → (full_now → opening.events + length new ≡ opening.max_entries)
+    pub answered : (full_now : Type 0) (old new : List Receipt) (text words : List ℕ) (now : Moment) (bytes : List ℕ)
+        → IsFront new → (full_now → opening.events + length new ≡ opening.max_entries)
         → IsAnswer error_frame private_frame full_now (opens text) words now old new bytes → Answered old new text words now bytes
     answered full_now old new text words now bytes front is_at_limit (refused a, o, h) = not_opened old new text words now bytes a o h.0 h.1
     answered full_now old new text words now bytes front is_at_limit (opened q, o, inl h) = full old new text words now bytes q o h.0 (is_at_limit h.1) h.2

@@ -4,12 +4,13 @@ use Rattle.std.proofs.Common.{◌≡◌, ℕ, List, [], ◌∷◌, ◌++◌, fal
 use Rattle.chpw_frame.specs.Stream.{sent}
 use Rattle.chpw_table.specs.declared.times.Moment.{Moment}
 use Rattle.chpw_table.specs.Replies.{Answer}
-use Rattle.chpw_answer.specs.declared.messages.Seal.{Seal}
-use Rattle.chpw_answer.specs.Requests.{refused}
+use Rattle.chpw_serve.specs.declared.messages.Seal.{Seal}
+use Rattle.chpw_serve.specs.Requests.{refused}
 use Rattle.chpw_serve.specs.Serving.{message_too_long}
 use Rattle.chpw_serve.specs.StreamReplies.{Draw, Run, replies}
 
-module _ (limit : ℕ) (error_frame : Answer → Moment → List ℕ) (private_frame : Seal → Answer → List ℕ → List ℕ) (run : Run) (malformed : Answer) (first second : Moment) (words : List ℕ) where
+module _ (limit : ℕ) (error_frame : Answer → Moment → List ℕ) (private_frame : Seal → Answer → List ℕ → List ℕ)
+    (run : Run) (malformed : Answer) (first second : Moment) (words : List ℕ) where
   drawn : Answer → Moment → Draw
   drawn a now = record { moment = now; words = words; io = false; opens = refused a }
 

@@ -1,9 +1,9 @@
--- What serving a stream over a table that one thread has alone leaves: the bytes written are the
--- replies to the bytes read.
+-- The effect of serving a stream over a table that one thread owns: the bytes written are the replies to the bytes
+-- read.
 use Rattle.std.specs.Prelude.{◌≡◌, ℕ, ◌+◌, ◌≤◌, List, [], ◌∷◌, ◌++◌, Bool, true, false, length, map, Option, Some}
 use Rattle.std.specs.List.{flat_map}
 use Rattle.std.specs.Io.KnownBytes.{Appends}
-use Rattle.chpw_frame.specs.Stream.{Piece, message, ended, cut_off, too_long, next_piece, behind_piece}
+use Rattle.chpw_frame.specs.Stream.{Piece, message, ended, cut_off, too_long, next_piece, after_piece}
 use Rattle.chpw_frame.specs.Receiving.{ConsumesSome, AppendsFront}
 use Rattle.chpw_table.specs.declared.times.Moment.{Moment}
 use Rattle.chpw_table.specs.declared.history.Event.TheVariants.{Ask}
@@ -12,26 +12,30 @@ use Rattle.chpw_table.specs.History.{outcome}
 use Rattle.chpw_table.specs.Replies.{Answer}
 use Rattle.chpw_decider.specs.Keeping.{Kept, IsFullAt, IsOpenedLike, entries}
 use Rattle.chpw_decider.specs.Making.{Makes}
-use Rattle.chpw_answer.specs.declared.messages.Seal.{Seal}
-use Rattle.chpw_answer.specs.Requests.{Request, Opens, refused, opened, opened_under}
-use Rattle.chpw_answer.specs.Hearing.{Heard}
-use Rattle.chpw_answer.specs.Answering.{Answering, Unanswered}
+use Rattle.chpw_serve.specs.declared.messages.Seal.{Seal}
+use Rattle.chpw_serve.specs.Requests.{Request, Opens, refused, opened, opened_under}
+use Rattle.chpw_serve.specs.declared.gate.Spot.{Spot}
+use Rattle.chpw_serve.specs.Hearing.{Heard}
+use Rattle.chpw_serve.specs.Answering.{Answering, Unanswered}
 use Rattle.chpw_serve.specs.declared.serving.Ended.{Ended}
 use Rattle.chpw_serve.specs.declared.serving.Ended.TheVariants as end
-use Rattle.chpw_answer.specs.InTurn.{InTurn}
+use Rattle.chpw_serve.specs.InTurn.{InTurn}
 use Rattle.chpw_serve.specs.Serving.{StreamState, TakesAtMostOne, message_too_long}
 use Rattle.chpw_serve.specs.StreamReplies.{Draw, Run, verdict_of, is_full, run_after, replies}
 
--- what a message is answered by a table that one thread has alone
-abbrev pub AnsweringAlone : {G : Type 0} → (G → Heard → G → Type 0) → (Answer → Moment → List ℕ) → (Seal → Answer → List ℕ → List ℕ) → (List ℕ → Opens → Type 0) → List ℕ
+-- the answer to a message by a table that one thread owns
+abbrev pub AnsweringAlone : {G : Type 0} → (G → Spot → G → Type 0) → (G → Heard → G → Type 0)
+    → (Answer → Moment → List ℕ) → (Seal → Answer → List ℕ → List ℕ) → (List ℕ → Opens → Type 0) → List ℕ
     → List ℕ → List ℕ → Moment → Kept → Kept → G → G → List ℕ → Bool → Type 0
-AnsweringAlone hears error_frame private_frame opens peer text words now before after gate later bytes is_open =
-    Answering error_frame private_frame IsFullAt (λ (k : Kept). k.receipts) IsOpenedLike Makes hears opens peer text words now before after gate later bytes is_open
+AnsweringAlone passes hears error_frame private_frame opens peer text words now before after gate later bytes is_open =
+    Answering error_frame private_frame IsFullAt (λ (k : Kept).
+    k.receipts) IsOpenedLike Makes passes hears opens peer text words now before after gate later bytes is_open
 
 -- a receipt was added, or none
-abbrev pub AddsOneAlone : {G : Type 0} → (G → Heard → G → Type 0) → (List ℕ → Opens → Type 0) → List ℕ → List ℕ → Moment → Kept → Kept → G → G → Type 0
-AddsOneAlone hears opens peer text now before after gate later =
-    Unanswered (λ (k : Kept). k.receipts) IsOpenedLike Makes hears opens peer text now before after gate later
+abbrev pub AddsOneAlone : {G : Type 0} → (G → Spot → G → Type 0)
+    → (G → Heard → G → Type 0) → (List ℕ → Opens → Type 0) → List ℕ → List ℕ → Moment → Kept → Kept → G → G → Type 0
+AddsOneAlone passes hears opens peer text now before after gate later =
+    Unanswered (λ (k : Kept). k.receipts) IsOpenedLike Makes passes hears opens peer text now before after gate later
 
 -- the machine after the history so far
 abbrev pub run_of : Kept → Run
@@ -52,28 +56,28 @@ abbrev pub AreDrawnFor : (List ℕ → Opens → Type 0) → List ℕ → List D
 AreDrawnFor opens stream [] = Unit {0}
 AreDrawnFor opens stream (d ∷ ds) =
     IsDrawnFor opens (next_piece stream) d ds
-    × AreDrawnFor opens (behind_piece (next_piece stream) stream) ds
+    × AreDrawnFor opens (after_piece (next_piece stream) stream) ds
 
--- what is left of the stream behind them
-abbrev pub left_behind : List ℕ → List Draw → List ℕ
-left_behind stream [] = stream
-left_behind stream (d ∷ ds) = left_behind (behind_piece (next_piece stream) stream) ds
+-- what is left of the stream after them
+abbrev pub left_after : List ℕ → List Draw → List ℕ
+left_after stream [] = stream
+left_after stream (d ∷ ds) = left_after (after_piece (next_piece stream) stream) ds
 
 -- the last was drawn for a message that is too long
 abbrev pub EndsTooLong : List ℕ → List Draw → Type 0
 EndsTooLong stream draws =
     (before : List Draw) × (last : Draw) × (draws ≡ before ++ last ∷ [])
-    × (next_piece (left_behind stream before) ≡ too_long)
+    × (next_piece (left_after stream before) ≡ too_long)
 
 -- how the stream ended: what comes next in it, or how many messages were answered
 abbrev pub IsEndOf : Ended → List ℕ → List Draw → Type 0
-IsEndOf end.Input stream draws = next_piece (left_behind stream draws) ≡ ended
-IsEndOf end.CutOff stream draws = next_piece (left_behind stream draws) ≡ cut_off
+IsEndOf end.Input stream draws = next_piece (left_after stream draws) ≡ ended
+IsEndOf end.CutOff stream draws = next_piece (left_after stream draws) ≡ cut_off
 IsEndOf end.TooLong stream draws = EndsTooLong stream draws
 IsEndOf end.Count stream draws = length draws ≡ 65536
 IsEndOf _ stream draws = Unit {0}
 
--- what is left to read, of these bytes behind the messages answered
+-- what is left to read, of these bytes after the messages answered
 abbrev pub Leaves : Ended → List ℕ → Option (List ℕ) → Type 0
 Leaves end.Input rest left = left ≡ Some []
 Leaves end.CutOff rest left = left ≡ Some []
@@ -86,7 +90,7 @@ abbrev pub Writes : Ended → Option (List ℕ) → Option (List ℕ) → List �
 Writes end.WriteFault old new bytes = AppendsFront old new bytes
 Writes _ old new bytes = Appends old new bytes
 
--- the source gave these and no more; after want of memory it may have given more
+-- the source gave these and no more; for want of memory it may have given more
 abbrev pub HasDrawn : {S A : Type 0} → (S → A → S → Type 0) → Ended → S → List A → S → Type 0
 HasDrawn {S} gives end.Memory before xs after = (m : S) × InTurn gives before xs m
 HasDrawn gives _ before xs after = InTurn gives before xs after
@@ -98,7 +102,7 @@ pub record IsReceiptOf (run : Run) (d : Draw) (q : Request) (r : Receipt) : Type
   pub now_is : r.entry.now ≡ d.moment
   pub io_is : r.entry.io_failed ≡ d.io
 
--- one for a request that was decided, and none where the machine was full
+-- one for a request that was decided, and none if the machine was full
 abbrev pub IsOwnOf : Bool → Run → Draw → Request → List Receipt → Type 0
 IsOwnOf true run d q own = own ≡ []
 IsOwnOf false run d q own = (r : Receipt) × (own ≡ r ∷ []) × IsReceiptOf run d q r
@@ -115,7 +119,7 @@ AreReceipts limit run (d ∷ ds) receipts =
     (own rest : List Receipt) × (receipts ≡ own ++ rest) × AreOwnOf limit run d d.opens own
     × AreReceipts limit (run_after limit run d d.opens) ds rest
 
--- no receipt more; after want of memory one at the most
+-- no more receipts; for want of memory at most one
 abbrev pub AreMore : Ended → List Receipt → Type 0
 AreMore end.Memory more = length more ≤ 1
 AreMore _ more = more ≡ []
@@ -126,13 +130,16 @@ AddsReceipts e limit run draws old new =
     (added more : List Receipt) × (new ≡ old ++ added ++ more)
     × AreReceipts limit run draws added × AreMore e more
 
--- with these frames, where messages open so, and clock and words give so: the whole
-pub record IsServedAlone {C X G : Type 0} (error_frame : Answer → Moment → List ℕ) (private_frame : Seal → Answer → List ℕ → List ℕ) (opens : List ℕ → Opens → Type 0) (moments : C → Moment → C → Type 0) (random : X → ℕ → X → Type 0) (e : Ended) (stream : List ℕ) (start final : StreamState C X Kept G) : Type 0 where
+-- the whole: with these frames, for messages that open so, and such clock and words
+pub record IsServedAlone
+    {C X G : Type 0} (error_frame : Answer → Moment → List ℕ) (private_frame : Seal → Answer → List ℕ → List ℕ)
+    (opens : List ℕ → Opens → Type 0) (moments : C → Moment → C → Type 0)
+    (random : X → ℕ → X → Type 0) (e : Ended) (stream : List ℕ) (start final : StreamState C X Kept G) : Type 0 where
   pub draws : List Draw
   pub drawn_for : AreDrawnFor opens stream draws
   pub few : length draws ≤ 65536
   pub end_is : IsEndOf e stream draws
-  pub left : Leaves e (left_behind stream draws) final.left
+  pub left : Leaves e (left_after stream draws) final.left
   pub moments_are : HasDrawn moments e start.around.clock (map (λ (d : Draw). d.moment) draws) final.around.clock
   pub words_are : HasDrawn random e start.around.words (flat_map (λ (d : Draw). d.words) draws) final.around.words
   pub written : Writes e start.around.out final.around.out

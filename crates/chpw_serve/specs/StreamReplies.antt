@@ -1,17 +1,17 @@
 -- The replies to a stream as the machine of one thread gives them. It knows no receipts: it goes from
 -- state to state, message after message, with what was drawn for each.
 use Rattle.std.specs.Prelude.{ℕ, ◌+◌, List, [], ◌∷◌, ◌++◌, Bool, ◌==◌, if◌then◌else◌}
-use Rattle.chpw_frame.specs.Stream.{Piece, message, ended, cut_off, too_long, next_piece, behind_piece, sent}
+use Rattle.chpw_frame.specs.Stream.{Piece, message, ended, cut_off, too_long, next_piece, after_piece, sent}
 use Rattle.chpw_table.specs.declared.times.Moment.{Moment}
 use Rattle.chpw_table.specs.declared.verdict.Verdict.{Verdict}
 use Rattle.chpw_table.specs.State.{State}
 use Rattle.chpw_table.specs.Decision.{verdict}
 use Rattle.chpw_table.specs.Step.{step}
 use Rattle.chpw_table.specs.Replies.{Answer}
-use Rattle.chpw_answer.specs.declared.messages.Seal.{Seal}
-use Rattle.chpw_answer.specs.Requests.{Request, Opens, refused, opened}
-use Rattle.chpw_answer.specs.Judging.{judged}
-use Rattle.chpw_answer.specs.Answers.{history_full, reply}
+use Rattle.chpw_serve.specs.declared.messages.Seal.{Seal}
+use Rattle.chpw_serve.specs.Requests.{Request, Opens, refused, opened}
+use Rattle.chpw_serve.specs.Judging.{judged}
+use Rattle.chpw_serve.specs.Answers.{history_full, reply}
 use Rattle.chpw_serve.specs.Serving.{message_too_long}
 
 -- what is drawn for a message: its moment, its nine words, whether its append fails, and what it
@@ -31,12 +31,12 @@ pub record Run : Type 0 where
 abbrev pub verdict_of : Run → Draw → Request → Verdict
 verdict_of run d q = verdict run.state d.moment (judged run.state q) d.io
 
--- a machine that decides so many events at the most
+-- a machine that decides at most this many events
 module _ (limit : ℕ) where
   abbrev pub is_full : Run → Bool
   is_full run = run.events == limit
 
-  -- the machine behind a message that opened so: one event on, where it decided
+  -- the machine after a message that opened so: one event further if it decided
   abbrev pub run_after : Run → Draw → Opens → Run
   run_after run d (refused a) = run
   run_after run d (opened q) =
@@ -61,9 +61,9 @@ module _ (limit : ℕ) where
     written_for ended run d rest = []
     written_for cut_off run d rest = []
 
-    -- the replies to a stream, for whose messages this was drawn
+    -- the replies to a stream, with what was drawn for its messages
     abbrev pub replies : List ℕ → Run → List Draw → List ℕ
     replies stream run [] = []
     replies stream run (d ∷ ds) =
         written_for (next_piece stream) run d
-        (replies (behind_piece (next_piece stream) stream) (run_after run d d.opens) ds)
+        (replies (after_piece (next_piece stream) stream) (run_after run d d.opens) ds)

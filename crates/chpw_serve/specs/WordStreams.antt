@@ -2,7 +2,7 @@
 use Rattle.std.specs.Prelude.{◌≡◌, ℕ, ◌+◌, ◌%◌, ◌^◌, List, length, map}
 use Rattle.std.specs.List.{range_with_len}
 use Rattle.rand_chacha.specs.ChaCha.{word_at}
-use Rattle.chpw_answer.specs.InTurn.{InTurn}
+use Rattle.chpw_serve.specs.InTurn.{InTurn}
 
 -- the key's eight words, the stream, and the place of the next word
 pub record WordStream : Type 0 where
@@ -13,7 +13,7 @@ pub record WordStream : Type 0 where
 abbrev pub stream_start : List ℕ → ℕ → WordStream
 stream_start key stream = record { key = key; stream = stream; place = 0 }
 
--- the next word of 20 rounds, and the stream behind it, which begins again after 2 ^ 68 words
+-- the next word of 20 rounds, and the stream after it, which begins again after 2 ^ 68 words
 abbrev pub gives_word : WordStream → ℕ → WordStream → Type 0
 gives_word s word t = (word ≡ word_at 10 s.key s.stream s.place) × (t ≡ record s { place = (s.place + 1) % 2 ^ 68 })
 

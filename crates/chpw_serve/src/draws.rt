@@ -2,14 +2,22 @@
 ghost use Rattle.std.specs.Prelude.{◌≡◌, ℕ, ◌<◌, length};
 ghost use Rattle.chpw_table.specs.declared.times.Moment.{Moment};
 ghost use Rattle.chpw_table.specs.Times.{IsMoment};
-ghost use Rattle.chpw_answer.specs.InTurn.{InTurn};
+ghost use Rattle.chpw_serve.specs.InTurn.{InTurn};
 
-use chpw_answer::Drawing;
 use chpw_table::Moment;
+
+/// What is drawn for a message: the moment of its answer, its microseconds below 1,000,000, and nine
+/// random words.
+#[derive(Clone, Copy, Drop)]
+pub struct Drawing {
+    pub now: Moment,
+    pub words: [u32; 9],
+    ghost range: { IsMoment now × (now.micros < 1000000) },
+}
 
 /// A clock.
 pub trait Clock {
-    /// In a state it may give this moment, and is in the other state then.
+    /// In the first state it may give this moment, which leads to the second.
     ghost gives: { Self → Moment → Self → Type 0 };
 
     /// The moment: seconds from 0 to `chpw_table::LAST_SECOND`, microseconds below 1,000,000.
@@ -20,7 +28,7 @@ pub trait Clock {
 
 /// Random words.
 pub trait Words {
-    /// In a state it may give this word, and is in the other state then.
+    /// In the first state it may give this word, which leads to the second.
     ghost gives: { Self → ℕ → Self → Type 0 };
 
     /// The next word.
@@ -39,7 +47,7 @@ pub(crate) fn draw<C: Clock, X: Words>(clock: &mut C, words: &mut X) -> Drawing
     Drawing { now, words }
 }
 
-/// Nine words in turn.
+/// Nine words in order.
 fn next_nine<X: Words>(words: &mut X) -> [u32; 9]
     ensures words { InTurn X.gives words.old result words.new }
     ensures nine { length result ≡ 9 }

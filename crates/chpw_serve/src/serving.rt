@@ -1,14 +1,17 @@
 //! Serving a stream.
 ghost use Rattle.std.specs.Prelude.{◌≡◌, IfSome};
-ghost use Rattle.chpw_answer.specs.Answering.{Answering, Unanswered};
-ghost use Rattle.chpw_answer.specs.Hearing.{HearsNothing};
-ghost use Rattle.chpw_answer.specs.Holding.{answer_in};
+ghost use Rattle.chpw_serve.specs.Answering.{Answering, Unanswered};
+ghost use Rattle.chpw_serve.specs.Hearing.{HoldsNobody, NotesNothing};
+ghost use Rattle.chpw_serve.specs.Holding.{answer_in};
 ghost use Rattle.chpw_serve.specs.Serving.{stream_state, message_too_long, IsServed, IsRefused, Passes};
-ghost use Rattle.chpw_answer.specs.declared.gate.NoGate.{NoGate};
+ghost use Rattle.chpw_serve.specs.declared.gate.NoGate.{NoGate};
 ghost use Rattle.chpw_serve.specs.ServedAlone.{AnsweringAlone, AddsOneAlone, IsServedAlone};
 
+use crate::answering::answer_message;
 use crate::draws::{Clock, Words, draw};
-use chpw_answer::{Gate, Messages, NoGate, Spot, answer_message};
+use crate::gate::{Gate, NoGate, Spot};
+use crate::messages::Messages;
+use crate::observer::Observer;
 use chpw_decider::{Alone, Decider};
 use chpw_frame::{Received, read_tcp, write_tcp};
 use chpw_table::JournalSink;
@@ -17,10 +20,10 @@ use krb_protocol::codes::{KRB_ERR_FIELD_TOOLONG, KRB5_KPASSWD_MALFORMED};
 use std::alloc::Global;
 use std::io::{Read, Write};
 
-/// Messages of one stream, at the most.
+/// The most messages of one stream.
 pub const MAX_MESSAGES: u32 = 65_536;
 
-/// Why a stream is served no longer.
+/// Why a stream is no longer served.
 #[derive(Clone, Copy, Drop)]
 pub enum Ended {
     /// The input ended between messages.
@@ -39,11 +42,18 @@ pub enum Ended {
     Memory,
 }
 
-/// Answers the messages of a stream in their order, and writes each reply before the next message
-/// is read. The moment and the nine words of a message are drawn once it was read. `peer` is an
-/// IPv4 address, high byte first.
+/// Answers the messages of a stream in order, and writes each reply before the next message is read. The moment and the
+/// nine words of a message are drawn after it was read. `peer` is an IPv4 address, high byte first.
 #[tactic(auto, using(crate::proofs::ServingLemmas::so_far_start, crate::proofs::ServingLemmas::so_far_counted))]
-pub fn serve_stream<R: Read, W: Write, M: Messages, D: Decider, G: Gate, C: Clock, X: Words>(
+pub fn serve_stream<
+    R: Read,
+    W: Write,
+    M: Messages,
+    D: Decider,
+    G: Gate + Observer,
+    C: Clock,
+    X: Words,
+>(
     alloc: Global,
     service: &M,
     peer: [u8; 4],
@@ -55,9 +65,9 @@ pub fn serve_stream<R: Read, W: Write, M: Messages, D: Decider, G: Gate, C: Cloc
     words: &mut X,
 ) -> Ended
     ensures served { IsServed (Answering (M.error_frame service.now) (M.private_frame service.now) D.may_be_full
-        D.gathered D.follows D.made G.hears (M.opens service.now peer) peer)
-        (Unanswered D.gathered D.follows D.made G.hears (M.opens service.now peer) peer)
-        (λ now. M.error_frame service.now message_too_long now) C.gives X.gives G.hears peer result
+        D.gathered D.follows D.made G.passes G.hears (M.opens service.now peer) peer)
+        (Unanswered D.gathered D.follows D.made G.passes G.hears (M.opens service.now peer) peer)
+        (λ now. M.error_frame service.now message_too_long now) C.gives X.gives G.passes G.hears peer result
         (stream_state (R.remaining reader.old) decider.old (W.contents writer.old) clock.old words.old gate.old)
         (stream_state (R.remaining reader.new) decider.new (W.contents writer.new) clock.new words.new gate.new) }
 {
@@ -87,9 +97,9 @@ pub fn serve_stream<R: Read, W: Write, M: Messages, D: Decider, G: Gate, C: Cloc
     Ended::Count
 }
 
-/// Passes the gate where the message opened.
+/// Passes the gate if the message opened.
 fn pass_answered<G: Gate>(gate: &mut G, opened: bool)
-    ensures passes { Passes G.hears opened gate.old gate.new }
+    ensures passed { Passes G.passes opened gate.old gate.new }
 {
     if opened {
         gate.at(Spot::Answered);
@@ -97,21 +107,21 @@ fn pass_answered<G: Gate>(gate: &mut G, opened: bool)
 }
 
 /// Answers a message whose length is too long.
-fn refuse<W: Write, M: Messages, G: Gate, C: Clock, X: Words>(
+fn refuse<W: Write, M: Messages, O: Observer, C: Clock, X: Words>(
     alloc: Global,
     service: &M,
     peer: [u8; 4],
     writer: &mut W,
-    gate: &mut G,
+    observer: &mut O,
     clock: &mut C,
     words: &mut X,
 ) -> Ended
-    ensures end { IsRefused (λ now. M.error_frame service.now message_too_long now) C.gives X.gives G.hears peer result
-        (record { out = W.contents writer.old; clock = clock.old; words = words.old; gate = gate.old })
-        (record { out = W.contents writer.new; clock = clock.new; words = words.new; gate = gate.new }) }
+    ensures end { IsRefused (λ now. M.error_frame service.now message_too_long now) C.gives X.gives O.hears peer result
+        (record { out = W.contents writer.old; clock = clock.old; words = words.old; gate = observer.old })
+        (record { out = W.contents writer.new; clock = clock.new; words = words.new; gate = observer.new }) }
 {
     let drawn = draw(clock, words);
-    gate.refused(peer, drawn.now, None, &too_long());
+    observer.refused(peer, drawn.now, None, &too_long());
     match service.make_error(alloc, too_long(), drawn.now) {
         Err(_) => Ended::Memory,
         Ok(reply) => match write_tcp(writer, &reply) {
@@ -121,7 +131,7 @@ fn refuse<W: Write, M: Messages, G: Gate, C: Clock, X: Words>(
     }
 }
 
-/// What a message that is too long is answered with.
+/// The answer to a message that is too long.
 fn too_long() -> Refusal
     ensures value { answer_in result ≡ message_too_long }
 {
@@ -132,9 +142,9 @@ fn too_long() -> Refusal
     }
 }
 
-/// The same over a table that one thread has alone. Where the reader tells its bytes, the bytes
-/// written are the replies to them, as the machine gives them from the table's state, with the
-/// moments and words drawn and the appends that failed; after a write fault a front of those.
+/// Serves a stream over a table that one thread owns. If the reader's bytes are known, the bytes written are the
+/// replies to them, as the machine gives them from the table's state, with the moments and words drawn and the appends
+/// that failed; after a write fault a beginning of those.
 pub fn serve_alone<R: Read, W: Write, M: Messages, S: JournalSink, C: Clock, X: Words>(
     alloc: Global,
     service: &M,
@@ -146,10 +156,10 @@ pub fn serve_alone<R: Read, W: Write, M: Messages, S: JournalSink, C: Clock, X: 
     words: &mut X,
 ) -> Ended
     ensures served { (gate later : NoGate) × IsServed
-        (AnsweringAlone HearsNothing (M.error_frame service.now) (M.private_frame service.now)
+        (AnsweringAlone HoldsNobody NotesNothing (M.error_frame service.now) (M.private_frame service.now)
         (M.opens service.now peer) peer)
-        (AddsOneAlone HearsNothing (M.opens service.now peer) peer)
-        (λ now. M.error_frame service.now message_too_long now) C.gives X.gives HearsNothing peer result
+        (AddsOneAlone HoldsNobody NotesNothing (M.opens service.now peer) peer)
+        (λ now. M.error_frame service.now message_too_long now) C.gives X.gives HoldsNobody NotesNothing peer result
         (stream_state (R.remaining reader.old) alone.old (W.contents writer.old) clock.old words.old gate)
         (stream_state (R.remaining reader.new) alone.new (W.contents writer.new) clock.new words.new later) }
     ensures replies { IfSome (R.remaining reader.old) (λ stream. (gate later : NoGate) × IsServedAlone
@@ -169,7 +179,7 @@ pub fn serve_alone<R: Read, W: Write, M: Messages, S: JournalSink, C: Clock, X: 
         clock,
         words,
     );
-    // What `replies` rests on: the history is legal, and no longer than it may be.
+    // What `replies` rests on: the history is legal, and no longer than allowed.
     let _full = alone.table().is_full();
     ended
 }

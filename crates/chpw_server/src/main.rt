@@ -1,7 +1,7 @@
-//! The service's program. Its commands are `drill`, a script of decisions on standard input and their
-//! results on standard output; `check`, what is found in a configuration file; `table`, the keys that are
-//! held; `import` and `key`, keys of a keytab and of a password; `serve`, the service on a port of this machine; `control`, a command for it while it runs; and
-//! `client`, one request to it.
+//! The service's program. Its commands are `drill`, which runs a script of decisions on standard input; `check`, which
+//! checks a configuration file; `table`, which prints the current principal table; `import` and `key`, which convert
+//! the keys of a keytab and of a password; `serve`, the service on a port of this machine; `control`, a command for a
+//! running service; and `client`, one request to it.
 #![tactic(auto)]
 
 use chpw_program::run_program;

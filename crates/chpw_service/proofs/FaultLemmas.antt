@@ -7,7 +7,7 @@ use Rattle.chpw_journal.specs.declared.journal_file.OpenFault.{OpenFault}
 use Rattle.chpw_journal.specs.declared.journal_file.OpenFault.TheVariants.{CannotRead, CannotWrite, Restore}
 use Rattle.chpw_journal.specs.declared.fault.RestoreFault.{RestoreFault}
 use Rattle.chpw_journal.specs.declared.fault.RestoreFault.TheVariants as restore
-use Rattle.chpw_held.specs.Held.{IsHeldFault}
+use Rattle.chpw_report.specs.Held.{IsHeldFault}
 use Rattle.chpw_service.specs.Faults.{IsOfFile, IsOfRecords}
 
 pub unopened : (fault : OpenFault) → IsUnopened fault → IsOfFile fault

@@ -4,7 +4,7 @@ use Rattle.chpw_rules.specs.declared.config.Config.{Config}
 use Rattle.chpw_table.specs.Agreement.{Held}
 use Rattle.chpw_table.specs.State.{State}
 use Rattle.chpw_table.proofs.AgreementLemmas.{agrees_itself}
-use Rattle.chpw_reload.specs.declared.renewal.Renewal.{Renewal}
+use Rattle.chpw_reload.specs.declared.prepared_reload.PreparedReload.{PreparedReload}
 use Rattle.chpw_reload.specs.declared.reloading.Reloaded.{Reloaded}
 use Rattle.chpw_reload.specs.Reloading.{IsPrepared, IsReloaded}
 use Rattle.chpw_reload.specs.ReloadRuns.{GoesOn}
@@ -12,7 +12,7 @@ use Rattle.chpw_reload.specs.RunLaws.{RunsBegin, RunsGoOn}
 use Rattle.chpw_reload.proofs.PartsLemmas.{reloaded_is_reload}
 use Rattle.chpw_reload.proofs.RunLemmas.{runs_begin, runs_go_on}
 
-pub reload_goes_on : (file : Config) (journal rest : Option (List ℕ)) (renewal : Renewal) (closed : Held) (next : Reloaded) →
+pub reload_goes_on : (file : Config) (journal rest : Option (List ℕ)) (renewal : PreparedReload) (closed : Held) (next : Reloaded) →
     IsPrepared file journal renewal → IsReloaded renewal rest closed next → GoesOn closed.state next.table.state
 reload_goes_on file journal rest renewal closed next prepared reloaded =
     let made = reloaded_is_reload file journal rest renewal closed next closed.state prepared reloaded (agrees_itself closed.state) in

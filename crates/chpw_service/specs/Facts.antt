@@ -1,4 +1,4 @@
--- What is counted of a service while it runs.
+-- Counters of a running service.
 use Rattle.std.specs.Prelude.{ℕ, ℤ, pos, ◌+◌, min, length, Option, Some, None, Bool, ◌||◌, if◌then◌else◌, int_lt, int_le}
 use Rattle.chpw_table.specs.Agreement.{Held}
 use Rattle.chpw_table.specs.State.{new_count}
@@ -7,13 +7,13 @@ use Rattle.chpw_table.specs.declared.verdict.Verdict.{Verdict}
 use Rattle.chpw_control.specs.declared.time.Time.{Time}
 use Rattle.chpw_service.specs.declared.facts.Facts.{Facts}
 
--- as far as 64 bits have it
+-- up to 64 bits
 abbrev pub plus : ℕ → ℕ → ℕ
 plus n more = min (n + more) 18446744073709551615
 
 -- a history opens with this table
-abbrev pub behind_opening : Facts → Held → Facts
-behind_opening f t = record f {
+abbrev pub after_opening : Facts → Held → Facts
+after_opening f t = record f {
   principals = length t.state.principals;
   iterations = new_count t.state;
   quiet_until = t.state.fixed.quiet_until;
@@ -21,7 +21,7 @@ behind_opening f t = record f {
   changes = 0;
 }
 
--- a request that was decided is an entry, and one that changed a password is a change
+-- a request that was decided is an entry, and one that changed a password a change
 abbrev pub change_of : Verdict → ℕ
 change_of verdict = if is_done verdict then 1 else 0
 
@@ -41,10 +41,10 @@ behind_raise f iterations = record f {
   all_entries = plus f.all_entries 1;
 }
 
-abbrev pub behind_loss : Facts → Facts
-behind_loss f = record f { lost = plus f.lost 1 }
+abbrev pub after_loss : Facts → Facts
+after_loss f = record f { lost = plus f.lost 1 }
 
--- no moment where no time is quiet; one past the year 9999 is its end
+-- no moment if no time is quiet; the end of the year 9999 for a later one
 abbrev pub quiet_time : ℤ → ℤ → Option Time
 quiet_time until now = if int_lt until (pos 0) || int_lt until now then None
     else Some (record { seconds = if int_le until (pos 253402300799) then until else pos 253402300799; micros = 0 })

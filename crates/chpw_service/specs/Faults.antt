@@ -1,4 +1,4 @@
--- Why the service ends early: which faults its parts have, and the lines that tell them.
+-- Why the service ends early: which faults its parts have, and their lines.
 use Rattle.std.specs.Prelude.{◌≡◌, ◌≢◌, ◌⊎◌, ℕ, List, ◌++◌, Option, Some, None, Result, Err, codes}
 use Rattle.std.specs.Borrow.{Bor}
 use Rattle.std.specs.Str.{IsUtf8}
@@ -16,14 +16,19 @@ use Rattle.chpw_journal.specs.declared.fault.RestoreFault.TheVariants.{Memory as
 use Rattle.chpw_pool.specs.declared.pool.PoolFault.{PoolFault}
 use Rattle.chpw_pool.specs.declared.pool.PoolFault.TheVariants as pool
 use Rattle.chpw_invocation.specs.declared.invocation.ServeOptions.{ServeOptions}
+use Rattle.chpw_service.specs.declared.shared_files.SharedFiles.{SharedFiles}
+use Rattle.chpw_service.specs.Modes.{first_shared}
 use Rattle.chpw_service.specs.declared.fault.ServeFault.{ServeFault}
-use Rattle.chpw_service.specs.declared.fault.ServeFault.TheVariants.{CannotRead, Config, CannotWrite, Journal, CannotListen, CannotListenAt, CannotPrint, Memory, CannotClose}
+use Rattle.chpw_service.specs.declared.fault.ServeFault.TheVariants.{CannotRead, Config, Shared, CannotWrite}
+use Rattle.chpw_service.specs.declared.fault.ServeFault.TheVariants.{Journal, CannotListen, CannotListenAt}
+use Rattle.chpw_service.specs.declared.fault.ServeFault.TheVariants.{CannotPrint, Memory, CannotClose}
 use Rattle.chpw_service.specs.declared.fault.LateFault.{LateFault}
 use Rattle.chpw_service.specs.declared.fault.LateFault.TheVariants as late
 
 abbrev pub line_of : ServeFault → List ℕ
 line_of (CannotRead file) = codes "cannot read " ++ file.now
 line_of (Config fault) = codes "config: " ++ config_text fault
+line_of (Shared file) = file.now ++ codes ": not started, since other users may read or write it"
 line_of (CannotWrite file) = codes "cannot write " ++ file.now
 line_of (Journal fault) = codes "journal: " ++ journal_text fault
 line_of CannotListen = codes "cannot listen"
@@ -36,19 +41,19 @@ line_of CannotClose = codes "cannot close"
 abbrev pub Sets : List ℕ → Result Settings ConfigFault → Type 0
 Sets bytes found = (IsUtf8 bytes × (settings_of bytes ≡ found)) ⊎ (¬ (IsUtf8 bytes) × (found ≡ Err no_toml))
 
--- of the file at a path: it can't be read
+-- the fault of the file at a path: it can't be read
 abbrev pub IsUnread : List ℕ → ServeFault → Type 0
 IsUnread path (CannotRead file) = file.now ≡ path
 IsUnread path Memory = Unit {0}
 IsUnread path fault = ⊥
 
--- of these bytes of a configuration: their first fault
+-- the fault of these bytes of a configuration: their first
 abbrev pub IsOfBytes : List ℕ → ServeFault → Type 0
 IsOfBytes bytes (Config fault) = Sets bytes (Err fault)
 IsOfBytes bytes Memory = Unit {0}
 IsOfBytes bytes fault = ⊥
 
--- of the configuration: or its bytes have this first fault
+-- the fault of the configuration: it can't be read, or its bytes have this first fault
 abbrev pub IsOfSettings : List ℕ → ServeFault → Type 0
 IsOfSettings path (Config fault) = (bytes : List ℕ) × Sets bytes (Err fault)
 IsOfSettings path fault = IsUnread path fault
@@ -57,40 +62,45 @@ IsOfSettings path fault = IsUnread path fault
 abbrev pub IsOfRecords : RestoreFault → Type 0
 IsOfRecords fault = (before : Held) × (bytes : Option (List ℕ)) × IsRefusedFrom before bytes fault
 
--- as a journal's file is opened or restored: what is wrong with it is wrong with some bytes
+-- the fault of opening or restoring a journal's file, which is one of some bytes
 abbrev pub IsOfFile : OpenFault → Type 0
 IsOfFile open_fault.CannotRead = Unit {0}
 IsOfFile open_fault.CannotWrite = Unit {0}
 IsOfFile (open_fault.Restore fault) = IsOfRecords fault
 
--- of the journal: or it can't be made or cut, or its bytes have this first fault
+-- the fault of the journal: it can't be read, made or cut, or its bytes have this first fault
 abbrev pub IsOfJournal : List ℕ → ServeFault → Type 0
 IsOfJournal path (CannotWrite file) = file.now ≡ path
 IsOfJournal path (Journal fault) = (fault ≢ NoMemory) × IsOfRecords fault
 IsOfJournal path fault = IsUnread path fault
 
--- of the log at a path: it can't be made or appended to
+-- the fault of a start with strict modes: others may read or write one of its files
+abbrev pub IsOfModes : ServeOptions → ServeFault → Type 0
+IsOfModes o (Shared file) = (o.strict_modes ≡ true) × ((shared : SharedFiles) × (first_shared o shared ≡ Some file))
+IsOfModes o fault = ⊥
+
+-- the fault of the log at a path: it can't be made or appended to
 abbrev pub IsUnlogged : List ℕ → ServeFault → Type 0
 IsUnlogged path (CannotWrite file) = file.now ≡ path
 IsUnlogged path Memory = Unit {0}
 IsUnlogged path fault = ⊥
 
--- of the log, where one is asked for
+-- the fault of the log, if there is one
 abbrev pub IsOfLog : Option (Bor (List ℕ)) → ServeFault → Type 0
 IsOfLog None fault = ⊥
 IsOfLog (Some path) fault = IsUnlogged path.now fault
 
--- of a log or journal that is another file of the start: it can't be written
+-- the fault of a log or journal that is another file of the start: it can't be written
 abbrev pub IsOfClash : ServeOptions → ServeFault → Type 0
 IsOfClash o fault = IsOfLog o.log fault ⊎ IsOfJournal o.journal.now fault
 
--- of the control socket, where one is asked for: it can't be listened at
+-- the fault of the control socket, if there is one: the service can't listen at it
 abbrev pub IsOfControl : Option (Bor (List ℕ)) → ServeFault → Type 0
 IsOfControl None fault = ⊥
 IsOfControl (Some path) (CannotListenAt socket) = socket.now ≡ path.now
 IsOfControl (Some path) fault = ⊥
 
--- once the files are read
+-- a fault after the files are read
 abbrev pub IsLate : ServeFault → Type 0
 IsLate CannotListen = Unit {0}
 IsLate CannotPrint = Unit {0}
@@ -98,19 +108,19 @@ IsLate Memory = Unit {0}
 IsLate CannotClose = Unit {0}
 IsLate fault = ⊥
 
--- the fault that a late one is
+-- the late fault as one of the service's
 abbrev pub late_fault : LateFault → ServeFault
 late_fault late.CannotListen = CannotListen
 late_fault late.CannotPrint = CannotPrint
 late_fault late.Memory = Memory
 late_fault late.CannotClose = CannotClose
 
--- of a service with these files
+-- a fault of a service with these files
 abbrev pub IsOfService : ServeOptions → ServeFault → Type 0
-IsOfService o fault = IsOfSettings o.config.now fault ⊎ (IsUnread o.seed.now fault
-    ⊎ (IsOfLog o.log fault ⊎ (IsOfJournal o.journal.now fault ⊎ (IsOfControl o.control fault ⊎ IsLate fault))))
+IsOfService o fault = IsOfSettings o.config.now fault ⊎ (IsUnread o.seed.now fault ⊎ (IsOfModes o fault
+    ⊎ (IsOfLog o.log fault ⊎ (IsOfJournal o.journal.now fault ⊎ (IsOfControl o.control fault ⊎ IsLate fault)))))
 
--- what a pool that ended early is told as
+-- the fault of the service for a pool that ended early
 abbrev pub told_as : PoolFault → ServeFault
 told_as pool.Accept = CannotListen
 told_as pool.Start = Memory

@@ -5,7 +5,7 @@ pub mod Opening
 pub mod Modes
 pub mod Notices
 pub mod Noting
-pub mod Places
+pub mod FileIds
 pub mod Sheets
 pub mod Serving
 pub mod Tallies

@@ -1,4 +1,4 @@
--- What the log notes of what a gate hears.
+-- What the log notes of what it hears.
 use Rattle.std.specs.Prelude.{ℕ, List, [], ◌∷◌, ◌++◌, Option, Some, None}
 use Rattle.chpw_table.specs.declared.times.Moment.{Moment}
 use Rattle.chpw_table.specs.declared.request.Opened.{Opened}
@@ -9,7 +9,7 @@ use Rattle.chpw_table.specs.declared.verdict.Verdict.{Verdict}
 use Rattle.chpw_table.specs.declared.verdict.Verdict.TheVariants.{Broken}
 use Rattle.chpw_table.specs.Requests.{client_of}
 use Rattle.chpw_table.specs.Replies.{Answer, answer_of}
-use Rattle.chpw_answer.specs.Hearing.{Heard, passed, decision, refusal}
+use Rattle.chpw_serve.specs.Hearing.{Heard, decision, refusal}
 use Rattle.chpw_log.specs.Lines.{Outcome, target_asked, line_with}
 
 -- the line of a message that opened, of this moment; that of one that didn't, which may be held back, with its peer;
@@ -19,7 +19,7 @@ pub data Noted : Type 0 where
   unopened : Moment → List ℕ → List ℕ → Noted
   journal_failed : Moment → Noted
 
--- what came of a message, with the reply's answer
+-- the result of a message, with the reply's answer
 abbrev pub outcome_with : Option Target → Option Target → Answer → Option ℕ → Outcome
 outcome_with client target a kvno = record {
   client = client;
@@ -34,11 +34,11 @@ abbrev pub decided_line : ℕ → List ℕ → Moment → Opened → Verdict →
 decided_line worker peer now o v kvno =
     line_with now worker peer (outcome_with (Some (client_of o)) (target_asked o) (answer_of v) kvno)
 
--- of a request that was refused undecided
+-- the line of a request that was refused undecided
 abbrev pub refused_line : ℕ → List ℕ → Moment → Opened → Answer → List ℕ
 refused_line worker peer now o a = line_with now worker peer (outcome_with (Some (client_of o)) (target_asked o) a None)
 
--- of a message that didn't open
+-- the line of a message that didn't open
 abbrev pub unopened_line : ℕ → List ℕ → Moment → Answer → List ℕ
 unopened_line worker peer now a = line_with now worker peer (outcome_with None None a None)
 
@@ -46,14 +46,13 @@ abbrev pub failed_under : Moment → Verdict → List Noted
 failed_under now Broken = journal_failed now ∷ []
 failed_under now v = []
 
--- of a decision: its line, and before it that the journal failed, where it did; a raise is no message's
+-- for a decision: its line, and before it that the journal failed, if it did; a raise belongs to no message
 abbrev pub noted_event : ℕ → List ℕ → Moment → Event → Option ℕ → List Noted
 noted_event worker peer now (Ask o v) kvno = failed_under now v ++ opened now (decided_line worker peer now o v kvno) ∷ []
 noted_event worker peer now (Raise count v) kvno = []
 
--- by the gate of this worker
+-- by the observer of this worker
 abbrev pub noted : ℕ → Heard → List Noted
-noted worker (passed spot) = []
 noted worker (decision peer now r kvno) = noted_event worker peer now r.entry.event kvno
 noted worker (refusal peer now (Some o) a) = opened now (refused_line worker peer now o a) ∷ []
 noted worker (refusal peer now None a) = unopened now peer (unopened_line worker peer now a) ∷ []

@@ -1,15 +1,15 @@
--- The table that a service starts with: its configuration's, with the changes of its journal. It is quiet
--- from its start on, a moment that its clock gave.
+-- The table that a service starts with: its configuration's, with the changes of its journal. It is quiet from its
+-- start on, a moment that its clock gave.
 use Rattle.std.specs.Prelude.{◌≡◌, ◌+ℤ◌, ◌-ℤ◌, pos, ℤ, List, Bool, false, if◌then◌else◌}
 use Rattle.chpw_rules.specs.declared.config.Config.{Config}
 use Rattle.chpw_table.specs.Agreement.{Agrees}
 use Rattle.chpw_table.specs.State.{State, opening_of}
 use Rattle.chpw_table.specs.declared.times.Moment.{Moment}
 use Rattle.chpw_journal.specs.JournalText.{restored, AreNext}
-use Rattle.chpw_journal.specs.declared.record.Record.{Record}
+use Rattle.chpw_record.specs.declared.record.Record.{Record}
 use Rattle.chpw_journal.specs.declared.journal_file.Journal.{Journal}
 
--- for 300 seconds where there was a journal, else not at all: a moment is refused up to this second
+-- for 300 seconds if there was a journal, and otherwise not at all: a moment is refused up to this second
 abbrev pub quiet_until : ℤ → Bool → ℤ
 quiet_until start found = if found then start +ℤ pos 300 else start -ℤ pos 301
 

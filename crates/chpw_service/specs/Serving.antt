@@ -1,18 +1,25 @@
--- What a service asks of its pool.
-use Rattle.std.specs.Prelude.{◌≡◌, ℕ, List, [], ◌∷◌, Bool, false, nat_le, length}
+-- What a service asks of its pool, and which versions of requests it answers.
+use Rattle.std.specs.Prelude.{◌≡◌, ℕ, List, [], ◌∷◌, Bool, true, false, nat_le, length}
 use Rattle.chpw_invocation.specs.declared.invocation.ServeOptions.{ServeOptions}
-use Rattle.chpw_pool.specs.declared.terms.Terms.{Terms}
-use Rattle.chpw_book.specs.Passes.{Carried}
+use Rattle.chpw_pool.specs.declared.options.PoolOptions.{PoolOptions}
+use Rattle.chpw_book.specs.Passes.{PassView}
+use Rattle.chpw_messages.specs.declared.versions.Versions.{Versions}
+use Rattle.chpw_messages.specs.declared.versions.Versions.TheVariants.{Both, Rfc3244Only}
 
 -- words of this seed, as many connections as its options say, and the bounds that they set
-pub record IsAskedFor (options : ServeOptions) (seed : List ℕ) (terms : Terms) : Type 0 where
+pub record IsAskedFor (options : ServeOptions) (seed : List ℕ) (terms : PoolOptions) : Type 0 where
   pub seed_is : terms.seed ≡ seed
   pub connections : terms.connections ≡ options.connections
   pub clients : terms.clients ≡ options.clients
   pub buffers : terms.buffers ≡ options.buffers
   pub idle : terms.idle ≡ options.idle
 
--- the first pass has as many receipts as a history may have entries, before any message is answered: of a raise
-abbrev pub is_full_with : List Carried → ℕ → Bool
+-- the versions of requests that are answered, by whether it is that of RFC 3244 alone
+abbrev pub versions_asked : Bool → Versions
+versions_asked true = Rfc3244Only
+versions_asked false = Both
+
+-- the first pass has as many receipts as a history may have entries, before any message is answered, because of a raise
+abbrev pub is_full_with : List PassView → ℕ → Bool
 is_full_with [] most = false
 is_full_with (p ∷ ps) most = nat_le most (length p.receipts)

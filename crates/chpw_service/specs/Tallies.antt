@@ -10,13 +10,13 @@ use Rattle.chpw_table.specs.declared.history.Event.{Event}
 use Rattle.chpw_table.specs.declared.history.Event.TheVariants.{Ask, Raise}
 use Rattle.chpw_journal.specs.Runs.{AreWhole}
 use Rattle.chpw_book.specs.Receipts.{IsNumbered}
-use Rattle.chpw_book.specs.Passes.{Carried}
-use Rattle.chpw_book.specs.Stored.{Stored, Replays}
+use Rattle.chpw_book.specs.Passes.{PassView}
+use Rattle.chpw_book.specs.Recorded.{RecordedView, IsLinearized}
 use Rattle.chpw_book.specs.Closing.{HasCalls, IsRefusal, is_full}
 use Rattle.chpw_book.specs.declared.closing.CloseFault.{CloseFault}
 use Rattle.chpw_service.specs.declared.closing.Tally.{Tally}
 
--- the line that tells what a history was
+-- the line about a history
 abbrev pub tally_line : Tally → List ℕ
 tally_line t = codes "entries " ++ decimal t.entries ++ codes " changes " ++ decimal t.changes
 
@@ -28,9 +28,9 @@ changes_a_password (Raise count verdict) = false
 abbrev pub password_changes : List Entry → ℕ
 password_changes history = count_by (λ (e : Entry). changes_a_password e.event) history
 
--- the entries and changes of a history that the one-thread machine replays from the opening to this table, in
--- which what the accepted entries bring in is whole, and each worker's calls are the receipts that its pass has
-pub record IsTally (opening : State) (workers : ℕ) (passes : List Carried) (tally : Tally) (table : Held) : Type 0 where
+-- the entries and changes of a history that the one-thread machine replays from the opening to this table, in which
+-- what the accepted entries add is well-formed, and each worker's calls are the receipts of its pass
+pub record IsTally (opening : State) (workers : ℕ) (passes : List PassView) (tally : Tally) (table : Held) : Type 0 where
   pub history : List Entry
   pub legal : IsLegal opening history
   pub whole : AreWhole opening history
@@ -41,8 +41,8 @@ pub record IsTally (opening : State) (workers : ℕ) (passes : List Carried) (ta
   pub changes : tally.changes ≡ password_changes history
 
 -- a pass is missing, or has other receipts than its worker's calls in the history stored
-pub record IsMismatch (opening : State) (workers : ℕ) (passes : List Carried) : Type 0 where
-  pub stored : Stored
-  pub replays : Replays opening workers stored
+pub record IsMismatch (opening : State) (workers : ℕ) (passes : List PassView) : Type 0 where
+  pub recorded : RecordedView
+  pub linearized : IsLinearized opening workers recorded
   pub fault : CloseFault
-  pub refusal : IsRefusal stored.history (is_full stored.table) workers passes fault
+  pub refusal : IsRefusal recorded.history (is_full recorded.table) workers passes fault

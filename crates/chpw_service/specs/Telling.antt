@@ -1,12 +1,12 @@
--- What `table` tells, and why it doesn't.
+-- What `table` prints, and why it may not.
 use Rattle.std.specs.Prelude.{◌≡◌, ◌⊎◌, ℕ, List, Option, Ok}
 use Rattle.chpw_config.specs.Settings.{settings_of}
 use Rattle.chpw_rules.specs.declared.config.Config.{Config}
 use Rattle.chpw_report.specs.declared.form.Form.TheVariants as told_as
 use Rattle.chpw_report.specs.Reports.{report}
-use Rattle.chpw_held.specs.declared.holding.HeldTable.{HeldTable}
-use Rattle.chpw_held.specs.Configurations.{config_held}
-use Rattle.chpw_held.specs.Held.{IsHeld}
+use Rattle.chpw_report.specs.declared.holding.HeldTable.{HeldTable}
+use Rattle.chpw_report.specs.Configurations.{config_held}
+use Rattle.chpw_report.specs.Held.{IsHeld}
 use Rattle.chpw_invocation.specs.declared.invocation.TableForm.{TableForm}
 use Rattle.chpw_invocation.specs.declared.invocation.TableForm.TheVariants.{Lines, Configuration, Keys}
 use Rattle.chpw_invocation.specs.declared.invocation.TableOptions.{TableOptions}
@@ -19,7 +19,7 @@ IsTold Lines config h text = text ≡ report told_as.Lines config.realm h.table 
 IsTold Keys config h text = text ≡ report told_as.Keys config.realm h.table h.changes
 IsTold Configuration config h text = settings_of text ≡ Ok (config_held h.table.state config)
 
--- of the configuration that some bytes set, with a journal's changes; what bytes a file has no contract tells
+-- of the configuration that some bytes set, with a journal's changes; no contract says which bytes a file has
 pub record Tells (form : TableForm) (torn : Option ℕ) (text : List ℕ) : Type 0 where
   pub bytes : List ℕ
   pub config : Config
@@ -30,6 +30,6 @@ pub record Tells (form : TableForm) (torn : Option ℕ) (text : List ℕ) : Type
   pub behind : torn ≡ held.torn_behind
   pub told : IsTold form config held text
 
--- of its configuration or its journal, or once both are read
+-- a fault of its configuration or its journal, or one after both are read
 abbrev pub IsOfTable : TableOptions → ServeFault → Type 0
 IsOfTable o fault = IsOfSettings o.config.now fault ⊎ (IsOfJournal o.journal.now fault ⊎ IsLate fault)

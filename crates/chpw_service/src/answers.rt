@@ -2,29 +2,32 @@
 
 use crate::compacting::CompactFault;
 use crate::fault::ServeFault;
-use crate::orders::RenewFault;
+use crate::orders::PrepareFault;
 use chpw_control::{put_error, put_ok};
 use chpw_reload::{ReloadFault, put_fault};
 use std::alloc::{AllocError, Global};
 use std::str;
 
 /// The answer to a reload that was refused before the desk was closed.
-pub(crate) fn unrenewed(alloc: Global, fault: &RenewFault<'_>) -> Result<Vec<u8>, AllocError> {
+pub(crate) fn prepare_refusal(
+    alloc: Global,
+    fault: &PrepareFault<'_>,
+) -> Result<Vec<u8>, AllocError> {
     match fault {
-        RenewFault::Start(fault) => refused(alloc, fault.to_string(alloc)?.as_str()),
-        RenewFault::Config(words) => refused(alloc, words.as_str()),
-        RenewFault::Reload(fault) => unreloaded(alloc, fault),
+        PrepareFault::Start(fault) => refused(alloc, fault.to_string(alloc)?.as_str()),
+        PrepareFault::Config(words) => refused(alloc, words.as_str()),
+        PrepareFault::Reload(fault) => reload_refusal(alloc, fault),
     }
 }
 
 /// The answer to a reload that was refused.
-pub(crate) fn unreloaded(alloc: Global, fault: &ReloadFault) -> Result<Vec<u8>, AllocError> {
+pub(crate) fn reload_refusal(alloc: Global, fault: &ReloadFault) -> Result<Vec<u8>, AllocError> {
     let mut words = Vec::new(alloc);
     put_fault(&mut words, fault)?;
     refused(alloc, str::from_utf8(&words).unwrap_or(""))
 }
 
-/// The answer to whoever had the log opened anew.
+/// The answer when the log was reopened.
 pub(crate) fn reopened(
     alloc: Global,
     opened: Result<(), ServeFault<'_>>,
@@ -35,14 +38,14 @@ pub(crate) fn reopened(
     }
 }
 
-/// The order is carried out.
+/// The answer when an order was carried out.
 pub(crate) fn done(alloc: Global) -> Result<Vec<u8>, AllocError> {
     let mut text = Vec::new(alloc);
     put_ok(&mut text)?;
     Ok(text)
 }
 
-/// A file can't be written.
+/// The answer when a file can't be written.
 pub(crate) fn unwritten(alloc: Global, path: &str) -> Result<Vec<u8>, AllocError> {
     refused(
         alloc,
@@ -51,21 +54,24 @@ pub(crate) fn unwritten(alloc: Global, path: &str) -> Result<Vec<u8>, AllocError
 }
 
 /// The answer to a compact journal that was refused before the desk was closed.
-pub(crate) fn uncompacted(alloc: Global, fault: &CompactFault<'_>) -> Result<Vec<u8>, AllocError> {
+pub(crate) fn compact_refusal(
+    alloc: Global,
+    fault: &CompactFault<'_>,
+) -> Result<Vec<u8>, AllocError> {
     match fault {
         CompactFault::Unread(fault) => refused(alloc, fault.to_string(alloc)?.as_str()),
         CompactFault::NoCopy(copy) => unwritten(alloc, copy.as_str()),
     }
 }
 
-/// It is refused, for this reason.
+/// The answer when it is refused, for this reason.
 pub(crate) fn refused(alloc: Global, words: &str) -> Result<Vec<u8>, AllocError> {
     let mut text = Vec::new(alloc);
     put_error(&mut text, words)?;
     Ok(text)
 }
 
-/// An answer; one that memory lacks for is cut off, which says nothing.
+/// An answer; if there is no memory for it, it is cut off, which means failure.
 pub(crate) fn told(alloc: Global, answer: Result<Vec<u8>, AllocError>) -> Vec<u8> {
     match answer {
         Ok(text) => text,

@@ -1,6 +1,6 @@
-//! The close of a service's desk.
+//! Closing a service's desk.
 ghost use Rattle.std.specs.Prelude.{◌≡◌, ◌<◌, ◌-◌, ◌^◌, IfOk, IfErr, false};
-ghost use Rattle.chpw_fronts.specs.Pens.{opening_state};
+ghost use Rattle.chpw_changelog.specs.Pens.{opening_state};
 ghost use Rattle.chpw_service.specs.Tallies.{IsTally, IsMismatch, changes_a_password, password_changes};
 ghost use Rattle.chpw_service.specs.declared.fault.ServeFault.TheVariants.{CannotClose};
 
@@ -10,7 +10,7 @@ use chpw_table::{Entry, Event, JournalSink, Table, Verdict};
 use std::fmt;
 use std::sync::Wait;
 
-/// What a service did: its entries, and how many of them are changes of passwords; displayed as the line that tells it.
+/// What a service did: its entries, and how many of them are changes of passwords; displayed as its line.
 #[derive(Clone, Copy, Drop)]
 pub(crate) struct Tally {
     pub entries: usize,
@@ -29,7 +29,7 @@ impl fmt::Display for Tally {
     }
 }
 
-/// What a desk leaves that is closed. The sink has room for one failure more, or the table is broken.
+/// What a closed desk leaves. The sink has room for one more failure, or the table is broken.
 #[derive(Drop)]
 pub(crate) struct Left<S: JournalSink> {
     pub tally: Tally,
@@ -38,7 +38,7 @@ pub(crate) struct Left<S: JournalSink> {
     ghost room: { table.state.broken ≡ false → S.failed sink < 2 ^ 64 - 1 },
 }
 
-/// Closes a desk, and counts its history. A desk that can't be closed is given up.
+/// Closes a desk, and counts its history. A desk that can't be closed is abandoned.
 pub(crate) fn close_desk<'a, D: DeskName, S: JournalSink + Drop, R: Wait>(
     rt: &R,
     desk: Desk<D, S>,

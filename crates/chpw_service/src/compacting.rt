@@ -1,8 +1,8 @@
-//! A compact journal in the place of the one that has grown.
+//! Replacing the journal by a compact one.
 ghost use Rattle.std.specs.Prelude.{◌≡◌, ◌≤◌, ◌<◌, ◌-◌, ◌^◌, IfOk, IfErr, IfSome, false};
 ghost use Rattle.chpw_book.specs.Starting.{table_of, workers_of};
 ghost use Rattle.chpw_journal.specs.Compact.{AreWholeRecords, compacted};
-ghost use Rattle.chpw_journal.specs.Records.{records_text};
+ghost use Rattle.chpw_record.specs.Records.{records_text};
 ghost use Rattle.chpw_reload.specs.Compacting.{GoesWith};
 ghost use Rattle.chpw_service.specs.Following.{reopened};
 ghost use Rattle.chpw_service.specs.declared.fault.ServeFault.TheVariants.{Memory};
@@ -10,7 +10,7 @@ ghost use Rattle.chpw_service.specs.declared.fault.ServeFault.TheVariants.{Memor
 use crate::answers::{done, refused, told, unwritten};
 use crate::fault::ServeFault;
 use crate::files::{read_regular, settings};
-use crate::histories::{Hall, Opening, next_opening};
+use crate::histories::{Opening, ServiceContext, next_opening};
 use crate::table::write_table;
 use chpw_control::FileName;
 use chpw_invocation::{ServeOptions, TableForm, TableOptions};
@@ -32,7 +32,7 @@ const LONGEST_WAIT: u64 = 1_000;
 /// A compact journal that is due: it is made once the desk is closed.
 #[derive(Drop)]
 pub(crate) struct Compaction {
-    // What the configuration opens with, as it stands in its file now.
+    // What the configuration opens with, as its file is now.
     base: Table,
     // The copy of the configuration that is held.
     copy: FileName,
@@ -41,15 +41,15 @@ pub(crate) struct Compaction {
 /// Why there is no compact journal.
 #[derive(Drop)]
 pub(crate) enum CompactFault<'a> {
-    /// The configuration or the journal can't be read, or memory lacks.
+    /// The configuration or the journal can't be read, or memory ran out.
     Unread(ServeFault<'a>),
-    /// The copy can't be made, or something stands at its path.
+    /// The copy can't be made, or something is at its path.
     NoCopy(FileName),
 }
 
 /// Copies the configuration that is held to a new file, as `table --as configuration` prints it, and reads what the
-/// configuration opens with. What an earlier replacement has left beside the journal is removed first: so a copy that is to
-/// stand there is in the way of this one, which is refused then.
+/// configuration opens with. What an earlier, unfinished replacement left beside the journal is removed first. A copy
+/// at that very path is in the way of the new journal, which is then refused.
 pub(crate) fn begin_compaction<'a, R: Files<File = File> + AllocGlobal>(
     rt: &R,
     options: &ServeOptions<'a>,
@@ -87,7 +87,7 @@ fn copied<'a, R: Files<File = File> + AllocGlobal>(
     Ok(text)
 }
 
-// What the configuration opens with, as it stands in its file.
+// What the configuration opens with, as its file is now.
 fn base_of<'a, R: Files + AllocGlobal>(rt: &R, path: &'a str) -> Result<Table, ServeFault<'a>> {
     let text = read_regular(rt, path)?;
     match Table::start(rt.alloc(), settings(rt.alloc(), &text)?, -1) {
@@ -96,8 +96,8 @@ fn base_of<'a, R: Files + AllocGlobal>(rt: &R, path: &'a str) -> Result<Table, S
     }
 }
 
-/// What the next desk opens with: the closed table, and a compact journal in the place of the present one; or that journal,
-/// where there is none. Whoever asked for it is answered.
+/// What the next desk opens with: the closed table, and a compact journal in place of the present one; or that journal,
+/// if there is no compact one. The caller at the control socket is answered.
 pub(crate) fn compact<
     'a,
     'l,
@@ -106,7 +106,7 @@ pub(crate) fn compact<
 >(
     rt: &R,
     time: &T,
-    hall: &Hall<'l, R>,
+    hall: &ServiceContext<'l, R>,
     compaction: Compaction,
     table: Table,
     mut sink: FileSink<File>,
@@ -135,19 +135,19 @@ enum NotReplaced {
     Failed,
     // The configuration in its file doesn't go with what is held.
     Changed,
-    // A reply waits for the follower for too long.
+    // A reply waited too long for the follower.
     Waited,
     // The new one can't be written.
     Unwritten,
-    // It has taken the place of the former one, and isn't known to keep it: nothing more is written to either.
+    // It has replaced the former one, but may not be on the disk: nothing more is written to either.
     Unsafe,
     Memory,
 }
 
-// Puts a compact journal in the place of the present one, once no reply waits for the follower to have that.
+// Replaces the present journal by a compact one, once no reply waits for the follower.
 fn replace<'l, R: Files<File = File> + Wait + Clock + Eprint + AllocGlobal>(
     rt: &R,
-    hall: &Hall<'l, R>,
+    hall: &ServiceContext<'l, R>,
     base: &Table,
     held: &Table,
     sink: &mut FileSink<File>,
@@ -157,7 +157,7 @@ fn replace<'l, R: Files<File = File> + Wait + Clock + Eprint + AllocGlobal>(
     if hall.log.has_failed() {
         return Err(NotReplaced::Failed);
     }
-    let text = match compacted(rt.alloc(), base, held) {
+    let text = match compact_text(rt.alloc(), base, held) {
         Ok(Some(text)) => text,
         Ok(None) => return Err(NotReplaced::Changed),
         Err(_) => return Err(NotReplaced::Memory),
@@ -178,8 +178,8 @@ fn replace<'l, R: Files<File = File> + Wait + Clock + Eprint + AllocGlobal>(
     }
 }
 
-// The text of a compact journal of the held table, where the base goes with it.
-fn compacted(alloc: Global, base: &Table, held: &Table) -> Result<Option<Vec<u8>>, AllocError>
+// The text of a compact journal for the held table, if the base goes with it.
+fn compact_text(alloc: Global, base: &Table, held: &Table) -> Result<Option<Vec<u8>>, AllocError>
     ensures text { IfOk result (λ found. IfSome found (λ text. GoesWith base.now.state held.now.state
         × (text.items ≡ records_text (compacted base.now.state held.now.state)))) }
     ensures whole { IfOk result (λ found. IfSome found (λ _. AreWholeRecords (compacted base.now.state held.now.state))) }

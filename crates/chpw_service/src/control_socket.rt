@@ -9,14 +9,14 @@ use std::io::{self, ErrorKind};
 use std::net::Net;
 use std::os::unix::fs::{FileTypeExt, PermissionsExt};
 
-/// The mode of its file: its owner alone can connect.
+/// The mode of its file: only its owner can connect.
 const MODE: u32 = 0o600;
 
 /// How many may have connected before the file had its mode: more than a system lets wait.
 const PENDING: u32 = 65_536;
 
-/// A socket at a path, where one is asked for. One that a former run left there is replaced; where somebody listens, or
-/// another file stands, it is refused.
+/// A socket at a path, if one is asked for. One that a former run left there is replaced; if somebody listens there, or
+/// another file is there, it is refused.
 pub(crate) fn control_socket<'a, R: Files + Net>(
     rt: &R,
     path: Option<&'a str>,
@@ -32,7 +32,7 @@ pub(crate) fn control_socket<'a, R: Files + Net>(
     }
 }
 
-// Whoever connected before the file had its mode is let go.
+// Drops whoever connected before the file had its mode.
 fn bind<R: Files + Net>(rt: &R, path: &str) -> io::Result<UnixListener> {
     if is_left(rt, path) {
         fs::remove_file(rt, path)?;
@@ -47,7 +47,7 @@ fn bind<R: Files + Net>(rt: &R, path: &str) -> io::Result<UnixListener> {
     Ok(listener)
 }
 
-// Whether a socket stands there at which nobody listens.
+// Whether a socket is there at which nobody listens.
 fn is_left<R: Files + Net>(rt: &R, path: &str) -> bool {
     match fs::symlink_metadata(rt, path) {
         Ok(metadata) => metadata.file_type().is_socket() && is_refused(rt, path),
@@ -62,7 +62,7 @@ fn is_refused<R: Net>(rt: &R, path: &str) -> bool {
     }
 }
 
-/// Takes the socket's file away, at the end.
+/// Removes the socket's file, at the end.
 pub(crate) fn take_away<R: Files>(rt: &R, path: Option<&str>) {
     if let Some(path) = path {
         let _ = fs::remove_file(rt, path);

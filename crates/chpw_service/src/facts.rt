@@ -1,14 +1,14 @@
-//! What is counted of a service while it runs.
+//! Counters of a running service.
 ghost use Rattle.std.specs.Prelude.{◌≡◌, ◌<◌};
 ghost use Rattle.std.specs.Option.{ForSome};
 ghost use Rattle.chpw_table.specs.Times.{IsMoment};
 ghost use Rattle.chpw_control.specs.Statuses.{IsTold};
-ghost use Rattle.chpw_service.specs.Facts.{behind_decision, behind_loss, behind_opening, behind_raise, quiet_time};
+ghost use Rattle.chpw_service.specs.Facts.{behind_decision, after_loss, after_opening, behind_raise, quiet_time};
 
 use chpw_control::Time;
 use chpw_table::{LAST_SECOND, Moment, Table, Verdict};
 
-/// What is counted, as far as 64 bits have it.
+/// The counters, up to 64 bits.
 #[derive(Clone, Copy, Default, Drop)]
 pub(crate) struct Facts {
     /// The principals that the desk opened with, and the iteration count of new keys.
@@ -19,7 +19,7 @@ pub(crate) struct Facts {
     /// The entries of the history, and the changes among them.
     pub entries: u64,
     pub changes: u64,
-    /// The same with those of the histories before it.
+    /// Entries and changes with those of the histories before it.
     pub all_entries: u64,
     pub all_changes: u64,
     /// The lines of the log that couldn't be written.
@@ -29,7 +29,7 @@ pub(crate) struct Facts {
 impl Facts {
     /// A history opens with this table.
     pub fn open(&mut self, table: &Table)
-        ensures value { self.new ≡ behind_opening self.old table.now }
+        ensures value { self.new ≡ after_opening self.old table.now }
     {
         self.principals = table.principals() as u64;
         self.iterations = u64::from(table.count());
@@ -38,7 +38,7 @@ impl Facts {
         self.changes = 0;
     }
 
-    /// A request was decided so.
+    /// A request was decided with this verdict.
     pub fn decided(&mut self, verdict: Verdict)
         ensures value { self.new ≡ behind_decision self.old verdict }
     {
@@ -49,7 +49,7 @@ impl Facts {
         self.all_changes = self.all_changes.saturating_add(change);
     }
 
-    /// A raise was decided, behind which new keys are made under this count.
+    /// A raise was decided, after which new keys are made under this count.
     pub fn raised(&mut self, iterations: u64)
         ensures value { self.new ≡ behind_raise self.old iterations }
     {
@@ -60,12 +60,12 @@ impl Facts {
 
     /// A line of the log is lost.
     pub fn lose(&mut self)
-        ensures value { self.new ≡ behind_loss self.old }
+        ensures value { self.new ≡ after_loss self.old }
     {
         self.lost = self.lost.saturating_add(1);
     }
 
-    /// Until when it refuses to change a password after a start, where it does at this moment.
+    /// Until when it refuses to change passwords after a start, if it does at this moment.
     pub fn quiet_time(&self, now: Moment) -> Option<Time>
         ensures value { result ≡ quiet_time self.now.quiet_until now.seconds }
         ensures told { ForSome result IsTold }
@@ -82,7 +82,7 @@ impl Facts {
     }
 }
 
-/// A moment as it is told.
+/// A moment as it is printed.
 pub(crate) fn time_of(moment: Moment) -> Time
     requires moment { IsMoment moment }
     requires micros { moment.micros < 1000000 }

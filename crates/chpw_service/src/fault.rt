@@ -6,27 +6,29 @@ use chpw_config::ConfigFault;
 use chpw_journal::RestoreFault;
 use std::fmt;
 
-/// Why the service ends early, in the order in which its files and its port are tried; displayed as
-/// the line that the program writes.
+/// Why the service ends early, in the order in which its files and its port are tried; displayed as the line on
+/// standard error.
 #[derive(Clone, Copy, Drop)]
 pub enum ServeFault<'a> {
-    /// This file can't be read: the configuration, the seed, or a journal that is there.
+    /// This file can't be read: the configuration, the seed, or an existing journal.
     CannotRead(&'a str),
     /// The configuration has this fault.
     Config(ConfigFault),
+    /// Others may read or write this file, with strict modes: the configuration, the seed, the log or the journal.
+    Shared(&'a str),
     /// The journal's file can't be made, or its torn tail can't be cut off.
     CannotWrite(&'a str),
     /// The journal has this fault.
     Journal(RestoreFault),
-    /// The port can't be listened at, or a connection couldn't be accepted.
+    /// The service can't listen at the port, or a connection couldn't be accepted.
     CannotListen,
-    /// The control socket can't be listened at.
+    /// The service can't listen at the control socket.
     CannotListenAt(&'a str),
     /// A line couldn't be printed.
     CannotPrint,
     /// A growth was refused, or a thread couldn't be started.
     Memory,
-    /// What the workers hold isn't what the history has.
+    /// The workers' receipts differ from the history.
     CannotClose,
 }
 
@@ -54,7 +56,7 @@ impl LateFault {
         }
     }
 
-    /// The fault as the service has it.
+    /// The fault as one of the service's.
     pub(crate) fn fault<'a>(self) -> ServeFault<'a>
         ensures value { result ≡ late_fault self }
         ensures late { IsLate result }
@@ -78,6 +80,12 @@ impl fmt::Display for ServeFault<'_> {
         match self {
             ServeFault::CannotRead(file) => write!(f, "cannot read {file}"),
             ServeFault::Config(fault) => write!(f, "config: {fault}"),
+            ServeFault::Shared(file) => {
+                write!(
+                    f,
+                    "{file}: not started, since other users may read or write it"
+                )
+            }
             ServeFault::CannotWrite(file) => write!(f, "cannot write {file}"),
             ServeFault::Journal(fault) => write!(f, "journal: {fault}"),
             ServeFault::CannotListen => f.write_str("cannot listen"),

@@ -6,7 +6,7 @@ ghost use Rattle.chpw_service.specs.Modes.{lets_others};
 ghost use Rattle.chpw_service.specs.Faults.{IsOfBytes, IsOfSettings, IsUnread, Sets};
 
 use crate::fault::ServeFault;
-use crate::sheets::{Kind, kind_of};
+use crate::line_output::{Kind, kind_of};
 use chpw_config::{ConfigError, ConfigFault, read_config};
 use chpw_rules::Config;
 use std::alloc::Global;
@@ -39,11 +39,11 @@ pub(crate) fn read_file<'a, R: Files + AllocGlobal>(
 {
     match fs::read(rt, path) {
         Ok(bytes) => Ok(bytes),
-        Err(error) => Err(unread(path, error)),
+        Err(error) => Err(unread_fault(path, error)),
     }
 }
 
-/// The bytes of a regular file. A pipe would make its reader wait, and is refused before it is opened.
+/// The bytes of a regular file. A pipe would block its reader, and is refused before it is opened.
 pub(crate) fn read_regular<'a, R: Files + AllocGlobal>(
     rt: &R,
     path: &'a str,
@@ -57,7 +57,7 @@ pub(crate) fn read_regular<'a, R: Files + AllocGlobal>(
     }
 }
 
-/// A file that is there, opened to be read. A folder can be opened too, and is refused as one that can't be read.
+/// An existing file, opened for reading. A directory can be opened too, and is refused as unreadable.
 pub(crate) fn open_file<'a, R: Files<File = File>>(
     rt: &R,
     path: &'a str,
@@ -67,7 +67,7 @@ pub(crate) fn open_file<'a, R: Files<File = File>>(
     match File::open(rt, path) {
         Ok(file) if is_folder(&file) => Err(ServeFault::CannotRead(path)),
         Ok(file) => Ok(file),
-        Err(error) => Err(unread(path, error)),
+        Err(error) => Err(unread_fault(path, error)),
     }
 }
 
@@ -78,8 +78,8 @@ fn is_folder(file: &File) -> bool {
     }
 }
 
-/// Whether others than its owner may read or write the file at a path; a device, as one that gives random bytes, is
-/// everyone's.
+/// Whether others than its owner may read or write the file at a path; a device, such as one of random bytes, is never
+/// reported.
 pub(crate) fn is_shared<R: Files>(rt: &R, path: &str) -> bool {
     match fs::metadata(rt, path) {
         Ok(metadata) => metadata.is_file() && lets_others(metadata.permissions().mode()),
@@ -120,7 +120,7 @@ pub fn read_seed<'a, R: Files>(rt: &R, path: &'a str) -> Result<[u8; 32], ServeF
     };
     match read {
         Ok(seed) => Ok(seed),
-        Err(error) => Err(unread(path, error)),
+        Err(error) => Err(unread_fault(path, error)),
     }
 }
 
@@ -134,7 +134,7 @@ fn first_32<R: Read>(reader: &mut R) -> io::Result<[u8; 32]>
 }
 
 /// The fault of a file that can't be read.
-pub(crate) fn unread(path: &str, error: io::Error) -> ServeFault<'_>
+pub(crate) fn unread_fault(path: &str, error: io::Error) -> ServeFault<'_>
     ensures fault { IsUnread path.now result }
 {
     if error.kind() == ErrorKind::OutOfMemory {

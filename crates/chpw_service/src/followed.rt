@@ -1,4 +1,4 @@
-//! The follower of a service: where it is, and what is told of changes that it hasn't confirmed.
+//! The follower of a service: where it is, and the reports of changes that it hasn't confirmed.
 ghost use Rattle.std.specs.Prelude.{◌≡◌, IfErr};
 ghost use Rattle.chpw_control.specs.Statuses.{IsTold};
 ghost use Rattle.chpw_service.specs.Faults.{IsOfJournal};
@@ -9,7 +9,9 @@ use crate::notices::{Notice, is_first};
 use chpw_control::{FollowerState, JournalState, Status, Time, status_answer};
 use chpw_invocation::VERSION;
 use chpw_journal::FileSink;
-use chpw_pool::{Attendant, Follower, JournalEnd, MachineClock, Standing, Unconfirmed};
+use chpw_pool::{
+    ConnectionCounts, Follower, JournalEnd, MachineClock, StatusReporter, Unconfirmed,
+};
 use chpw_serve::Clock as _;
 use chpw_table::JournalSink;
 use mio::net::{UnixListener, UnixStream};
@@ -21,14 +23,14 @@ use std::sync::atomic::{AtomicU64, Ordering};
 use std::sync::{Arc, Wait};
 use std::time::Clock;
 
-/// How long the journal is, as far as it is on the disk; no reply waits where there is no follower.
+/// How long the journal is on the disk; without a follower no reply waits.
 #[derive(Drop)]
 pub struct JournalLength {
     end: Arc<AtomicU64>,
     has_follower: bool,
 }
 
-/// The one of the journal at a path, which this sink appends to, for a service that has a follower or hasn't.
+/// The length of the journal at a path, which this sink appends to, for a service with or without a follower.
 pub(crate) fn journal_length<'a>(
     alloc: Global,
     has_follower: bool,
@@ -61,16 +63,16 @@ impl JournalEnd for JournalLength {
 /// Where the follower is, and how long replies wait for it.
 #[derive(Clone, Copy, Drop)]
 pub struct FollowerTerms<'l> {
-    /// Its socket; none where no reply waits.
+    /// Its socket; none if no reply waits.
     pub socket: Option<&'l str>,
     /// In milliseconds.
     pub wait: u32,
 }
 
-/// What the service is told at its control socket, and tells there.
+/// The service's side of its control socket.
 #[derive(Drop)]
 pub(crate) struct ControlTerms {
-    /// The socket, until the reactor has it; none where there is none.
+    /// The socket, until the reactor has it; none without one.
     pub listener: Option<UnixListener>,
     /// When the service started.
     pub since: Time,
@@ -78,15 +80,15 @@ pub(crate) struct ControlTerms {
     ghost told: { IsTold since },
 }
 
-/// The follower at a socket, where one is asked for. What it doesn't confirm is told in the log, each change in a line of
-/// its own, and on standard error once until it confirms one again.
+/// The follower at a socket, if there is one. Each change that it doesn't confirm has a line of its own in the log, and
+/// a notice on standard error once until it confirms one again.
 #[derive(Drop)]
-pub(crate) struct Followed<'l, R, T: Clock> {
+pub(crate) struct SocketFollower<'l, R, T: Clock> {
     rt: &'l R,
     terms: FollowerTerms<'l>,
     log: &'l Log<'l, R>,
     clock: MachineClock<'l, T>,
-    /// Whether it was told that a change isn't confirmed.
+    /// Whether it was reported that a change isn't confirmed.
     is_told: bool,
     journal: &'l JournalLength,
     /// The control socket, until the reactor has it.
@@ -96,8 +98,8 @@ pub(crate) struct Followed<'l, R, T: Clock> {
     ghost told: { IsTold since },
 }
 
-impl<'l, R, T: Clock> Followed<'l, R, T> {
-    /// One on these terms.
+impl<'l, R, T: Clock> SocketFollower<'l, R, T> {
+    /// A follower on these terms.
     pub fn of(
         rt: &'l R,
         time: &'l T,
@@ -105,14 +107,14 @@ impl<'l, R, T: Clock> Followed<'l, R, T> {
         journal: &'l JournalLength,
         terms: FollowerTerms<'l>,
         control: ControlTerms,
-    ) -> Followed<'l, R, T> {
+    ) -> SocketFollower<'l, R, T> {
         let ControlTerms {
             listener,
             since,
             workers,
             ..
         } = control;
-        Followed {
+        SocketFollower {
             rt,
             terms,
             log,
@@ -127,7 +129,7 @@ impl<'l, R, T: Clock> Followed<'l, R, T> {
 }
 
 impl<R: Net<Listener = TcpListener, Stream = TcpStream> + Wait + Eprint, T: Clock> Follower
-    for Followed<'_, R, T> {
+    for SocketFollower<'_, R, T> {
     fn wait(&self) -> u64 {
         u64::from(self.terms.wait)
     }
@@ -154,13 +156,13 @@ impl<R: Net<Listener = TcpListener, Stream = TcpStream> + Wait + Eprint, T: Cloc
     }
 }
 
-impl<R: Net<Listener = TcpListener, Stream = TcpStream> + Wait + Eprint, T: Clock> Attendant
-    for Followed<'_, R, T> {
+impl<R: Net<Listener = TcpListener, Stream = TcpStream> + Wait + Eprint, T: Clock> StatusReporter
+    for SocketFollower<'_, R, T> {
     fn listener(&mut self) -> Option<UnixListener> {
         self.listener.take()
     }
 
-    fn status(&mut self, alloc: Global, standing: &Standing) -> Vec<u8> {
+    fn status(&mut self, alloc: Global, standing: &ConnectionCounts) -> Vec<u8> {
         let now = self.clock.now();
         let facts = self.log.facts();
         let status = Status {

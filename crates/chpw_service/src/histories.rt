@@ -1,6 +1,6 @@
 //! One history after the other.
 ghost use Rattle.std.specs.Prelude.{◌≡◌, ◌≤◌, ◌<◌, ◌-◌, ◌^◌, IfOk, IfErr, OnOk, OnErr, false, true, length};
-ghost use Rattle.chpw_fronts.specs.Pens.{opening_state, opening_table};
+ghost use Rattle.chpw_changelog.specs.Pens.{opening_state, opening_table};
 ghost use Rattle.chpw_book.specs.Starting.{IsNamed, table_of, workers_of};
 ghost use Rattle.chpw_pool.specs.Engines.{workers_at};
 ghost use Rattle.chpw_service.specs.Faults.{IsLate};
@@ -13,15 +13,15 @@ use crate::closing::{Left, Tally, close_desk};
 use crate::compacting::compact;
 use crate::fault::ServeFault;
 use crate::followed::{FollowerTerms, JournalLength};
-use crate::gates::Logging;
 use crate::logging::{Log, LogLines};
-use crate::notices::{Notice, is_first, unreported};
-use crate::orders::{Due, Orders};
+use crate::notices::{Notice, is_first, take_unreported};
+use crate::observers::Logging;
+use crate::orders::{AfterClose, Orders};
 use crate::reloading::reload;
+use crate::rules::Rules;
 use chpw_book::{Desk, DeskName, Pass, StartFault, UnnamedDesk};
 use chpw_invocation::ServeOptions;
 use chpw_journal::FileSink;
-use chpw_messages::Service;
 use chpw_pool::{Engine, MachineClock, NotStarted, run_shift};
 use chpw_serve::Clock as _;
 use chpw_table::{JournalSink, Table};
@@ -32,21 +32,13 @@ use std::sync::Wait;
 use std::thread::Threads;
 use std::time::Clock;
 
-/// What messages are answered by, until the configuration is read anew.
+/// What all desks are served with.
 #[derive(Drop)]
-pub struct Rules {
-    pub service: Service,
-    /// How many entries a history has at the most.
-    pub max_entries: u32,
-}
-
-/// What is served with, at all desks.
-#[derive(Drop)]
-pub struct Hall<'l, R: Wait + Eprint> {
+pub struct ServiceContext<'l, R: Wait + Eprint> {
     pub engine: Engine<Logging<LogLines<'l, R>>>,
     pub workers: u8,
     pub log: &'l Log<'l, R>,
-    /// How long the journal is, where replies wait for a follower.
+    /// How long the journal is, if replies wait for a follower.
     pub journal: JournalLength,
     pub follower: FollowerTerms<'l>,
     pub options: &'l ServeOptions<'l>,
@@ -54,7 +46,7 @@ pub struct Hall<'l, R: Wait + Eprint> {
     ghost queues: { workers_at engine ≡ workers },
 }
 
-/// What a desk opens with. The sink has room for one failure more, or the table is broken.
+/// What a desk opens with. The sink has room for one more failure, or the table is broken.
 #[derive(Drop)]
 pub(crate) struct Opening {
     pub unnamed: UnnamedDesk,
@@ -63,7 +55,7 @@ pub(crate) struct Opening {
         → ⟦<FileSink<File> as JournalSink>⟧.failed sink < 2 ^ 64 - 1 },
 }
 
-/// What the first desk opens with: a table with no event yet, and a sink of which no append has failed.
+/// What the first desk opens with: a table without events, and a sink of which no append has failed.
 pub(crate) fn first_opening(table: Table, sink: FileSink<File>, workers: u8) -> Opening
     requires workers { (1 ≤ workers) × (workers ≤ 16) }
     requires fresh { ⟦<FileSink<File> as JournalSink>⟧.failed sink ≡ 0 }
@@ -76,9 +68,9 @@ pub(crate) fn first_opening(table: Table, sink: FileSink<File>, workers: u8) -> 
     }
 }
 
-/// Answers the messages of the engine's connections at this desk, and then at one after the other, until no more come.
-/// Where a history is full, its desk is closed and the next one opens with the table that was closed; where the
-/// configuration was read anew, with what that makes of it. The table of the last desk is given back.
+/// Answers the messages of the engine's connections at this desk, and then at one after the other, until none will come
+/// any more. When a history is full, its desk is closed and the next one opens with the closed table; when the
+/// configuration was reloaded, with the reload of it. The table of the last desk is returned.
 #[tactic(auto, using(crate::proofs::ServiceRunLemmas::first_history, crate::proofs::ServiceRunLemmas::next_history))]
 pub fn serve_histories<
     'a,
@@ -89,7 +81,7 @@ pub fn serve_histories<
 >(
     rt: &R,
     time: &T,
-    hall: &Hall<'l, R>,
+    hall: &ServiceContext<'l, R>,
     mut rules: Rules,
     first: Opened<D>,
 ) -> Result<Table, ServeFault<'a>>
@@ -112,12 +104,12 @@ pub fn serve_histories<
     Ok(served.table)
 }
 
-// What the next desk opens with: the table that was closed, or what is made of that where the configuration was read anew.
+// What the next desk opens with: the closed table, or a reload of it when the configuration was reloaded.
 #[tactic(auto, using(crate::proofs::ServiceRunLemmas::goes_on_itself))]
 fn further_opening<'a, 'l, R: Files<File = File> + Wait + Clock + Eprint + AllocGlobal, T: Clock>(
     rt: &R,
     time: &T,
-    hall: &Hall<'l, R>,
+    hall: &ServiceContext<'l, R>,
     rules: &mut Rules,
     served: Served,
 ) -> Result<Opening, ServeFault<'a>>
@@ -137,18 +129,18 @@ fn further_opening<'a, 'l, R: Files<File = File> + Wait + Clock + Eprint + Alloc
                 .tell_rollover(MachineClock::new(time).now(), &table);
             next_opening(table, sink, hall.workers)
         }
-        Some(Due::Reload(anew)) => reload(rt, time, hall, rules, anew, table, sink),
-        Some(Due::Compact(compaction)) => compact(rt, time, hall, compaction, table, sink),
+        Some(AfterClose::Reload(anew)) => reload(rt, time, hall, rules, anew, table, sink),
+        Some(AfterClose::Compact(compaction)) => compact(rt, time, hall, compaction, table, sink),
     }
 }
 
-// What a desk left that was closed, what is due behind it, and whether no more messages come. The sink has room for one
-// failure more, or the table is broken.
+// What a closed desk left, what is due after it, and whether no more messages will come. The sink has room for one more
+// failure, or the table is broken.
 #[derive(Drop)]
 struct Served {
     table: Table,
     sink: FileSink<File>,
-    due: Option<Due>,
+    due: Option<AfterClose>,
     is_over: bool,
     ghost room: { table.state.broken ≡ false
         → ⟦<FileSink<File> as JournalSink>⟧.failed sink < 2 ^ 64 - 1 },
@@ -173,7 +165,7 @@ fn serve_history<
 >(
     rt: &R,
     time: &T,
-    hall: &Hall<'l, R>,
+    hall: &ServiceContext<'l, R>,
     rules: &Rules,
     opening: Opening,
     reported: &mut Reported,
@@ -199,7 +191,7 @@ fn serve_desk<
 >(
     rt: &R,
     time: &T,
-    hall: &Hall<'l, R>,
+    hall: &ServiceContext<'l, R>,
     rules: &Rules,
     opened: Opened<D>,
     reported: &mut Reported,
@@ -226,8 +218,8 @@ fn serve_desk<
     }
 }
 
-// Answers messages at a desk, unless a raise has taken the only entry that its history has room for, and carries out orders
-// meanwhile. What is due once it is closed.
+// Answers messages at a desk, unless a raise has taken the only entry that its history has room for, and carries out
+// orders meanwhile. Returns what is due once it is closed.
 fn serve_shift<
     'l,
     D: DeskName + Send + Sync,
@@ -236,11 +228,11 @@ fn serve_shift<
 >(
     rt: &R,
     time: &T,
-    hall: &Hall<'l, R>,
+    hall: &ServiceContext<'l, R>,
     rules: &Rules,
     desk: &Desk<D, FileSink<File>>,
     passes: &mut [Pass<D>],
-) -> Result<Option<Due>, NotStarted>
+) -> Result<Option<AfterClose>, NotStarted>
     requires passes { length passes.old ≡ hall.now.workers }
 {
     if is_full(passes, rules.max_entries) {
@@ -293,16 +285,16 @@ pub(crate) fn start_desk<D: DeskName, R: Wait + AllocGlobal>(
     }
 }
 
-// Reports how many messages more had waited too long for their worker.
+// Reports how many more messages had waited too long for their worker.
 fn report_expired<R: Wait + Eprint>(log: &Log<'_, R>, expired: u32, reported: &mut u32) {
-    let more = unreported(expired, reported);
+    let more = take_unreported(expired, reported);
     if more > 0 {
         log.tell(Notice::Expired(more));
     }
 }
 
-// Prints what was done. After the last history it is a fault where that can't be printed; after another one
-// the line is lost, and the first time that is told on standard error.
+// Prints what was done. After the last history it is a fault if that can't be printed; after another one the line is
+// lost, which is reported on standard error the first time.
 fn tell_tally<'a, R: Wait + Print + Eprint>(
     rt: &R,
     log: &Log<'_, R>,
@@ -335,7 +327,7 @@ fn print_tally<'a, R: Print>(rt: &R, tally: Tally) -> Result<(), ServeFault<'a>>
     }
 }
 
-/// The table that was closed opens the next history, and its journal goes on.
+/// The closed table opens the next history, and its journal goes on.
 pub(crate) fn next_opening<'a>(
     table: Table,
     sink: FileSink<File>,

@@ -1,36 +1,40 @@
-//! `serve`: the service on a port of this machine, from its files to the close of its desk; and `table`, what
-//! those files hold.
+//! `serve`: the service on a port of this machine, from reading its files to closing its desk; and `table`, which
+//! prints what those files hold.
 #![tactic(auto)]
 
 mod answers;
+mod checked_reload;
 mod closing;
 mod compacting;
 mod control_socket;
 mod facts;
 mod fault;
+mod file_ids;
 mod files;
 mod followed;
-mod gates;
 mod histories;
+mod line_output;
 mod logging;
 mod notices;
+mod observers;
 mod orders;
-mod places;
 mod raising;
 mod readiness;
 mod reloading;
-mod renewed;
+mod rules;
 mod running;
+mod service_manager;
 mod serving;
-mod sheets;
+mod shared_files;
 mod starting;
 mod table;
 
 pub use fault::ServeFault;
 pub use files::{read_seed, read_settings};
 pub use followed::{FollowerTerms, JournalLength};
-pub use gates::{Lines, Logging};
-pub use histories::{Hall, Opened, Rules, serve_histories};
+pub use histories::{Opened, ServiceContext, serve_histories};
 pub use logging::{Log, LogLines};
+pub use observers::{Lines, Logging};
+pub use rules::Rules;
 pub use serving::{serve, serve_by};
 pub use table::{tell_table, write_table};

@@ -1,4 +1,4 @@
-//! The log of a service: what came of each message, a line each.
+//! The log of a service: a line for the result of each message.
 ghost use Rattle.std.specs.Prelude.{◌+◌, ◌≤◌, ◌≡◌, ◌<◌, IfErr};
 ghost use Rattle.std.specs.Option.{ForSome};
 ghost use Rattle.chpw_table.specs.Times.{IsMoment};
@@ -7,15 +7,15 @@ ghost use Rattle.chpw_service.specs.Faults.{IsOfClash, IsOfLog, IsUnlogged};
 
 use crate::facts::Facts;
 use crate::fault::ServeFault;
-use crate::gates::Lines;
+use crate::file_ids::keep_apart;
+use crate::line_output::{LineOutput, is_standard_error};
 use crate::notices::{Losses, Notice, is_first};
-use crate::places::keep_apart;
-use crate::raising::RaiseTold;
-use crate::sheets::{Sheet, is_standard_error};
+use crate::observers::Lines;
+use crate::raising::RaiseReport;
 use chpw_invocation::ServeOptions;
 use chpw_log::{
-    Held, Limit, Line, News, ServiceEvent, micros_of, write_event, write_held, write_line,
-    write_unconfirmed,
+    Held, Line, LineLimit, MessageEvent, ServiceEvent, micros_of, write_event, write_held,
+    write_line, write_unconfirmed,
 };
 use chpw_pool::Unconfirmed;
 use chpw_table::{Moment, Table};
@@ -25,19 +25,18 @@ use std::io::{self, ErrorKind};
 use std::net::Net;
 use std::sync::{Mutex, Wait};
 
-/// What is told of a service while it runs: in its log, where there is one, a line for each message that opened,
-/// and for ten a second of the others, by the worker that answers it and before it is answered. The desk's lock
-/// is free then.
+/// The reports of a running service: in its log, if there is one, a line for each message that opened, and for ten a
+/// second of the others, by the worker that answers it and before it is answered. The desk's lock is free then.
 ///
-/// A line that can't be written, or not within half a second, is lost, and the service goes on: what stands of it, or
-/// an empty line, shows where. The first time that is told on standard error, too; and so is the first change that the
-/// journal did not take.
+/// A line that can't be written, or not within half a second, is lost, and the service goes on: the part that is
+/// written, or an empty line, shows where. The first lost line is also reported on standard error, and so is the first
+/// change that the journal did not take.
 #[derive(Drop)]
 pub struct Log<'l, R> {
     rt: &'l R,
     alloc: Global,
     journal: &'l str,
-    /// Whether it was told that the journal failed.
+    /// Whether it was reported that the journal failed.
     failed: Mutex<bool>,
     facts: Mutex<Facts>,
     book: Option<Book<'l>>,
@@ -50,16 +49,16 @@ struct Book<'l> {
     end: Mutex<End>,
 }
 
-// Where the next line goes.
+// Where the next line is appended.
 #[derive(Drop)]
 struct End {
-    sheet: Sheet,
-    limit: Limit,
+    sheet: LineOutput,
+    limit: LineLimit,
     losses: Losses,
 }
 
-/// The log of a service with these options. A log or a journal that is another file of the start is refused
-/// before anything is opened to be written.
+/// The log of a service with these options. A log or a journal that is another file of the start is refused before
+/// anything is opened for writing.
 pub(crate) fn log_of<'l, 'a: 'l, R: Files<File = File> + Net>(
     rt: &'l R,
     alloc: Global,
@@ -69,7 +68,7 @@ pub(crate) fn log_of<'l, 'a: 'l, R: Files<File = File> + Net>(
 {
     keep_apart(rt, options)?;
     let book = book_at(rt, alloc, options.log)?;
-    // A log that was made just now can be the journal by another name.
+    // A log that was just made may be the journal by another name.
     keep_apart(rt, options)?;
     Ok(Log {
         rt,
@@ -90,21 +89,21 @@ fn book_at<'l, 'a: 'l, R: Files<File = File> + Net>(
 {
     match path {
         None => Ok(None),
-        Some(path) => match Sheet::at(rt, alloc, path) {
+        Some(path) => match LineOutput::at(rt, alloc, path) {
             Ok(sheet) => Ok(Some(Book {
                 path,
                 end: Mutex::new(End {
                     sheet,
-                    limit: Limit::new(),
+                    limit: LineLimit::new(),
                     losses: Losses::default(),
                 }),
             })),
-            Err(error) => Err(unlogged(path, error)),
+            Err(error) => Err(unlogged_fault(path, error)),
         },
     }
 }
 
-fn unlogged(path: &str, error: io::Error) -> ServeFault<'_>
+fn unlogged_fault(path: &str, error: io::Error) -> ServeFault<'_>
     ensures fault { IsUnlogged path.now result }
 {
     if error.kind() == ErrorKind::OutOfMemory {
@@ -135,28 +134,28 @@ impl<R: Wait + Eprint> Log<'_, R> {
         );
     }
 
-    /// A raise was decided so: an entry of the history, and a line where the count was raised.
-    pub(crate) fn tell_raise(&self, now: Moment, told: RaiseTold)
+    /// A raise was decided: an entry of the history, and a line if the count was raised.
+    pub(crate) fn tell_raise(&self, now: Moment, told: RaiseReport)
         requires moment { IsMoment now }
         requires micros { now.micros < 1000000 }
     {
         match told {
-            RaiseTold::Raised(iterations) => {
+            RaiseReport::Raised(iterations) => {
                 self.facts.lock(self.rt).raised(u64::from(iterations));
                 self.put_event(now, &ServiceEvent::Raised { iterations });
             }
-            RaiseTold::NotHigher | RaiseTold::Broken => {
+            RaiseReport::NotHigher | RaiseReport::Broken => {
                 let iterations = self.facts().iterations;
                 self.facts.lock(self.rt).raised(iterations);
             }
-            RaiseTold::Full => {}
+            RaiseReport::Full => {}
         }
-        if matches!(told, RaiseTold::Broken) {
+        if matches!(told, RaiseReport::Broken) {
             self.tell_failed(now);
         }
     }
 
-    /// Appends the lines that tell what was held back and not told yet, and the end. They are the last ones.
+    /// Appends the summary that is still due, and the line of the end. They are the last ones.
     pub(crate) fn end(&self, now: Moment)
         requires moment { IsMoment now }
         requires micros { now.micros < 1000000 }
@@ -179,12 +178,12 @@ impl<R: Wait + Eprint> Log<'_, R> {
         );
     }
 
-    /// What is counted.
+    /// The counters.
     pub(crate) fn facts(&self) -> Facts {
         *self.facts.lock(self.rt)
     }
 
-    /// A further history opens with this table, behind a reload.
+    /// A further history opens with this table, after a reload.
     pub(crate) fn tell_reload(&self, now: Moment, table: &Table)
         requires moment { IsMoment now }
         requires micros { now.micros < 1000000 }
@@ -199,7 +198,7 @@ impl<R: Wait + Eprint> Log<'_, R> {
         );
     }
 
-    /// A further history opens with the table that the last one left: the line tells what that one had.
+    /// A further history opens with the table that the last one left: the line has the counts of the last one.
     pub(crate) fn tell_rollover(&self, now: Moment, table: &Table)
         requires moment { IsMoment now }
         requires micros { now.micros < 1000000 }
@@ -218,7 +217,7 @@ impl<R: Wait + Eprint> Log<'_, R> {
         *self.failed.lock(self.rt)
     }
 
-    /// Appends the line of what happens to the service itself.
+    /// Appends the line of an event of the service.
     pub(crate) fn put_event(&self, now: Moment, event: &ServiceEvent)
         requires moment { IsMoment now }
         requires micros { now.micros < 1000000 }
@@ -238,7 +237,7 @@ impl<R: Wait + Eprint> Log<'_, R> {
         }
     }
 
-    // Appends the line of a message that didn't open, where it has one of its own.
+    // Appends the line of a message that didn't open, if it has one of its own.
     fn put_unopened(&self, line: &Line<'_>) {
         if let Some(book) = &self.book {
             let now = micros_of(line.moment);
@@ -275,7 +274,7 @@ impl<R: Wait + Eprint> Log<'_, R> {
         self.put_text(book, write_line(self.alloc, line));
     }
 
-    // Appends the text of a line. Where there is none, since memory was refused, the line is lost.
+    // Appends the text of a line. If there is none, because memory was refused, the line is lost.
     fn put_text(&self, book: &Book<'_>, text: Result<Vec<u8>, AllocError>) {
         let Appended { is_lost, is_due } = book.append(self.rt, text);
         if is_lost {
@@ -286,7 +285,7 @@ impl<R: Wait + Eprint> Log<'_, R> {
         }
     }
 
-    /// Tells that the journal failed, the first time.
+    /// Reports that the journal failed, the first time.
     pub(crate) fn tell_failed(&self, now: Moment)
         requires moment { IsMoment now }
         requires micros { now.micros < 1000000 }
@@ -298,7 +297,8 @@ impl<R: Wait + Eprint> Log<'_, R> {
         }
     }
 
-    /// A line on standard error. Where the log is there too, it waits for it no longer than a line of the log does.
+    /// Writes a line on standard error. If the log goes there too, it waits for it no longer than a line of the log
+    /// does.
     pub(crate) fn tell(&self, notice: Notice<'_>) {
         match &self.book {
             Some(book) if is_standard_error(book.path) => {
@@ -317,17 +317,17 @@ impl<R: Wait + Eprint> Log<'_, R> {
     }
 }
 
-// What came of a line.
+// The result of appending a line.
 #[derive(Clone, Copy, Drop)]
 struct Appended {
     is_lost: bool,
-    /// Whether a first loss is to be told.
+    /// Whether a first loss is to be reported.
     is_due: bool,
 }
 
 impl<R: Files<File = File> + Net + Wait + Eprint> Log<'_, R> {
-    /// Opens the log's file anew, and goes on there: its first line tells that. Where it can't be opened the log goes on as
-    /// before. A service without a log has nothing to open.
+    /// Reopens the log's file, and goes on there with a line that says so. If it can't be opened the log goes on as
+    /// before. A service without a log has nothing to reopen.
     pub(crate) fn reopen<'a>(
         &self,
         options: &ServeOptions<'a>,
@@ -341,9 +341,9 @@ impl<R: Files<File = File> + Net + Wait + Eprint> Log<'_, R> {
             return Ok(());
         };
         keep_apart(self.rt, options)?;
-        match Sheet::at(self.rt, self.alloc, path) {
+        match LineOutput::at(self.rt, self.alloc, path) {
             Ok(sheet) => book.end.lock(self.rt).sheet = sheet,
-            Err(error) => return Err(unlogged(path, error)),
+            Err(error) => return Err(unlogged_fault(path, error)),
         }
         self.put_event(now, &ServiceEvent::LogReopened);
         Ok(())
@@ -369,8 +369,8 @@ impl Book<'_> {
     }
 }
 
-/// The lines of a log, as a worker's gate puts them. They go to a file or a terminal that the others share, so nothing is
-/// told of them here.
+/// The lines of a log, as a worker's observer writes them. They go to a file or a terminal that the others share, so no
+/// clause says what they hold.
 #[derive(Drop)]
 pub struct LogLines<'l, R> {
     pub(crate) log: &'l Log<'l, R>,
@@ -380,7 +380,7 @@ impl<R: Wait + Eprint> Lines for LogLines<'_, R> {
     ghost takes = { λ a n b. Unit {0} };
 
     fn put(&mut self, line: &Line<'_>) {
-        if let News::Decided { verdict, .. } = line.news {
+        if let MessageEvent::Decided { verdict, .. } = line.news {
             self.log.facts.lock(self.log.rt).decided(verdict);
         }
         self.log.put(line);

@@ -1,9 +1,9 @@
-//! What a service that goes on tells on standard error, each once.
+//! Notices on standard error of a service that goes on, each once.
 ghost use Rattle.std.specs.Prelude.{◌≡◌, ◌-◌, ◌&&◌, ◌||◌, max, not, true};
 
 use std::fmt;
 
-/// What went wrong, displayed as the line that reports it.
+/// What went wrong, displayed as its line.
 #[derive(Clone, Copy, Drop)]
 pub(crate) enum Notice<'a> {
     /// A line of the log at this path is lost.
@@ -12,15 +12,17 @@ pub(crate) enum Notice<'a> {
     JournalFailed(&'a str),
     /// A line on standard output is lost.
     OutputLost,
-    /// So many messages more had waited too long for their worker.
+    /// This many more messages had waited too long for their worker.
     Expired(u32),
     /// The follower at this socket hasn't confirmed a change that was answered.
     Unconfirmed(&'a str),
     /// Others than its owner may read or write this file.
     Shared(&'a str),
-    /// The configuration lacks so many principals that the table has.
+    /// The service manager couldn't be told that the service listens.
+    ManagerNotTold,
+    /// The configuration lacks this many principals that the table has.
     Lacked(u64),
-    /// Of the journal at this path so many bytes are kept, and a torn tail behind them was cut off.
+    /// Of the journal at this path this many bytes are kept, and a torn tail after them was cut off.
     TailCut(&'a str, u64),
 }
 
@@ -32,41 +34,49 @@ impl fmt::Display for Notice<'_> {
 
     fn fmt<W: fmt::Write>(&self, f: &mut fmt::Formatter<W>) -> fmt::Result {
         match self {
-            Notice::LogLost(log) => write!(f, "{log}: a line of the log is lost, and maybe more"),
+            Notice::LogLost(log) => write!(
+                f,
+                "{log}: a line of the log was lost; further losses are not reported"
+            ),
             Notice::JournalFailed(journal) => {
                 write!(
                     f,
-                    "{journal}: journal failed: no change is taken until a restart"
+                    "{journal}: journal failed: no change is accepted until a restart"
                 )
             }
-            Notice::OutputLost => { f.write_str("standard output: a line is lost, and maybe more") }
+            Notice::OutputLost => {
+                f.write_str("standard output: a line was lost; further losses are not reported")
+            }
             Notice::Expired(count) => {
                 write!(
                     f,
-                    "messages dropped that waited 5 seconds for a worker: {count}"
+                    "messages dropped after waiting 5 seconds for a worker: {count}"
                 )
             }
             Notice::Unconfirmed(socket) => {
                 write!(
                     f,
-                    "{socket}: a change was answered that the follower has not confirmed, and maybe more"
+                    "{socket}: a change was answered before the follower confirmed it; more are not reported until it confirms one"
                 )
             }
-            Notice::Shared(file) => write!(f, "{file}: others may read or write it"),
+            Notice::Shared(file) => write!(f, "{file}: other users may read or write it"),
+            Notice::ManagerNotTold => f.write_str(
+                "NOTIFY_SOCKET: the service manager could not be told that the service is ready",
+            ),
             Notice::Lacked(count) => {
                 write!(
                     f,
-                    "principals that the configuration lacks: {count}; no start is possible once one changes its password"
+                    "principals missing from the configuration: {count}; the service cannot start once one of them changes its password"
                 )
             }
             Notice::TailCut(journal, kept) => {
-                write!(f, "{journal}: a torn tail was cut off behind {kept} bytes")
+                write!(f, "{journal}: a torn tail was cut off after {kept} bytes")
             }
         }
     }
 }
 
-/// Whether anything was lost, and whether that was told.
+/// Whether anything was lost, and whether that was reported.
 #[derive(Clone, Copy, Default, Drop)]
 pub(crate) struct Losses {
     pub is_any: bool,
@@ -74,7 +84,7 @@ pub(crate) struct Losses {
 }
 
 impl Losses {
-    /// Whether a first loss is to be told now, where it can be. It counts as told then.
+    /// Whether a first loss is to be reported now, if it can be. It counts as reported then.
     pub(crate) fn are_due(&mut self, can_tell: bool) -> bool
         ensures due { result ≡ (self.old.is_any && (not self.old.is_told && can_tell)) }
         ensures told { self.new ≡ record self.old { is_told = self.old.is_told || result } }
@@ -85,7 +95,7 @@ impl Losses {
     }
 }
 
-/// Notes what is told once; whether it is to be told.
+/// Notes what is reported once; whether it is to be reported.
 pub(crate) fn is_first(told: &mut bool) -> bool
     ensures once { result ≡ not told.old }
     ensures told { told.new ≡ true }
@@ -95,8 +105,8 @@ pub(crate) fn is_first(told: &mut bool) -> bool
     first
 }
 
-/// How many there are more than were reported; all of them count as reported then.
-pub(crate) fn unreported(count: u32, reported: &mut u32) -> u32
+/// How many more there are than were reported; all of them count as reported then.
+pub(crate) fn take_unreported(count: u32, reported: &mut u32) -> u32
     ensures more { result ≡ count - reported.old }
     ensures reported { reported.new ≡ max reported.old count }
 {

@@ -1,16 +1,16 @@
-//! Orders of those at the control socket.
+//! Orders of callers at the control socket.
 
-use crate::answers::{refused, reopened, told, uncompacted, unrenewed};
+use crate::answers::{compact_refusal, prepare_refusal, refused, reopened, told};
+use crate::checked_reload::CheckedReload;
 use crate::compacting::{Compaction, begin_compaction};
 use crate::fault::ServeFault;
 use crate::files::{open_file, read_regular, settings};
-use crate::histories::{Hall, Rules};
-use crate::renewed::Renewed;
+use crate::histories::ServiceContext;
+use crate::rules::{Rules, rules_of};
 use chpw_config::explain;
 use chpw_control::Command;
 use chpw_invocation::ServeOptions;
-use chpw_messages::Service;
-use chpw_pool::{MachineClock, Meanwhile};
+use chpw_pool::{BackgroundTask, MachineClock};
 use chpw_reload::{ReloadFault, prepare};
 use chpw_serve::Clock as _;
 use std::alloc::Global;
@@ -21,45 +21,45 @@ use std::str;
 use std::sync::Wait;
 use std::time::Clock;
 
-/// A configuration that was read anew: the table that a start would open with now, the journal's file, which stands behind
-/// what that table has of it, and what the next desk is to serve by.
+/// A reload under way: the table that a start would open with now, the journal's file, read up to what that table has
+/// of it, and what the next desk is to serve by.
 #[derive(Drop)]
-pub(crate) struct Anew {
-    pub renewed: Renewed,
+pub(crate) struct PendingReload {
+    pub renewed: CheckedReload,
     pub rest: File,
     pub rules: Rules,
 }
 
 /// What is due once a desk is closed.
 #[derive(Drop)]
-pub(crate) enum Due {
-    /// The next desk opens with a configuration that was read anew.
-    Reload(Anew),
+pub(crate) enum AfterClose {
+    /// The next desk opens with the reloaded configuration.
+    Reload(PendingReload),
     /// It goes on with a compact journal.
     Compact(Compaction),
 }
 
-/// Whoever carries out the orders of those at the control socket, while the workers of a desk answer messages.
+/// Carries out the orders of callers at the control socket, while the workers of a desk answer messages.
 #[derive(Drop)]
 pub(crate) struct Orders<'s, 'l, R: Wait + Eprint, T> {
     pub rt: &'s R,
     pub time: &'s T,
-    pub hall: &'s Hall<'l, R>,
+    pub hall: &'s ServiceContext<'l, R>,
 }
 
-impl<R: Files<File = File> + Net + Wait + Clock + Eprint + AllocGlobal, T: Clock> Meanwhile
+impl<R: Files<File = File> + Net + Wait + Clock + Eprint + AllocGlobal, T: Clock> BackgroundTask
     for Orders<'_, '_, R, T> {
     /// What is due once the desk is closed.
-    type Done = Option<Due>;
+    type Done = Option<AfterClose>;
 
-    /// Carries out one order after the other, until the workers are to take no more messages. Where something is due behind
-    /// the desk that is at once; who asked for that is answered by whoever opens the next one.
-    fn run(self) -> Option<Due> {
+    /// Carries out one order after the other, until the workers are to take no more messages. If something is due after
+    /// the desk, that is at once; the thread that opens the next desk then answers the caller.
+    fn run(self) -> Option<AfterClose> {
         let engine = &self.hall.engine;
         for _ in self.rt.forever() {
             match self.carry_out(engine.next_order(self.rt)?) {
                 Carried::Answered(answer) => engine.answer_order(self.rt, answer),
-                Carried::Due(due) => {
+                Carried::AfterClose(due) => {
                     engine.stop(self.rt);
                     return Some(due);
                 }
@@ -69,13 +69,13 @@ impl<R: Files<File = File> + Net + Wait + Clock + Eprint + AllocGlobal, T: Clock
     }
 }
 
-// What came of an order.
+// The result of an order.
 #[derive(Drop)]
 enum Carried {
-    // It is carried out, or refused: the answer.
+    // It was carried out, or refused: the answer.
     Answered(Vec<u8>),
     // The rest of it is due once the desk is closed.
-    Due(Due),
+    AfterClose(AfterClose),
 }
 
 impl<R: Files<File = File> + Net + Wait + Clock + Eprint + AllocGlobal, T: Clock> Orders<
@@ -89,16 +89,16 @@ impl<R: Files<File = File> + Net + Wait + Clock + Eprint + AllocGlobal, T: Clock
         let options = self.hall.options;
         let answer = match command {
             Command::Reload => match read_anew(self.rt, options) {
-                Ok(anew) => return Carried::Due(Due::Reload(anew)),
-                Err(fault) => unrenewed(alloc, &fault),
+                Ok(anew) => return Carried::AfterClose(AfterClose::Reload(anew)),
+                Err(fault) => prepare_refusal(alloc, &fault),
             },
             Command::ReopenLog => {
                 let now = MachineClock::new(self.time).now();
                 reopened(alloc, self.hall.log.reopen(options, now))
             }
             Command::Compact(copy) => match begin_compaction(self.rt, options, copy) {
-                Ok(compaction) => return Carried::Due(Due::Compact(compaction)),
-                Err(fault) => uncompacted(alloc, &fault),
+                Ok(compaction) => return Carried::AfterClose(AfterClose::Compact(compaction)),
+                Err(fault) => compact_refusal(alloc, &fault),
             },
             Command::Status | Command::Stop => refused(alloc, "not an order"),
         };
@@ -106,56 +106,52 @@ impl<R: Files<File = File> + Net + Wait + Clock + Eprint + AllocGlobal, T: Clock
     }
 }
 
-/// Why a configuration can't be read anew.
+/// Why a configuration can't be reloaded.
 #[derive(Drop)]
-pub(crate) enum RenewFault<'a> {
-    /// A file can't be read, or memory lacks.
+pub(crate) enum PrepareFault<'a> {
+    /// A file can't be read, or memory ran out.
     Start(ServeFault<'a>),
     /// The configuration has a fault, in the words of `check`.
     Config(String),
-    /// The journal can't be put back onto it.
+    /// The journal can't be replayed over it.
     Reload(ReloadFault),
 }
 
-// The configuration, read anew, with the journal so far put back.
+// The configuration read again, with the journal so far replayed.
 fn read_anew<'a, R: Files<File = File> + AllocGlobal>(
     rt: &R,
     options: &ServeOptions<'a>,
-) -> Result<Anew, RenewFault<'a>> {
+) -> Result<PendingReload, PrepareFault<'a>> {
     let text = match read_regular(rt, options.config) {
         Ok(text) => text,
-        Err(fault) => return Err(RenewFault::Start(fault)),
+        Err(fault) => return Err(PrepareFault::Start(fault)),
     };
     let config = match settings(rt.alloc(), &text) {
         Ok(config) => config,
-        Err(fault) => return Err(unset(rt.alloc(), &text, fault)),
+        Err(fault) => return Err(unset_fault(rt.alloc(), &text, fault)),
     };
-    let Ok(service) = Service::of(rt.alloc(), &config) else {
-        return Err(RenewFault::Start(ServeFault::Memory));
+    let Ok(rules) = rules_of(rt.alloc(), &config, options) else {
+        return Err(PrepareFault::Start(ServeFault::Memory));
     };
-    let max_entries = config.max_entries;
     let journal = match open_file(rt, options.journal) {
         Ok(journal) => journal,
-        Err(fault) => return Err(RenewFault::Start(fault)),
+        Err(fault) => return Err(PrepareFault::Start(fault)),
     };
     let renewal = match prepare(rt.alloc(), config, journal) {
         Ok(renewal) => renewal,
-        Err(fault) => return Err(RenewFault::Reload(fault)),
+        Err(fault) => return Err(PrepareFault::Reload(fault)),
     };
     let Ok(rest) = rest_of(rt, options.journal, renewal.kept) else {
-        return Err(RenewFault::Start(ServeFault::CannotRead(options.journal)));
+        return Err(PrepareFault::Start(ServeFault::CannotRead(options.journal)));
     };
-    Ok(Anew {
-        renewed: Renewed::of(renewal),
+    Ok(PendingReload {
+        renewed: CheckedReload::of(renewal),
         rest,
-        rules: Rules {
-            service,
-            max_entries,
-        },
+        rules,
     })
 }
 
-// The file at a path, to be read from behind so many bytes.
+// The file at a path, to be read from after this many bytes.
 fn rest_of<R: Files<File = File>>(rt: &R, path: &str, kept: u64) -> io::Result<File> {
     let mut file = File::open(rt, path)?;
     file.seek(SeekFrom::Start(kept))?;
@@ -163,12 +159,12 @@ fn rest_of<R: Files<File = File>>(rt: &R, path: &str, kept: u64) -> io::Result<F
 }
 
 // A fault of the configuration with this text.
-fn unset<'a>(alloc: Global, text: &[u8], fault: ServeFault<'a>) -> RenewFault<'a> {
+fn unset_fault<'a>(alloc: Global, text: &[u8], fault: ServeFault<'a>) -> PrepareFault<'a> {
     match (fault, str::from_utf8(text)) {
         (ServeFault::Config(fault), Ok(text)) => match explain(alloc, text, fault) {
-            Ok(words) => RenewFault::Config(words),
-            Err(_) => RenewFault::Start(ServeFault::Memory),
+            Ok(words) => PrepareFault::Config(words),
+            Err(_) => PrepareFault::Start(ServeFault::Memory),
         },
-        (fault, _) => RenewFault::Start(fault),
+        (fault, _) => PrepareFault::Start(fault),
     }
 }

@@ -1,7 +1,7 @@
 //! A raise of the iteration count of new keys, before the service listens.
 ghost use Rattle.std.specs.Prelude.{◌≡◌, ◌≤◌, ℕ, IfErr, OnOk, Some, true, length};
 ghost use Rattle.chpw_rules.specs.Limits.{is_in, iteration_counts};
-ghost use Rattle.chpw_fronts.specs.Pens.{opening_state};
+ghost use Rattle.chpw_changelog.specs.Pens.{opening_state};
 ghost use Rattle.chpw_service.specs.Faults.{IsLate};
 ghost use Rattle.chpw_service.specs.Raised.{told_as, IsRaise, IsRaiseOfFirst, IsRaisedWhereAsked};
 ghost use Rattle.chpw_service.specs.declared.fault.ServeFault.TheVariants.{CannotPrint};
@@ -15,20 +15,20 @@ use std::fmt;
 use std::fs::File;
 use std::sync::Wait;
 
-/// What came of a raise, displayed as the line that the program prints.
+/// The result of a raise, displayed as the line that the program prints.
 #[derive(Clone, Copy, Drop)]
-pub(crate) enum RaiseTold {
+pub(crate) enum RaiseReport {
     /// New keys are made under this count.
     Raised(u32),
-    /// New keys are made under this count or a higher one already.
+    /// New keys are already made under this count or a higher one.
     NotHigher,
     /// The journal did not take the raise.
     Broken,
-    /// The history has as many entries as it may.
+    /// The history has as many entries as allowed.
     Full,
 }
 
-impl fmt::Display for RaiseTold {
+impl fmt::Display for RaiseReport {
     ghost use Rattle.std.specs.Prelude.{Some};
     ghost use Rattle.chpw_service.specs.Raised.{raised_line};
 
@@ -36,23 +36,23 @@ impl fmt::Display for RaiseTold {
 
     fn fmt<W: fmt::Write>(&self, f: &mut fmt::Formatter<W>) -> fmt::Result {
         match self {
-            RaiseTold::Raised(count) => write!(f, "raised {count}"),
-            RaiseTold::NotHigher => f.write_str("count not higher"),
-            RaiseTold::Broken => f.write_str("journal failed"),
-            RaiseTold::Full => f.write_str("history full"),
+            RaiseReport::Raised(count) => write!(f, "raised {count}"),
+            RaiseReport::NotHigher => f.write_str("count not higher"),
+            RaiseReport::Broken => f.write_str("journal failed"),
+            RaiseReport::Full => f.write_str("history full"),
         }
     }
 }
 
-/// Raises the count where one is asked for, and prints what came of it, which is given back. The raise is an event of the first history, by
-/// the first pass.
+/// Raises the count if that is asked for, and prints and returns the result. The raise is an event of the first
+/// history, by the first pass.
 pub(crate) fn raise_where_asked<'a, D: DeskName, R: Wait + Print, C: Clock>(
     rt: &R,
     desk: &Desk<D, FileSink<File>>,
     passes: &mut [Pass<D>],
     clock: &mut C,
     asked: Option<u32>,
-) -> Result<Option<RaiseTold>, ServeFault<'a>>
+) -> Result<Option<RaiseReport>, ServeFault<'a>>
     requires count { (count : ℕ) → asked ≡ Some count → (1 ≤ count) × (count ≤ 16777216) }
     ensures raised { OnOk result (IsRaisedWhereAsked C.gives (opening_state D.root) clock.old clock.new
         passes.old passes.new asked) }
@@ -65,14 +65,14 @@ pub(crate) fn raise_where_asked<'a, D: DeskName, R: Wait + Print, C: Clock>(
     }
 }
 
-// Raises by the first pass, and prints what came of it.
+// Raises by the first pass, and prints the result.
 fn raise_by_first<'a, D: DeskName, R: Wait + Print, C: Clock>(
     rt: &R,
     desk: &Desk<D, FileSink<File>>,
     passes: &mut [Pass<D>],
     clock: &mut C,
     count: u32,
-) -> Result<Option<RaiseTold>, ServeFault<'a>>
+) -> Result<Option<RaiseReport>, ServeFault<'a>>
     requires count { is_in iteration_counts count ≡ true }
     ensures raised { OnOk result (IsRaiseOfFirst C.gives (opening_state D.root) clock.old clock.new
         passes.old passes.new count) }
@@ -89,14 +89,14 @@ fn raise_by_first<'a, D: DeskName, R: Wait + Print, C: Clock>(
     Ok(Some(told))
 }
 
-// A raise to this count, at the clock's moment. None where memory was refused, and then nothing was raised.
+// A raise to this count, at the clock's moment. None if memory was refused, and then nothing was raised.
 fn raise<D: DeskName, R: Wait, C: Clock>(
     rt: &R,
     desk: &Desk<D, FileSink<File>>,
     pass: &mut Pass<D>,
     clock: &mut C,
     count: u32,
-) -> Option<RaiseTold>
+) -> Option<RaiseReport>
     requires count { is_in iteration_counts count ≡ true }
     ensures raised { IsRaise C.gives (opening_state D.root) clock.old clock.new pass.old pass.new count result }
 {
@@ -104,20 +104,20 @@ fn raise<D: DeskName, R: Wait, C: Clock>(
     told(count, desk.raise(rt, pass, now, count))
 }
 
-// What is told of this answer; none where memory was refused.
-fn told(count: u32, raised: Result<RaiseVerdict, RaiseFault>) -> Option<RaiseTold>
+// The result for this answer; none if memory was refused.
+fn told(count: u32, raised: Result<RaiseVerdict, RaiseFault>) -> Option<RaiseReport>
     ensures value { result ≡ told_as count raised }
 {
     match raised {
-        Ok(RaiseVerdict::Raised) => Some(RaiseTold::Raised(count)),
-        Ok(RaiseVerdict::NotHigher) => Some(RaiseTold::NotHigher),
-        Ok(RaiseVerdict::Broken) => Some(RaiseTold::Broken),
-        Err(RaiseFault::Full) => Some(RaiseTold::Full),
+        Ok(RaiseVerdict::Raised) => Some(RaiseReport::Raised(count)),
+        Ok(RaiseVerdict::NotHigher) => Some(RaiseReport::NotHigher),
+        Ok(RaiseVerdict::Broken) => Some(RaiseReport::Broken),
+        Err(RaiseFault::Full) => Some(RaiseReport::Full),
         Err(RaiseFault::Memory) => None,
     }
 }
 
-fn print_raised<'a, R: Print>(rt: &R, told: RaiseTold) -> Result<(), ServeFault<'a>>
+fn print_raised<'a, R: Print>(rt: &R, told: RaiseReport) -> Result<(), ServeFault<'a>>
     ensures fault { IfErr result (λ fault. fault ≡ CannotPrint) }
 {
     match println!(rt; "{told}") {

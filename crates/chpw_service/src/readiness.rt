@@ -1,4 +1,4 @@
-//! Whether an output takes a line at once.
+//! Whether an output takes a line without blocking.
 ghost use Rattle.std.specs.Prelude.{◌≡◌, not, false, IfOk, IfSome, if◌then◌else◌};
 
 use mio::unix::SourceFd;
@@ -17,13 +17,13 @@ pub(crate) struct Readiness {
     poll: Poll,
     events: Events,
     output: RawFd,
-    /// Whether it took none when it was last asked.
+    /// Whether it took none last time.
     is_stalled: bool,
 }
 
 impl Readiness {
-    /// That of the output with this descriptor. None where the system can't watch it: a regular file and most devices
-    /// take each line, if they don't refuse it.
+    /// The readiness of the output with this descriptor. None if the system can't watch it: a regular file and most
+    /// devices take each line, if they don't refuse it.
     pub fn of<R: Net>(rt: &R, alloc: Global, output: RawFd) -> Result<Option<Readiness>, AllocError>
         ensures fresh { IfOk result (λ found. IfSome found (λ r. r.is_stalled ≡ false)) }
     {
@@ -46,13 +46,12 @@ impl Readiness {
         }
     }
 
-    /// Whether the output takes a line: it is waited for half a second, and not at all where it took none when it was
-    /// last asked.
+    /// Whether the output takes a line: it is waited for half a second, and not at all if it took none last time.
     pub fn is_ready(&mut self) -> bool
         ensures stalled { self.new.is_stalled ≡ not result }
     {
         let patience = Duration::from_millis(patience(self.is_stalled));
-        // Registered anew, it is reported if it is ready now.
+        // Registered again, it is reported if it is ready now.
         let mut source = SourceFd(&self.output);
         let registered = self
             .poll
@@ -65,7 +64,7 @@ impl Readiness {
         is_ready
     }
 
-    /// Whether it took no line when it was last asked.
+    /// Whether it took no line last time.
     pub fn is_stalled(&self) -> bool
         ensures value { result ≡ self.now.is_stalled }
     {
@@ -73,7 +72,7 @@ impl Readiness {
     }
 }
 
-// How many milliseconds are waited for an output.
+// How many milliseconds to wait for an output.
 fn patience(is_stalled: bool) -> u64
     ensures value { result ≡ (if is_stalled then 0 else 500) }
 {

@@ -1,15 +1,16 @@
-//! The opening of a desk behind a reload.
+//! Opening a desk after a reload.
 ghost use Rattle.std.specs.Prelude.{◌≡◌, ◌≤◌, ◌<◌, ◌-◌, ◌^◌, IfOk, IfErr, false};
 ghost use Rattle.chpw_book.specs.Starting.{table_of, workers_of};
 ghost use Rattle.chpw_reload.specs.ReloadRuns.{GoesOn};
 ghost use Rattle.chpw_service.specs.declared.fault.ServeFault.TheVariants.{Memory};
 
-use crate::answers::{told, unreloaded};
+use crate::answers::{reload_refusal, told};
+use crate::checked_reload::CheckedReload;
 use crate::fault::ServeFault;
-use crate::histories::{Hall, Opening, Rules, next_opening};
+use crate::histories::{Opening, ServiceContext, next_opening};
 use crate::notices::Notice;
-use crate::orders::Anew;
-use crate::renewed::Renewed;
+use crate::orders::PendingReload;
+use crate::rules::Rules;
 use chpw_book::UnnamedDesk;
 use chpw_control::put_ok;
 use chpw_journal::FileSink;
@@ -24,15 +25,15 @@ use std::fs::File;
 use std::sync::Wait;
 use std::time::Clock;
 
-/// What the next desk opens with, where the configuration was read anew: what the closed table becomes with it and the rest of
-/// the journal, by the new rules; or the closed table, by the present rules, where the reload is refused. Whoever asked for it
-/// is answered.
+/// What the next desk opens with when the configuration was reloaded: what the closed table becomes with it and the
+/// rest of the journal, by the new rules; or the closed table, by the present rules, if the reload is refused. The
+/// caller at the control socket is answered.
 pub(crate) fn reload<'a, 'l, R: Wait + Clock + Eprint + AllocGlobal, T: Clock>(
     rt: &R,
     time: &T,
-    hall: &Hall<'l, R>,
+    hall: &ServiceContext<'l, R>,
     rules: &mut Rules,
-    anew: Anew,
+    anew: PendingReload,
     table: Table,
     sink: FileSink<File>,
 ) -> Result<Opening, ServeFault<'a>>
@@ -42,7 +43,7 @@ pub(crate) fn reload<'a, 'l, R: Wait + Clock + Eprint + AllocGlobal, T: Clock>(
     ensures workers { IfOk result (λ next. workers_of next.unnamed ≡ hall.now.workers) }
     ensures fault { IfErr result (λ fault. fault ≡ Memory) }
 {
-    let Anew {
+    let PendingReload {
         renewed,
         rest,
         rules: next_rules,
@@ -59,17 +60,17 @@ pub(crate) fn reload<'a, 'l, R: Wait + Clock + Eprint + AllocGlobal, T: Clock>(
         Err(Refused { fault, closed }) => {
             hall.log
                 .tell_rollover(MachineClock::new(time).now(), &closed);
-            let answer = unreloaded(rt.alloc(), &fault);
+            let answer = reload_refusal(rt.alloc(), &fault);
             hall.engine.answer_order(rt, told(rt.alloc(), answer));
             next_opening(closed, sink, hall.workers)
         }
     }
 }
 
-// What a closed table becomes with what was read anew, and the rest of the journal.
+// What a closed table becomes with the reloaded configuration and the rest of the journal.
 fn made_anew(
     alloc: Global,
-    renewed: Renewed,
+    renewed: CheckedReload,
     rest: File,
     closed: Table,
 ) -> Result<Reloaded, Refused>
@@ -80,12 +81,12 @@ fn made_anew(
     finish(alloc, renewed.into_renewal(), rest, closed)
 }
 
-// Tells that the configuration was read anew: in the log, to whoever asked for it, and on standard error where the
-// configuration lacks principals.
+// Reports the reload: in the log, to the caller at the control socket, and on standard error if the configuration lacks
+// principals.
 fn tell_reloaded<'l, R: Wait + Eprint + AllocGlobal, T: Clock>(
     rt: &R,
     time: &T,
-    hall: &Hall<'l, R>,
+    hall: &ServiceContext<'l, R>,
     table: &Table,
     lacked: &[Name],
 ) {
@@ -94,12 +95,12 @@ fn tell_reloaded<'l, R: Wait + Eprint + AllocGlobal, T: Clock>(
     if !lacked.is_empty() {
         hall.log.tell(Notice::Lacked(lacked.len() as u64));
     }
-    let answer = reloaded(rt.alloc(), lacked);
+    let answer = reload_answer(rt.alloc(), lacked);
     hall.engine.answer_order(rt, told(rt.alloc(), answer));
 }
 
 // The answer: a line for each principal that the configuration lacks.
-fn reloaded(alloc: Global, lacked: &[Name]) -> Result<Vec<u8>, AllocError> {
+fn reload_answer(alloc: Global, lacked: &[Name]) -> Result<Vec<u8>, AllocError> {
     let mut text = Vec::new(alloc);
     for name in lacked {
         text.extend_from_slice(b"lacked ")?;

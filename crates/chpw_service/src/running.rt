@@ -1,20 +1,21 @@
-//! The service's threads: the reactor, and whoever serves at the desks.
+//! The service's threads: the reactor, and the one that serves at the desks.
 ghost use Rattle.std.specs.Prelude.{◌≡◌, IfErr, IfSome, None, OnOk, length};
 ghost use Rattle.chpw_service.specs.Faults.{IsLate, told_as};
 
 use crate::fault::{LateFault, ServeFault};
-use crate::followed::{ControlTerms, Followed};
-use crate::histories::{Hall, Opened, Rules, serve_histories};
+use crate::followed::{ControlTerms, SocketFollower};
+use crate::histories::{Opened, ServiceContext, serve_histories};
+use crate::rules::Rules;
 use chpw_book::DeskName;
-use chpw_pool::{Attendant, Follower, Pool, PoolFault};
+use chpw_pool::{Follower, Pool, PoolFault, StatusReporter};
 use std::fs::{File, Files};
 use std::net::{Net, TcpListener, TcpStream};
 use std::sync::Wait;
 use std::thread::{self, Threads};
 use std::time::Clock;
 
-/// Serves from the first desk on, until no more messages come. That desk is given up where no thread for the sockets could
-/// be started.
+/// Serves from the first desk on, until no more messages will come. That desk is abandoned if no thread for the sockets
+/// could be started.
 pub(crate) fn serve_from<
     'a,
     'l,
@@ -33,7 +34,7 @@ pub(crate) fn serve_from<
     rt: &R,
     time: &T,
     listener: &TcpListener,
-    hall: &Hall<'l, R>,
+    hall: &ServiceContext<'l, R>,
     control: ControlTerms,
     rules: Rules,
     first: Opened<D>,
@@ -42,7 +43,7 @@ pub(crate) fn serve_from<
     requires passes { length first.passes.items ≡ hall.now.workers }
     ensures fault { IfErr result IsLate }
 {
-    let followed = Followed::of(rt, time, hall.log, &hall.journal, hall.follower, control);
+    let followed = SocketFollower::of(rt, time, hall.log, &hall.journal, hall.follower, control);
     let mut first = Some(first);
     let ended = serve_all(
         rt,
@@ -79,12 +80,12 @@ fn serve_all<
         + AllocGlobal
         + Sync,
     T: Clock + Sync,
-    F: Follower + Attendant + Send + Drop,
+    F: Follower + StatusReporter + Send + Drop,
 >(
     rt: &R,
     time: &T,
     listener: &TcpListener,
-    hall: &Hall<'l, R>,
+    hall: &ServiceContext<'l, R>,
     followed: F,
     rules: Rules,
     first: &mut Option<Opened<D>>,
@@ -116,7 +117,7 @@ fn serve_all<
     }
 }
 
-// Serves at one desk after the other. After a fault nobody is there to answer, and all connections end.
+// Serves at one desk after the other. After a fault nobody is left to answer, and all connections end.
 fn serve_or_desert<
     'l,
     D: DeskName + Send + Sync,
@@ -125,7 +126,7 @@ fn serve_or_desert<
 >(
     rt: &R,
     time: &T,
-    hall: &Hall<'l, R>,
+    hall: &ServiceContext<'l, R>,
     rules: Rules,
     first: &mut Option<Opened<D>>,
 ) -> Result<(), LateFault>
@@ -143,7 +144,7 @@ fn serve_or_desert<
     }
 }
 
-// Tells why the pool ended early.
+// The fault with which a pool ended early.
 fn end<'a>(pool: Pool) -> Result<(), ServeFault<'a>>
     ensures whole { OnOk result (pool.fault ≡ None) }
     ensures fault { IfErr result (λ fault.
@@ -156,7 +157,7 @@ fn end<'a>(pool: Pool) -> Result<(), ServeFault<'a>>
     }
 }
 
-/// The fault of a pool that ended early, as it is told.
+/// The fault of a pool that ended early, as a fault of the service.
 pub(crate) fn told<'a>(fault: PoolFault) -> ServeFault<'a>
     ensures value { result ≡ told_as fault }
     ensures late { IsLate result }

@@ -3,7 +3,7 @@ ghost use Rattle.std.specs.Prelude.{◌≡◌, ◌≤◌, IfOk, IfErr, IsSome, N
 ghost use Rattle.chpw_book.specs.Starting.{IsNamed, workers_of};
 ghost use Rattle.chpw_pool.specs.Engines.{workers_at};
 ghost use Rattle.chpw_service.specs.Faults.{IsLate, IsOfService};
-ghost use Rattle.chpw_fronts.specs.Pens.{opening_state};
+ghost use Rattle.chpw_changelog.specs.Pens.{opening_state};
 ghost use Rattle.chpw_service.specs.Raised.{IsRaisedWhereAsked};
 ghost use Rattle.chpw_service.specs.Serving.{IsAskedFor};
 ghost use Rattle.chpw_service.specs.declared.fault.ServeFault.TheVariants.{CannotListen};
@@ -13,35 +13,38 @@ use crate::facts::time_of;
 use crate::fault::ServeFault;
 use crate::files::{is_shared, read_seed, read_settings};
 use crate::followed::{ControlTerms, FollowerTerms, JournalLength, journal_length};
-use crate::gates::{Logging, log_gates};
-use crate::histories::{Hall, Opened, Opening, Rules, first_opening, start_desk};
+use crate::histories::{Opened, Opening, ServiceContext, first_opening, start_desk};
 use crate::logging::{Log, LogLines, log_of};
 use crate::notices::Notice;
+use crate::observers::{Logging, log_observers};
 use crate::raising::raise_where_asked;
+use crate::rules::{Rules, rules_of};
 use crate::running::{serve_from, told};
+use crate::service_manager::{notify_ready, notify_stopping};
+use crate::shared_files::refuse_shared;
 use crate::starting::open_table;
 use chpw_book::{Desk, DeskName, Pass};
 use chpw_invocation::ServeOptions;
 use chpw_journal::{FileSink, Journal};
-use chpw_messages::Service;
-use chpw_pool::{Engine, MachineClock, Terms};
+use chpw_pool::{Engine, MachineClock, PoolOptions};
 use chpw_serve::Clock as _;
 use std::alloc::Global;
 use std::fs::{File, Files};
 use std::marker::Brand;
 use std::net::{Ipv4Addr, Net, TcpListener, TcpStream, UdpSocket};
+use std::rt::Env;
 use std::sync::Wait;
 use std::thread::Threads;
 use std::time::Clock;
 
-/// Serves so many connections on 127.0.0.1, the messages of connection i (from 0) by worker i modulo their number,
-/// one after the other. The configuration is read first, then the seed; then the log is opened
-/// where one is asked for, and then the journal is read; then the iteration count of new keys is raised where
-/// that is asked for, and then the port is listened at. A torn tail that was cut off the journal is told in a
-/// line on standard error. Printed are what came of the raise, `listening on 127.0.0.1:N` before a
-/// connection is accepted, and `entries N changes N` for each history: where one is full, its desk is
-/// closed, and the next one opens with the table that was closed, its used ids kept. With a control socket it does what
-/// it is told there, and ends where it is told to.
+/// Serves this many connections on 127.0.0.1, the messages of connection i (from 0) by worker i modulo their number,
+/// one after the other. The configuration is read first, then the seed; with strict modes the start is refused then if
+/// others may read or write its files; then the log is opened if there is one, and the journal is read; then the
+/// iteration count of new keys is raised if that is asked for, and the service listens at the port. A torn tail that
+/// was cut off the journal is reported on standard error. Printed are the result of the raise, `listening on
+/// 127.0.0.1:N` before a connection is accepted, when the service manager is told too, and `entries N changes N` for
+/// each history: when one is full, its desk is closed, and the next one opens with the closed table and its used ids.
+/// With a control socket it carries out the commands that come there, and ends when told to stop.
 pub fn serve<
     'a,
     R: Files<File = File>
@@ -49,6 +52,7 @@ pub fn serve<
         + Threads
         + Wait
         + Clock
+        + Env
         + Print
         + Eprint
         + AllocGlobal
@@ -59,7 +63,7 @@ pub fn serve<
     serve_by(rt, rt, options)
 }
 
-/// Serves as `serve` does, by another clock than the machine's.
+/// Serves as `serve` does, with another clock than the machine's.
 pub fn serve_by<
     'a,
     R: Files<File = File>
@@ -67,6 +71,7 @@ pub fn serve_by<
         + Threads
         + Wait
         + Clock
+        + Env
         + Print
         + Eprint
         + AllocGlobal
@@ -77,11 +82,11 @@ pub fn serve_by<
 {
     let config = read_settings(rt, options.config)?;
     let seed = read_seed(rt, options.seed)?;
+    refuse_shared(rt, &options)?;
     let log = log_of(rt, rt.alloc(), &options)?;
-    let Ok(service) = Service::of(rt.alloc(), &config) else {
+    let Ok(rules) = rules_of(rt.alloc(), &config, &options) else {
         return Err(ServeFault::Memory);
     };
-    let max_entries = config.max_entries;
     let mut clock = MachineClock::new(time);
     let Journal {
         table,
@@ -110,17 +115,14 @@ pub fn serve_by<
         since: time_of(since),
         workers: options.workers,
     };
-    let rules = Rules {
-        service,
-        max_entries,
-    };
     let ended = serve_opened::<Brand, R, T>(rt, time, start, control, rules, opening, &mut clock);
+    notify_stopping(rt);
     take_away(rt, options.control);
     log.end(clock.now());
     ended
 }
 
-// Tells which of its files others may read or write.
+// Reports which of its files others may read or write.
 fn tell_shared<R: Files + Wait + Eprint>(rt: &R, log: &Log<'_, R>, options: &ServeOptions<'_>) {
     for file in [options.config, options.seed, options.journal] {
         if is_shared(rt, file) {
@@ -133,12 +135,13 @@ fn tell_shared<R: Files + Wait + Eprint>(rt: &R, log: &Log<'_, R>, options: &Ser
 #[derive(Drop)]
 struct Start<'l, R> {
     options: &'l ServeOptions<'l>,
-    terms: Terms,
+    terms: PoolOptions,
     log: &'l Log<'l, R>,
     journal: JournalLength,
 }
 
-// Serves what is opened: at the first desk the count is raised where that is asked for, and then the port is listened at.
+// Serves what is opened: at the first desk the count is raised if that is asked for, and then the service listens at
+// the port.
 fn serve_opened<
     'a,
     'l,
@@ -148,6 +151,7 @@ fn serve_opened<
         + Threads
         + Wait
         + Clock
+        + Env
         + Print
         + Eprint
         + AllocGlobal
@@ -170,7 +174,7 @@ fn serve_opened<
         return Err(ServeFault::Memory);
     };
     let connections = start.terms.connections;
-    match prepared(rt, time, start, &desk, &mut passes, clock) {
+    match raise_and_listen(rt, time, start, &desk, &mut passes, clock) {
         Ok((listener, hall)) => {
             let first = Opened { desk, passes };
             serve_from(
@@ -191,12 +195,12 @@ fn serve_opened<
     }
 }
 
-// The count is raised where that is asked for, and then the port is listened at.
-fn prepared<
+// Raises the count if that is asked for, and then listens at the port.
+fn raise_and_listen<
     'a,
     'l,
     D: DeskName,
-    R: Net<Listener = TcpListener, Stream = TcpStream> + Wait + Print + Eprint + AllocGlobal,
+    R: Net<Listener = TcpListener, Stream = TcpStream> + Wait + Env + Print + Eprint + AllocGlobal,
     T: Clock,
     C: chpw_serve::Clock,
 >(
@@ -206,7 +210,7 @@ fn prepared<
     desk: &Desk<D, FileSink<File>>,
     passes: &mut [Pass<D>],
     clock: &mut C,
-) -> Result<(TcpListener, Hall<'l, R>), ServeFault<'a>>
+) -> Result<(TcpListener, ServiceContext<'l, R>), ServeFault<'a>>
     ensures workers { IfOk result (λ r. r.1.workers ≡ start.entry.options.now.workers) }
     ensures raised { OnOk result (IsRaisedWhereAsked C.gives (opening_state D.root) clock.old clock.new
         passes.old passes.new start.entry.options.now.raise) }
@@ -219,12 +223,12 @@ fn prepared<
     listening(rt, start)
 }
 
-// Listens at the port, and tells that.
+// Listens at the port, and prints that.
 fn listening<
     'a,
     'l,
-    R: Net<Listener = TcpListener, Stream = TcpStream> + Wait + Print + Eprint + AllocGlobal,
->(rt: &R, start: Start<'l, R>) -> Result<(TcpListener, Hall<'l, R>), ServeFault<'a>>
+    R: Net<Listener = TcpListener, Stream = TcpStream> + Wait + Env + Print + Eprint + AllocGlobal,
+>(rt: &R, start: Start<'l, R>) -> Result<(TcpListener, ServiceContext<'l, R>), ServeFault<'a>>
     ensures workers { IfOk result (λ r. r.1.workers ≡ start.entry.options.now.workers) }
     ensures fault { IfErr result IsLate }
 {
@@ -237,7 +241,7 @@ fn listening<
     let listener = listen(rt, options.port)?;
     let datagrams = datagrams_of(rt, options)?;
     let engine = engine_of(rt, rt.alloc(), options.workers, &terms, log, datagrams)?;
-    let hall = Hall {
+    let hall = ServiceContext {
         engine,
         workers: options.workers,
         log,
@@ -249,7 +253,10 @@ fn listening<
         options,
     };
     match println!(rt; "listening on 127.0.0.1:{}", options.port) {
-        Ok(()) => Ok((listener, hall)),
+        Ok(()) => {
+            notify_ready(rt, hall.log);
+            Ok((listener, hall))
+        }
         Err(_) => Err(ServeFault::CannotPrint),
     }
 }
@@ -266,7 +273,7 @@ fn listen<'a, R: Net<Listener = TcpListener, Stream = TcpStream>>(
     }
 }
 
-// The port over UDP, where that is asked for; else nothing listens there.
+// The port over UDP, if that is asked for.
 fn datagrams_of<'a, R: Net>(
     rt: &R,
     options: &ServeOptions<'_>,
@@ -284,11 +291,11 @@ fn datagrams_of<'a, R: Net>(
     }
 }
 
-// What the pool is to do.
-fn terms_of(options: &ServeOptions<'_>, seed: [u8; 32]) -> Terms
+// The terms of the pool.
+fn terms_of(options: &ServeOptions<'_>, seed: [u8; 32]) -> PoolOptions
     ensures value { IsAskedFor options.now seed result }
 {
-    Terms {
+    PoolOptions {
         seed,
         connections: options.connections,
         clients: options.clients,
@@ -297,12 +304,12 @@ fn terms_of(options: &ServeOptions<'_>, seed: [u8; 32]) -> Terms
     }
 }
 
-// What has the connections, with a queue for each worker.
+// The engine, with a queue for each worker.
 fn engine_of<'a, 'l, R: Net + Wait + Eprint>(
     rt: &R,
     alloc: Global,
     workers: u8,
-    terms: &Terms,
+    terms: &PoolOptions,
     log: &'l Log<'l, R>,
     datagrams: Option<UdpSocket>,
 ) -> Result<Engine<Logging<LogLines<'l, R>>>, ServeFault<'a>>
@@ -310,9 +317,16 @@ fn engine_of<'a, 'l, R: Net + Wait + Eprint>(
     ensures workers { IfOk result (λ engine. workers_at engine ≡ workers) }
     ensures fault { IfErr result IsLate }
 {
-    match log_gates(alloc, log, workers) {
+    match log_observers(alloc, log, workers) {
         Err(_) => Err(ServeFault::Memory),
-        Ok(gates) => match Engine::of(rt, alloc, terms.seed, terms.bounds(), gates, datagrams) {
+        Ok(observers) => match Engine::of(
+            rt,
+            alloc,
+            terms.seed,
+            terms.bounds(),
+            observers,
+            datagrams,
+        ) {
             Err(fault) => Err(told(fault)),
             Ok(engine) => Ok(engine),
         },

@@ -9,7 +9,7 @@ ghost use Rattle.chpw_service.specs.Opening.{IsOpening, opening_at};
 ghost use Rattle.chpw_service.specs.declared.fault.ServeFault.TheVariants.{Memory};
 
 use crate::fault::ServeFault;
-use crate::sheets::{Kind, kind_of};
+use crate::line_output::{Kind, kind_of};
 use chpw_journal::{FileSink, Journal, JournalFile, OpenFault, RestoreFault, quiet_after};
 use chpw_rules::Config;
 use chpw_serve::Clock;
@@ -17,8 +17,8 @@ use chpw_table::{JournalSink, Moment, Table};
 use std::alloc::Global;
 use std::fs::{File, Files};
 
-/// The journal at a path, and the table restored from it. The table is quiet for 300 seconds from its start
-/// on where there was a journal. The start is read from the clock once no other process has the journal. One that isn't a
+/// The journal at a path, and the table restored from it. The table is quiet for 300 seconds from its start on if there
+/// was a journal. The start is read from the clock once no other process has the journal. A journal that isn't a
 /// regular file is refused before it is opened.
 #[tactic(auto, using(crate::proofs::FaultLemmas::unopened, crate::proofs::FaultLemmas::unrestored))]
 pub(crate) fn open_table<'a, R: Files<File = File>, C: Clock>(
@@ -48,7 +48,7 @@ pub(crate) fn open_table<'a, R: Files<File = File>, C: Clock>(
     }
 }
 
-// Whether a journal is there, or can be made. A pipe would make its opener wait.
+// Whether a journal exists, or can be made. A pipe would block its opener.
 fn can_be_journal(kind: Kind) -> bool
     ensures value { result ≡ can_be_journal kind }
 {

@@ -1,29 +1,28 @@
-//! `table`: what is told of the table that is held.
+//! `table`: the report of the table that is held.
 ghost use Rattle.std.specs.Prelude.{◌≡◌, ◌≢◌, ◌⊎◌, List, ℕ, Option, IfOk, IfErr, OnOk, Ok, true};
 ghost use Rattle.std.specs.Io.KnownBytes.{Appends};
 ghost use Rattle.chpw_config.specs.Settings.{settings_of};
 ghost use Rattle.chpw_rules.specs.declared.config.Config.{Config as Settings};
 ghost use Rattle.chpw_rules.specs.Fitting.{config_fits};
 ghost use Rattle.chpw_report.specs.Reports.{report as report_text};
-ghost use Rattle.chpw_held.specs.Configurations.{config_held};
-ghost use Rattle.chpw_held.specs.Held.{IsHeld};
+ghost use Rattle.chpw_report.specs.Configurations.{config_held};
+ghost use Rattle.chpw_report.specs.Held.{IsHeld};
 ghost use Rattle.chpw_journal.specs.declared.fault.RestoreFault.TheVariants.{Memory as NoMemory};
 ghost use Rattle.chpw_service.specs.Faults.{IsLate, IsOfBytes, IsOfJournal, IsOfRecords, Sets};
 ghost use Rattle.chpw_service.specs.Telling.{IsOfTable, IsTold, Tells};
 
 use crate::fault::ServeFault;
 use crate::files::{open_file, read_file, settings};
-use chpw_held::{HeldTable, held_from, write_configuration};
 use chpw_invocation::{TableForm, TableOptions};
 use chpw_journal::RestoreFault;
-use chpw_report::{Form, ReportFault, write_report};
+use chpw_report::{Form, HeldTable, ReportFault, held_from, write_configuration, write_report};
 use chpw_rules::Config;
 use std::alloc::Global;
 use std::fs::{File, Files};
 use std::io::{self, Write};
 
-/// Tells the table that these files hold on standard output, and on standard error behind how many bytes of
-/// the journal a torn record stands. They are only read, and the journal also while a service has it.
+/// Writes the report of the table that these files hold on standard output, and on standard error after how many bytes
+/// of the journal a torn record stands. They are only read, the journal even while a service has it.
 pub fn tell_table<'a, R: Files<File = File> + Print + Eprint + AllocGlobal>(
     rt: &R,
     options: TableOptions<'a>,
@@ -32,15 +31,15 @@ pub fn tell_table<'a, R: Files<File = File> + Print + Eprint + AllocGlobal>(
 {
     if let Some(behind) = write_table(rt, options, &mut io::writer(rt))? {
         let _ = eprintln!(rt;
-            "{}: a torn record stands behind {behind} bytes",
+            "{}: a torn record begins after {behind} bytes",
             options.journal
         );
     }
     Ok(())
 }
 
-/// Writes what is told of the table that these files hold; behind how many bytes of the journal a torn record
-/// stands, where there is one. A folder, and a journal that isn't there, can't be read.
+/// Writes the report of the table that these files hold; returns after how many bytes of the journal a torn record
+/// stands, if there is one. A directory, and a journal that doesn't exist, can't be read.
 pub fn write_table<'a, R: Files<File = File> + AllocGlobal, W: Write>(
     rt: &R,
     options: TableOptions<'a>,
@@ -62,7 +61,7 @@ pub fn write_table<'a, R: Files<File = File> + AllocGlobal, W: Write>(
     Ok(held.torn_behind)
 }
 
-// What is told in this form; the bytes of the configuration, and the realm that it sets.
+// The report in this form, with the bytes of the configuration and the realm that it sets.
 fn tell<'a, W: Write>(
     alloc: Global,
     form: TableForm,
@@ -79,7 +78,7 @@ fn tell<'a, W: Write>(
         TableForm::Lines => report(alloc, Form::Lines, realm, held, writer),
         TableForm::Keys => report(alloc, Form::Keys, realm, held, writer),
         TableForm::Configuration => {
-            // The same bytes again: the first configuration became the table.
+            // The bytes are parsed again, since the first configuration became the table.
             configuration(alloc, settings(alloc, bytes)?, held, writer)
         }
     }

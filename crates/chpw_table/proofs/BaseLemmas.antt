@@ -4,7 +4,7 @@ use Rattle.std.specs.Prelude.{option_map, IsSome}
 use Rattle.chpw_rules.specs.declared.name.Name.{Name}
 use Rattle.chpw_rules.specs.Names.{is_same_name}
 use Rattle.chpw_rules.specs.Limits.{is_in, iteration_counts}
-use Rattle.chpw_table.specs.declared.key.KeyRow.{KeyRow}
+use Rattle.chpw_record.specs.declared.key.KeyRow.{KeyRow}
 use Rattle.chpw_table.specs.declared.table.Principal.{Principal}
 use Rattle.chpw_table.specs.declared.table.restoring.KeyFault.{KeyFault}
 use Rattle.chpw_table.specs.declared.table.restoring.KeyFault.TheVariants.{UnknownPrincipal, WrongVersion, Memory}
@@ -19,7 +19,8 @@ use Rattle.chpw_table.proofs.KeyLemmas.{keys_put}
 
 -- the keys of each name after a base of one
 pub keys_based : (s : State) (name : Name) (key : KeyRow) (other : Name)
-    → keys_held (with_base_key name key s) other ≡ (if is_same_name name other then option_map (λ (keys : List KeyRow). key ∷ []) (keys_held s other) else keys_held s other)
+    → keys_held (with_base_key name key s) other ≡ (if is_same_name name other
+    then option_map (λ (keys : List KeyRow). key ∷ []) (keys_held s other) else keys_held s other)
 keys_based s name key other = keys_put 1 name key s.principals other
 
 pub agrees_based : (t s : State) (name : Name) (key : KeyRow) → Agrees t s → Agrees (with_base_key name key t) (with_base_key name key s)

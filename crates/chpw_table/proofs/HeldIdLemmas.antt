@@ -1,5 +1,6 @@
 -- The ids that a table holds: in order, none too old to be judged.
-use Rattle.std.proofs.Common.{◌≡◌, ℕ, suc, ◌+◌, ◌<◌, ◌≤◌, List, [], ◌∷◌, ◌++◌, length, Bool, true, false, not, ◌&&◌, ◌||◌, if◌then◌else◌, Option, Some, None, refl, sym, ◌∙◌, ap, subst, arith}
+use Rattle.std.proofs.Common.{◌≡◌, ℕ, suc, ◌+◌, ◌<◌, ◌≤◌, List, [], ◌∷◌, ◌++◌, length, Bool, true, false, not}
+use Rattle.std.proofs.Common.{◌&&◌, ◌||◌, if◌then◌else◌, Option, Some, None, refl, sym, ◌∙◌, ap, subst, arith}
 use Rattle.std.specs.Prelude.{ℤ, ◌≤ℤ◌, ◌<ℤ◌, IfNone}
 use Rattle.std.specs.List.{AllByRecursion, list_any, IsDistinct}
 use Rattle.std.specs.List.Sorted.{IsStrictlySortedBy}
@@ -12,8 +13,8 @@ use Rattle.std.proofs.lemmas.Cmp.{int_ranked}
 use Rattle.std.proofs.lemmas.List.Kept.{IsStrictlySortedBy-filter}
 use Rattle.std.proofs.lemmas.Map.Keys.{IsDistinct-from_sorted}
 use Rattle.std.proofs.lemmas.Map.Views.{any-filter_same}
-use Rattle.ordered_keys.specs.Trees.{with_first}
-use Rattle.ordered_keys.proofs.OrderLemmas.{sorted_first, first_length, any_insert}
+use Rattle.chpw_ordered_keys.specs.Trees.{with_first}
+use Rattle.chpw_ordered_keys.proofs.OrderLemmas.{sorted_first, first_length, any_insert}
 use Rattle.chpw_table.specs.declared.times.Moment.{Moment}
 use Rattle.chpw_table.specs.declared.request.Opened.{Opened}
 use Rattle.chpw_table.specs.declared.request.RequestId.{RequestId}
@@ -36,7 +37,8 @@ use Rattle.chpw_table.proofs.OrderLemmas.{ids_total, same_id_ties}
 -- ---- in order
 
 pub sorted_held : (clock : ℤ) (used ids : List RequestId) → IsStrictlySortedBy id_cmp used → IsStrictlySortedBy id_cmp (held_after clock used ids)
-sorted_held clock used ids s = IsStrictlySortedBy-filter id_cmp (λ (y : RequestId). not (is_later clock y.ctime)) (with_first id_cmp used ids) (sorted_first id_cmp ids_total used ids s)
+sorted_held clock used ids s = IsStrictlySortedBy-filter id_cmp (λ (y : RequestId). not (is_later clock y.ctime))
+    (with_first id_cmp used ids) (sorted_first id_cmp ids_total used ids s)
 
 -- ---- how many
 
@@ -81,7 +83,8 @@ no_older clock x y h e = grind (arith, ints)
 after_young : (clock : ℤ) (x y : RequestId) → id_cmp x y ≡ Less → is_later clock x.ctime ≡ false → is_later clock y.ctime ≡ false
 after_young clock x y h e = at (int_cmp x.ctime y.ctime) refl (int_ranked x.ctime y.ctime (int_cmp x.ctime y.ctime) refl)
   where
-    at : (c : Ordering) → int_cmp x.ctime y.ctime ≡ c → MatchOrdering c (x.ctime <ℤ y.ctime) (x.ctime ≡ y.ctime) (y.ctime <ℤ x.ctime) → is_later clock y.ctime ≡ false
+    at : (c : Ordering) → int_cmp x.ctime y.ctime ≡ c
+        → MatchOrdering c (x.ctime <ℤ y.ctime) (x.ctime ≡ y.ctime) (y.ctime <ℤ x.ctime) → is_later clock y.ctime ≡ false
     at Less f r = no_older clock x.ctime y.ctime (grind (arith, ints)) e
     at Equal f r = ap (λ (t : ℤ). is_later clock t) (sym r) ∙ e
     at Greater f r = absurd (later_first (int_cmp x.ctime y.ctime) _ h f)
@@ -90,7 +93,9 @@ all_young : (clock : ℤ) (xs : List RequestId) → AllByRecursion (λ (y : Requ
 all_young clock [] a = refl
 all_young clock (x ∷ xs) a = ap (λ b. if not b then x ∷ young_ids clock xs else young_ids clock xs) a.0 ∙ ap (λ ys. x ∷ ys) (all_young clock xs a.1)
 
-each_young : (clock : ℤ) (x : RequestId) (ys : List RequestId) → is_later clock x.ctime ≡ false → AllByRecursion (λ (y : RequestId). id_cmp x y ≡ Less) ys → AllByRecursion (λ (y : RequestId). is_later clock y.ctime ≡ false) ys
+each_young : (clock : ℤ) (x : RequestId) (ys : List RequestId)
+    → is_later clock x.ctime ≡ false → AllByRecursion (λ (y : RequestId). id_cmp x y ≡ Less) ys
+    → AllByRecursion (λ (y : RequestId). is_later clock y.ctime ≡ false) ys
 each_young clock x [] e a = tt
 each_young clock x (y ∷ ys) e a = (after_young clock x y a.0 e, each_young clock x ys e a.1)
 
@@ -106,7 +111,8 @@ pub record Dropped (clock : ℤ) (used rest : List RequestId) : Type 0 where
   pub sorted : IsStrictlySortedBy id_cmp rest
   pub fewer : length rest < length used
 
-pub dropped : (clock : ℤ) (used rest : List RequestId) (r : Option RequestId) → used ≡ option_to_list r ++ rest → IfNone r (used ≡ []) → is_first_old clock used ≡ true → IsStrictlySortedBy id_cmp used → Dropped clock used rest
+pub dropped : (clock : ℤ) (used rest : List RequestId) (r : Option RequestId) → used ≡ option_to_list r ++ rest
+    → IfNone r (used ≡ []) → is_first_old clock used ≡ true → IsStrictlySortedBy id_cmp used → Dropped clock used rest
 unfolding IsStrictlySortedBy
 dropped clock used rest None e n h s = absurd (no (is_first_old clock used) (ap (is_first_old clock) n) h)
   where
@@ -136,7 +142,8 @@ or_turned false false = refl
 
 -- whether an id is among those used and one more
 first_used : (b : Bool) (q id : RequestId) (used : List RequestId)
-    → list_any (λ (y : RequestId). is_same_id y id) (with_first id_cmp used (if b then q ∷ [] else [])) ≡ list_any (λ (y : RequestId). is_same_id y id) (if b then used ++ q ∷ [] else used)
+    → list_any (λ (y : RequestId). is_same_id y id) (with_first id_cmp used (if b then q ∷ [] else []))
+    ≡ list_any (λ (y : RequestId). is_same_id y id) (if b then used ++ q ∷ [] else used)
 first_used true q id used =
     any_insert id_cmp ids_total (λ (y : RequestId). is_same_id y id) q (same_alike id q) used
     ∙ (or_turned (is_same_id q id) (list_any (λ (y : RequestId). is_same_id y id) used) ∙ sym (used_more used q id))
@@ -150,11 +157,13 @@ held_agrees v s now o io = record {
   clock = refl;
   broken = refl;
   count = refl;
-  ids = λ id h. used_swept (clock_at s now) (with_first id_cmp s.used (if adds_id v then id_of o ∷ [] else [])) id h ∙ first_used (adds_id v) (id_of o) id s.used;
+  ids = λ id h. used_swept (clock_at s now) (with_first id_cmp s.used (if adds_id v then id_of o ∷ [] else [])) id h
+      ∙ first_used (adds_id v) (id_of o) id s.used;
 }
 
 -- and so after a raise
-pub held_raise_agrees : (v : RaiseVerdict) (s : State) (now : Moment) (count : ℕ) (io : Bool) → Agrees (held_raise v s now count io) (after_raise v s now count io)
+pub held_raise_agrees : (v : RaiseVerdict) (s : State) (now : Moment) (count : ℕ) (io : Bool)
+    → Agrees (held_raise v s now count io) (after_raise v s now count io)
 held_raise_agrees v s now count io = record {
   fixed = refl;
   principals = λ name. refl;
@@ -171,10 +180,12 @@ young_used : (clock : ℤ) (used : List RequestId) (id : RequestId) → young_id
     → list_any (λ (y : RequestId). is_same_id y id) used ≡ (not (is_later clock id.ctime) && list_any (λ (y : RequestId). is_same_id y id) used)
 young_used clock used id e =
     ap (list_any (λ (y : RequestId). is_same_id y id)) (sym e)
-    ∙ any-filter_same (λ (y : RequestId). is_same_id y id) (λ (y : RequestId). not (is_later clock y.ctime)) (not (is_later clock id.ctime)) (young_same clock id) used
+    ∙ any-filter_same (λ (y : RequestId). is_same_id y id)
+    (λ (y : RequestId). not (is_later clock y.ctime)) (not (is_later clock id.ctime)) (young_same clock id) used
 
 -- the ids held are the used ones that are not too old
-pub held_ids : (t s : State) → Agrees t s → young_ids t.clock t.used ≡ t.used → (id : RequestId) → is_used t id ≡ (is_used s id && not (is_later s.clock id.ctime))
+pub held_ids : (t s : State) → Agrees t s → young_ids t.clock t.used ≡ t.used
+    → (id : RequestId) → is_used t id ≡ (is_used s id && not (is_later s.clock id.ctime))
 held_ids t s a e id = young_used t.clock t.used id e ∙ (ap (λ (c : ℤ). not (is_later c id.ctime) && is_used t id) a.clock ∙ at (is_later s.clock id.ctime) refl)
   where
     at : (b : Bool) → is_later s.clock id.ctime ≡ b → (not b && is_used t id) ≡ (is_used s id && not b)
@@ -194,7 +205,8 @@ unfolding IsDistinct
 distinct_alike [] d = tt
 distinct_alike (x ∷ xs) d = (each x xs d.0, distinct_alike xs d.1)
   where
-    each : (x : RequestId) (ys : List RequestId) → AllByRecursion (λ (y : RequestId). eq_by_cmp id_cmp x y ≡ false) ys → AllByRecursion (λ (y : RequestId). is_same_id x y ≡ false) ys
+    each : (x : RequestId) (ys : List RequestId) → AllByRecursion (λ (y : RequestId). eq_by_cmp id_cmp x y ≡ false) ys
+        → AllByRecursion (λ (y : RequestId). is_same_id x y ≡ false) ys
     each x [] a = tt
     each x (y ∷ ys) a = (same_id_ties x y ∙ a.0, each x ys a.1)
 
@@ -205,4 +217,5 @@ held_once used s = distinct_alike used (IsDistinct-from_sorted id_cmp used s)
 -- at the start there are none
 pub none_held : (clock : ℤ) (ids : List RequestId) → ids ≡ [] → (length ids ≤ 0) × IsStrictlySortedBy id_cmp ids × (young_ids clock ids ≡ ids)
 unfolding IsStrictlySortedBy
-none_held clock ids e = subst (λ (xs : List RequestId). (length xs ≤ 0) × IsStrictlySortedBy id_cmp xs × (young_ids clock xs ≡ xs)) (sym e) (omega arith, tt, refl)
+none_held clock ids e = subst (λ (xs : List RequestId). (length xs ≤ 0)
+    × IsStrictlySortedBy id_cmp xs × (young_ids clock xs ≡ xs)) (sym e) (omega arith, tt, refl)

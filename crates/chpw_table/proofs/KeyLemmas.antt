@@ -1,5 +1,7 @@
 -- What an event does to the keys of a name.
-use Rattle.std.proofs.Common.{◌≡◌, ◌≢◌, ℕ, zero, suc, ◌+◌, ◌≤◌, max, List, [], ◌∷◌, ◌++◌, length, Bool, true, false, ◌&&◌, if◌then◌else◌, Option, Some, None, is_none, unwrap_or, refl, sym, ◌∙◌, ap, subst, arith, rules, map, find, take, append_assoc}
+use Rattle.std.proofs.Common.{◌≡◌, ◌≢◌, ℕ, zero, suc, ◌+◌, ◌≤◌, max, List, [], ◌∷◌, ◌++◌, length, Bool}
+use Rattle.std.proofs.Common.{true, false, ◌&&◌, if◌then◌else◌, Option, Some, None, is_none, unwrap_or}
+use Rattle.std.proofs.Common.{refl, sym, ◌∙◌, ap, subst, arith, rules, map, find, take, append_assoc}
 use Rattle.std.specs.Prelude.{option_map, ℤ, IsSome, IfSome}
 use Rattle.std.proofs.lemmas.List.{take_all, take-take, length-take}
 use Rattle.chpw_rules.specs.declared.name.Name.{Name}
@@ -10,7 +12,7 @@ use Rattle.chpw_table.specs.declared.verdict.Verdict.{Verdict}
 use Rattle.chpw_table.specs.declared.verdict.Verdict.TheVariants.{Skew, Replay, NotYet, Expired, BadPrivate, BadBody, Denied, NeedInitial, Unknown, Done}
 use Rattle.chpw_table.specs.declared.history.Event.{Event}
 use Rattle.chpw_table.specs.declared.history.Event.TheVariants.{Ask, Raise}
-use Rattle.chpw_table.specs.declared.key.KeyRow.{KeyRow}
+use Rattle.chpw_record.specs.declared.key.KeyRow.{KeyRow}
 use Rattle.chpw_table.specs.declared.table.Principal.{Principal}
 use Rattle.chpw_table.specs.Requests.{target_of}
 use Rattle.chpw_table.specs.State.{State, Fixed, keys_held, kept_count}
@@ -39,12 +41,15 @@ put kept key keys = take kept (key ∷ keys)
 head_put : (kept : ℕ) (target : Name) (key : KeyRow) (p : Principal) (ps : List Principal) (name : Name)
     → keys_in (map (with_key kept target key) ps) name ≡ (if is_same_name target name then option_map (put kept key) (keys_in ps name) else keys_in ps name)
     → (b : Bool) → is_same_name p.name target ≡ b → (c : Bool) → is_same_name p.name name ≡ c
-    → keys_in (with_key kept target key p ∷ map (with_key kept target key) ps) name ≡ (if is_same_name target name then option_map (put kept key) (keys_in (p ∷ ps) name) else keys_in (p ∷ ps) name)
+    → keys_in (with_key kept target key p ∷ map (with_key kept target key) ps) name ≡ (if is_same_name target name
+    then option_map (put kept key) (keys_in (p ∷ ps) name) else keys_in (p ∷ ps) name)
 head_put kept target key p ps name ih true e true f = let g : is_same_name target name ≡ true = sym (same_test p.name target name e) ∙ f in rw (e, f, g) refl
-head_put kept target key p ps name ih true e false f = let g : is_same_name target name ≡ false = sym (same_test p.name target name e) ∙ f in rw (e, f, g) (rw g at ih)
+head_put kept target key p ps name ih true e false f =
+    let g : is_same_name target name ≡ false = sym (same_test p.name target name e) ∙ f in rw (e, f, g) (rw g at ih)
 head_put kept target key p ps name ih false e true f =
     let g : is_same_name target name ≡ false = elim (is_same_name target name) as (λ b. is_same_name target name ≡ b → b ≡ false) [
-      | true ↦ λ x. absurd (apart (is_same_name p.name target) e ((is_same_name-Decides p.name target).1 ((is_same_name-Decides p.name name).0 f ∙ sym ((is_same_name-Decides target name).0 x))))
+      | true ↦ λ x. absurd (apart (is_same_name p.name target) e ((is_same_name-Decides p.name target).1
+          ((is_same_name-Decides p.name name).0 f ∙ sym ((is_same_name-Decides target name).0 x))))
       | false ↦ λ x. refl
     ] refl in
     rw (e, f, g) refl
@@ -61,15 +66,20 @@ none_put kept key false o h = refl
 pub keys_put : (kept : ℕ) (target : Name) (key : KeyRow) (ps : List Principal) (name : Name)
     → keys_in (map (with_key kept target key) ps) name ≡ (if is_same_name target name then option_map (put kept key) (keys_in ps name) else keys_in ps name)
 keys_put kept target key [] name = none_put kept key (is_same_name target name) None refl
-keys_put kept target key (p ∷ ps) name = head_put kept target key p ps name (keys_put kept target key ps name) (is_same_name p.name target) refl (is_same_name p.name name) refl
+keys_put kept target key (p ∷ ps) name = head_put kept target key p ps name
+    (keys_put kept target key ps name) (is_same_name p.name target) refl (is_same_name p.name name) refl
 
 -- what an event makes of a name's keys
 pub keys_after : (s : State) (v : Verdict) (now : Moment) (o : Opened) (io : Bool) (name : Name)
-    → keys_held (after v s now o io) name ≡ (if is_done v && is_same_name (target_of o).name name then option_map (put (kept_count s) (new_key s o)) (keys_held s name) else keys_held s name)
-keys_after s v now o io name = elim (is_done v) as (λ b. keys_in (if b then map (with_key (kept_count s) (target_of o).name (new_key s o)) s.principals else s.principals) name ≡ (if b && is_same_name (target_of o).name name then option_map (put (kept_count s) (new_key s o)) (keys_held s name) else keys_held s name)) [
-  | true ↦ keys_put (kept_count s) (target_of o).name (new_key s o) s.principals name
-  | false ↦ refl
-]
+    → keys_held (after v s now o io) name ≡ (if is_done v && is_same_name (target_of o).name name
+    then option_map (put (kept_count s) (new_key s o)) (keys_held s name) else keys_held s name)
+keys_after s v now o io name = elim (is_done v) as (λ b. keys_in (if b
+    then map (with_key (kept_count s) (target_of o).name (new_key s o)) s.principals else s.principals) name
+    ≡ (if b && is_same_name (target_of o).name name
+    then option_map (put (kept_count s) (new_key s o)) (keys_held s name) else keys_held s name)) [
+      | true ↦ keys_put (kept_count s) (target_of o).name (new_key s o) s.principals name
+      | false ↦ refl
+    ]
 
 other_test : (a b : Name) → b ≢ a → (c : Bool) → is_same_name a b ≡ c → c ≡ false
 other_test a b h true e = absurd (h (sym ((is_same_name-Decides a b).0 e)))
@@ -98,7 +108,8 @@ held_at_done s o io h = (past (is_none (keys_held s (target_of o).name)) Unknown
 
 held_at_fresh_done : (s : State) (clock : ℤ) (o : Opened) (io : Bool) → message_row s clock o io ≡ Done → is_none (keys_held s (target_of o).name) ≡ false
 held_at_fresh_done s clock o io h =
-    held_at_done s o io (past _ NeedInitial _ refl (past _ Denied _ refl (past _ BadBody _ refl (past _ BadPrivate _ refl (past _ Expired _ refl (past _ NotYet _ refl h).1).1).1).1).1).1
+    held_at_done s o io (past _ NeedInitial _ refl (past _ Denied _ refl (past _ BadBody _ refl
+    (past _ BadPrivate _ refl (past _ Expired _ refl (past _ NotYet _ refl h).1).1).1).1).1).1
 
 -- at Done the target has keys
 pub held_at_verdict : (s : State) (now : Moment) (o : Opened) (io : Bool) → verdict s now o io ≡ Done → is_none (keys_held s (target_of o).name) ≡ false
@@ -133,7 +144,8 @@ take_front m n [] ys h = take-take m n ys h
 take_front zero n (x ∷ xs) ys h = refl
 take_front (suc m) n (x ∷ xs) ys h = ap (λ (zs : List KeyRow). x ∷ zs) (take_front m n xs ys (omega arith))
 
-few_take : (kept : ℕ) (made : List KeyRow) (held : Option (List KeyRow)) → IfSome (option_map (λ keys. take kept (made ++ keys)) held) (λ keys. length keys ≤ kept)
+few_take : (kept : ℕ) (made : List KeyRow) (held : Option (List KeyRow))
+    → IfSome (option_map (λ keys. take kept (made ++ keys)) held) (λ keys. length keys ≤ kept)
 few_take kept made None = search rules
 few_take kept made (Some keys) = simp length-take (omega arith)
 
@@ -144,7 +156,8 @@ one_made kept key false None few = refl
 one_made kept key false (Some keys) few = ap Some (sym (take_all kept keys few))
 
 joined : (kept : ℕ) (more made : List KeyRow) (held : Option (List KeyRow))
-    → option_map (λ keys. take kept (more ++ keys)) (option_map (λ keys. take kept (made ++ keys)) held) ≡ option_map (λ keys. take kept ((more ++ made) ++ keys)) held
+    → option_map (λ keys. take kept (more ++ keys)) (option_map (λ keys. take kept (made ++ keys)) held)
+    ≡ option_map (λ keys. take kept ((more ++ made) ++ keys)) held
 joined kept more made None = refl
 joined kept more made (Some keys) = ap Some (take_front kept kept more (made ++ keys) (omega arith) ∙ ap (take kept) (sym (append_assoc more made keys)))
 
@@ -155,7 +168,8 @@ kept_all kept (Some keys) few = ap Some (sym (take_all kept keys few))
 made_after : (s : State) (now : Moment) (io : Bool) (event : Event) (name : Name) → IsJudged s now io event → HoldsFew s
     → keys_held (step_event s now io event) name ≡ option_map (λ keys. take (kept_count s) (event_keys s event name ++ keys)) (keys_held s name)
 made_after s now io (Ask o v) name legal few =
-    subst (λ (w : Verdict). keys_held (after w s now o io) name ≡ option_map (λ keys. take (kept_count s) (event_keys s (Ask o v) name ++ keys)) (keys_held s name)) legal.verdict_is
+    subst (λ (w : Verdict). keys_held (after w s now o io) name ≡ option_map (λ keys. take (kept_count s)
+    (event_keys s (Ask o v) name ++ keys)) (keys_held s name)) legal.verdict_is
     (keys_after s v now o io name ∙ one_made (kept_count s) (new_key s o) (is_done v && is_same_name (target_of o).name name) (keys_held s name) (few name))
 made_after s now io (Raise count v) name legal few = kept_all (kept_count s) (keys_held s name) (few name)
 
@@ -176,8 +190,10 @@ keeps_newest s (e ∷ es) name legal few =
     let same : kept_count (step_entry s e) ≡ kept_count s = same_kept s e.now e.io_failed e.event in
     let few' : HoldsFew (step_entry s e) =
     λ n. subst (λ (k : ℕ). IfSome (keys_held (step_entry s e) n) (λ keys. length keys ≤ k)) (sym same)
-    (subst (λ (x : Option (List KeyRow)). IfSome x (λ keys. length keys ≤ kept_count s)) (sym (here n)) (few_take (kept_count s) (event_keys s e.event n) (keys_held s n))) in
-    subst (λ (k : ℕ). keys_held (outcome (step_entry s e) es) name ≡ option_map (λ keys. take k (keys_made (step_entry s e) es name ++ keys)) (keys_held (step_entry s e) name)) same
+    (subst (λ (x : Option (List KeyRow)). IfSome x (λ keys. length keys ≤ kept_count s))
+    (sym (here n)) (few_take (kept_count s) (event_keys s e.event n) (keys_held s n))) in
+    subst (λ (k : ℕ). keys_held (outcome (step_entry s e) es) name ≡ option_map (λ keys. take k
+    (keys_made (step_entry s e) es name ++ keys)) (keys_held (step_entry s e) name)) same
     (keeps_newest (step_entry s e) es name legal.1 few')
     ∙ (ap (λ (x : Option (List KeyRow)). option_map (λ keys. take (kept_count s) (keys_made (step_entry s e) es name ++ keys)) x) (here name)
     ∙ joined (kept_count s) (keys_made (step_entry s e) es name) (event_keys s e.event name) (keys_held s name))

@@ -6,7 +6,6 @@ pub mod EnteringLemmas
 pub mod PreparingLemmas
 pub mod HoldingLemmas
 pub mod BoolLemmas
-pub mod JournalLemmas
 pub mod Worked
 pub mod WorkedScripts
 pub mod WorkedRaises

@@ -1,5 +1,6 @@
 -- What a prepared step will show.
-use Rattle.std.proofs.Common.{◌≡◌, ℕ, suc, List, [], ◌++◌, max, true, false, Bool, ◌&&◌, if◌then◌else◌, Option, Some, None, is_none, unwrap_or, refl, sym, ◌∙◌, ap, subst, rules}
+use Rattle.std.proofs.Common.{◌≡◌, ℕ, suc, List, [], ◌++◌, max, true, false, Bool, ◌&&◌, if◌then◌else◌}
+use Rattle.std.proofs.Common.{Option, Some, None, is_none, unwrap_or, refl, sym, ◌∙◌, ap, subst, rules}
 use Rattle.std.specs.Prelude.{option_map, IsSome}
 use Rattle.std.proofs.lemmas.List.{append-nil}
 use Rattle.chpw_rules.specs.declared.name.Name.{Name}
@@ -8,7 +9,7 @@ use Rattle.chpw_table.specs.declared.times.Moment.{Moment}
 use Rattle.chpw_table.specs.declared.request.Opened.{Opened}
 use Rattle.chpw_table.specs.declared.verdict.Verdict.{Verdict}
 use Rattle.chpw_table.specs.declared.verdict.Verdict.TheVariants.{Done}
-use Rattle.chpw_table.specs.declared.key.KeyRow.{KeyRow}
+use Rattle.chpw_record.specs.declared.key.KeyRow.{KeyRow}
 use Rattle.chpw_table.specs.declared.table.changing.Change.{Change}
 use Rattle.chpw_table.specs.declared.table.preparing.Prepared.{Prepared}
 use Rattle.chpw_table.specs.Requests.{target_of}
@@ -38,13 +39,15 @@ keys_done s now o h =
     let name : Name = (target_of o).name in
     let there : keys_held s name ≡ Some (unwrap_or (keys_held s name) []) = (some_held (keys_held s name) (held_at_verdict s now o false h)).1 in
     keys_after s (verdict s now o false) now o false name
-    ∙ (ap (λ (v : Verdict). if is_done v && is_same_name name name then option_map (put (kept_count s) (new_key s o)) (keys_held s name) else keys_held s name) h
+    ∙ (ap (λ (v : Verdict). if is_done v && is_same_name name name
+    then option_map (put (kept_count s) (new_key s o)) (keys_held s name) else keys_held s name) h
     ∙ (ap (λ (b : Bool). if b then option_map (put (kept_count s) (new_key s o)) (keys_held s name) else keys_held s name) (is_same_name-itself name)
     ∙ ap (λ (x : Option (List KeyRow)). option_map (put (kept_count s) (new_key s o)) x) there))
 
 -- the keys planned, in each state that the table agrees with
 planned_alike : (t s : State) (o : Opened) → Agrees t s
-    → put (kept_count t) (new_key t o) (unwrap_or (keys_held t (target_of o).name) []) ≡ put (kept_count s) (new_key s o) (unwrap_or (keys_held s (target_of o).name) [])
+    → put (kept_count t) (new_key t o) (unwrap_or (keys_held t (target_of o).name) [])
+    ≡ put (kept_count s) (new_key s o) (unwrap_or (keys_held s (target_of o).name) [])
 planned_alike t s o a =
     let name : Name = (target_of o).name in
     ap (λ (f : Fixed). put (max f.policy.depth 1) (new_key t o) (unwrap_or (keys_held t name) [])) a.fixed
@@ -52,7 +55,8 @@ planned_alike t s o a =
     ∙ ap (λ (x : Option (List KeyRow)). put (kept_count s) (new_key s o) (unwrap_or x [])) (a.principals name))
 
 -- a new key as a change is what its row shows
-change_put : (name : Name) (kept k : ℕ) (key : KeyRow) (keys : List KeyRow) → kept ≡ suc k → change_of name key ≡ row_change name (shown_keys (put kept key keys))
+change_put : (name : Name) (kept k : ℕ) (key : KeyRow) (keys : List KeyRow)
+    → kept ≡ suc k → change_of name key ≡ row_change name (shown_keys (put kept key keys))
 change_put name kept k key keys h = rw h refl
 
 row_at : (s : State) (now : Moment) (o : Opened) → verdict s now o false ≡ Done
@@ -81,7 +85,8 @@ pub next_row : (t : Held) (s : State) (p : Prepared) (c : Change) (name : Name) 
 next_row t s p c name row r e a n d =
     let planned : (p.row ≡ Done) × IsNext t p.opened c = ready_change t p c r e in
     let done : verdict s p.moment p.opened false ≡ Done = sym (same_verdict t.state s p.moment p.opened false a) ∙ (sym r.row ∙ planned.0) in
-    let keys : c.keys ≡ put (kept_count s) (new_key s p.opened) (unwrap_or (keys_held s (target_of p.opened).name) []) = planned.1.newest ∙ planned_alike t.state s p.opened a in
+    let keys : c.keys ≡ put (kept_count s) (new_key s p.opened) (unwrap_or (keys_held s (target_of p.opened).name) []) =
+    planned.1.newest ∙ planned_alike t.state s p.opened a in
     subst (λ (x : Name). IsNextRow s p.moment p.opened x row) (sym n)
     (subst (λ (x : Shown). IsNextRow s p.moment p.opened (target_of p.opened).name x) (sym (ap shown_keys keys) ∙ d) (row_at s p.moment p.opened done))
 
@@ -102,7 +107,8 @@ row_appends s o row told h = rw h (told_nothing told)
 pub told_other : (t : Held) (p : Prepared) (v : Verdict) (before later : Option (List ℕ)) → IsReady t p → p.change ≡ None → v ≡ p.row → later ≡ before
     → later ≡ option_map (λ xs. xs ++ appended t.state p.opened v) before
 told_other t p v before later r e g f =
-    f ∙ (row_appends t.state p.opened p.row before (no_row t p r e) ∙ ap (λ (x : Verdict). option_map (λ (xs : List ℕ). xs ++ appended t.state p.opened x) before) (sym g))
+    f ∙ (row_appends t.state p.opened p.row before (no_row t p r e)
+    ∙ ap (λ (x : Verdict). option_map (λ (xs : List ℕ). xs ++ appended t.state p.opened x) before) (sym g))
 
 written_appends : (s : State) (o : Opened) (bytes : List ℕ) (io : Bool) (told : Option (List ℕ)) → bytes ≡ appended s o Done
     → (if io then told else option_map (λ xs. xs ++ bytes) told) ≡ option_map (λ xs. xs ++ appended s o (with_append io Done)) told
@@ -110,7 +116,8 @@ written_appends s o bytes true told h = told_nothing told
 written_appends s o bytes false told h = ap (λ (ys : List ℕ). option_map (λ (xs : List ℕ). xs ++ ys) told) h
 
 -- with one its record more, unless the append failed
-pub told_written : (t : Held) (p : Prepared) (c : Change) (io : Bool) (v : Verdict) (before later : Option (List ℕ)) → IsReady t p → p.change ≡ Some c → v ≡ with_append io Done
+pub told_written : (t : Held) (p : Prepared) (c : Change) (io : Bool) (v : Verdict) (before later : Option (List ℕ))
+    → IsReady t p → p.change ≡ Some c → v ≡ with_append io Done
     → later ≡ (if io then before else option_map (λ xs. xs ++ c.record.items) before) → later ≡ option_map (λ xs. xs ++ appended t.state p.opened v) before
 told_written t p c io v before later r e g f =
     f ∙ (written_appends t.state p.opened c.record.items io before (ready_change t p c r e).1.record_of

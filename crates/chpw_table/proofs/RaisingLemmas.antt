@@ -8,7 +8,8 @@ use Rattle.chpw_table.specs.declared.raising.RaiseVerdict.TheVariants.{NotHigher
 use Rattle.chpw_table.specs.State.{State, new_count}
 use Rattle.chpw_table.specs.Times.{clock_at}
 use Rattle.chpw_table.specs.Raising.{raise_verdict, is_raised, is_unwritten, after_raise, step_raise}
-use Rattle.chpw_table.specs.Journal.{raise_bytes, raise_appended}
+use Rattle.chpw_record.specs.Records.{raise_bytes}
+use Rattle.chpw_table.specs.Journal.{raise_appended}
 use Rattle.chpw_table.specs.Agreement.{Held, Agrees}
 use Rattle.chpw_table.specs.Entering.{held_after, with_event, with_broken, with_raise, raise_written, held_raise, IsRaiseEntered}
 use Rattle.chpw_table.proofs.HeldIdLemmas.{held_raise_agrees}
@@ -38,7 +39,8 @@ not_raised true m n h = cc
 not_raised false m n h = refl
 
 -- a raise that appends nothing
-pub entered_rest : (t u : Held) (now : Moment) (count : ℕ) (row : RaiseVerdict) → u ≡ with_event now [] t → row ≡ raise_verdict t.state count false → is_raised row ≡ false
+pub entered_rest : (t u : Held) (now : Moment) (count : ℕ) (row : RaiseVerdict)
+    → u ≡ with_event now [] t → row ≡ raise_verdict t.state count false → is_raised row ≡ false
     → IsRaiseEntered t u now count row false
 entered_rest t u now count row w e r = rw w (record {
   legal = record { verdict_is = e; append = λ h. cc };
@@ -63,7 +65,8 @@ raised_row Broken h = cc
 raised_row Raised h = refl
 
 -- the verdict where no append fails
-pub raised_verdict : (s : State) (count : ℕ) (row : RaiseVerdict) → row ≡ raise_verdict s count false → is_raised row ≡ true → raise_verdict s count false ≡ Raised
+pub raised_verdict : (s : State) (count : ℕ) (row : RaiseVerdict)
+    → row ≡ raise_verdict s count false → is_raised row ≡ true → raise_verdict s count false ≡ Raised
 raised_verdict s count row e h = sym e ∙ raised_row row h
 
 -- a raise whose journal is whole
@@ -71,7 +74,8 @@ pub raise_whole : (s : State) (count : ℕ) → raise_verdict s count false ≡ 
 raise_whole s count h = (past_tests (nat_le count (new_count s)) s.broken h).1
 
 -- a raise that appends its record
-pub entered_written : (t w u : Held) (now : Moment) (count : ℕ) (io : Bool) (v : RaiseVerdict) → w ≡ with_event now [] t → raise_verdict t.state count false ≡ Raised
+pub entered_written : (t w u : Held) (now : Moment) (count : ℕ) (io : Bool) (v : RaiseVerdict)
+    → w ≡ with_event now [] t → raise_verdict t.state count false ≡ Raised
     → u ≡ (if io then with_broken w else with_raise count w) → v ≡ raise_written io → IsRaiseEntered t u now count v io
 entered_written t w u now count true v a r b c =
     let past : (nat_le count (new_count t.state) ≡ false) × (t.state.broken ≡ false) = past_tests (nat_le count (new_count t.state)) t.state.broken r in
@@ -95,7 +99,8 @@ entered_written t w u now count false v a r b c =
     })
 
 -- what follows agrees with the step of the machine
-pub entered_raise : (t u : Held) (now : Moment) (count : ℕ) (v : RaiseVerdict) (io : Bool) → IsRaiseEntered t u now count v io → Agrees u.state (step_raise t.state now count io)
+pub entered_raise : (t u : Held) (now : Moment) (count : ℕ) (v : RaiseVerdict) (io : Bool)
+    → IsRaiseEntered t u now count v io → Agrees u.state (step_raise t.state now count io)
 entered_raise t u now count v io e =
     subst (λ (w : RaiseVerdict). Agrees u.state (after_raise w t.state now count io)) e.legal.verdict_is
     (subst (λ (x : State). Agrees x (after_raise v t.state now count io)) (sym e.state) (held_raise_agrees v t.state now count io))
@@ -103,10 +108,13 @@ entered_raise t u now count v io e =
 -- ---- what the sink tells
 
 -- as before, where nothing is appended
-pub told_rest : (count : ℕ) (row : RaiseVerdict) (told : Option (List ℕ)) → is_raised row ≡ false → told ≡ option_map (λ xs. xs ++ raise_appended count row) told
+pub told_rest : (count : ℕ) (row : RaiseVerdict) (told : Option (List ℕ))
+    → is_raised row ≡ false → told ≡ option_map (λ xs. xs ++ raise_appended count row) told
 told_rest count row told h = rw h (told_nothing told)
 
-written_tells : (count : ℕ) (io : Bool) (told : Option (List ℕ)) → (if io then told else option_map (λ xs. xs ++ raise_bytes count) told) ≡ option_map (λ xs. xs ++ raise_appended count (raise_written io)) told
+written_tells : (count : ℕ) (io : Bool) (told : Option (List ℕ))
+    → (if io then told else option_map (λ xs. xs ++ raise_bytes count) told)
+    ≡ option_map (λ xs. xs ++ raise_appended count (raise_written io)) told
 written_tells count true told = told_nothing told
 written_tells count false told = refl
 

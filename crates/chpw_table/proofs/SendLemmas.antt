@@ -3,7 +3,7 @@
 use denote.Param.Send.{IsSend, sendable}
 use Rattle.std.proofs.Crossing
 use Rattle.std.proofs.vec.Vec.TheSendSync as vec
-use Rattle.ordered_keys.proofs.SendLemmas.{tree_send}
+use Rattle.chpw_ordered_keys.proofs.SendLemmas.{tree_send}
 use Rattle.chpw_table.proofs.request.RequestId.TheSendSync as id
 use Rattle.chpw_table.proofs.standing.StandingRules.TheSendSync as standing
 use Rattle.chpw_table.proofs.table.Principal.TheSendSync as principal

@@ -1,5 +1,6 @@
 -- Principals put in the order of their names.
-use Rattle.std.proofs.Common.{◌≡◌, ℕ, ◌+◌, ◌<◌, List, [], ◌∷◌, ◌++◌, map, length, get_or, zero, suc, Bool, true, false, not, ◌&&◌, ◌||◌, if◌then◌else◌, Option, Some, None, find, refl, sym, ◌∙◌, ap, arith}
+use Rattle.std.proofs.Common.{◌≡◌, ℕ, ◌+◌, ◌<◌, List, [], ◌∷◌, ◌++◌, map, length, get_or, zero, suc, Bool, true, false}
+use Rattle.std.proofs.Common.{not, ◌&&◌, ◌||◌, if◌then◌else◌, Option, Some, None, find, refl, sym, ◌∙◌, ap, arith}
 use Rattle.std.specs.Prelude.{Contains, position, slice_get}
 use Rattle.std.specs.List.{AllByRecursion, list_all, list_any, IsDistinct}
 use Rattle.std.specs.List.Sorted.{IsPermutation, IsSortedBy, IsStrictlySortedBy}
@@ -58,7 +59,8 @@ New before xs = AllByRecursion (λ y. list_any (is_same_principal y) before ≡ 
 turned : (x y : Principal) → is_same_principal x y ≡ is_same_principal y x
 turned x y = same_name_turned x.name y.name
 
-one_more : (before : List Principal) (x y : Principal) → list_any (is_same_principal y) (before ++ x ∷ []) ≡ (list_any (is_same_principal y) before || (is_same_principal y x || false))
+one_more : (before : List Principal) (x y : Principal) → list_any (is_same_principal y) (before ++ x ∷ [])
+    ≡ (list_any (is_same_principal y) before || (is_same_principal y x || false))
 one_more before x y = list_any-append (is_same_principal y) before (x ∷ [])
 
 apart : (b : Bool) → (b || false) ≡ false → b ≡ false
@@ -72,7 +74,8 @@ to_distinct before (x ∷ xs) h =
     let rest = to_distinct (before ++ x ∷ []) xs (and_right _ _ h) in (
       (
         all_more (λ y. list_any (is_same_principal y) (before ++ x ∷ []) ≡ false) (λ y. is_same_principal x y ≡ false)
-            (λ y g. turned x y ∙ apart (is_same_principal y x) (or_second (list_any (is_same_principal y) before) (is_same_principal y x || false) (sym (one_more before x y) ∙ g))) xs rest.1,
+            (λ y g. turned x y ∙ apart (is_same_principal y x) (or_second (list_any (is_same_principal y) before)
+            (is_same_principal y x || false) (sym (one_more before x y) ∙ g))) xs rest.1,
         rest.0,
       ),
       (
@@ -88,7 +91,8 @@ from_distinct before [] d n = refl
 from_distinct before (x ∷ xs) d n =
     both (ap not n.0)
     (from_distinct (before ++ x ∷ []) xs d.1
-    (all_both (λ y. is_same_principal x y ≡ false) (λ y. list_any (is_same_principal y) before ≡ false) (λ y. list_any (is_same_principal y) (before ++ x ∷ []) ≡ false)
+    (all_both (λ y. is_same_principal x y ≡ false) (λ y. list_any (is_same_principal y) before ≡ false)
+    (λ y. list_any (is_same_principal y) (before ++ x ∷ []) ≡ false)
     (λ y g k. one_more before x y ∙ or_false k (turned y x ∙ g)) xs d.0 n.1))
 
 -- ---- the same principals in another order
@@ -119,7 +123,8 @@ found_is : (t : Principal → Bool) (xs : List Principal) (q : Principal) → fi
 found_is t [] q h = absurd (cc)
 found_is t (x ∷ xs) q h = at (found_is t xs q) (t x) refl h
   where
-    at : (find t xs ≡ Some q → Contains xs q × (t q ≡ true)) → (b : Bool) → t x ≡ b → (if b then Some x else find t xs) ≡ Some q → Contains (x ∷ xs) q × (t q ≡ true)
+    at : (find t xs ≡ Some q → Contains xs q × (t q ≡ true))
+        → (b : Bool) → t x ≡ b → (if b then Some x else find t xs) ≡ Some q → Contains (x ∷ xs) q × (t q ≡ true)
     at ih true e g =
         let same : x ≡ q = cc in
         ((0, omega arith, same), ap t (sym same) ∙ e)
@@ -128,11 +133,13 @@ found_is t (x ∷ xs) q h = at (found_is t xs q) (t x) refl h
         ((suc rest.0.0, omega (arith, rest.0.1), rest.0.2), rest.1)
 
 -- and where one is in a list of distinct ones and has the name, it is found
-is_found : (name : Name) (xs : List Principal) (q : Principal) → are_distinct is_same_principal xs ≡ true → Contains xs q → has_name name q ≡ true → find (has_name name) xs ≡ Some q
+is_found : (name : Name) (xs : List Principal) (q : Principal) → are_distinct is_same_principal xs ≡ true
+    → Contains xs q → has_name name q ≡ true → find (has_name name) xs ≡ Some q
 is_found name xs q d c h =
     found_at_place name xs c.0 q d c.1 (ap (λ (p : Principal). is_same_name p.name name) c.2 ∙ h) ∙ ap (λ (p : Principal). Some p) c.2
 
-pub found_permuted : (name : Name) (xs ys : List Principal) → IsPermutation xs ys → are_distinct is_same_principal xs ≡ true → find (has_name name) ys ≡ find (has_name name) xs
+pub found_permuted : (name : Name) (xs ys : List Principal)
+    → IsPermutation xs ys → are_distinct is_same_principal xs ≡ true → find (has_name name) ys ≡ find (has_name name) xs
 found_permuted name xs ys p d = at (find (has_name name) ys) refl (find (has_name name) xs) refl
   where
     at : (a : Option Principal) → find (has_name name) ys ≡ a → (b : Option Principal) → find (has_name name) xs ≡ b → a ≡ b
@@ -157,18 +164,23 @@ rises a b h g = at (name_cmp a b) refl
     at Equal e = absurd (no (is_same_name a b) g (same_name_ties a b ∙ ap is_eq e))
     at Greater e = absurd (no (is_lt (name_cmp b a)) h (ap is_lt (names_total.antisymm b a ∙ ap ordering_reverse e)))
 
-pub in_order : (ys : List Principal) → are_distinct is_same_principal ys ≡ true → IsSortedBy (λ (a b : Principal). is_lt (name_cmp a.name b.name)) ys → are_in_order (names ys) ≡ true
+pub in_order : (ys : List Principal) → are_distinct is_same_principal ys ≡ true
+    → IsSortedBy (λ (a b : Principal). is_lt (name_cmp a.name b.name)) ys → are_in_order (names ys) ≡ true
 in_order ys d s = sorted_order (names ys) (sorted_from_all_adjacent names_total (names ys) (record { parts = [] }) adjacent)
   where
     none : Principal
     none = record { name = record { parts = [] }; keys = [] }
 
-    adjacent : (k : ℕ) → k + 1 < length (names ys) → name_cmp (get_or (names ys) k (record { parts = [] })) (get_or (names ys) (k + 1) (record { parts = [] })) ≡ Less
+    adjacent : (k : ℕ) → k + 1 < length (names ys) → name_cmp (get_or (names ys) k
+        (record { parts = [] })) (get_or (names ys) (k + 1) (record { parts = [] })) ≡ Less
     adjacent k h =
         let within : k + 1 < length ys = rw (length-map ys (λ (p : Principal). p.name)) at h in
         let here = rises (get_or ys k none).name (get_or ys (k + 1) none).name (s k none (omega arith) within)
         (apart_from_distinct is_same_principal ys k (k + 1) none (to_distinct [] ys d).0 (omega arith) within) in
-        rw (get_or-map (λ (p : Principal). p.name) ys k none (record { parts = [] }) (omega (arith, within)), get_or-map (λ (p : Principal). p.name) ys (k + 1) none (record { parts = [] }) within) here
+        rw (
+          get_or-map (λ (p : Principal). p.name) ys k none (record { parts = [] }) (omega (arith, within)),
+          get_or-map (λ (p : Principal). p.name) ys (k + 1) none (record { parts = [] }) within,
+        ) here
 
 -- principals that were sorted
 pub sorted_holders : (xs ys : List Principal) → hold_keys xs ≡ true → is_in principal_counts (length xs) ≡ true → IsPermutation xs ys
@@ -190,7 +202,8 @@ name_got (p ∷ ps) zero h = refl
 name_got (p ∷ ps) (suc i) h = name_got ps i (omega (arith, h))
 
 -- the name at its place
-pub name_at_place : (name : Name) (ps : List Principal) (i : ℕ) → position (has_name name) ps ≡ Some i → slice_get (map (λ (p : Principal). p.name) ps) i ≡ Some name
+pub name_at_place : (name : Name) (ps : List Principal) (i : ℕ)
+    → position (has_name name) ps ≡ Some i → slice_get (map (λ (p : Principal). p.name) ps) i ≡ Some name
 name_at_place name ps i h =
     let placed = position-Some (has_name name) ps i none h in
     name_got ps i placed.0 ∙ ap (λ (n : Name). Some n) ((is_same_name-Decides (get_or ps i none).name name).0 placed.1)

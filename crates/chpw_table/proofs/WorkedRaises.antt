@@ -13,7 +13,8 @@ use Rattle.chpw_table.specs.Decision.{verdict}
 use Rattle.chpw_table.specs.Step.{step}
 use Rattle.chpw_table.specs.Raising.{raise_verdict, step_raise}
 use Rattle.chpw_table.specs.History.{missing, IsLegal, calls}
-use Rattle.chpw_table.specs.Journal.{journal, record_bytes}
+use Rattle.chpw_record.specs.Records.{record_bytes}
+use Rattle.chpw_table.specs.Journal.{journal}
 use Rattle.chpw_table.specs.Versions.{accepted, shown, shown_count}
 use Rattle.chpw_table.proofs.Worked.{alice, under, key_bytes, key_row, configured, password, Line, ask, moment}
 

@@ -11,7 +11,7 @@ use Rattle.chpw_table.specs.History.{IsDecided}
 use Rattle.chpw_table.specs.Journal.{appended}
 use Rattle.chpw_table.specs.Agreement.{Held, Agrees}
 
--- the machine's step from each state that the table agrees with, and one event more
+-- the machine's step from each state that the table agrees with, and one more event
 pub record Steps (before later : Held) (now : Moment) (o : Opened) (r : Outcome) : Type 0 where
   pub legal : (s : State) → Agrees before.state s → IsDecided s now o r.io_failed r.verdict
   pub agrees : (s : State) → Agrees before.state s → Agrees later.state (step s now o r.io_failed)
@@ -23,7 +23,7 @@ pub record Steps (before later : Held) (now : Moment) (o : Opened) (r : Outcome)
   pub few : later.events ≤ entry_counts.high
   pub broken : later.state.broken ≡ (before.state.broken || r.io_failed)
 
--- a failed append is counted, and what the step appends is told
+-- a failed append is counted, and what the step appends joins the known bytes
 pub record Writes {S : Type 0} (failed : S → ℕ) (told : S → Option (List ℕ)) (before : State) (old new : S) (o : Opened) (r : Outcome) : Type 0 where
   pub io : failed new ≡ (if r.io_failed then failed old + 1 else failed old)
   pub tells : (s : State) → Agrees before s → told new ≡ option_map (λ xs. xs ++ appended s o r.verdict) (told old)

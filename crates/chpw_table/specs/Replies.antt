@@ -1,11 +1,18 @@
--- What each row answers: the result code (RFC 3244 section 2), the error code of its KRB-ERROR, if it is
--- answered by one (RFC 4120 section 7.5.9), and the text.
+-- The answer of each row: the result code (RFC 3244 section 2), the error code of its KRB-ERROR, if it is answered by
+-- one (RFC 4120 section 7.5.9), and the text.
 use Rattle.std.specs.Prelude.{ℕ, ℤ, List, Option, Some, None, codes}
-use Rattle.krb_protocol.specs.declared.codes.TheConstants.{KRB5_KPASSWD_SUCCESS, KRB5_KPASSWD_MALFORMED, KRB5_KPASSWD_HARDERROR, KRB5_KPASSWD_AUTHERROR, KRB5_KPASSWD_SOFTERROR, KRB5_KPASSWD_ACCESSDENIED, KRB5_KPASSWD_INITIAL_FLAG_NEEDED, KRB_AP_ERR_SKEW, KRB_AP_ERR_REPEAT, KRB_AP_ERR_TKT_NYV, KRB_AP_ERR_TKT_EXPIRED}
+use Rattle.krb_protocol.specs.declared.codes.TheConstants.{KRB5_KPASSWD_SUCCESS, KRB5_KPASSWD_MALFORMED}
+use Rattle.krb_protocol.specs.declared.codes.TheConstants.{KRB5_KPASSWD_HARDERROR, KRB5_KPASSWD_AUTHERROR}
+use Rattle.krb_protocol.specs.declared.codes.TheConstants.{KRB5_KPASSWD_SOFTERROR, KRB5_KPASSWD_ACCESSDENIED}
+use Rattle.krb_protocol.specs.declared.codes.TheConstants.{KRB5_KPASSWD_INITIAL_FLAG_NEEDED, KRB_AP_ERR_SKEW}
+use Rattle.krb_protocol.specs.declared.codes.TheConstants.{KRB_AP_ERR_REPEAT, KRB_AP_ERR_TKT_NYV}
+use Rattle.krb_protocol.specs.declared.codes.TheConstants.{KRB_AP_ERR_TKT_EXPIRED}
 use Rattle.chpw_table.specs.declared.raising.RaiseVerdict.{RaiseVerdict}
 use Rattle.chpw_table.specs.declared.raising.RaiseVerdict.TheVariants as raise
 use Rattle.chpw_table.specs.declared.verdict.Verdict.{Verdict}
-use Rattle.chpw_table.specs.declared.verdict.Verdict.TheVariants.{Skew, Replay, NotYet, Expired, BadPrivate, BadBody, Denied, NeedInitial, Unknown, Short, Classes, Reused, LastVersion, Broken, Done}
+use Rattle.chpw_table.specs.declared.verdict.Verdict.TheVariants.{Skew, Replay, NotYet, Expired, BadPrivate}
+use Rattle.chpw_table.specs.declared.verdict.Verdict.TheVariants.{BadBody, Denied, NeedInitial, Unknown, Short}
+use Rattle.chpw_table.specs.declared.verdict.Verdict.TheVariants.{Classes, Reused, LastVersion, Broken, Done}
 
 pub record Answer : Type 0 where
   pub code : ℕ
@@ -37,7 +44,7 @@ answer_of LastVersion = by_private KRB5_KPASSWD_HARDERROR (codes "no version lef
 answer_of Broken = by_private KRB5_KPASSWD_HARDERROR (codes "journal failed")
 answer_of Done = by_private KRB5_KPASSWD_SUCCESS (codes "password changed")
 
--- what is told of a raise, by a result code and a text; no message carries it
+-- the answer to a raise, by a result code and a text; no message carries it
 pub record Told : Type 0 where
   pub code : ℕ
   pub text : List ℕ

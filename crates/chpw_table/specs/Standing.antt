@@ -27,9 +27,9 @@ is_bad body = is_bad_private body || is_bad_data body
 abbrev pub is_weak : Policy → Digest → Bool
 is_weak policy digest = nat_lt digest.length policy.min_length || nat_lt digest.classes policy.min_classes
 
--- A row before those on the new password's keys applies, whatever ids are used and whatever keys are held. The clock
--- of a decision is no earlier than its moment, so what is too late for the moment is too late for it. What is too
--- early for the moment may not be: so those tests are left out.
+-- A row before those on the new password's keys applies, whatever ids are used and whatever keys are held. The clock of
+-- a decision is no earlier than its moment, so what is too late for the moment is too late for it. What is too early
+-- for the moment may not be too early for it: so those tests are left out.
 abbrev pub refused_anyway : Fixed → Moment → Opened → Bool
 refused_anyway f now o =
     int_le o.ctime f.quiet_until

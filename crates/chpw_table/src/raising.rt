@@ -1,9 +1,9 @@
-//! What a raise of the iteration count answers.
+//! The result of a raise of the iteration count.
 ghost use Rattle.std.specs.Prelude.{◌≡◌};
 
 use krb_protocol::codes::{KRB5_KPASSWD_HARDERROR, KRB5_KPASSWD_SOFTERROR, KRB5_KPASSWD_SUCCESS};
 
-/// The verdicts on a raise, in the order of the tests.
+/// The verdicts on a raise, in the order of the checks.
 #[derive(Clone, Copy, PartialEq, Eq, Drop)]
 pub enum RaiseVerdict {
     /// The count is not above the present one.
@@ -56,6 +56,6 @@ pub struct Raise {
     pub io_failed: bool,
 }
 
-/// The table has decided as many events as it may, and nothing has changed.
+/// The table has decided as many events as allowed, and nothing has changed.
 #[derive(Clone, Copy, PartialEq, Eq, Debug, Drop)]
 pub struct Full;

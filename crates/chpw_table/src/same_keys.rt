@@ -1,7 +1,7 @@
 //! Whether keys are the same.
 ghost use Rattle.std.specs.Prelude.{◌≡◌, ◌↔◌, IsTrue};
 
-use crate::key::KeyRow;
+use chpw_record::KeyRow;
 
 /// Whether the keys are the same, row by row: version, iteration count and both keys.
 pub fn are_same_keys(keys: &[KeyRow], others: &[KeyRow]) -> bool

@@ -11,9 +11,8 @@ use chpw_rules::{Items, Policy, Rules};
 use std::alloc::AllocError;
 use std::marker::Model;
 
-/// What no event changes of a table: the realm, the policy, the rules, and until when the service is
-/// quiet. Most refusals follow from them and the moment, so whoever has a copy knows of those without
-/// the table.
+/// What no event changes of a table: the realm, the policy, the rules, and until when the service is quiet. Most
+/// refusals follow from them and the moment, so a copy finds those without the table.
 #[derive(Drop)]
 pub struct StandingRules {
     realm: Items<u8>,
@@ -57,7 +56,7 @@ impl StandingRules {
         }
     }
 
-    /// The same in memory of their own, from the same allocator.
+    /// A copy in new memory, from the same allocator.
     pub fn clone(&self) -> Result<StandingRules, AllocError>
         ensures value { IfOk result (λ copy. copy ≡ self.now) }
     {
@@ -69,10 +68,9 @@ impl StandingRules {
         })
     }
 
-    /// Whether a decision at this moment refuses the request before it looks at keys of the new
-    /// password, whatever else the table holds. Where it is false, the decision may still refuse: for
-    /// the ids used, for the keys held, or because the request is too early for the table's clock,
-    /// which may be later than the moment.
+    /// Whether a decision at this moment refuses the request before it looks at keys of the new password, whatever else
+    /// the table holds. If false, the decision may still refuse: for the ids used, for the keys held, or because the
+    /// request is too early for the table's clock, which may be later than the moment.
     pub fn refuse(&self, now: Moment, opened: &Opened) -> bool
         ensures value { result ≡ refused_anyway self.now now opened.now }
     {
@@ -82,7 +80,7 @@ impl StandingRules {
             || self.refuse_body(opened)
     }
 
-    // What the KRB-PRIV held is no new password, or none that this client may set, or a weak one.
+    // The KRB-PRIV has no new password, or none that this client may set, or a weak one.
     fn refuse_body(&self, opened: &Opened) -> bool
         ensures value { result ≡ (is_bad opened.now.body || is_denied self.now opened.now
             || needs_initial self.now opened.now || is_weak_spec self.now.policy (digest_of opened.now)) }

@@ -1,5 +1,6 @@
-//! The table: the principals with their keys, and the ids used.
-ghost use Rattle.std.specs.Prelude.{◌≡◌, ◌≤◌, ◌<◌, ◌&&◌, not, length, All, MatchBool, IfOk, IfSome, Some, true, find, max, map, position, option_copied, option_map, slice_get};
+//! The table: the principals with their keys, and the used ids.
+ghost use Rattle.std.specs.Prelude.{◌≡◌, ◌≤◌, ◌<◌, ◌&&◌, not, length, All, MatchBool, IfOk, IfSome, Some};
+ghost use Rattle.std.specs.Prelude.{true, find, max, map, position, option_copied, option_map, slice_get};
 ghost use Rattle.std.specs.List.{IsDistinct};
 ghost use Rattle.std.specs.List.Sorted.{IsStrictlySortedBy};
 ghost use Rattle.chpw_rules.specs.Names.{is_name, is_same_name, name_cmp};
@@ -25,12 +26,13 @@ mod step;
 mod wanted;
 
 use crate::counts::Counts;
-use crate::key::{KeyRow, counts_of, kvno_of};
+use crate::key::{counts_of, kvno_of};
 use crate::request::RequestId;
 use crate::standing::StandingRules;
+use chpw_ordered_keys::{KeyTree, Keyed};
+use chpw_record::KeyRow;
 use chpw_rules::{Config, Items, Name, Policy};
 use opening::opening_table;
-use ordered_keys::{KeyTree, Keyed};
 pub use preparing::{Prepared, RowChange};
 pub use reopening::MOST_CARRIED;
 pub use restoring::KeyFault;
@@ -57,7 +59,7 @@ pub struct Lookup {
     pub seen: u32,
 }
 
-// Principals stand in the order of their names.
+// Principals are ordered by their names.
 impl Keyed<Name> for Principal {
     ghost key_of = { λ p. p.name };
 
@@ -68,15 +70,14 @@ impl Keyed<Name> for Principal {
 
 /// The principals in the order of their names, and the used ids in the order of their times.
 ///
-/// Contracts see a table as a `Held`: a state, how many events were decided, how many changes
-/// accepted, and how many events there may be. A table forgets ids that are too old to be judged
-/// again; so its contracts speak of each state that it agrees with (`Agrees`), in which all used
-/// ids may stand.
+/// Contracts see a table as a `Held`: a state, how many events were decided, how many changes accepted, and how many
+/// events are allowed. A table forgets ids that are too old to be judged again; so its contracts speak of each state
+/// that it agrees with (`Agrees`), which may have all used ids.
 #[derive(Drop)]
 pub struct Table {
     standing: StandingRules,
     principals: Vec<Principal>,
-    // In memory that came with each of them.
+    // Each in the memory that it brought.
     used: KeyTree<RequestId>,
     clock: i64,
     broken: bool,
@@ -120,10 +121,10 @@ impl Model for Table {
 }
 
 impl Table {
-    /// The table that a configuration opens with: of each principal the newest keys, as many as the
-    /// policy's depth and at least one; clock 0, no id used, no event decided; new keys under the
-    /// policy's iteration count. The configuration fits (`Config::fits`). A request whose ctime is not
-    /// after `quiet_until`, seconds since 1970, will be refused; -1 refuses none.
+    /// The table that a configuration opens with: for each principal the newest keys, as many as the policy's depth and
+    /// at least one; clock 0, no id used, no event decided; new keys under the policy's iteration count. The
+    /// configuration fits (`Config::fits`). A request whose ctime is not after `quiet_until`, seconds since 1970, will
+    /// be refused; -1 refuses none.
     pub fn start(alloc: Global, config: Config, quiet_until: i64) -> Result<Table, AllocError>
         requires fits { config_fits config ≡ true }
         ensures opening { IfOk result (λ t. Agrees t.state (opening_of config quiet_until)) }
@@ -147,7 +148,7 @@ impl Table {
         })
     }
 
-    /// Whether the table has decided as many events as it may, 1 to 1,048,576.
+    /// Whether the table has decided as many events as allowed, 1 to 1,048,576.
     pub fn is_full(&self) -> bool
         ensures value { MatchBool result (self.now.events ≡ self.now.max_entries)
             (self.now.events < self.now.max_entries) }
@@ -165,8 +166,8 @@ impl Table {
         self.seen
     }
 
-    /// The name of the principal at this place, from 0 in the order of the names; none from their
-    /// number on. No name stands at two places. It has 1 to 8 components of 1 to 128 bytes.
+    /// The name of the principal with this number, from 0 in the order of the names; none from their number on. No name
+    /// has two numbers. It has 1 to 8 components of 1 to 128 bytes.
     pub fn name_at(&self, place: u32) -> Option<&Name>
         ensures value { option_copied result
             ≡ slice_get (map (λ p. p.name) self.now.state.principals) place }
@@ -177,7 +178,7 @@ impl Table {
         self.principal_at(place).map(|p| &p.name)
     }
 
-    /// The name at this place, as `name_at` gives it, and what `lookup` shows of it.
+    /// The name with this number, as `name_at` gives it, and what `lookup` shows of it.
     pub fn row_at(&self, place: u32) -> Option<(&Name, Lookup)>
         ensures name { option_map (λ row. row.0.now) result
             ≡ slice_get (map (λ p. p.name) self.now.state.principals) place }
@@ -196,7 +197,7 @@ impl Table {
         ensures stands { IfSome result (λ p. StandsAt self.now.state place p.now) }
         ensures order { IsStrictlySortedBy name_cmp (map (λ p. p.name) self.now.state.principals) }
     {
-        // A field is read, so that the type's invariant is known here.
+        // A field is read, so that the type's invariant is known.
         let _ = &self.principals;
         self.get(place)
     }
@@ -207,15 +208,15 @@ impl Table {
         self.principals.get(place as usize)
     }
 
-    /// The place of a name among the principals, which are in the order of their names, from 0; none
-    /// for an unknown one. `name_at` gives the name back.
+    /// The number of a name among the principals, which are in the order of their names, from 0; none for an unknown
+    /// one. `name_at` is the inverse.
     pub fn number_of(&self, name: &Name) -> Option<u32>
         ensures value { result
             ≡ position (λ p. is_same_name p.name name.now) self.now.state.principals }
         ensures named { IfSome result (λ number.
             slice_get (map (λ p. p.name) self.now.state.principals) number ≡ Some name.now) }
     {
-        // A field is read, so that the type's invariant is known here.
+        // A field is read, so that the type's invariant is known.
         let _ = &self.principals;
         match self.place_of(name) {
             None => None,
@@ -313,7 +314,7 @@ impl Table {
         ensures few { IfSome result (λ keys. (1 ≤ length keys.now) × (length keys.now ≤ 16)) }
         ensures positive { IfSome result (λ keys. All (λ k. 1 ≤ k.count) keys.now) }
     {
-        // A field is read, so that the type's invariant is known here.
+        // A field is read, so that the type's invariant is known.
         let _ = &self.principals;
         self.find_keys(name)
     }
@@ -321,7 +322,7 @@ impl Table {
     fn find_keys(&self, name: &Name) -> Option<&[KeyRow]>
         ensures value { option_copied result ≡ keys_held self.now.state name.now }
     {
-        // A field is read, so that the type's invariant is known here.
+        // A field is read, so that the type's invariant is known.
         let _ = &self.principals;
         match self.find(name) {
             None => None,

@@ -1,15 +1,15 @@
 //! AP-REP and its sealed part (RFC 4120 section 5.5.2).
 
 ghost use Rattle.std.specs.Prelude.{◌≡◌, refl, true, IfOk, Ok};
-ghost use Rattle.krb_elements.specs.Shapes.{Value};
+ghost use Rattle.krb_codec.specs.Shapes.{Value};
 ghost use Rattle.krb_der.specs.Types.{ap_rep, enc_ap_rep_part};
 ghost use Rattle.krb_der.specs.Values.{ap_rep_value, enc_ap_rep_part_value};
-ghost use Rattle.krb_elements.specs.Grammar.{Spells};
-ghost use Rattle.krb_elements.specs.Reading.{Gives, reads_all};
-ghost use Rattle.krb_elements.specs.Texts.{text, fits};
+ghost use Rattle.krb_codec.specs.Grammar.{Spells};
+ghost use Rattle.krb_codec.specs.Reading.{Gives, reads_all};
+ghost use Rattle.krb_codec.specs.Texts.{text, fits};
 
 use crate::encrypted_data::{EncryptedData, EncryptionKey};
-use krb_elements::{
+use krb_codec::{
     Application, Element, KerberosTime, Layout, Microseconds, Optional, Read, ReadError, Region,
     Required, SeqNumber, Sink, Write, read_all, write_all,
 };
@@ -84,9 +84,9 @@ pub fn write_ap_rep(alloc: Global, value: &ApRep) -> Result<Vec<u8>, AllocError>
 /// The sealed part of an AP-REP (RFC 4120 section 5.5.2).
 #[derive(Drop)]
 pub struct EncApRepPart {
-    /// That of the authenticator.
+    /// The authenticator's.
     pub ctime: KerberosTime,
-    /// That of the authenticator.
+    /// The authenticator's.
     pub cusec: Microseconds,
     pub subkey: Option<EncryptionKey>,
     pub seq_number: Option<SeqNumber>,

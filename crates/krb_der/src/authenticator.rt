@@ -1,17 +1,17 @@
 //! Authenticators (RFC 4120 section 5.5.1).
 
 ghost use Rattle.std.specs.Prelude.{◌≡◌, refl, true, IfOk, Ok};
-ghost use Rattle.krb_elements.specs.Shapes.{Value};
+ghost use Rattle.krb_codec.specs.Shapes.{Value};
 ghost use Rattle.krb_der.specs.Types.{authenticator};
 ghost use Rattle.krb_der.specs.Values.{authenticator_value};
-ghost use Rattle.krb_elements.specs.Grammar.{Spells};
-ghost use Rattle.krb_elements.specs.Reading.{Gives, reads_all};
-ghost use Rattle.krb_elements.specs.Texts.{text, fits};
+ghost use Rattle.krb_codec.specs.Grammar.{Spells};
+ghost use Rattle.krb_codec.specs.Reading.{Gives, reads_all};
+ghost use Rattle.krb_codec.specs.Texts.{text, fits};
 
 use crate::authorization_data::AuthorizationData;
 use crate::encrypted_data::{Checksum, EncryptionKey};
 use crate::principal_name::PrincipalName;
-use krb_elements::{
+use krb_codec::{
     Application, Element, GeneralString, KerberosTime, Layout, Microseconds, Optional, Read,
     ReadError, Region, Required, SeqNumber, Sink, Write, read_all, write_all,
 };

@@ -1,15 +1,15 @@
 //! ChangePasswdData (RFC 3244 section 2).
 
 ghost use Rattle.std.specs.Prelude.{◌≡◌, refl, true, IfOk, Ok};
-ghost use Rattle.krb_elements.specs.Shapes.{Value};
+ghost use Rattle.krb_codec.specs.Shapes.{Value};
 ghost use Rattle.krb_der.specs.Types.{change_passwd_data};
 ghost use Rattle.krb_der.specs.Values.{change_passwd_data_value};
-ghost use Rattle.krb_elements.specs.Grammar.{Spells};
-ghost use Rattle.krb_elements.specs.Reading.{Gives, reads_all};
-ghost use Rattle.krb_elements.specs.Texts.{text, fits};
+ghost use Rattle.krb_codec.specs.Grammar.{Spells};
+ghost use Rattle.krb_codec.specs.Reading.{Gives, reads_all};
+ghost use Rattle.krb_codec.specs.Texts.{text, fits};
 
 use crate::principal_name::PrincipalName;
-use krb_elements::{
+use krb_codec::{
     Element, ExtensibleSequence, GeneralString, Layout, OctetString, Optional, Read, ReadError,
     Region, Required, Sink, Write, read_all, write_all,
 };
@@ -20,12 +20,12 @@ const FIRST_FURTHER: u8 = 0xa3;
 
 const LAST_FURTHER: u8 = 0xbe;
 
-/// The new password, and whose it is (RFC 3244 section 2).
-/// Further fields, which later versions may add, are let pass and not kept.
+/// The new password, and whose it is (RFC 3244 section 2). Further fields, which later versions may add, are skipped
+/// and not kept.
 #[derive(Drop)]
 pub struct ChangePasswdData {
     pub newpasswd: OctetString,
-    /// Absent: the client.
+    /// If absent, the client.
     pub targname: Option<PrincipalName>,
     pub targrealm: Option<GeneralString>,
 }

@@ -1,19 +1,19 @@
 //! The sealed part of a ticket (RFC 4120 section 5.3).
 
 ghost use Rattle.std.specs.Prelude.{◌≡◌, refl, true, IfOk, Ok};
-ghost use Rattle.krb_elements.specs.Shapes.{Value};
+ghost use Rattle.krb_codec.specs.Shapes.{Value};
 ghost use Rattle.krb_der.specs.Types.{enc_ticket_part, transited_encoding};
 ghost use Rattle.krb_der.specs.Values.{enc_ticket_part_value, transited_encoding_value};
-ghost use Rattle.krb_elements.specs.Grammar.{Spells};
-ghost use Rattle.krb_elements.specs.Reading.{Gives, reads_all};
-ghost use Rattle.krb_elements.specs.Texts.{text, fits};
+ghost use Rattle.krb_codec.specs.Grammar.{Spells};
+ghost use Rattle.krb_codec.specs.Reading.{Gives, reads_all};
+ghost use Rattle.krb_codec.specs.Texts.{text, fits};
 
 use crate::authorization_data::AuthorizationData;
 use crate::encrypted_data::EncryptionKey;
 use crate::host_address::HostAddress;
 use crate::principal_name::PrincipalName;
 use crate::typed_octets::TypedOctets;
-use krb_elements::{
+use krb_codec::{
     Application, Element, GeneralString, KerberosFlags, KerberosTime, Layout, OctetString,
     Optional, Read, ReadError, Region, Required, SequenceOf, Sink, Write, read_all, write_all,
 };
@@ -86,7 +86,7 @@ pub struct EncTicketPart {
     pub cname: PrincipalName,
     pub transited: TransitedEncoding,
     pub authtime: KerberosTime,
-    /// Where absent, `authtime`.
+    /// If absent, `authtime`.
     pub starttime: Option<KerberosTime>,
     pub endtime: KerberosTime,
     pub renew_till: Option<KerberosTime>,

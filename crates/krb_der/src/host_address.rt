@@ -1,15 +1,15 @@
 //! Addresses of hosts (RFC 4120 section 5.2.5).
 
 ghost use Rattle.std.specs.Prelude.{◌≡◌, refl, true, IfOk, Ok};
-ghost use Rattle.krb_elements.specs.Shapes.{Value};
+ghost use Rattle.krb_codec.specs.Shapes.{Value};
 ghost use Rattle.krb_der.specs.Types.{host_address};
 ghost use Rattle.krb_der.specs.Values.{host_address_value};
-ghost use Rattle.krb_elements.specs.Grammar.{Spells};
-ghost use Rattle.krb_elements.specs.Reading.{Gives, reads_all};
-ghost use Rattle.krb_elements.specs.Texts.{text, fits};
+ghost use Rattle.krb_codec.specs.Grammar.{Spells};
+ghost use Rattle.krb_codec.specs.Reading.{Gives, reads_all};
+ghost use Rattle.krb_codec.specs.Texts.{text, fits};
 
 use crate::typed_octets::TypedOctets;
-use krb_elements::{
+use krb_codec::{
     Element, Layout, OctetString, Read, ReadError, Region, Sink, Write, read_all, write_all,
 };
 use std::alloc::{AllocError, Global};

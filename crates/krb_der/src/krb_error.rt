@@ -1,15 +1,15 @@
 //! KRB-ERROR (RFC 4120 section 5.9.1).
 
 ghost use Rattle.std.specs.Prelude.{◌≡◌, refl, true, IfOk, Ok};
-ghost use Rattle.krb_elements.specs.Shapes.{Value};
+ghost use Rattle.krb_codec.specs.Shapes.{Value};
 ghost use Rattle.krb_der.specs.Types.{krb_error};
 ghost use Rattle.krb_der.specs.Values.{krb_error_value};
-ghost use Rattle.krb_elements.specs.Grammar.{Spells};
-ghost use Rattle.krb_elements.specs.Reading.{Gives, reads_all};
-ghost use Rattle.krb_elements.specs.Texts.{text, fits};
+ghost use Rattle.krb_codec.specs.Grammar.{Spells};
+ghost use Rattle.krb_codec.specs.Reading.{Gives, reads_all};
+ghost use Rattle.krb_codec.specs.Texts.{text, fits};
 
 use crate::principal_name::PrincipalName;
-use krb_elements::{
+use krb_codec::{
     Application, Element, GeneralString, KerberosTime, Layout, Microseconds, OctetString, Optional,
     Read, ReadError, Region, Required, Sink, Write, read_all, write_all,
 };

@@ -1,16 +1,16 @@
 //! KRB-PRIV and its sealed part (RFC 4120 section 5.7.1).
 
 ghost use Rattle.std.specs.Prelude.{◌≡◌, refl, true, IfOk, Ok};
-ghost use Rattle.krb_elements.specs.Shapes.{Value};
+ghost use Rattle.krb_codec.specs.Shapes.{Value};
 ghost use Rattle.krb_der.specs.Types.{enc_krb_priv_part, krb_priv};
 ghost use Rattle.krb_der.specs.Values.{enc_krb_priv_part_value, krb_priv_value};
-ghost use Rattle.krb_elements.specs.Grammar.{Spells};
-ghost use Rattle.krb_elements.specs.Reading.{Gives, reads_all};
-ghost use Rattle.krb_elements.specs.Texts.{text, fits};
+ghost use Rattle.krb_codec.specs.Grammar.{Spells};
+ghost use Rattle.krb_codec.specs.Reading.{Gives, reads_all};
+ghost use Rattle.krb_codec.specs.Texts.{text, fits};
 
 use crate::encrypted_data::EncryptedData;
 use crate::host_address::HostAddress;
-use krb_elements::{
+use krb_codec::{
     Application, Element, KerberosTime, Layout, Microseconds, OctetString, Optional, Read,
     ReadError, Region, Required, SeqNumber, Sink, Write, read_all, write_all,
 };

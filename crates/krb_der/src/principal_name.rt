@@ -1,14 +1,14 @@
 //! Names of principals (RFC 4120 section 5.2.2).
 
 ghost use Rattle.std.specs.Prelude.{◌≡◌, refl, true, IfOk, Ok};
-ghost use Rattle.krb_elements.specs.Shapes.{Value};
+ghost use Rattle.krb_codec.specs.Shapes.{Value};
 ghost use Rattle.krb_der.specs.Types.{principal_name};
 ghost use Rattle.krb_der.specs.Values.{principal_name_value};
-ghost use Rattle.krb_elements.specs.Grammar.{Spells};
-ghost use Rattle.krb_elements.specs.Reading.{Gives, reads_all};
-ghost use Rattle.krb_elements.specs.Texts.{text, fits};
+ghost use Rattle.krb_codec.specs.Grammar.{Spells};
+ghost use Rattle.krb_codec.specs.Reading.{Gives, reads_all};
+ghost use Rattle.krb_codec.specs.Texts.{text, fits};
 
-use krb_elements::{
+use krb_codec::{
     Element, GeneralString, Layout, Read, ReadError, Region, Required, Sequence, SequenceOf, Sink,
     Write, read_all, write_all,
 };

@@ -1,16 +1,16 @@
 //! Tickets (RFC 4120 section 5.3).
 
 ghost use Rattle.std.specs.Prelude.{◌≡◌, refl, true, IfOk, Ok};
-ghost use Rattle.krb_elements.specs.Shapes.{Value};
+ghost use Rattle.krb_codec.specs.Shapes.{Value};
 ghost use Rattle.krb_der.specs.Types.{ticket};
 ghost use Rattle.krb_der.specs.Values.{ticket_value};
-ghost use Rattle.krb_elements.specs.Grammar.{Spells};
-ghost use Rattle.krb_elements.specs.Reading.{Gives, reads_all};
-ghost use Rattle.krb_elements.specs.Texts.{text, fits};
+ghost use Rattle.krb_codec.specs.Grammar.{Spells};
+ghost use Rattle.krb_codec.specs.Reading.{Gives, reads_all};
+ghost use Rattle.krb_codec.specs.Texts.{text, fits};
 
 use crate::encrypted_data::EncryptedData;
 use crate::principal_name::PrincipalName;
-use krb_elements::{
+use krb_codec::{
     Application, Element, GeneralString, Layout, Read, ReadError, Region, Required, Sink, Write,
     read_all, write_all,
 };

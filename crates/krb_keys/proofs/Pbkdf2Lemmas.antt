@@ -1,5 +1,6 @@
 -- PBKDF2, block by block.
-use Rattle.std.proofs.Common.{◌≡◌, ℕ, zero, suc, ◌+◌, ◌-◌, ◌*◌, ◌/◌, ◌<◌, ◌≤◌, min, List, ◌++◌, length, take, drop, length-drop, refl, sym, ap, ◌∙◌, arith, length-append}
+use Rattle.std.proofs.Common.{◌≡◌, ℕ, zero, suc, ◌+◌, ◌-◌, ◌*◌, ◌/◌, ◌<◌, ◌≤◌, min, List, ◌++◌, length}
+use Rattle.std.proofs.Common.{take, drop, length-drop, refl, sym, ap, ◌∙◌, arith, length-append}
 use Rattle.std.proofs.lemmas.List.{take_all, take_min, length-take, take-take, take-append-le}
 use Rattle.std.proofs.Math.Seq.{take-append-add}
 use Rattle.std.proofs.lemmas.Slice.{take-put_mid}
@@ -45,7 +46,8 @@ length-xored p s (suc j) =
 length-blocks : (p s : List ℕ) (n k : ℕ) → length (blocks p s n k) ≡ 20 * k
 unfolding blocks
 length-blocks p s n k =
-    length-pieces (pbkdf2_block p s n) 20 (λ i. length-xored p (s ++ to_be_bytes w32 i) (n - 1)) (range_with_len 1 k) ∙ ap (λ (m : ℕ). 20 * m) (length-range_with_len 1 k)
+    length-pieces (pbkdf2_block p s n) 20 (λ i. length-xored p (s ++ to_be_bytes w32 i) (n - 1)) (range_with_len 1 k)
+    ∙ ap (λ (m : ℕ). 20 * m) (length-range_with_len 1 k)
 
 blocks_next : (p s : List ℕ) (n i : ℕ) → blocks p s n (i + 1) ≡ blocks p s n i ++ pbkdf2_block p s n (i + 1)
 unfolding blocks

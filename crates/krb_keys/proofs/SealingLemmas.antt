@@ -51,12 +51,15 @@ opened key usage cipher plain text (confounder, c16, some, cb, pb, is) (isKey, l
     let whole : List ℕ = confounder ++ plain in
     let body : List ℕ = cts (aes ke) whole in
     let code : List ℕ = checksum_of key usage whole in
-    let long : length cipher ≡ length body + 12 = ap length is ∙ length-append body code ∙ ap (λ (n : ℕ). length body + n) (length-checksum_of key usage whole) in
+    let long : length cipher ≡ length body + 12 =
+    ap length is ∙ length-append body code ∙ ap (λ (n : ℕ). length body + n) (length-checksum_of key usage whole) in
     let n : ℕ = length cipher - 12 in
     let cut : length body ≡ n = omega arith in
     let front : take n cipher ≡ body = ap (take n) is ∙ take_at body code n cut in
     let back : drop n cipher ≡ code = ap (drop n) is ∙ drop_at body code n cut in
-    let same : text ≡ whole = et ∙ ap (uncts (unaes ke)) front ∙ uncts-cts (aes ke) (unaes ke) (aes_inverses ke isKey.1) whole (All-append (λ (x : ℕ). x < 256) confounder plain cb pb) (omega (arith, length-append confounder plain)) in
+    let same : text ≡ whole =
+    et ∙ ap (uncts (unaes ke)) front ∙ uncts-cts (aes ke) (unaes ke) (aes_inverses ke isKey.1) whole
+    (All-append (λ (x : ℕ). x < 256) confounder plain cb pb) (omega (arith, length-append confounder plain)) in
     (ap (checksum_of key usage) same ∙ sym back, ap (drop 16) same ∙ drop_at confounder plain 16 c16)
 
 -- a body that was deciphered in place
@@ -90,7 +93,13 @@ unfolding sealed
 length-sealed key usage text plain (confounder, c16, some, cb, pb, is) =
     let whole : List ℕ = confounder ++ plain in
     let long : length whole ≡ length plain + 16 = omega (arith, length-append confounder plain) in
-    omega (arith, ap length is, length-append (enciphered key usage whole) (checksum_of key usage whole), length-checksum_of key usage whole, length-enciphered key usage whole (omega arith))
+    omega (
+      arith,
+      ap length is,
+      length-append (enciphered key usage whole) (checksum_of key usage whole),
+      length-checksum_of key usage whole,
+      length-enciphered key usage whole (omega arith),
+    )
 
 -- so it has 29 bytes at least, and a shorter text seals nothing
 pub long_sealed : (key : Key) (usage : ℕ) (text plain : List ℕ) → IsSealed key usage text plain → 28 < length text
@@ -108,7 +117,8 @@ AreBytes-usage usage purpose small =
     let c : ℕ = usage / 256 % 256 in
     let d : ℕ = usage % 256 in
     let two : AreBytes (c ∷ d ∷ []) = All-cons P c (d ∷ []) (omega arith) (All-cons P d [] (omega arith) (All-nil P)) in
-    let four : AreBytes (to_be_bytes w32 usage) = All-cons P (usage / 16777216 % 256) (b ∷ c ∷ d ∷ []) (omega arith) (All-cons P b (c ∷ d ∷ []) (omega arith) two) in
+    let four : AreBytes (to_be_bytes w32 usage) = All-cons P
+    (usage / 16777216 % 256) (b ∷ c ∷ d ∷ []) (omega arith) (All-cons P b (c ∷ d ∷ []) (omega arith) two) in
     All-append P (to_be_bytes w32 usage) (purpose ∷ []) four (All-cons P purpose [] small (All-nil P))
 
 IsKey-encryption_key : (key : Key) (usage : ℕ) → IsProtocolKey key → IsKey (bytes_of (encryption_key key usage))
@@ -131,7 +141,8 @@ deciphered_again key usage text confounder plain is_key c16 some cb pb is =
     let n : ℕ = length text - 12 in
     let cut : length body ≡ n = omega (arith, ap length is, length-append body checksum, length-checksum_of key usage whole) in
     let front : take n text ≡ body = ap (take n) is ∙ take_at body checksum n cut in
-    let undone : uncts (unaes ke) body ≡ whole = uncts-cts (aes ke) (unaes ke) (aes_inverses ke isKey.1) whole (All-append (λ (x : ℕ). x < 256) confounder plain cb pb) long in (
+    let undone : uncts (unaes ke) body ≡ whole = uncts-cts (aes ke)
+    (unaes ke) (aes_inverses ke isKey.1) whole (All-append (λ (x : ℕ). x < 256) confounder plain cb pb) long in (
       isKey,
       sym (ap length front ∙ length-cts (aes ke) (length-aes ke) whole long),
       sym (ap (uncts (unaes ke)) front ∙ undone),

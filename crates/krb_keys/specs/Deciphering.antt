@@ -1,4 +1,4 @@
--- For the proofs of `unseal` alone: what its steps hand to one another.
+-- For the proofs of `unseal` alone: what holds between its steps.
 use Rattle.std.specs.Prelude.{◌≡◌, ◌-◌, ℕ, List, length, take, drop}
 use Rattle.krb_aes.specs.KeyExpansion.{IsKey}
 use Rattle.krb_aes.specs.Aes.{unaes}
@@ -7,7 +7,7 @@ use Rattle.krb_keys.specs.Keys.{bytes_of}
 use Rattle.krb_keys.specs.Sealing.{encryption_key, enciphered}
 use Rattle.krb_keys.specs.declared.key.Key.{Key}
 
--- a text of which a body was enciphered under Ke, as it is got back from the body
+-- a text that deciphering gives, under Ke, from this body
 unfoldable pub IsDeciphered : Key → ℕ → List ℕ → List ℕ → Type 0
 IsDeciphered key usage body text =
     let ke : List ℕ = bytes_of (encryption_key key usage) in

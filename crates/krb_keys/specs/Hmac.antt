@@ -8,7 +8,7 @@ key_block key =
     let short : List ℕ = (if nat_lt 64 (length key) then sha1 key else key) in
     short ++ replicate (64 - length short) 0
 
--- the key's block, xored with a byte: 0x36 makes the inner pad, 0x5c the outer
+-- the key's block, XORed with a byte: 0x36 makes the inner pad, 0x5c the outer
 unfoldable pub padded_key : ℕ → List ℕ → List ℕ
 padded_key pad key = map (λ b. bit_xor b pad) (key_block key)
 

@@ -1,4 +1,4 @@
--- n-fold (RFC 3961 section 5.1), by whole numbers.
+-- n-fold (RFC 3961 section 5.1), on natural numbers.
 use Rattle.std.specs.Prelude.{ℕ, zero, suc, ◌+◌, ◌-◌, ◌*◌, ◌/◌, ◌%◌, ◌^◌, ◌==◌, find, sum, map, List, [], ◌∷◌, ◌++◌, length, take, drop}
 use Rattle.std.specs.List.{flat_map, range_with_len}
 use Rattle.std.specs.Option.{unwrap_or}
@@ -13,11 +13,11 @@ unfoldable pub number_bytes : ℕ → ℕ → List ℕ
 number_bytes zero number = []
 number_bytes (suc n) number = number_bytes n (number / 256) ++ number % 256 ∷ []
 
--- a number of w bits, turned right by r of them
+-- a number of w bits, rotated right by r of them
 unfoldable pub turned : ℕ → ℕ → ℕ → ℕ
 turned w r number = number / 2 ^ r + number % 2 ^ r * 2 ^ (w - r)
 
--- copy i of the input, from 0: each is turned right by 13 bits from the one before
+-- copy i of the input, from 0: each is rotated right by 13 bits from the one before
 unfoldable pub copy : List ℕ → ℕ → List ℕ
 copy input i =
     let w : ℕ = 8 * length input in

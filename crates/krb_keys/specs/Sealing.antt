@@ -8,11 +8,11 @@ use Rattle.krb_keys.specs.Hmac.{hmac}
 use Rattle.krb_keys.specs.Keys.{bytes_of, dk}
 use Rattle.krb_keys.specs.declared.key.Key.{Key}
 
--- Ke, which enciphers, of a key and a key usage
+-- Ke, the encryption key, of a key and a key usage
 unfoldable pub encryption_key : Key → ℕ → Key
 encryption_key key usage = dk key (to_be_bytes w32 usage ++ 0xaa ∷ [])
 
--- Ki, which guards
+-- Ki, the integrity key
 unfoldable pub integrity_key : Key → ℕ → Key
 integrity_key key usage = dk key (to_be_bytes w32 usage ++ 0x55 ∷ [])
 
@@ -20,7 +20,7 @@ integrity_key key usage = dk key (to_be_bytes w32 usage ++ 0x55 ∷ [])
 unfoldable pub enciphered : Key → ℕ → List ℕ → List ℕ
 enciphered key usage text = cts (aes (bytes_of (encryption_key key usage))) text
 
--- their checksum: 96 bits of the HMAC under Ki
+-- their checksum: the first 96 bits of the HMAC under Ki
 unfoldable pub checksum_of : Key → ℕ → List ℕ → List ℕ
 checksum_of key usage text = take 12 (hmac (bytes_of (integrity_key key usage)) text)
 
@@ -35,6 +35,6 @@ IsSealed key usage text plain =
     (confounder : List ℕ) × (length confounder ≡ 16) × (0 < length plain)
     × AreBytes confounder × AreBytes plain × (text ≡ sealed key usage confounder plain)
 
--- a text is the sealed text of no plain text
+-- a text that seals no plain text
 abbrev pub SealsNothing : Key → ℕ → List ℕ → Type 0
 SealsNothing key usage text = (plain : List ℕ) → IsSealed key usage text plain → ⊥

@@ -26,12 +26,12 @@ abbrev pub Fold64Value : Type 0
 Fold64Value = nfold (codes "012345") 8 ≡
     0xbe ∷ 0x07 ∷ 0x26 ∷ 0x31 ∷ 0x27 ∷ 0x6b ∷ 0x19 ∷ 0x55 ∷ []
 
--- the same
+-- RFC 3961 appendix A.1, to 56 bits
 abbrev pub Fold56Value : Type 0
 Fold56Value = nfold (codes "password") 7 ≡
     0x78 ∷ 0xa0 ∷ 0x7b ∷ 0x6c ∷ 0xaf ∷ 0x85 ∷ 0xfa ∷ []
 
--- the same
+-- RFC 3961 appendix A.1, to 168 bits
 abbrev pub Fold168Value : Type 0
 Fold168Value = nfold (codes "ba") 21 ≡
     0xfb ∷ 0x25 ∷ 0xd5 ∷ 0x31 ∷ 0xae ∷ 0x89 ∷ 0x74 ∷ 0x49 ∷
@@ -50,7 +50,7 @@ Aes128KeyValue = s2k etype.Aes128 (codes "password") (codes "ATHENA.MIT.EDUraebu
     Aes128 (0x42 ∷ 0x26 ∷ 0x3c ∷ 0x6e ∷ 0x89 ∷ 0xf4 ∷ 0xfc ∷ 0x28 ∷
     0xb8 ∷ 0xdf ∷ 0x68 ∷ 0xee ∷ 0x09 ∷ 0x79 ∷ 0x9f ∷ 0x15 ∷ [])
 
--- the same, etype 18
+-- RFC 3962 appendix B, one iteration, etype 18
 abbrev pub Aes256KeyValue : Type 0
 Aes256KeyValue = s2k etype.Aes256 (codes "password") (codes "ATHENA.MIT.EDUraeburn") 1 ≡
     Aes256 (0xfe ∷ 0x69 ∷ 0x7b ∷ 0x52 ∷ 0xbc ∷ 0x0d ∷ 0x3c ∷ 0xe1 ∷

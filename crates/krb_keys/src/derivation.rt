@@ -1,4 +1,4 @@
-//! Keys derived from keys (RFC 3961 section 5.1).
+//! Keys derived from keys: DK (RFC 3961 section 5.1).
 ghost use Rattle.std.specs.Prelude.{◌≡◌, ◌≤◌, ◌++◌, length};
 ghost use Rattle.krb_keys.specs.Keys.{bytes_of, constant_block, dk};
 
@@ -39,8 +39,8 @@ fn two_blocks(first: &[u8; BLOCK_LEN], second: &[u8; BLOCK_LEN]) -> [u8; 32]
     bytes
 }
 
-/// The key derived from a key and a constant of 1 to 16 bytes: DK of RFC 3961 section 5.1, which
-/// takes the bytes of DR as they are (RFC 3962 section 6).
+/// The key derived from a key and a constant of 1 to 16 bytes: DK of RFC 3961 section 5.1, with random-to-key of RFC
+/// 3962 section 6, which takes the bytes as they are.
 pub fn derive_key(key: &Key, constant: &[u8]) -> Key
     requires some { 1 ≤ length constant.now }
     requires short { length constant.now ≤ 16 }

@@ -2,10 +2,10 @@
 ghost use Rattle.std.specs.Prelude.{◌≡◌, ℕ, ◌+◌, ◌-◌, ◌*◌, ◌/◌, ◌%◌, ◌^◌, ◌<◌, ◌≤◌, length, take, drop, slice_index};
 ghost use Rattle.krb_keys.specs.Nfold.{value, copy, copy_count, joined, residue, nfold};
 
-/// The most bytes that `nfold` takes and gives.
+/// The most bytes that `nfold` takes and returns.
 pub const FOLD_MAX_LEN: usize = 1024;
 
-// The bits that each copy of the input is turned right from the one before.
+// The bits by which each copy of the input is rotated right from the one before.
 const TURN: usize = 13;
 
 // How many copies of `len` bytes make up whole parts of `part_len` bytes.
@@ -57,7 +57,7 @@ fn take_part(input: &[u8], start: usize, part: &mut [u8])
     }
 }
 
-// Adds `part` to `sum`, as numbers of as many bytes, and gives the carry.
+// Adds `part` to `sum`, as numbers of as many bytes, and returns the carry.
 fn add_bytes(sum: &mut [u8], part: &[u8]) -> u16
     requires { length sum.old ≡ length part.now }
     ensures small { result ≤ 1 }

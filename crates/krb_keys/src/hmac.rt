@@ -17,7 +17,7 @@ const INNER_PAD: u8 = 0x36;
 const OUTER_PAD: u8 = 0x5c;
 
 // `bytes`, with zeros after them.
-fn filled(bytes: &[u8]) -> [u8; HASH_BLOCK_LEN]
+fn zero_padded(bytes: &[u8]) -> [u8; HASH_BLOCK_LEN]
     requires { length bytes.now ≤ 64 }
     ensures { result ≡ bytes.now ++ replicate (64 - length bytes.now) 0 }
 {
@@ -31,14 +31,14 @@ fn key_block(key: &[u8]) -> [u8; HASH_BLOCK_LEN]
     ensures { result ≡ key_block key.now }
 {
     if key.len() > HASH_BLOCK_LEN {
-        filled(&Sha1::digest(key))
+        zero_padded(&Sha1::digest(key))
     } else {
-        filled(key)
+        zero_padded(key)
     }
 }
 
-// The hash that has taken in `block`, each byte xored with `pad`.
-fn padded(block: &[u8; HASH_BLOCK_LEN], pad: u8) -> Sha1
+// The hash state after `block`, each byte XORed with `pad`.
+fn hash_of_pad(block: &[u8; HASH_BLOCK_LEN], pad: u8) -> Sha1
     ensures { Holds result (map (λ b. bit_xor b pad) block.now) }
 {
     let mut bytes = *block;
@@ -71,8 +71,8 @@ impl KeyedHmac {
     {
         let block = key_block(key);
         KeyedHmac {
-            inner: padded(&block, INNER_PAD),
-            outer: padded(&block, OUTER_PAD),
+            inner: hash_of_pad(&block, INNER_PAD),
+            outer: hash_of_pad(&block, OUTER_PAD),
         }
     }
 
@@ -95,7 +95,7 @@ impl KeyedHmac {
         self.outer_hash(first)
     }
 
-    // The outer hash of what `inner` holds.
+    // The outer hash over the digest of `inner`.
     fn outer_hash(&self, inner: Sha1) -> [u8; HMAC_LEN]
         ensures { (key text : List ℕ) → IsKeyed self.now key
             → Holds inner (padded_key 0x36 key ++ text) → result ≡ hmac key text }

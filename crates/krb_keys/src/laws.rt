@@ -1,5 +1,4 @@
-//! What is true of the definitions that the contracts cite. A call does nothing: it tells a proof
-//! the law.
+//! What is true of the definitions that the contracts cite. A call does nothing at run time: it gives a proof the law.
 
 ghost use Rattle.std.specs.Prelude.{◌≡◌};
 ghost use Rattle.krb_keys.specs.KeyUsages.{usage_ticket, usage_ap_req_authenticator, usage_ap_rep_enc_part, usage_krb_priv};
@@ -23,8 +22,7 @@ pub fn one_plain_text()
     ensures only { OnePlainText }
 {}
 
-/// What is sealed opens: the sealed text of a plain text, with any confounder, seals it and no
-/// other.
+/// What is sealed opens: the sealed text of a plain text, with any confounder, seals it and no other.
 pub fn sealed_opens()
     ensures only { SealedOpens }
 {}

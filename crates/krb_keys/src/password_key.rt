@@ -10,7 +10,7 @@ use crate::hmac::{HMAC_LEN, KeyedHmac};
 use crate::key::Key;
 use krb_aes::xor_into;
 
-/// The most bytes that `pbkdf2` gives.
+/// The most bytes that `pbkdf2` returns.
 pub const PBKDF2_MAX_LEN: usize = 1024;
 
 // The constant of keys from passwords (RFC 3962 section 4).

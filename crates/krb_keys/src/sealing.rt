@@ -43,7 +43,7 @@ pub enum UnsealFault {
     /// It has 28 bytes or fewer: a confounder and a checksum, with nothing between them.
     #[error("too short for a sealed text")]
     TooShort,
-    /// Its checksum is another one: it is not sealed under this key and usage.
+    /// Its checksum is wrong: it is not sealed under this key and usage.
     #[error("not sealed under this key and usage")]
     BadMac,
     /// Memory ran out before the checksum was compared. Never where the text is too short.
@@ -78,9 +78,9 @@ fn checksum_of(key: &Key, usage: u32, text: &[u8]) -> [u8; CHECKSUM_LEN]
     checksum
 }
 
-/// Seals a text, of at least one byte, under a key, for a key usage (RFC 3961 section 5.3, RFC 3962
-/// section 6): the confounder and the text, enciphered, and then their checksum, 28 bytes more than
-/// the text. It fails only where memory does.
+/// Seals a text, of at least one byte, under a key for a key usage (RFC 3961 section 5.3, RFC 3962 section 6): the
+/// confounder of 16 bytes and the text, enciphered, and then their checksum, 28 bytes more than the text. It fails only
+/// where memory does.
 #[tactic(auto, unfolding(crate::specs::Sealing::sealed, crate::specs::Sealing::enciphered))]
 pub fn seal(
     alloc: Global,
@@ -110,8 +110,8 @@ fn is_checksum(key: &Key, usage: u32, text: &[u8], checksum: &[u8]) -> bool
     checksum_of(key, usage, text).as_slice() == checksum
 }
 
-// Deciphers a text in place, all but its checksum, and tells whether that checksum is the right one.
-// Then the plain text stands between confounder and checksum.
+// Deciphers a text in place, all but its checksum, and answers whether that checksum is right. Then the plain text
+// stands between confounder and checksum.
 fn opens_in_place(key: &Key, usage: u32, cipher: &mut [u8]) -> bool
     requires { 28 < length cipher.old }
     ensures len { length cipher.new ≡ length cipher.old }
@@ -130,19 +130,19 @@ fn plain_part(mut text: Vec<u8>) -> Vec<u8>
     requires { 28 < length text.items }
     ensures { result.items ≡ plain_part text.items }
 {
-    // The confounder goes to the end, where it is cut off: that takes no memory.
+    // The confounder is moved to the end and cut off there, which takes no memory.
     text.truncate(text.len() - CHECKSUM_LEN);
     text.rotate_left(CONFOUNDER_LEN);
     text.truncate(text.len() - CONFOUNDER_LEN);
     text
 }
 
-/// Opens a text that was sealed under a key, for a key usage, where it stands: the plain text, 28
-/// bytes shorter, is a part of what the text becomes, and no memory is taken. A text seals at most
-/// one plain text under a key and a usage (`laws::one_plain_text`).
+/// Opens, in place, a text that was sealed under a key for a key usage: the plain text, 28 bytes shorter, is a part of
+/// the text, and no memory is taken. A text seals at most one plain text under a key and a usage
+/// (`laws::one_plain_text`).
 ///
-/// A text of 28 bytes or fewer is refused as `TooShort`, any other that seals nothing as `BadMac`.
-/// A text that was refused is of no further use: what was deciphered of it is not to be believed.
+/// A text of 28 bytes or fewer is refused as `TooShort`, any other that seals nothing as `BadMac`. The content of a
+/// refused text must not be used: it is deciphered and not authentic.
 pub fn unseal_in_place<'a>(
     key: &Key,
     usage: u32,
@@ -169,9 +169,8 @@ pub fn unseal_in_place<'a>(
     Ok(&text[CONFOUNDER_LEN..])
 }
 
-/// Opens a text that was sealed under a key, for a key usage, and leaves it as it is: the plain
-/// text, 28 bytes shorter, in memory of its own. What it gives and refuses is what
-/// [`unseal_in_place`] does, but for memory.
+/// Opens a text that was sealed under a key for a key usage, and leaves it unchanged: the plain text, 28 bytes shorter,
+/// is in new memory. It answers as [`unseal_in_place`] does, or `Memory`.
 pub fn unseal(alloc: Global, key: &Key, usage: u32, cipher: &[u8]) -> Result<Vec<u8>, UnsealFault>
     ensures first { IsErrOf result UnsealFault.TooShort ↔ length cipher.now ≤ 28 }
     ensures too_short { IsErrOf result UnsealFault.TooShort

@@ -1,5 +1,6 @@
 -- Records read one after the other, as the loop does.
-use Rattle.std.proofs.Common.{◌≡◌, ℕ, zero, suc, ◌-◌, ◌+◌, ◌≤◌, Bool, true, false, cond, List, [], ◌∷◌, ◌++◌, length, Some, None, Result, Ok, Err, refl, sym, ap, subst, ◌∙◌, append_assoc, arith}
+use Rattle.std.proofs.Common.{◌≡◌, ℕ, zero, suc, ◌-◌, ◌+◌, ◌≤◌, Bool, true, false, cond, List, [], ◌∷◌, ◌++◌}
+use Rattle.std.proofs.Common.{length, Some, None, Result, Ok, Err, refl, sym, ap, subst, ◌∙◌, append_assoc, arith}
 use Rattle.std.proofs.lemmas.List.{append-nil, length-take-le, length-drop}
 use Rattle.std.proofs.lemmas.Bool.{ltb-false}
 use Rattle.std.specs.Prelude.{take, drop, nat_lt, ◌==◌, ◌^◌}
@@ -19,7 +20,8 @@ pub starts_out : (read : Result (List Entry) KeytabFault) → with_front [] read
 starts_out (Ok es) = refl
 starts_out (Err fault) = refl
 
-regroup : (front : List Entry) (e : Entry) (read : Result (List Entry) KeytabFault) → with_front front (read >>= λ es. Ok (e ∷ es)) ≡ with_front (front ++ e ∷ []) read
+regroup : (front : List Entry) (e : Entry) (read : Result (List Entry) KeytabFault)
+    → with_front front (read >>= λ es. Ok (e ∷ es)) ≡ with_front (front ++ e ∷ []) read
 regroup front e (Ok es) = ap (λ (xs : List Entry). Ok xs) (simp append_assoc)
 regroup front e (Err fault) = refl
 
@@ -37,7 +39,8 @@ at_end place (x ∷ xs) none = absurd (omega arith)
 
 -- what a record that is found says of the tests before it
 found : (place : ℕ) (a b c d e : Bool) (p q : Piece)
-    → cond a (Ok None) (cond b (Err (CutOff place)) (cond c (Ok None) (cond d (Err (BadLength place)) (cond e (Err (CutOff place)) (Ok (Some p)))))) ≡ Ok (Some q)
+    → cond a (Ok None) (cond b (Err (CutOff place))
+    (cond c (Ok None) (cond d (Err (BadLength place)) (cond e (Err (CutOff place)) (Ok (Some p)))))) ≡ Ok (Some q)
     → (b ≡ false) × (e ≡ false) × (p ≡ q)
 found place false false false false false p q h = (refl, refl, cc)
 found place a b c d e p q h = cc
@@ -54,8 +57,8 @@ whole place bytes piece h =
     let fits : size_of n ≤ length behind = ltb-false _ _ f.1 in
     let size : length (take (size_of n) behind) ≡ size_of n = length-take-le (size_of n) behind fits in
     let left : length (drop (size_of n) behind) ≡ length behind - size_of n = length-drop (size_of n) behind in
-    let behind_is : length behind ≡ length bytes - 4 = length-drop 4 bytes in
-    let made_whole : length bytes ≡ 4 + length made.bytes + length made.rest = omega (arith, four, fits, size, left, behind_is) in
+    let after_is : length behind ≡ length bytes - 4 = length-drop 4 bytes in
+    let made_whole : length bytes ≡ 4 + length made.bytes + length made.rest = omega (arith, four, fits, size, left, after_is) in
     subst (λ (p : Piece). length bytes ≡ 4 + length p.bytes + length p.rest) f.2 made_whole
 
 pub begins : (file : List ℕ) (place : ℕ) (rest : List ℕ) → length rest ≤ length file → IsBegun [] place rest (from_place (length file) place rest)
@@ -66,11 +69,13 @@ pub past_entry : (front : List Entry) (place : ℕ) (rest : List ℕ) (total : R
     → IsBegun (front ++ e ∷ []) (place + (4 + length piece.bytes)) piece.rest total
 past_entry front place rest total piece e begun next is one = past begun.budget begun.enough begun.so_far
   where
-    past : (budget : ℕ) → length rest ≤ budget → with_front front (from_place budget place rest) ≡ total → IsBegun (front ++ e ∷ []) (place + (4 + length piece.bytes)) piece.rest total
+    past : (budget : ℕ) → length rest ≤ budget → with_front front (from_place budget place rest) ≡ total
+        → IsBegun (front ++ e ∷ []) (place + (4 + length piece.bytes)) piece.rest total
     past zero enough so_far = let none = at_end place rest enough in absurd cc
     past (suc b) enough so_far =
         let size = whole place rest piece next in
-        let step : with_front front (from_place (suc b) place rest) ≡ with_front (front ++ e ∷ []) (from_place b (place + (4 + length piece.bytes)) piece.rest) =
+        let step : with_front front (from_place (suc b) place rest)
+        ≡ with_front (front ++ e ∷ []) (from_place b (place + (4 + length piece.bytes)) piece.rest) =
         rw (next, is, one) (regroup front e (from_place b (place + (4 + length piece.bytes)) piece.rest)) in
         record { budget = b; enough = omega (arith, size, enough); so_far = sym step ∙ so_far }
 
@@ -79,11 +84,13 @@ pub past_hole : (front : List Entry) (place : ℕ) (rest : List ℕ) (total : Re
     → IsBegun front (place + (4 + length piece.bytes)) piece.rest total
 past_hole front place rest total piece begun next is = past begun.budget begun.enough begun.so_far
   where
-    past : (budget : ℕ) → length rest ≤ budget → with_front front (from_place budget place rest) ≡ total → IsBegun front (place + (4 + length piece.bytes)) piece.rest total
+    past : (budget : ℕ) → length rest ≤ budget → with_front front (from_place budget place rest) ≡ total
+        → IsBegun front (place + (4 + length piece.bytes)) piece.rest total
     past zero enough so_far = let none = at_end place rest enough in absurd cc
     past (suc b) enough so_far =
         let size = whole place rest piece next in
-        let step : with_front front (from_place (suc b) place rest) ≡ with_front front (from_place b (place + (4 + length piece.bytes)) piece.rest) = rw (next, is) refl in
+        let step : with_front front (from_place (suc b) place rest)
+        ≡ with_front front (from_place b (place + (4 + length piece.bytes)) piece.rest) = rw (next, is) refl in
         record { budget = b; enough = omega (arith, size, enough); so_far = sym step ∙ so_far }
 
 -- a fault of a record is that of the file

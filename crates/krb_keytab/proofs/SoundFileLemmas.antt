@@ -1,5 +1,7 @@
 -- What is read was written so: whole files.
-use Rattle.std.proofs.Common.{◌≡◌, ℕ, zero, suc, ◌+◌, ◌-◌, ◌^◌, ◌<◌, ◌≤◌, Bool, true, false, cond, List, [], ◌∷◌, ◌++◌, length, take, drop, Option, Some, None, Result, Ok, Err, refl, sym, ap, subst, ◌∙◌, append_assoc, arith, inl, inr, ◌⊎◌, lit<}
+use Rattle.std.proofs.Common.{◌≡◌, ℕ, zero, suc, ◌+◌, ◌-◌, ◌^◌, ◌<◌, ◌≤◌, Bool, true, false, cond}
+use Rattle.std.proofs.Common.{List, [], ◌∷◌, ◌++◌, length, take, drop, Option, Some, None, Result, Ok}
+use Rattle.std.proofs.Common.{Err, refl, sym, ap, subst, ◌∙◌, append_assoc, arith, inl, inr, ◌⊎◌, lit<}
 use Rattle.std.specs.Prelude.{nat_lt, ◌==◌, not, ◌||◌, All}
 use Rattle.std.specs.Int.{from_be_bytes, to_be_bytes, w16, w32}
 use Rattle.std.proofs.lemmas.Bool.{ltb-false, ltb-true, eqb-true, eqb-false}
@@ -32,7 +34,8 @@ found_entry place None f h = absurd cc
 -- ---- a record
 
 found : (place : ℕ) (a b c d e : Bool) (p q : Piece)
-    → cond a (Ok None) (cond b (Err (CutOff place)) (cond c (Ok None) (cond d (Err (BadLength place)) (cond e (Err (CutOff place)) (Ok (Some p)))))) ≡ Ok (Some q)
+    → cond a (Ok None) (cond b (Err (CutOff place))
+    (cond c (Ok None) (cond d (Err (BadLength place)) (cond e (Err (CutOff place)) (Ok (Some p)))))) ≡ Ok (Some q)
     → (b ≡ false) × (c ≡ false) × (d ≡ false) × (e ≡ false) × (p ≡ q)
 found place false false false false false p q h = (refl, refl, refl, refl, cc)
 found place a b c d e p q h = cc
@@ -72,7 +75,7 @@ record_takes place bytes piece fits h =
     let f = found place (length bytes == 0) (nat_lt (length bytes) 4) (n == 0) (n == 2 ^ 31) (nat_lt (length behind) (size_of n)) made piece h in
     let four : 4 ≤ length bytes = ltb-false _ _ f.0 in
     let within : size_of n ≤ length behind = ltb-false _ _ f.3 in
-    let behind_fits = IsBytes-drop 4 bytes fits in
+    let after_fits = IsBytes-drop 4 bytes fits in
     let made_is : IsRecord bytes made n = record {
       parts = head_is bytes fits four ∙ ap (λ (t : List ℕ). to_be_bytes w32 n ++ t) (sym (take-append-drop (size_of n) behind));
       small = sound32.below (take 4 bytes) (IsBytes-take 4 bytes fits);
@@ -80,8 +83,8 @@ record_takes place bytes piece fits h =
       other = eqb-false _ _ f.2;
       sign = refl;
       size = sym (length-take-le (size_of n) behind within);
-      bytes_fit = IsBytes-take (size_of n) behind behind_fits;
-      rest_fits = IsBytes-drop (size_of n) behind behind_fits;
+      bytes_fit = IsBytes-take (size_of n) behind after_fits;
+      rest_fits = IsBytes-drop (size_of n) behind after_fits;
     } in
     subst (λ (p : Piece). IsRecord bytes p n) f.4 made_is
 
@@ -109,10 +112,14 @@ record IsFile (place : ℕ) (bytes : List ℕ) (es : List Entry) : Type 0 where
   ended : IsEnd rest
   entries : es ≡ entries_of written
 
-one_more : (r : Record) (rs : List Record) (bytes behind rest : List ℕ) → bytes ≡ record_bytes r ++ behind → behind ≡ records_bytes rs ++ rest → bytes ≡ records_bytes (r ∷ rs) ++ rest
-one_more r rs bytes behind rest h g = h ∙ ap (λ (t : List ℕ). record_bytes r ++ t) g ∙ sym (ap (λ (t : List ℕ). t ++ rest) (flat_map-cons record_bytes r rs) ∙ append_assoc (record_bytes r) (records_bytes rs) rest)
+one_more : (r : Record) (rs : List Record) (bytes behind rest : List ℕ)
+    → bytes ≡ record_bytes r ++ behind → behind ≡ records_bytes rs ++ rest → bytes ≡ records_bytes (r ∷ rs) ++ rest
+one_more r rs bytes behind rest h g = h
+    ∙ ap (λ (t : List ℕ). record_bytes r ++ t) g ∙ sym (ap (λ (t : List ℕ). t ++ rest) (flat_map-cons record_bytes r rs)
+    ∙ append_assoc (record_bytes r) (records_bytes rs) rest)
 
-with_entry : (place n : ℕ) (bytes : List ℕ) (piece : Piece) (e : Entry) (es : List Entry) → IsRecord bytes piece n → piece.is_entry ≡ true → entry_at place piece.bytes ≡ Some e
+with_entry : (place n : ℕ) (bytes : List ℕ) (piece : Piece) (e : Entry) (es : List Entry)
+    → IsRecord bytes piece n → piece.is_entry ≡ true → entry_at place piece.bytes ≡ Some e
     → IsFile (place + (4 + length piece.bytes)) piece.rest es → IsFile place bytes (e ∷ es)
 unfolding IsWritten
 with_entry place n bytes piece e es is yes' one more =
@@ -121,7 +128,9 @@ with_entry place n bytes piece e es is yes' one more =
     let w = entry_takes place piece.bytes e is.bytes_fit (omega arith) one in
     let r : Record = an_entry e w.0 w.1 in
     let stated_is : n ≡ stated r = size ∙ ap length w.2 in
-    let whole : bytes ≡ record_bytes r ++ piece.rest = is.parts ∙ ap (λ (k : ℕ). to_be_bytes w32 k ++ (piece.bytes ++ piece.rest)) stated_is ∙ ap (λ (t : List ℕ). to_be_bytes w32 (stated r) ++ (t ++ piece.rest)) w.2 in
+    let whole : bytes ≡ record_bytes r ++ piece.rest =
+    is.parts ∙ ap (λ (k : ℕ). to_be_bytes w32 k ++ (piece.bytes ++ piece.rest)) stated_is
+    ∙ ap (λ (t : List ℕ). to_be_bytes w32 (stated r) ++ (t ++ piece.rest)) w.2 in
     let len = ap length w.2 in
     let next : place + (4 + length piece.bytes) ≡ place + length (record_bytes r) = omega (arith, len) in
     record {
@@ -157,18 +166,23 @@ at_end : (place : ℕ) (bytes : List ℕ) (es : List Entry) → IsEnd bytes → 
 at_end place bytes es is e = record { written = []; rest = bytes; stand = tt; parts = refl; ended = is; entries = sym (ok_is [] es e) }
 
 -- by whether the record is an entry
-from_record : (budget place n : ℕ) (bytes : List ℕ) (piece : Piece) (b : Bool) (es : List Entry) → IsRecord bytes piece n → piece.is_entry ≡ b → length bytes ≤ suc budget
-    → cond b (or_bad place (entry_at place piece.bytes) >>= λ first. from_place budget (place + (4 + length piece.bytes)) piece.rest >>= λ more. Ok (first ∷ more)) (from_place budget (place + (4 + length piece.bytes)) piece.rest) ≡ Ok es
+from_record : (budget place n : ℕ) (bytes : List ℕ) (piece : Piece) (b : Bool) (es : List Entry)
+    → IsRecord bytes piece n → piece.is_entry ≡ b → length bytes ≤ suc budget
+    → cond b (or_bad place (entry_at place piece.bytes)
+    >>= λ first. from_place budget (place + (4 + length piece.bytes)) piece.rest
+    >>= λ more. Ok (first ∷ more)) (from_place budget (place + (4 + length piece.bytes)) piece.rest) ≡ Ok es
     → ((place : ℕ) (es : List Entry) → from_place budget place piece.rest ≡ Ok es → IsFile place piece.rest es)
     → IsFile place bytes es
 from_record budget place n bytes piece true es is b enough h others =
-    let one = bind_ok (or_bad place (entry_at place piece.bytes)) (λ first. from_place budget (place + (4 + length piece.bytes)) piece.rest >>= λ more. Ok (first ∷ more)) es h in
+    let one = bind_ok (or_bad place (entry_at place piece.bytes))
+    (λ first. from_place budget (place + (4 + length piece.bytes)) piece.rest >>= λ more. Ok (first ∷ more)) es h in
     let more = bind_ok (from_place budget (place + (4 + length piece.bytes)) piece.rest) (λ more. Ok (one.0 ∷ more)) es one.2 in
     subst (λ (xs : List Entry). IsFile place bytes xs) (ok_is (one.0 ∷ more.0) es more.2)
     (with_entry place n bytes piece one.0 more.0 is b (found_entry place _ one.0 one.1) (others (place + (4 + length piece.bytes)) more.0 more.1))
 from_record budget place n bytes piece false es is b enough h others = with_hole place n bytes piece es is b (others (place + (4 + length piece.bytes)) es h)
 
-from_next : (budget place : ℕ) (bytes : List ℕ) (next : Option Piece) (es : List Entry) → IsBytes bytes → length bytes ≤ suc budget → record_at place bytes ≡ Ok next
+from_next : (budget place : ℕ) (bytes : List ℕ) (next : Option Piece) (es : List Entry)
+    → IsBytes bytes → length bytes ≤ suc budget → record_at place bytes ≡ Ok next
     → entries_from (from_place budget) place next ≡ Ok es
     → ((place : ℕ) (rest : List ℕ) (es : List Entry) → IsBytes rest → length rest ≤ budget → from_place budget place rest ≡ Ok es → IsFile place rest es)
     → IsFile place bytes es
@@ -177,9 +191,11 @@ from_next budget place bytes (Some piece) es fits enough is h others =
     let r = record_takes place bytes piece fits is in
     let size = ap length r.parts in
     let parts = length-append piece.bytes piece.rest in
-    from_record budget place (length_at bytes) bytes piece piece.is_entry es r refl enough h (λ p xs g. others p piece.rest xs r.rest_fits (omega (arith, size, parts, enough)) g)
+    from_record budget place (length_at bytes) bytes piece piece.is_entry es r refl enough h
+    (λ p xs g. others p piece.rest xs r.rest_fits (omega (arith, size, parts, enough)) g)
 
-files : (budget place : ℕ) (bytes : List ℕ) (es : List Entry) → IsBytes bytes → length bytes ≤ budget → from_place budget place bytes ≡ Ok es → IsFile place bytes es
+files : (budget place : ℕ) (bytes : List ℕ) (es : List Entry)
+    → IsBytes bytes → length bytes ≤ budget → from_place budget place bytes ≡ Ok es → IsFile place bytes es
 files zero place bytes es fits enough h = at_end place bytes es (inl (nil_from_length bytes (omega arith))) h
 files (suc budget) place bytes es fits enough h =
     let next = bind_ok (record_at place bytes) (entries_from (from_place budget) place) es h in
@@ -192,7 +208,8 @@ bytes_at [] h i = lit< tt
 bytes_at (x ∷ xs) h zero = All-head (λ b. b < 256) x xs h
 bytes_at (x ∷ xs) h (suc i) = bytes_at xs (All-tail (λ b. b < 256) x xs h) i
 
-not_refused : (a b : Bool) (x : Result (List Entry) KeytabFault) (es : List Entry) → cond (a || not b) (Err NotKeytab) x ≡ Ok es → (a ≡ false) × (b ≡ true) × (x ≡ Ok es)
+not_refused : (a b : Bool) (x : Result (List Entry) KeytabFault) (es : List Entry)
+    → cond (a || not b) (Err NotKeytab) x ≡ Ok es → (a ≡ false) × (b ≡ true) × (x ≡ Ok es)
 not_refused false true x es h = (refl, refl, h)
 not_refused a b x es h = absurd cc
 
@@ -205,5 +222,6 @@ read_is_written bytes es small h =
     let head : to_be_bytes w16 n ≡ take 2 bytes = be_bytes_2 (take 2 bytes) _ (length-take-le 2 bytes two) (IsBytes-take 2 bytes fits) refl in
     let version : take 2 bytes ≡ 5 ∷ 2 ∷ [] = sym head ∙ ap (to_be_bytes w16) (eqb-true _ _ g.1) in
     let f = files (length bytes) 2 (drop 2 bytes) es (IsBytes-drop 2 bytes fits) (omega (arith, length-drop 2 bytes)) g.2 in
-    let whole : bytes ≡ file_bytes f.written ++ f.rest = sym (take-append-drop 2 bytes) ∙ ap (λ (t : List ℕ). t ++ drop 2 bytes) version ∙ ap (λ (t : List ℕ). 5 ∷ 2 ∷ t) f.parts in
+    let whole : bytes ≡ file_bytes f.written ++ f.rest = sym (take-append-drop 2 bytes)
+    ∙ ap (λ (t : List ℕ). t ++ drop 2 bytes) version ∙ ap (λ (t : List ℕ). 5 ∷ 2 ∷ t) f.parts in
     (f.written, f.rest, f.stand, whole, f.ended, f.entries)

@@ -1,5 +1,7 @@
 -- What is read was written so: fields, entries and records.
-use Rattle.std.proofs.Common.{◌≡◌, ℕ, zero, suc, ◌+◌, ◌^◌, ◌<◌, ◌≤◌, Bool, true, false, cond, ltb, List, [], ◌∷◌, ◌++◌, length, get_or, take, drop, Option, Some, None, refl, sym, ap, subst, ◌∙◌, append_assoc, arith, inl, inr}
+use Rattle.std.proofs.Common.{◌≡◌, ℕ, zero, suc, ◌+◌, ◌^◌, ◌<◌, ◌≤◌, Bool, true, false, cond}
+use Rattle.std.proofs.Common.{ltb, List, [], ◌∷◌, ◌++◌, length, get_or, take, drop, Option, Some}
+use Rattle.std.proofs.Common.{None, refl, sym, ap, subst, ◌∙◌, append_assoc, arith, inl, inr}
 use Rattle.std.specs.Int.{Width, w8, w16, w32, byte_len, cast_signed, cast_unsigned, from_be_bytes, to_be_bytes}
 use Rattle.std.specs.Int.RustNames.{FitsSigned}
 use Rattle.std.specs.List.{flat_map, AllByRecursion}
@@ -66,8 +68,10 @@ number_takes w limit sound bytes n rest fits e =
     let front : List ℕ = take (byte_len w) bytes in
     let g = guard_some (ltb (length bytes) (byte_len w)) (from_be_bytes w front, drop (byte_len w) bytes) (n, rest) e in
     let long : byte_len w ≤ length bytes = ltb-false _ _ g.0 in
-    let is : to_be_bytes w (from_be_bytes w front) ≡ front = sound.back front (omega (arith, length-take (byte_len w) bytes)) (IsBytes-take (byte_len w) bytes fits) in
-    let parts : bytes ≡ to_be_bytes w (from_be_bytes w front) ++ drop (byte_len w) bytes = sym (take-append-drop (byte_len w) bytes) ∙ ap (λ (t : List ℕ). t ++ drop (byte_len w) bytes) (sym is) in
+    let is : to_be_bytes w (from_be_bytes w front) ≡ front =
+    sound.back front (omega (arith, length-take (byte_len w) bytes)) (IsBytes-take (byte_len w) bytes fits) in
+    let parts : bytes ≡ to_be_bytes w (from_be_bytes w front) ++ drop (byte_len w) bytes =
+    sym (take-append-drop (byte_len w) bytes) ∙ ap (λ (t : List ℕ). t ++ drop (byte_len w) bytes) (sym is) in
     subst (λ (p : ℕ × List ℕ). (bytes ≡ to_be_bytes w p.0 ++ p.1) × IsBytes p.1 × (p.0 < limit)) g.1
     (parts, IsBytes-drop (byte_len w) bytes fits, sound.below front (IsBytes-take (byte_len w) bytes fits))
 
@@ -82,7 +86,8 @@ counted_takes bytes text rest fits e =
     let g = guard_some (ltb (length n.1) n.0) (take n.0 n.1, drop n.0 n.1) (text, rest) b.2 in
     let long : n.0 ≤ length n.1 = ltb-false _ _ g.0 in
     let len : length (take n.0 n.1) ≡ n.0 = omega (arith, length-take n.0 n.1) in
-    let parts : bytes ≡ to_be_bytes w16 n.0 ++ (take n.0 n.1 ++ drop n.0 n.1) = t.0 ∙ ap (λ (r : List ℕ). to_be_bytes w16 n.0 ++ r) (sym (take-append-drop n.0 n.1)) in
+    let parts : bytes ≡ to_be_bytes w16 n.0 ++ (take n.0 n.1 ++ drop n.0 n.1) =
+    t.0 ∙ ap (λ (r : List ℕ). to_be_bytes w16 n.0 ++ r) (sym (take-append-drop n.0 n.1)) in
     let whole : bytes ≡ counted (take n.0 n.1) ++ drop n.0 n.1 = parts ∙ ap (λ (k : ℕ). to_be_bytes w16 k ++ (take n.0 n.1 ++ drop n.0 n.1)) (sym len) in
     subst (λ (p : List ℕ × List ℕ). (bytes ≡ counted p.0 ++ p.1) × IsBytes p.1 × IsShort p.0) g.1 (whole, IsBytes-drop n.0 n.1 t.1, omega (arith, t.2))
 
@@ -90,16 +95,20 @@ components_take : (n : ℕ) (bytes : List ℕ) (x : List (List ℕ) × List ℕ)
     → (bytes ≡ flat_map counted x.0 ++ x.1) × IsBytes x.1 × (length x.0 ≡ n) × AllByRecursion IsShort x.0
 unfolding components_at
 components_take zero bytes x fits e =
-    subst (λ (y : List (List ℕ) × List ℕ). (bytes ≡ flat_map counted y.0 ++ y.1) × IsBytes y.1 × (length y.0 ≡ 0) × AllByRecursion IsShort y.0) (some_is ([], bytes) x e) (refl, fits, refl, tt)
+    subst (λ (y : List (List ℕ) × List ℕ). (bytes ≡ flat_map counted y.0 ++ y.1)
+    × IsBytes y.1 × (length y.0 ≡ 0) × AllByRecursion IsShort y.0) (some_is ([], bytes) x e) (refl, fits, refl, tt)
 components_take (suc n) bytes x fits e =
     let a = bind_some (counted_at bytes) (λ first. components_at n first.1 >>= λ others. Some (first.0 ∷ others.0, others.1)) x e in
     let b = bind_some (components_at n a.0.1) (λ others. Some (a.0.0 ∷ others.0, others.1)) x a.2 in
     let first = counted_takes bytes a.0.0 a.0.1 fits a.1 in
     let second = components_take n a.0.1 b.0 first.1 b.1 in
     let made : List (List ℕ) × List ℕ = (a.0.0 ∷ b.0.0, b.0.1) in
-    let regrouped : flat_map counted (a.0.0 ∷ b.0.0) ++ b.0.1 ≡ counted a.0.0 ++ (flat_map counted b.0.0 ++ b.0.1) = ap (λ (t : List ℕ). t ++ b.0.1) (flat_map-cons counted a.0.0 b.0.0) ∙ append_assoc (counted a.0.0) (flat_map counted b.0.0) b.0.1 in
+    let regrouped : flat_map counted (a.0.0 ∷ b.0.0) ++ b.0.1 ≡ counted a.0.0 ++ (flat_map counted b.0.0 ++ b.0.1) =
+    ap (λ (t : List ℕ). t ++ b.0.1) (flat_map-cons counted a.0.0 b.0.0)
+    ∙ append_assoc (counted a.0.0) (flat_map counted b.0.0) b.0.1 in
     let parts : bytes ≡ flat_map counted (a.0.0 ∷ b.0.0) ++ b.0.1 = first.0 ∙ ap (λ (t : List ℕ). counted a.0.0 ++ t) second.0 ∙ sym regrouped in
-    subst (λ (y : List (List ℕ) × List ℕ). (bytes ≡ flat_map counted y.0 ++ y.1) × IsBytes y.1 × (length y.0 ≡ suc n) × AllByRecursion IsShort y.0) (some_is made x b.2) (parts, second.1, ap suc second.2, (first.2, second.3))
+    subst (λ (y : List (List ℕ) × List ℕ). (bytes ≡ flat_map counted y.0 ++ y.1) × IsBytes y.1 × (length y.0 ≡ suc n)
+    × AllByRecursion IsShort y.0) (some_is made x b.2) (parts, second.1, ap suc second.2, (first.2, second.3))
 
 -- ---- an entry
 
@@ -142,7 +151,7 @@ abbrev from_count : (place : ℕ) → ℕ × List ℕ → Option Entry
 from_count place count = counted_at count.1 >>= from_realm place count.0
 
 unfoldable pub IsWritten : ℕ → List ℕ → Entry → Type 0
-IsWritten place bytes e = (short : ℕ) × (behind_key : List ℕ) × (bytes ≡ fields e short behind_key) × (e.place ≡ place) × Fits e short behind_key
+IsWritten place bytes e = (short : ℕ) × (after_key : List ℕ) × (bytes ≡ fields e short after_key) × (e.place ≡ place) × Fits e short after_key
 
 -- parts that follow one another
 joined : (bytes a r1 b r2 c r3 d r4 e r5 f r6 g r7 h : List ℕ)
@@ -185,7 +194,8 @@ entry_takes place bytes e fits small h =
     let parts : bytes ≡ fields made short.0.0 key.0.1 =
     joined bytes (to_be_bytes w16 (length names.0.0)) count.0.1 (counted realm.0.0) realm.0.1 (flat_map counted names.0.0) names.0.1
     (to_be_bytes w32 name_type.0.0) name_type.0.1 (to_be_bytes w32 timestamp.0.0) timestamp.0.1 (to_be_bytes w8 short.0.0) short.0.1
-    (to_be_bytes w16 (cast_unsigned w16 (cast_signed w16 etype.0.0))) etype.0.1 (counted key.0.0 ++ key.0.1) counted_in t1.0 t2.0 t3.0 t4.0 t5.0 signed_in t7.0 in
+    (to_be_bytes w16 (cast_unsigned w16 (cast_signed w16 etype.0.0))) etype.0.1 (counted key.0.0
+    ++ key.0.1) counted_in t1.0 t2.0 t3.0 t4.0 t5.0 signed_in t7.0 in
     let made_fits : Fits made short.0.0 key.0.1 = record {
       realm = t1.2;
       count = subst (λ (n : ℕ). n < 2 ^ 16) (sym t2.2) t0.2;

@@ -35,13 +35,20 @@ counted_again : (bytes rest : List ℕ) → IsShort bytes → counted_at (counte
 unfolding counted_at
 counted_again bytes rest short =
     let long : ltb (length (bytes ++ rest)) (length bytes) ≡ false = le-ltb _ _ (omega (arith, length-append bytes rest)) in
-    rw (number_again w16 (2 ^ 16) wide16 (length bytes) (bytes ++ rest) short, long, take_at bytes rest (length bytes) refl, drop_at bytes rest (length bytes) refl) refl
+    rw (
+      number_again w16 (2 ^ 16) wide16 (length bytes) (bytes ++ rest) short,
+      long,
+      take_at bytes rest (length bytes) refl,
+      drop_at bytes rest (length bytes) refl,
+    ) refl
 
 components_again : (cs : List (List ℕ)) (rest : List ℕ) → AllByRecursion IsShort cs → components_at (length cs) (flat_map counted cs ++ rest) ≡ Some (cs, rest)
 unfolding components_at
 components_again [] rest short = refl
 components_again (c ∷ cs) rest short =
-    let regrouped : flat_map counted (c ∷ cs) ++ rest ≡ counted c ++ (flat_map counted cs ++ rest) = ap (λ (x : List ℕ). x ++ rest) (flat_map-cons counted c cs) ∙ append_assoc (counted c) (flat_map counted cs) rest in
+    let regrouped : flat_map counted (c ∷ cs) ++ rest ≡ counted c ++ (flat_map counted cs ++ rest) =
+    ap (λ (x : List ℕ). x ++ rest) (flat_map-cons counted c cs)
+    ∙ append_assoc (counted c) (flat_map counted cs) rest in
     ap (components_at (suc (length cs))) regrouped ∙ rw (counted_again c (flat_map counted cs ++ rest) short.0, components_again cs rest short.1) refl
 
 -- a signed number, and the one that its two bytes hold
@@ -51,25 +58,25 @@ small z fits = omega (arith, ints)
 signed_again : (z : ℤ) → FitsSigned w16 z → cast_signed w16 (cast_unsigned w16 z) ≡ z
 signed_again z fits = omega (arith, ints)
 
-pub entry_again : (e : Entry) (short : ℕ) (behind_key : List ℕ) → Fits e short behind_key → entry_at e.place (fields e short behind_key) ≡ Some e
+pub entry_again : (e : Entry) (short : ℕ) (after_key : List ℕ) → Fits e short after_key → entry_at e.place (fields e short after_key) ≡ Some e
 unfolding entry_at
-entry_again e short behind_key fits =
-    let behind_etype : List ℕ = counted e.key ++ behind_key in
-    let behind_short : List ℕ = to_be_bytes w16 (cast_unsigned w16 e.etype) ++ behind_etype in
-    let behind_time : List ℕ = to_be_bytes w8 short ++ behind_short in
-    let behind_type : List ℕ = to_be_bytes w32 e.timestamp ++ behind_time in
-    let behind_names : List ℕ = to_be_bytes w32 e.name_type ++ behind_type in
-    let behind_realm : List ℕ = flat_map counted e.components ++ behind_names in
-    let behind_count : List ℕ = counted e.realm ++ behind_realm in
+entry_again e short after_key fits =
+    let after_etype : List ℕ = counted e.key ++ after_key in
+    let after_short : List ℕ = to_be_bytes w16 (cast_unsigned w16 e.etype) ++ after_etype in
+    let after_time : List ℕ = to_be_bytes w8 short ++ after_short in
+    let after_type : List ℕ = to_be_bytes w32 e.timestamp ++ after_time in
+    let after_names : List ℕ = to_be_bytes w32 e.name_type ++ after_type in
+    let after_realm : List ℕ = flat_map counted e.components ++ after_names in
+    let after_count : List ℕ = counted e.realm ++ after_realm in
     rw (
-      number_again w16 (2 ^ 16) wide16 (length e.components) behind_count fits.count,
-      counted_again e.realm behind_realm fits.realm,
-      components_again e.components behind_names fits.components,
-      number_again w32 (2 ^ 32) wide32 e.name_type behind_type fits.name_type,
-      number_again w32 (2 ^ 32) wide32 e.timestamp behind_time fits.timestamp,
-      number_again w8 (2 ^ 8) wide8 short behind_short fits.short_kvno,
-      number_again w16 (2 ^ 16) wide16 (cast_unsigned w16 e.etype) behind_etype (small e.etype fits.etype),
+      number_again w16 (2 ^ 16) wide16 (length e.components) after_count fits.count,
+      counted_again e.realm after_realm fits.realm,
+      components_again e.components after_names fits.components,
+      number_again w32 (2 ^ 32) wide32 e.name_type after_type fits.name_type,
+      number_again w32 (2 ^ 32) wide32 e.timestamp after_time fits.timestamp,
+      number_again w8 (2 ^ 8) wide8 short after_short fits.short_kvno,
+      number_again w16 (2 ^ 16) wide16 (cast_unsigned w16 e.etype) after_etype (small e.etype fits.etype),
       signed_again e.etype fits.etype,
-      counted_again e.key behind_key fits.key,
+      counted_again e.key after_key fits.key,
       fits.kvno,
     ) refl

@@ -34,7 +34,7 @@ abbrev pub Gives : {X Y : Type 0} → (X → Y) → Result X KeytabError → Res
 Gives seen (Ok x) defined = defined ≡ Ok (seen x)
 Gives seen (Err e) defined = Fails e defined
 
--- the same of a field
+-- the answer about a field is the definition's, unless memory ran out
 abbrev pub FieldFails : {Y : Type 0} → FieldError → Option Y → Type 0
 FieldFails field_error.PastEnd defined = defined ≡ None
 FieldFails field_error.Memory defined = Unit {0}

@@ -1,6 +1,7 @@
--- A keytab (MIT Kerberos, keytab file format 0x0502): the bytes 05 02, then records, each behind its
--- length: 32 bits, signed, high byte first.
-use Rattle.std.specs.Prelude.{ℕ, zero, suc, ◌+◌, ◌-◌, ◌^◌, List, [], ◌∷◌, Bool, ◌||◌, ◌==◌, not, nat_lt, if◌then◌else◌, length, take, drop, Option, Some, None, Result, Ok, Err}
+-- A keytab (MIT Kerberos, keytab file format 0x0502): the bytes 05 02, then records, each after its length: 32 bits,
+-- signed, high byte first.
+use Rattle.std.specs.Prelude.{ℕ, zero, suc, ◌+◌, ◌-◌, ◌^◌, List, [], ◌∷◌, Bool, ◌||◌, ◌==◌, not, nat_lt}
+use Rattle.std.specs.Prelude.{if◌then◌else◌, length, take, drop, Option, Some, None, Result, Ok, Err}
 use Rattle.std.specs.Int.{from_be_bytes, w16, w32}
 use Rattle.krb_keytab.specs.declared.fault.KeytabFault.{KeytabFault}
 use Rattle.krb_keytab.specs.declared.fault.KeytabFault.TheVariants.{NotKeytab, CutOff, BadLength, BadEntry}
@@ -12,7 +13,7 @@ pub record Piece : Type 0 where
   pub bytes : List ℕ
   pub rest : List ℕ
 
--- the number in the four bytes of a length; from 2 ^ 31 on they stand for that number less 2 ^ 32
+-- the number in the four bytes of a length; from 2 ^ 31 on it means that number minus 2 ^ 32
 abbrev pub length_at : List ℕ → ℕ
 length_at bytes = from_be_bytes w32 (take 4 bytes)
 
@@ -41,12 +42,12 @@ abbrev pub ◌>>=◌ : {A B : Type 0} → Result A KeytabFault → (A → Result
 (Ok a) >>= next = next a
 (Err fault) >>= next = Err fault
 
--- the entry of a record, or that a field of it passes the record
+-- the entry of a record, or the fault that a field ends after the record
 abbrev pub or_bad : ℕ → Option Entry → Result Entry KeytabFault
 or_bad place None = Err (BadEntry place)
 or_bad place (Some e) = Ok e
 
--- the entries from a record on, where others reads those behind it
+-- the entries from a record on, where others reads those after it
 abbrev pub entries_from : (ℕ → List ℕ → Result (List Entry) KeytabFault) → ℕ → Option Piece → Result (List Entry) KeytabFault
 entries_from others place None = Ok []
 entries_from others place (Some piece) =
@@ -55,8 +56,8 @@ entries_from others place (Some piece) =
     then (or_bad place (entry_at place piece.bytes) >>= λ first. others behind piece.rest >>= λ more. Ok (first ∷ more))
     else others behind piece.rest
 
--- The entries of the records from a place on. Each record takes four bytes, so budget is enough where
--- it is the number of bytes.
+-- The entries of the records from a place on. Each record takes four bytes, so that the number of bytes is enough as
+-- budget.
 abbrev pub from_place : ℕ → ℕ → List ℕ → Result (List Entry) KeytabFault
 from_place zero place bytes = Ok []
 from_place (suc budget) place bytes = do

@@ -9,18 +9,18 @@ use Rattle.krb_keytab.specs.Written.{Record, record_bytes, file_bytes, entries_o
 abbrev pub WholeIsRead : Type 0
 WholeIsRead = (rs : List Record) → StandFrom 2 rs → keytab (file_bytes rs) ≡ Ok (entries_of rs)
 
--- and so is one with a length of zero behind them, whatever follows that
+-- so is one with a length of zero after them, whatever follows that
 abbrev pub EndedIsRead : Type 0
 EndedIsRead = (rs : List Record) (more : List ℕ) → StandFrom 2 rs
     → keytab (file_bytes rs ++ 0 ∷ 0 ∷ 0 ∷ 0 ∷ more) ≡ Ok (entries_of rs)
 
--- one that ends within a record is cut off there, and it is told which
+-- one that ends within a record is cut off at that record
 abbrev pub CutIsTold : Type 0
 CutIsTold = (rs : List Record) (r : Record) (front lost : List ℕ)
     → StandFrom 2 rs → StandsAt (length (file_bytes rs)) r → record_bytes r ≡ front ++ lost → 0 < length front → 0 < length lost
     → keytab (file_bytes rs ++ front) ≡ Err (CutOff (length (file_bytes rs)))
 
--- where a file ends, behind its records: there is nothing more, or a length of zero
+-- where a file ends, after its records: there is nothing more, or a length of zero
 abbrev pub IsEnd : List ℕ → Type 0
 IsEnd rest = (rest ≡ []) ⊎ ((more : List ℕ) × (rest ≡ 0 ∷ 0 ∷ 0 ∷ 0 ∷ more))
 

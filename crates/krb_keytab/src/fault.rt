@@ -2,18 +2,17 @@
 
 use std::alloc::{AllocError, AllocFailed};
 
-/// What is wrong with a keytab, the first from the left (MIT Kerberos, keytab file format 0x0502). A
-/// record's faults are looked for in the order of these. Its `place` is the offset in the file, in bytes
-/// from 0, of the four bytes of its length.
+/// What is wrong with a keytab, the first from the left (MIT Kerberos, keytab file format 0x0502). A record's faults
+/// are checked in this order. `place` is the offset in the file, in bytes from 0, of the four bytes of its length.
 #[derive(Clone, Copy, PartialEq, Eq, Debug, Drop)]
 pub enum KeytabFault {
     /// The file doesn't begin with the bytes 05 02.
     NotKeytab,
-    /// The file ends within the record: within its length, or before what that announces.
+    /// The file ends within the record: within its length, or before the end of its bytes.
     CutOff { place: usize },
     /// The record's length is -2^31.
     BadLength { place: usize },
-    /// The record's entry has a field that ends behind the record.
+    /// The record's entry has a field that ends after the record.
     BadEntry { place: usize },
 }
 
@@ -51,7 +50,7 @@ impl<T: Drop> From<AllocFailed<T>> for KeytabError {
 /// Why no field of an entry is read.
 #[derive(Clone, Copy, PartialEq, Eq, Debug, Drop)]
 pub(crate) enum FieldError {
-    /// It ends behind the record.
+    /// It ends after the record.
     PastEnd,
     /// A growth was refused.
     Memory,

@@ -1,4 +1,4 @@
-//! The fields of an entry: each reader gives its field, from the front of the bytes, and what follows it.
+//! The fields of an entry: each reader takes its field from the front of the bytes, and returns it with the rest.
 ghost use Rattle.std.specs.Prelude.{map};
 ghost use Rattle.std.specs.Int.{w8, w16, w32};
 ghost use Rattle.krb_keytab.specs.Entries.{number_at, counted_at, components_at};
@@ -43,9 +43,9 @@ pub(crate) fn u32_at(bytes: &[u8]) -> Result<(u32, &[u8]), FieldError>
     Ok((number, rest))
 }
 
-/// Bytes behind their count, which takes two bytes.
+/// Bytes after their count, which takes two bytes.
 #[tactic(auto, unfolding(crate::specs::Entries::counted_at))]
-pub(crate) fn counted(alloc: Global, bytes: &[u8]) -> Result<(Vec<u8>, &[u8]), FieldError>
+pub(crate) fn read_counted(alloc: Global, bytes: &[u8]) -> Result<(Vec<u8>, &[u8]), FieldError>
     ensures value { FieldGives (λ x. (x.0.items, x.1.now)) result (counted_at bytes.now) }
 {
     let (count, rest) = u16_at(bytes)?;
@@ -57,7 +57,7 @@ pub(crate) fn counted(alloc: Global, bytes: &[u8]) -> Result<(Vec<u8>, &[u8]), F
     Ok((Vec::from_slice(alloc, octets)?, rest))
 }
 
-/// So many components, each of them bytes behind their count.
+/// This many components, each of them bytes after their count.
 pub(crate) fn components(
     alloc: Global,
     count: u16,
@@ -69,7 +69,7 @@ pub(crate) fn components(
     let mut components = Vec::new(alloc);
     let mut rest = bytes;
     for _ in 0..count {
-        let (component, after) = counted(alloc, rest)?;
+        let (component, after) = read_counted(alloc, rest)?;
         components.push(component)?;
         rest = after;
     }

@@ -11,8 +11,8 @@ use std::alloc::Global;
 /// The two bytes that a file begins with.
 pub const KEYTAB_FORMAT: u16 = 0x0502;
 
-/// The entries of a keytab in the order of the file, or its first fault (MIT Kerberos, keytab file format
-/// 0x0502). Holes are passed over. A length of zero ends the file; what follows it may be anything.
+/// The entries of a keytab in the order of the file, or its first fault (MIT Kerberos, keytab file format 0x0502).
+/// Holes are skipped. A length of zero ends the file; what follows it may be anything.
 ///
 /// Realms, names, components and keys may be empty. `KeytabError::Memory` says nothing of the file.
 pub fn read_keytab(alloc: Global, bytes: &[u8]) -> Result<Vec<KeytabEntry>, KeytabError>

@@ -1,8 +1,8 @@
 //! Laws of keytabs, over the definitions alone.
 ghost use Rattle.krb_keytab.specs.Laws.{WholeIsRead, EndedIsRead, CutIsTold, ReadIsWritten};
 
-/// A file of records is read as their entries, with a length of zero behind them or without; where it ends
-/// within a record it is cut off, at that record's place. Whatever is read is such a file.
+/// A file of records is read as their entries, with or without a length of zero after them; where it ends within a
+/// record it is cut off, at that record's place. Whatever is read is such a file.
 pub fn keytabs()
     ensures whole { WholeIsRead }
     ensures ended { EndedIsRead }

@@ -9,7 +9,7 @@ use crate::fault::KeytabFault;
 #[derive(Clone, Copy, Drop)]
 pub(crate) struct Record<'a> {
     pub is_entry: bool,
-    /// What stands behind its length.
+    /// The bytes after its length.
     pub bytes: &'a [u8],
     /// What follows it in the file.
     pub rest: &'a [u8],
@@ -19,11 +19,11 @@ pub(crate) struct Record<'a> {
 /// one above it that of a hole.
 const LEAST_LENGTH: usize = 1 << 31;
 
-/// A hole's length is so much less than the number in its four bytes (two's complement).
+/// A hole's length is the number in its four bytes minus this (two's complement).
 const LENGTH_RANGE: usize = 1 << 32;
 
-/// The record at the front of the bytes, which stand at this place of the file. `None` where the file ends:
-/// there are no more bytes, or the length is zero.
+/// The record at the front of the bytes, which begin at this place of the file. `None` where the file ends: there are
+/// no more bytes, or the length is zero.
 #[tactic(auto, unfolding(crate::specs::Keytabs::record_at))]
 pub(crate) fn next_record(place: usize, bytes: &[u8]) -> Result<Option<Record<'_>>, KeytabFault>
     ensures value { piece_of result ≡ record_at place bytes.now }

@@ -1,5 +1,6 @@
 -- A message is little longer than its parts.
-use Rattle.std.proofs.Common.{◌≡◌, ℕ, ◌+◌, ◌≤◌, ◌<◌, ◌^◌, true, List, ◌++◌, length, pos, refl, subst, arith, length-append, Option, Some, None, option_map, ◌≤ℤ◌}
+use Rattle.std.proofs.Common.{◌≡◌, ℕ, ◌+◌, ◌≤◌, ◌<◌, ◌^◌, true, List, ◌++◌, length, pos, refl}
+use Rattle.std.proofs.Common.{subst, arith, length-append, Option, Some, None, option_map, ◌≤ℤ◌}
 use Rattle.std.proofs.lemmas.Bool.{lt-ltb}
 use Rattle.std.proofs.lemmas.Int.{ints}
 use Rattle.krb_aes.specs.Aes.{aes}
@@ -10,15 +11,16 @@ use Rattle.krb_keys.specs.Sealing.{checksum_of, enciphered, encryption_key, seal
 use Rattle.krb_keys.specs.declared.key.Key.{Key}
 use Rattle.krb_keys.specs.declared.key.Key.TheVariants.{Aes128, Aes256}
 use Rattle.krb_keys.proofs.SealingLemmas.{length-checksum_of}
-use Rattle.krb_elements.specs.Shapes.{Shape, Value, ◌&◌, uint32, tagged, field, nothing, int32, flags}
-use Rattle.krb_elements.specs.Grammar.{is_element}
-use Rattle.krb_elements.specs.Texts.{fits, is_in_range, longest_text, text}
-use Rattle.krb_elements.proofs.CompleteLemmas.{and_both, and_true, one_value}
-use Rattle.krb_elements.proofs.TextLemmas.{text_spells}
+use Rattle.krb_codec.specs.Shapes.{Shape, Value, ◌&◌, uint32, tagged, field, nothing, int32, flags}
+use Rattle.krb_codec.specs.Grammar.{is_element}
+use Rattle.krb_codec.specs.Texts.{fits, is_in_range, longest_text, text}
+use Rattle.krb_codec.proofs.CompleteLemmas.{and_both, and_true, one_value}
+use Rattle.krb_codec.proofs.TextLemmas.{text_spells}
 use Rattle.krb_protocol.specs.Numbers as protocol
 use Rattle.krb_der.specs.Types as types
 use Rattle.krb_der.specs.Types.{ap_rep, ap_req, authenticator, enc_ap_rep_part, enc_krb_priv_part, enc_ticket_part, encrypted_data, krb_priv}
-use Rattle.krb_der.specs.Values.{ap_rep_value, ap_req_value, authenticator_value, enc_ap_rep_part_value, enc_krb_priv_part_value, enc_ticket_part_value, krb_priv_value, ticket_value}
+use Rattle.krb_der.specs.Values.{ap_rep_value, ap_req_value, authenticator_value, enc_ap_rep_part_value}
+use Rattle.krb_der.specs.Values.{enc_krb_priv_part_value, enc_ticket_part_value, krb_priv_value, ticket_value}
 use Rattle.krb_msgs.specs.Making.{ap_rep_of, ap_req_of, priv_of, ticket_of}
 use Rattle.krb_msgs.specs.Fitting.{ApRepsFit, ApReqsFit, PrivsFit, TicketsAreShort, TicketsFit}
 use Rattle.krb_msgs.proofs.LengthLemmas.{between, fit, short_element, short_texts_fit, texts_are_short}
@@ -31,7 +33,12 @@ length-sealed key usage confounder plain c16 some =
     let whole : List ℕ = confounder ++ plain in
     let ke : List ℕ = bytes_of (encryption_key key usage) in
     let long : length whole ≡ length plain + 16 = omega (arith, length-append confounder plain) in
-    omega (arith, length-append (enciphered key usage whole) (checksum_of key usage whole), length-checksum_of key usage whole, length-cts (aes ke) (length-aes ke) whole (omega arith))
+    omega (
+      arith,
+      length-append (enciphered key usage whole) (checksum_of key usage whole),
+      length-checksum_of key usage whole,
+      length-cts (aes ke) (length-aes ke) whole (omega arith),
+    )
 
 -- of a value's text
 pub sealed_length : (key : Key) (usage : ℕ) (confounder : List ℕ) (s : Shape) (v : Value s) → length confounder ≡ 16 → is_element s ≡ true
@@ -76,7 +83,8 @@ pub tickets_fit : TicketsFit
 tickets_fit realm part service confounder c16 lt le =
     let cipher : List ℕ = sealed service.key usage_ticket confounder (text enc_ticket_part (enc_ticket_part_value part)) in
     let len = sealed_length service.key usage_ticket confounder enc_ticket_part (enc_ticket_part_value part) c16 refl in
-    fit types.ticket (ticket_value (ticket_of realm part service confounder)) (and_both (kvno_sealed_range service.key service.kvno cipher lt) refl) (omega (arith, len, le))
+    fit types.ticket (ticket_value (ticket_of realm part service confounder))
+    (and_both (kvno_sealed_range service.key service.kvno cipher lt) refl) (omega (arith, len, le))
 
 pub tickets_are_short : TicketsAreShort
 tickets_are_short realm part service confounder c16 =
@@ -113,13 +121,18 @@ request_short : (options : ℕ) (v : Value types.ticket) (key : Key) (cipher : L
     → length (text ap_req (request_value options v key cipher)) ≤ longest_text
 request_short options v key cipher le =
     let last = texts_are_short last_fields (sealed_value key None cipher & tt) in
-    let ticket = field_short (tagged 0xa3 types.ticket) last_fields v (sealed_value key None cipher & tt) (10 + length (text types.ticket v)) (68 + length cipher)
+    let ticket = field_short (tagged 0xa3 types.ticket) last_fields v
+    (sealed_value key None cipher & tt) (10 + length (text types.ticket v)) (68 + length cipher)
     (tagged_short 0xa3 types.ticket v _ (omega arith)) (omega (arith, last)) in
-    let flag = field_short (tagged 0xa2 flags) ticket_fields options (v & sealed_value key None cipher & tt) 25 (78 + length (text types.ticket v) + length cipher)
+    let flag = field_short (tagged 0xa2 flags) ticket_fields options
+    (v & sealed_value key None cipher & tt) 25 (78 + length (text types.ticket v) + length cipher)
     (texts_are_short (tagged 0xa2 flags) options) (omega (arith, ticket)) in
-    let type = field_short (tagged 0xa1 int32) (field (tagged 0xa2 flags) ticket_fields) protocol.krb_ap_req (options & v & sealed_value key None cipher & tt) 28 (103 + length (text types.ticket v) + length cipher)
+    let type = field_short (tagged 0xa1 int32) (field (tagged 0xa2 flags) ticket_fields) protocol.krb_ap_req
+    (options & v & sealed_value key None cipher & tt) 28 (103 + length (text types.ticket v) + length cipher)
     (texts_are_short (tagged 0xa1 int32) protocol.krb_ap_req) (omega (arith, flag)) in
-    let all = field_short (tagged 0xa0 int32) (field (tagged 0xa1 int32) (field (tagged 0xa2 flags) ticket_fields)) protocol.pvno (protocol.krb_ap_req & options & v & sealed_value key None cipher & tt) 28 (131 + length (text types.ticket v) + length cipher)
+    let all = field_short (tagged 0xa0 int32) (field (tagged 0xa1 int32) (field (tagged 0xa2 flags) ticket_fields))
+    protocol.pvno (protocol.krb_ap_req & options & v & sealed_value key None cipher & tt) 28
+    (131 + length (text types.ticket v) + length cipher)
     (texts_are_short (tagged 0xa0 int32) protocol.pvno) (omega (arith, type)) in
     let fields : Shape = field (tagged 0xa0 int32) (field (tagged 0xa1 int32) (field (tagged 0xa2 flags) ticket_fields)) in
     let whole = tagged_short 0x6e (tagged 0x30 fields) (request_value options v key cipher) _

@@ -1,12 +1,15 @@
 -- Records are told apart by their values: each is got back from its value.
 use Rattle.std.proofs.Common.{◌≡◌, ℕ, List, [], ◌∷◌, Option, Some, None, option_map, map, refl, sym, ap, ◌∙◌, ℤ, pos}
 use Rattle.std.specs.Prelude.{unsigned_abs}
-use Rattle.krb_elements.specs.Shapes.{Value}
-use Rattle.krb_elements.specs.declared.kerberos_time.KerberosTime.{KerberosTime}
-use Rattle.krb_elements.specs.declared.numbers.Microseconds.{Microseconds}
-use Rattle.krb_elements.specs.declared.numbers.SeqNumber.{SeqNumber}
+use Rattle.krb_codec.specs.Shapes.{Value}
+use Rattle.krb_codec.specs.declared.kerberos_time.KerberosTime.{KerberosTime}
+use Rattle.krb_codec.specs.declared.numbers.Microseconds.{Microseconds}
+use Rattle.krb_codec.specs.declared.numbers.SeqNumber.{SeqNumber}
 use Rattle.krb_der.specs.Types as types
-use Rattle.krb_der.specs.Values.{principal_name_value, encrypted_data_value, encryption_key_value, host_address_value, checksum_value, authorization_entry_value, authorization_data_value, ticket_value, enc_ticket_part_value, authenticator_value, ap_req_value, ap_rep_value, enc_ap_rep_part_value, krb_priv_value, enc_krb_priv_part_value, krb_error_value}
+use Rattle.krb_der.specs.Values.{principal_name_value, encrypted_data_value, encryption_key_value, host_address_value}
+use Rattle.krb_der.specs.Values.{checksum_value, authorization_entry_value, authorization_data_value, ticket_value}
+use Rattle.krb_der.specs.Values.{enc_ticket_part_value, authenticator_value, ap_req_value, ap_rep_value}
+use Rattle.krb_der.specs.Values.{enc_ap_rep_part_value, krb_priv_value, enc_krb_priv_part_value, krb_error_value}
 use Rattle.krb_der.specs.declared.principal_name.PrincipalName.{PrincipalName}
 use Rattle.krb_der.specs.declared.encrypted_data.EncryptedData.{EncryptedData}
 use Rattle.krb_der.specs.declared.encrypted_data.EncryptionKey.{EncryptionKey}
@@ -128,7 +131,13 @@ ap_req_back (pvno, (type, (options, (ticket, (part, _))))) = record {
 pub ap_req_apart : TellsApart ap_req_value
 ap_req_apart =
     undone ap_req_value ap_req_back
-    (λ x. both (λ t p. record { pvno = x.pvno; msg_type = x.msg_type; ap_options = x.ap_options; ticket = t; authenticator = p }) (ticket_undone x.ticket) (sealed_undone x.authenticator))
+    (λ x. both (λ t p. record {
+      pvno = x.pvno;
+      msg_type = x.msg_type;
+      ap_options = x.ap_options;
+      ticket = t;
+      authenticator = p;
+    }) (ticket_undone x.ticket) (sealed_undone x.authenticator))
 
 abbrev ticket_part_back : Value types.enc_ticket_part → EncTicketPart
 ticket_part_back (flags, (key, (crealm, (cname, ((type, (contents, _)), (auth, (start, (end, (renew, (addresses, (entries, _))))))))))) = record {
@@ -148,7 +157,20 @@ ticket_part_back (flags, (key, (crealm, (cname, ((type, (contents, _)), (auth, (
 pub ticket_part_apart : TellsApart enc_ticket_part_value
 ticket_part_apart =
     undone enc_ticket_part_value ticket_part_back
-    (λ x. five (λ n t u c d. record { flags = x.flags; key = x.key; crealm = x.crealm; cname = n; transited = x.transited; authtime = x.authtime; starttime = t; endtime = x.endtime; renew_till = u; caddr = c; authorization_data = d })
+    (λ x.
+    five (λ n t u c d. record {
+      flags = x.flags;
+      key = x.key;
+      crealm = x.crealm;
+      cname = n;
+      transited = x.transited;
+      authtime = x.authtime;
+      starttime = t;
+      endtime = x.endtime;
+      renew_till = u;
+      caddr = c;
+      authorization_data = d;
+    })
     (name_undone x.cname) (times_undone x.starttime) (times_undone x.renew_till) (addresses_undone x.caddr) (entries_undone x.authorization_data))
 
 abbrev authenticator_back : Value types.authenticator → Authenticator
@@ -167,8 +189,19 @@ authenticator_back (vno, (crealm, (cname, (sum, (cusec, (ctime, (subkey, (seq, (
 pub authenticator_apart : TellsApart authenticator_value
 authenticator_apart =
     undone authenticator_value authenticator_back
-    (λ x. five (λ n s k q d. record { authenticator_vno = x.authenticator_vno; crealm = x.crealm; cname = n; cksum = s; cusec = x.cusec; ctime = x.ctime; subkey = k; seq_number = q; authorization_data = d })
-    (name_undone x.cname) (option_back checksum_value checksum_back (λ _. refl) x.cksum) (keys_undone x.subkey) (numbers_undone x.seq_number) (entries_undone x.authorization_data))
+    (λ x. five (λ n s k q d. record {
+      authenticator_vno = x.authenticator_vno;
+      crealm = x.crealm;
+      cname = n;
+      cksum = s;
+      cusec = x.cusec;
+      ctime = x.ctime;
+      subkey = k;
+      seq_number = q;
+      authorization_data = d;
+    })
+    (name_undone x.cname) (option_back checksum_value checksum_back (λ _. refl) x.cksum)
+    (keys_undone x.subkey) (numbers_undone x.seq_number) (entries_undone x.authorization_data))
 
 abbrev ap_rep_back : Value types.ap_rep → ApRep
 ap_rep_back (pvno, (type, (part, _))) = record { pvno = pvno; msg_type = type; enc_part = sealed_back part }
@@ -186,7 +219,9 @@ ap_rep_part_back (ctime, (cusec, (subkey, (seq, _)))) = record {
 
 pub ap_rep_part_apart : TellsApart enc_ap_rep_part_value
 ap_rep_part_apart =
-    undone enc_ap_rep_part_value ap_rep_part_back (λ x. both (λ k q. record { ctime = x.ctime; cusec = x.cusec; subkey = k; seq_number = q }) (keys_undone x.subkey) (numbers_undone x.seq_number))
+    undone enc_ap_rep_part_value ap_rep_part_back
+    (λ x. both (λ k q. record { ctime = x.ctime; cusec = x.cusec; subkey = k; seq_number = q })
+    (keys_undone x.subkey) (numbers_undone x.seq_number))
 
 abbrev krb_priv_back : Value types.krb_priv → KrbPriv
 krb_priv_back (pvno, (type, (part, _))) = record { pvno = pvno; msg_type = type; enc_part = sealed_back part }
@@ -210,8 +245,16 @@ the_rest x u q r = record { user_data = x.user_data; timestamp = x.timestamp; us
 pub priv_part_apart : TellsApart enc_krb_priv_part_value
 priv_part_apart =
     undone enc_krb_priv_part_value priv_part_back
-    (λ x. both (λ t rest. record { user_data = x.user_data; timestamp = t; usec = rest.usec; seq_number = rest.seq_number; s_address = x.s_address; r_address = rest.r_address }) (times_undone x.timestamp)
-    (three (λ u q r. the_rest x u q r) (micros_undone x.usec) (numbers_undone x.seq_number) (option_back host_address_value address_back (λ _. refl) x.r_address)))
+    (λ x. both (λ t rest. record {
+      user_data = x.user_data;
+      timestamp = t;
+      usec = rest.usec;
+      seq_number = rest.seq_number;
+      s_address = x.s_address;
+      r_address = rest.r_address;
+    }) (times_undone x.timestamp)
+    (three (λ u q r. the_rest x u q r) (micros_undone x.usec)
+    (numbers_undone x.seq_number) (option_back host_address_value address_back (λ _. refl) x.r_address)))
 
 texts_undone : (o : Option (List ℕ)) → option_map same (option_map same o) ≡ o
 texts_undone o = option_back same same (λ _. refl) o
@@ -234,15 +277,59 @@ krb_error_back (pvno, (type, (ctime, (cusec, (stime, (susec, (code, (crealm, (cn
 }
 
 abbrev with_head : KrbError → Option KerberosTime → Option Microseconds → Option (List ℕ) → KrbError
-with_head x t u r = record { pvno = x.pvno; msg_type = x.msg_type; ctime = t; cusec = u; stime = x.stime; susec = x.susec; error_code = x.error_code; crealm = r; cname = x.cname; realm = x.realm; sname = x.sname; e_text = x.e_text; e_data = x.e_data }
+with_head x t u r = record {
+  pvno = x.pvno;
+  msg_type = x.msg_type;
+  ctime = t;
+  cusec = u;
+  stime = x.stime;
+  susec = x.susec;
+  error_code = x.error_code;
+  crealm = r;
+  cname = x.cname;
+  realm = x.realm;
+  sname = x.sname;
+  e_text = x.e_text;
+  e_data = x.e_data;
+}
 
 abbrev with_tail : KrbError → Option PrincipalName → PrincipalName → Option (List ℕ) → Option (List ℕ) → KrbError
-with_tail x n s w b = record { pvno = x.pvno; msg_type = x.msg_type; ctime = x.ctime; cusec = x.cusec; stime = x.stime; susec = x.susec; error_code = x.error_code; crealm = x.crealm; cname = n; realm = x.realm; sname = s; e_text = w; e_data = b }
+with_tail x n s w b =
+    record {
+      pvno = x.pvno;
+      msg_type = x.msg_type;
+      ctime = x.ctime;
+      cusec = x.cusec;
+      stime = x.stime;
+      susec = x.susec;
+      error_code = x.error_code;
+      crealm = x.crealm;
+      cname = n;
+      realm = x.realm;
+      sname = s;
+      e_text = w;
+      e_data = b;
+    }
 
 pub error_apart : TellsApart krb_error_value
 error_apart =
     undone krb_error_value krb_error_back
-    (λ x. both (λ (head tail : KrbError). record { pvno = x.pvno; msg_type = x.msg_type; ctime = head.ctime; cusec = head.cusec; stime = x.stime; susec = x.susec; error_code = x.error_code; crealm = head.crealm; cname = tail.cname; realm = x.realm; sname = tail.sname; e_text = tail.e_text; e_data = tail.e_data })
+    (λ x. both (λ (head tail : KrbError). record {
+      pvno = x.pvno;
+      msg_type = x.msg_type;
+      ctime = head.ctime;
+      cusec = head.cusec;
+      stime = x.stime;
+      susec = x.susec;
+      error_code = x.error_code;
+      crealm = head.crealm;
+      cname = tail.cname;
+      realm = x.realm;
+      sname = tail.sname;
+      e_text = tail.e_text;
+      e_data = tail.e_data;
+    })
     (three (with_head x) (times_undone x.ctime) (micros_undone x.cusec) (texts_undone x.crealm))
-    (both (λ n (f : PrincipalName × (Option (List ℕ) × Option (List ℕ))). with_tail x n f.0 f.1.0 f.1.1) (option_back principal_name_value name_back name_undone x.cname)
+    (both (λ n (f : PrincipalName × (Option (List ℕ) × Option (List ℕ))). with_tail x n f.0 f.1.0 f.1.1)
+    (option_back principal_name_value name_back name_undone x.cname)
     (three (λ s w b. (s, (w, b))) (name_undone x.sname) (texts_undone x.e_text) (texts_undone x.e_data))))

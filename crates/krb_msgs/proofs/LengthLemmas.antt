@@ -1,18 +1,21 @@
 -- The text of a value is no longer than its sum; numbers in a range.
-use Rattle.std.proofs.Common.{◌≡◌, ℕ, ◌+◌, ◌≤◌, true, List, [], ◌∷◌, Option, Some, None, ap, arith, length, length-append, not, eqb, ltb, inl, inr, ℤ, pos, negsuc, ◌<◌, ◌≤ℤ◌, w64}
+use Rattle.std.proofs.Common.{◌≡◌, ℕ, ◌+◌, ◌≤◌, true, List, [], ◌∷◌, Option, Some, None, ap, arith, length}
+use Rattle.std.proofs.Common.{length-append, not, eqb, ltb, inl, inr, ℤ, pos, negsuc, ◌<◌, ◌≤ℤ◌, w64}
 use Rattle.std.specs.Prelude.{int_lt, is_some}
 use Rattle.std.proofs.lemmas.Int.{ints, by_lt_z}
 use Rattle.std.specs.Int.{cast_unsigned, to_be_bytes}
 use Rattle.std.specs.List.{flat_map}
 use Rattle.std.proofs.lemmas.Bool.{le-leb}
 use Rattle.std.proofs.lemmas.List.Concat.{flat_map-cons}
-use Rattle.krb_elements.specs.Shapes.{Primitive, integer, sequence_number, octets, bits, time, primitive, tagged, many, further, nothing, field, option, kerberos_time, microseconds, Meaning, Shape, Value, is_between, tag_of}
-use Rattle.krb_elements.specs.Integers.{integer_octets, repeats_sign, without_sign}
-use Rattle.krb_elements.specs.BitStrings.{bits_octets}
-use Rattle.krb_elements.specs.Times.{is_writable, time_octets, time_of}
-use Rattle.krb_elements.specs.Texts.{content_of, element, fits, is_in_range, length_octets, longest_text, optional_text, text, time_content, without_zeros}
-use Rattle.krb_elements.proofs.CompleteLemmas.{and_both, same_or_not}
-use Rattle.krb_elements.proofs.TimeLemmas.{time_of_some}
+use Rattle.krb_codec.specs.Shapes.{Primitive, integer, sequence_number, octets, bits, time, primitive}
+use Rattle.krb_codec.specs.Shapes.{tagged, many, further, nothing, field, option, kerberos_time}
+use Rattle.krb_codec.specs.Shapes.{microseconds, Meaning, Shape, Value, is_between, tag_of}
+use Rattle.krb_codec.specs.Integers.{integer_octets, repeats_sign, without_sign}
+use Rattle.krb_codec.specs.BitStrings.{bits_octets}
+use Rattle.krb_codec.specs.Times.{is_writable, time_octets, time_of}
+use Rattle.krb_codec.specs.Texts.{content_of, element, fits, is_in_range, length_octets, longest_text, optional_text, text, time_content, without_zeros}
+use Rattle.krb_codec.proofs.CompleteLemmas.{and_both, same_or_not}
+use Rattle.krb_codec.proofs.TimeLemmas.{time_of_some}
 use Rattle.krb_msgs.specs.Lengths.{ShortTextsFit, TextsAreShort, longest, longest_content, longest_each, longest_optional}
 
 pub short-without_zeros : (bytes : List ℕ) → length (without_zeros bytes) ≤ length bytes

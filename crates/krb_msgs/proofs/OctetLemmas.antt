@@ -1,6 +1,7 @@
 -- Texts and octet strings that are made of bytes: those of a value where its text is, its text where they
 -- are, and a key of such a string.
-use Rattle.std.proofs.Common.{◌≡◌, ℕ, ◌<◌, ◌&&◌, Bool, true, false, List, ◌∷◌, ◌++◌, length, Some, None, refl, subst, ℤ, pos, ◌+◌, [], Option, arith, inl, inr, eqb, ltb, sym, rules, lit<, get_or}
+use Rattle.std.proofs.Common.{◌≡◌, ℕ, ◌<◌, ◌&&◌, Bool, true, false, List, ◌∷◌, ◌++◌, length, Some, None, refl}
+use Rattle.std.proofs.Common.{subst, ℤ, pos, ◌+◌, [], Option, arith, inl, inr, eqb, ltb, sym, rules, lit<, get_or}
 use Rattle.std.specs.Prelude.{◌==◌, if◌then◌else◌, IfSome, nat_lt}
 use Rattle.std.specs.Ordering.{int_eq}
 use Rattle.std.proofs.lemmas.Bool.{eqb-true, ltb-true}
@@ -10,14 +11,15 @@ use Rattle.std.specs.Int.{cast_unsigned, to_be_bytes, to_le_bytes, w16, w32, w64
 use Rattle.krb_aes.specs.Bytes.{AreBytes}
 use Rattle.krb_keys.specs.Keys.{IsProtocolKey, key_of}
 use Rattle.krb_keys.specs.declared.key.Key.TheVariants.{Aes128, Aes256}
-use Rattle.krb_elements.specs.Shapes.{Primitive, integer, sequence_number, octets, bits, time, Shape, primitive, tagged, many, further, nothing, field, option, Meaning, Value, tag_of}
-use Rattle.krb_elements.specs.Grammar.{IsElement, Spells}
-use Rattle.krb_elements.proofs.CompleteLemmas.{and_true, same_or_not}
-use Rattle.krb_elements.specs.Integers.{integer_octets, repeats_sign, without_sign}
-use Rattle.krb_elements.specs.BitStrings.{bits_octets}
-use Rattle.krb_elements.specs.Times.{civil_text, time_of}
-use Rattle.krb_elements.specs.Texts.{content_of, element, length_octets, text, time_content, without_zeros}
-use Rattle.krb_elements.proofs.TimeLemmas.{civil_text_form, form_parts, time_of-exact}
+use Rattle.krb_codec.specs.Shapes.{Primitive, integer, sequence_number, octets, bits, time, Shape, primitive}
+use Rattle.krb_codec.specs.Shapes.{tagged, many, further, nothing, field, option, Meaning, Value, tag_of}
+use Rattle.krb_codec.specs.Grammar.{IsElement, Spells}
+use Rattle.krb_codec.proofs.CompleteLemmas.{and_true, same_or_not}
+use Rattle.krb_codec.specs.Integers.{integer_octets, repeats_sign, without_sign}
+use Rattle.krb_codec.specs.BitStrings.{bits_octets}
+use Rattle.krb_codec.specs.Times.{civil_text, time_of}
+use Rattle.krb_codec.specs.Texts.{content_of, element, length_octets, text, time_content, without_zeros}
+use Rattle.krb_codec.proofs.TimeLemmas.{civil_text_form, form_parts, time_of-exact}
 use Rattle.krb_msgs.specs.Making.{word_bytes}
 use Rattle.krb_msgs.proofs.LengthLemmas.{short-without_zeros}
 
@@ -150,7 +152,37 @@ time_bytes t (Some bytes) is =
     let h = (time_of-exact t bytes).0 is in
     let form = form_parts (civil_text h.0) (civil_text_form h.0 h.1) in
     let digit : (i : ℕ) → i < 14 → get_or (civil_text h.0) i 0 < 256 = λ i lt. let two = form.1 i lt in omega (arith, two) in
-    subst AreBytes (sym h.2) (each_is (civil_text h.0) (digit 0 (lit< tt), (digit 1 (lit< tt), (digit 2 (lit< tt), (digit 3 (lit< tt), (digit 4 (lit< tt), (digit 5 (lit< tt), (digit 6 (lit< tt), (digit 7 (lit< tt), (digit 8 (lit< tt), (digit 9 (lit< tt), (digit 10 (lit< tt), (digit 11 (lit< tt), (digit 12 (lit< tt), (digit 13 (lit< tt), (lit< tt, tt))))))))))))))))
+    subst AreBytes (sym h.2) (each_is (civil_text h.0) (
+      digit 0 (lit< tt),
+      (
+        digit 1 (lit< tt),
+        (
+          digit 2 (lit< tt),
+          (
+            digit 3 (lit< tt),
+            (
+              digit 4 (lit< tt),
+              (
+                digit 5 (lit< tt),
+                (
+                  digit 6 (lit< tt),
+                  (
+                    digit 7 (lit< tt),
+                    (
+                      digit 8 (lit< tt),
+                      (
+                        digit 9 (lit< tt),
+                        (digit 10 (lit< tt), (digit 11 (lit< tt), (digit 12 (lit< tt), (digit 13 (lit< tt), (lit< tt, tt))))),
+                      ),
+                    ),
+                  ),
+                ),
+              ),
+            ),
+          ),
+        ),
+      ),
+    ))
 
 -- ---- texts
 

@@ -7,13 +7,15 @@ use Rattle.krb_aes.specs.Bytes.{AreBytes}
 use Rattle.krb_keys.specs.Keys.{IsProtocolKey, key_of, etype_of, number_of}
 use Rattle.krb_keys.specs.declared.key.Key.{Key}
 use Rattle.krb_keys.proofs.SealingLemmas.{sealed_once}
-use Rattle.krb_elements.specs.Shapes.{Shape, Value}
-use Rattle.krb_elements.specs.Grammar.{Spells, is_legal}
-use Rattle.krb_elements.proofs.CompleteLemmas.{one_value, same_or_not}
-use Rattle.krb_elements.specs.declared.kerberos_time.KerberosTime.{KerberosTime}
-use Rattle.krb_elements.specs.declared.numbers.Microseconds.{Microseconds}
+use Rattle.krb_codec.specs.Shapes.{Shape, Value}
+use Rattle.krb_codec.specs.Grammar.{Spells, is_legal}
+use Rattle.krb_codec.proofs.CompleteLemmas.{one_value, same_or_not}
+use Rattle.krb_codec.specs.declared.kerberos_time.KerberosTime.{KerberosTime}
+use Rattle.krb_codec.specs.declared.numbers.Microseconds.{Microseconds}
 use Rattle.krb_der.specs.Types.{ap_req, ap_rep, authenticator, enc_ap_rep_part, enc_krb_priv_part, enc_ticket_part, encryption_key, krb_error, krb_priv}
-use Rattle.krb_der.specs.Values.{ap_req_value, ap_rep_value, authenticator_value, enc_ap_rep_part_value, enc_krb_priv_part_value, enc_ticket_part_value, encryption_key_value, krb_error_value, krb_priv_value}
+use Rattle.krb_der.specs.Values.{ap_req_value, ap_rep_value, authenticator_value}
+use Rattle.krb_der.specs.Values.{enc_ap_rep_part_value, enc_krb_priv_part_value, enc_ticket_part_value}
+use Rattle.krb_der.specs.Values.{encryption_key_value, krb_error_value, krb_priv_value}
 use Rattle.krb_der.specs.declared.ap_req.ApReq.{ApReq}
 use Rattle.krb_der.specs.declared.authenticator.Authenticator.{Authenticator}
 use Rattle.krb_der.specs.declared.encrypted_data.EncryptedData.{EncryptedData}
@@ -33,7 +35,9 @@ use Rattle.krb_msgs.specs.OneAnswer.{ApReqsOpenOnce, AreProtocolKeys, IsOne, Pri
 use Rattle.krb_msgs.specs.declared.ap_exchange.ApOpened.{ApOpened}
 use Rattle.krb_msgs.specs.declared.service_keys.ServiceKey.{ServiceKey}
 use Rattle.krb_msgs.specs.Laws.{ApReqsOpenAlike}
-use Rattle.krb_msgs.proofs.InverseLemmas.{TellsApart, ap_rep_apart, ap_rep_part_apart, ap_req_apart, authenticator_apart, error_apart, krb_priv_apart, priv_part_apart, ticket_part_apart}
+use Rattle.krb_msgs.proofs.InverseLemmas.{TellsApart, ap_rep_apart, ap_rep_part_apart}
+use Rattle.krb_msgs.proofs.InverseLemmas.{ap_req_apart, authenticator_apart, error_apart}
+use Rattle.krb_msgs.proofs.InverseLemmas.{krb_priv_apart, priv_part_apart, ticket_part_apart}
 use Rattle.krb_msgs.proofs.OpenedLemmas.{found_passes, held_passes, then_passes}
 use Rattle.krb_msgs.proofs.AnswerLemmas.{ok_is}
 use Rattle.krb_msgs.proofs.OctetLemmas.{HoldsBytes, holds_bytes, key_of_bytes}
@@ -155,8 +159,12 @@ pub ap_reqs_open_once : ApReqsOpenOnce
 unfolding OpensAp
 ap_reqs_open_once realm keys bytes peer are =
     one_then (Presents realm keys bytes) _ (one_presented realm keys bytes) (λ presented h.
-    one_then (OpensTicket presented.1 presented.0.ticket.enc_part) _ (one_ticket presented.1 presented.0.ticket.enc_part (presented_is_key realm keys bytes presented are h)) (λ ticket k.
-    one_then (OpensAuthenticator ticket.1 presented.0.authenticator) _ (one_authenticator ticket.1 presented.0.authenticator (session_is_key presented.1 presented.0.ticket.enc_part ticket k)) (λ a _.
+    one_then (OpensTicket presented.1 presented.0.ticket.enc_part) _
+    (one_ticket presented.1 presented.0.ticket.enc_part (presented_is_key realm keys bytes presented are h))
+    (λ ticket k.
+    one_then (OpensAuthenticator ticket.1 presented.0.authenticator) _
+    (one_authenticator ticket.1 presented.0.authenticator
+    (session_is_key presented.1 presented.0.ticket.enc_part ticket k)) (λ a _.
     one_accepted peer ticket.0 ticket.1 a)))
 
 pub privs_open_once : PrivsOpenOnce
@@ -224,7 +232,8 @@ same_ticket key part other ticket others h k cipher =
     let opens = then_passes h in
     let opens_other = then_passes k in
     goes_on opens_other.0
-    (same_part enc_ticket_part enc_ticket_part_value key _ other part _ _ opens_other.0 opens_other.1 (etype_is enc_ticket_part enc_ticket_part_value key _ part _ _ opens.0 opens.1) (sym cipher)) opens_other.2
+    (same_part enc_ticket_part enc_ticket_part_value key _ other part _ _ opens_other.0 opens_other.1
+    (etype_is enc_ticket_part enc_ticket_part_value key _ part _ _ opens.0 opens.1) (sym cipher)) opens_other.2
 
 same_authenticator : (session : Key) (part other : EncryptedData) (a b : Authenticator)
     → OpensAuthenticator session part (Ok a) → OpensAuthenticator session other (Ok b) → part.cipher ≡ other.cipher
@@ -234,7 +243,8 @@ same_authenticator session part other a b h k cipher =
     let opens = then_passes h in
     let opens_other = then_passes k in
     goes_on opens_other.0
-    (same_part authenticator authenticator_value session _ other part _ _ opens_other.0 opens_other.1 (etype_is authenticator authenticator_value session _ part _ _ opens.0 opens.1) (sym cipher)) opens_other.2
+    (same_part authenticator authenticator_value session _ other part _ _ opens_other.0 opens_other.1
+    (etype_is authenticator authenticator_value session _ part _ _ opens.0 opens.1) (sym cipher)) opens_other.2
 
 -- what ticket and authenticator of an AP-REQ that opens hold
 abbrev Holds : List ℕ → Key → ApReq → ApOpened → Type 0

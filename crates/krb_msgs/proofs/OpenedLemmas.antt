@@ -1,11 +1,11 @@
 -- What follows where checks pass: the time of the authenticator can be written again.
 use Rattle.std.proofs.Common.{◌≡◌, ℕ, true, List, Option, Some, None, option_map, sym, subst, ap, ◌∙◌, ℤ, pos, Result, Ok}
 use Rattle.std.specs.Prelude.{is_some}
-use Rattle.krb_elements.specs.Shapes.{Shape, Value, ◌&◌, field, option, nothing, tagged, kerberos_time, microseconds, seq_number}
-use Rattle.krb_elements.specs.Grammar.{IsElement, IsOptional, Spells}
-use Rattle.krb_elements.specs.Texts.{is_in_range}
-use Rattle.krb_elements.specs.Times.{IsTime}
-use Rattle.krb_elements.proofs.TimeLemmas.{time_of-exact}
+use Rattle.krb_codec.specs.Shapes.{Shape, Value, ◌&◌, field, option, nothing, tagged, kerberos_time, microseconds, seq_number}
+use Rattle.krb_codec.specs.Grammar.{IsElement, IsOptional, Spells}
+use Rattle.krb_codec.specs.Texts.{is_in_range}
+use Rattle.krb_codec.specs.Times.{IsTime}
+use Rattle.krb_codec.proofs.TimeLemmas.{time_of-exact}
 use Rattle.krb_der.specs.Types.{authenticator, authorization_data, checksum, encryption_key}
 use Rattle.krb_der.specs.Values.{authenticator_value, authorization_data_value, checksum_value, encryption_key_value}
 use Rattle.krb_der.specs.declared.authenticator.Authenticator.{Authenticator}
@@ -16,7 +16,7 @@ use Rattle.krb_msgs.specs.Accepted.{Accepts, opened_of}
 use Rattle.krb_msgs.specs.ApExchange.{OpensAp}
 use Rattle.krb_msgs.specs.Fitting.{OpenedTimesFit}
 use Rattle.krb_msgs.specs.declared.ap_exchange.ApOpened.{ApOpened}
-use Rattle.krb_elements.specs.declared.numbers.SeqNumber.{SeqNumber}
+use Rattle.krb_codec.specs.declared.numbers.SeqNumber.{SeqNumber}
 use Rattle.krb_msgs.proofs.AnswerLemmas.{ok_err, ok_is}
 use Rattle.krb_msgs.proofs.LengthLemmas.{between}
 
@@ -65,7 +65,8 @@ authenticator_times : (a : Authenticator) (bytes : List ℕ) → Spells authenti
 authenticator_times a bytes h =
     let fields = h.2.2.4.4.4 in
     let times : (others : List ℕ) × Spells time_fields others (time_value a) =
-    behind (λ one w. (content : List ℕ) × IsElement 0xa3 content one × Spells checksum content w) (Spells time_fields) _ (option_map checksum_value a.cksum) (time_value a) fields in
+    behind (λ one w. (content : List ℕ) × IsElement 0xa3 content one × Spells checksum content w)
+    (Spells time_fields) _ (option_map checksum_value a.cksum) (time_value a) fields in
     let cusec = times.1.3.2.2 in
     let ctime = times.1.4.3.2.2 in
     (time_again _ _ ctime, between (pos 0) (pos 999999) (pos a.cusec.0) cusec.2 cusec.3)

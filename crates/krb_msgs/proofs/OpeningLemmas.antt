@@ -3,10 +3,11 @@ use Rattle.std.proofs.Common.{◌≡◌, ◌<◌, ◌^◌, ℕ, ℤ, List, [], �
 use Rattle.std.specs.Int.{to_be_bytes, w16}
 use Rattle.std.proofs.lemmas.Nat.{from_be_bytes-to_be_bytes_2}
 use Rattle.krb_keys.specs.declared.key.Key.{Key}
-use Rattle.krb_elements.specs.declared.kerberos_time.KerberosTime.{KerberosTime}
-use Rattle.krb_elements.specs.declared.numbers.Microseconds.{Microseconds}
+use Rattle.krb_codec.specs.declared.kerberos_time.KerberosTime.{KerberosTime}
+use Rattle.krb_codec.specs.declared.numbers.Microseconds.{Microseconds}
 use Rattle.krb_der.specs.Types.{ap_req, ap_rep, enc_ticket_part, authenticator, enc_ap_rep_part, krb_priv, enc_krb_priv_part, krb_error}
-use Rattle.krb_der.specs.Values.{ap_req_value, ap_rep_value, enc_ticket_part_value, authenticator_value, enc_ap_rep_part_value, krb_priv_value, enc_krb_priv_part_value, krb_error_value}
+use Rattle.krb_der.specs.Values.{ap_req_value, ap_rep_value, enc_ticket_part_value, authenticator_value}
+use Rattle.krb_der.specs.Values.{enc_ap_rep_part_value, krb_priv_value, enc_krb_priv_part_value, krb_error_value}
 use Rattle.krb_msgs.specs.Checks.{met, of_one, goes_on}
 use Rattle.krb_msgs.specs.Presented.{Presents}
 use Rattle.krb_msgs.specs.Tickets.{OpensTicket}

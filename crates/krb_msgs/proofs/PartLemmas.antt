@@ -3,10 +3,10 @@ use Rattle.std.proofs.Common.{◌≡◌, rules, ℕ, ◌<◌, List, ◌∷◌, l
 use Rattle.krb_keys.specs.Keys.{etype_of, number_of}
 use Rattle.krb_keys.specs.declared.key.Key.{Key}
 use Rattle.krb_keys.specs.declared.key.Key.TheVariants.{Aes128, Aes256}
-use Rattle.krb_elements.specs.Shapes.{Shape, Value, primitive, tagged}
-use Rattle.krb_elements.specs.Texts.{element, length_octets, text, fits}
-use Rattle.krb_elements.specs.Grammar.{is_element, is_legal}
-use Rattle.krb_elements.proofs.TextLemmas.{text_spells}
+use Rattle.krb_codec.specs.Shapes.{Shape, Value, primitive, tagged}
+use Rattle.krb_codec.specs.Texts.{element, length_octets, text, fits}
+use Rattle.krb_codec.specs.Grammar.{is_element, is_legal}
+use Rattle.krb_codec.proofs.TextLemmas.{text_spells}
 use Rattle.krb_der.specs.declared.encrypted_data.EncryptedData.{EncryptedData}
 use Rattle.krb_msgs.specs.Checks.{of_one, goes_on}
 use Rattle.krb_msgs.specs.Parts.{IsSealedPart, OpensPart, Reads, sealed_part}

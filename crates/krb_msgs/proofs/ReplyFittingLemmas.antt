@@ -1,9 +1,9 @@
 -- What a service's reply is made of is in its range, and short.
 use Rattle.std.proofs.Common.{◌≡◌, ℕ, ◌≤◌, ◌<◌, ◌^◌, true, refl, arith}
 use Rattle.std.proofs.lemmas.Bool.{lt-ltb}
-use Rattle.krb_elements.specs.Shapes.{Shape, Value, seq_number}
-use Rattle.krb_elements.specs.Texts.{is_in_range}
-use Rattle.krb_elements.proofs.CompleteLemmas.{and_both}
+use Rattle.krb_codec.specs.Shapes.{Shape, Value, seq_number}
+use Rattle.krb_codec.specs.Texts.{is_in_range}
+use Rattle.krb_codec.proofs.CompleteLemmas.{and_both}
 use Rattle.krb_der.specs.Types.{enc_ap_rep_part, enc_krb_priv_part, krb_error}
 use Rattle.krb_der.specs.Values.{enc_ap_rep_part_value, enc_krb_priv_part_value, krb_error_value}
 use Rattle.krb_msgs.specs.Fitting.{longest_part}

@@ -8,12 +8,12 @@ abbrev pub cells : ℕ → ℕ → List ℕ → List ℕ
 cells i zero words = []
 cells i (suc n) words = get_or words i 0 ∷ cells (suc i) n words
 
-pub behind_place : (words : List ℕ) (i n : ℕ) → length words ≡ i + n → drop i words ≡ cells i n words
-behind_place words i zero is =
+pub after_place : (words : List ℕ) (i n : ℕ) → length words ≡ i + n → drop i words ≡ cells i n words
+after_place words i zero is =
     ap (λ (m : ℕ). drop m words) (let e : i ≡ length words = omega (arith, is) in e) ∙ drop-length words
-behind_place words i (suc n) is =
+after_place words i (suc n) is =
     drop-cons words i 0 (omega (arith, is))
-    ∙ ap (λ (xs : List ℕ). get_or words i 0 ∷ xs) (behind_place words (suc i) n (omega (arith, is)))
+    ∙ ap (λ (xs : List ℕ). get_or words i 0 ∷ xs) (after_place words (suc i) n (omega (arith, is)))
 
 -- a word has four bytes
 pub length-word_bytes : (words : List ℕ) → length (word_bytes words) ≡ 4 * length words

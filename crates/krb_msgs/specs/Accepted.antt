@@ -1,5 +1,4 @@
--- Whether ticket and authenticator go together, and come from the client's address (RFC 4120
--- section 3.2.3).
+-- Whether ticket and authenticator belong together, and come from the client's address (RFC 4120 section 3.2.3).
 use Rattle.std.specs.Prelude.{◌≡◌, ◌==◌, ◌&&◌, ◌||◌, Bool, true, ℕ, List, length, Option, Some, None, Result, bytes_eq}
 use Rattle.std.specs.Ordering.{int_eq}
 use Rattle.std.specs.List.{list_any}
@@ -9,7 +8,7 @@ use Rattle.krb_der.specs.declared.encrypted_data.EncryptionKey.{EncryptionKey}
 use Rattle.krb_der.specs.declared.enc_ticket_part.EncTicketPart.{EncTicketPart}
 use Rattle.krb_der.specs.declared.authenticator.Authenticator.{Authenticator}
 use Rattle.krb_der.specs.declared.host_address.HostAddress.{HostAddress}
-use Rattle.krb_elements.specs.declared.kerberos_time.KerberosTime.{KerberosTime}
+use Rattle.krb_codec.specs.declared.kerberos_time.KerberosTime.{KerberosTime}
 use Rattle.krb_msgs.specs.Checks.{Held, Found, Passed}
 use Rattle.krb_msgs.specs.Tickets.{IsKeyIn}
 use Rattle.krb_msgs.specs.declared.ap_exchange.ApOpened.{ApOpened}
@@ -20,7 +19,7 @@ use Rattle.krb_msgs.specs.declared.fault.ApFault.TheVariants as fault
 abbrev pub IsSameClient : EncTicketPart → Authenticator → Type 0
 IsSameClient part a = (part.crealm ≡ a.crealm) × (part.cname.name_string ≡ a.cname.name_string)
 
--- an address is this one of IPv4 (section 7.5.3)
+-- an address is this IPv4 address (section 7.5.3)
 abbrev pub is_ipv4 : List ℕ → HostAddress → Bool
 is_ipv4 peer address =
     int_eq address.addr_type protocol.addr_type_ipv4 && bytes_eq address.address peer
@@ -37,7 +36,7 @@ abbrev pub IsSubkey : Option EncryptionKey → Key → Type 0
 IsSubkey None key = ⊥
 IsSubkey (Some field) key = IsKeyIn field key
 
--- starttime, or authtime where that is absent
+-- starttime, or if that is absent authtime
 abbrev pub starts_at : EncTicketPart → KerberosTime
 starts_at part = elim part.starttime [ None ↦ part.authtime | Some t ↦ t ]
 

@@ -9,7 +9,7 @@ use Rattle.krb_msgs.specs.declared.service_keys.ServiceKey.{ServiceKey}
 use Rattle.krb_msgs.specs.declared.ap_exchange.ApOpened.{ApOpened}
 use Rattle.krb_msgs.specs.declared.fault.ApFault.{ApFault}
 
--- of a realm, its service keys, the bytes of the AP-REQ and the peer's address
+-- arguments: realm, its service keys, the bytes of the AP-REQ, the peer's address
 unfoldable pub OpensAp : (realm : List ℕ) → List ServiceKey → (bytes peer : List ℕ)
     → Result ApOpened ApFault → Type 0
 OpensAp realm keys bytes peer =

@@ -1,4 +1,4 @@
--- What an authenticator says (RFC 4120 section 5.5.1): its fields, under the session key.
+-- The contents of an authenticator (RFC 4120 section 5.5.1), sealed under the session key.
 use Rattle.std.specs.Prelude.{◌≡◌, Result}
 use Rattle.krb_keys.specs.declared.key.Key.{Key}
 use Rattle.krb_keys.specs.KeyUsages.{usage_ap_req_authenticator}

@@ -1,9 +1,16 @@
--- The answers to an AP-REQ that is refused.
+-- The refusal of an AP-REQ for each fault.
 use Rattle.std.specs.Prelude.{ℤ, codes}
 use Rattle.krb_protocol.specs.Refusals.{Refusal}
-use Rattle.krb_protocol.specs.declared.codes.TheConstants.{KDC_ERR_ETYPE_NOSUPP, KRB_AP_ERR_BAD_INTEGRITY, KRB_AP_ERR_BADADDR, KRB_AP_ERR_BADKEYVER, KRB_AP_ERR_BADMATCH, KRB_AP_ERR_BADVERSION, KRB_AP_ERR_MSG_TYPE, KRB_AP_ERR_NOKEY, KRB_AP_ERR_NOT_US, KRB_ERR_GENERIC, KRB5_KPASSWD_AUTHERROR, KRB5_KPASSWD_MALFORMED}
+use Rattle.krb_protocol.specs.declared.codes.TheConstants.{KDC_ERR_ETYPE_NOSUPP, KRB_AP_ERR_BAD_INTEGRITY}
+use Rattle.krb_protocol.specs.declared.codes.TheConstants.{KRB_AP_ERR_BADADDR, KRB_AP_ERR_BADKEYVER}
+use Rattle.krb_protocol.specs.declared.codes.TheConstants.{KRB_AP_ERR_BADMATCH, KRB_AP_ERR_BADVERSION}
+use Rattle.krb_protocol.specs.declared.codes.TheConstants.{KRB_AP_ERR_MSG_TYPE, KRB_AP_ERR_NOKEY}
+use Rattle.krb_protocol.specs.declared.codes.TheConstants.{KRB_AP_ERR_NOT_US, KRB_ERR_GENERIC}
+use Rattle.krb_protocol.specs.declared.codes.TheConstants.{KRB5_KPASSWD_AUTHERROR, KRB5_KPASSWD_MALFORMED}
 use Rattle.krb_msgs.specs.declared.fault.ApFault.{ApFault}
-use Rattle.krb_msgs.specs.declared.fault.ApFault.TheVariants.{Malformed, Version, MessageType, UserToUser, NotForUs, TicketEtype, NoServiceKey, BadTicket, BadSessionKey, BadAuthenticator, ClientMismatch, WrongAddress, NoSubkey}
+use Rattle.krb_msgs.specs.declared.fault.ApFault.TheVariants.{Malformed, Version, MessageType, UserToUser, NotForUs}
+use Rattle.krb_msgs.specs.declared.fault.ApFault.TheVariants.{TicketEtype, NoServiceKey, BadTicket, BadSessionKey}
+use Rattle.krb_msgs.specs.declared.fault.ApFault.TheVariants.{BadAuthenticator, ClientMismatch, WrongAddress, NoSubkey}
 
 abbrev pub unauthenticated : ℤ → Refusal
 unauthenticated error = record { code = KRB5_KPASSWD_AUTHERROR; error = error; text = codes "authentication failed" }

@@ -1,11 +1,12 @@
--- Which messages fit: those whose parts are short enough, whatever the ciphers' bytes are.
+-- Which messages fit: those whose parts are short enough, whatever the bytes of the ciphers.
 use Rattle.std.specs.Prelude.{◌≡◌, ◌≤◌, ◌<◌, ◌^◌, ℕ, ◌+◌, pos, true, List, length, Ok}
 use Rattle.krb_keys.specs.declared.key.Key.{Key}
-use Rattle.krb_elements.specs.Shapes.{kerberos_time, microseconds}
-use Rattle.krb_elements.specs.Texts.{text, fits, is_in_range}
+use Rattle.krb_codec.specs.Shapes.{kerberos_time, microseconds}
+use Rattle.krb_codec.specs.Texts.{text, fits, is_in_range}
 use Rattle.krb_der.specs.Types as types
 use Rattle.krb_der.specs.Types.{ap_rep, ap_req, authenticator, enc_ap_rep_part, enc_krb_priv_part, enc_ticket_part, krb_priv}
-use Rattle.krb_der.specs.Values.{ap_rep_value, ap_req_value, authenticator_value, enc_ap_rep_part_value, enc_krb_priv_part_value, enc_ticket_part_value, krb_priv_value, ticket_value}
+use Rattle.krb_der.specs.Values.{ap_rep_value, ap_req_value, authenticator_value, enc_ap_rep_part_value}
+use Rattle.krb_der.specs.Values.{enc_krb_priv_part_value, enc_ticket_part_value, krb_priv_value, ticket_value}
 use Rattle.krb_der.specs.declared.ap_rep.EncApRepPart.{EncApRepPart}
 use Rattle.krb_der.specs.declared.authenticator.Authenticator.{Authenticator}
 use Rattle.krb_der.specs.declared.enc_ticket_part.EncTicketPart.{EncTicketPart}
@@ -59,7 +60,7 @@ PrivsFit = (part : EncKrbPrivPart) (subkey : Key) (confounder : List ℕ)
     → length (text enc_krb_priv_part (enc_krb_priv_part_value part)) ≤ longest_part
     → fits krb_priv (krb_priv_value (priv_of part subkey confounder)) ≡ true
 
--- the client's time and microseconds, once a request is opened, can be written again
+-- the client's time and microseconds, of an opened request, can be written again
 abbrev pub OpenedTimesFit : Type 0
 OpenedTimesFit = (realm : List ℕ) (keys : List ServiceKey) (bytes peer : List ℕ)
     (opened : ApOpened)

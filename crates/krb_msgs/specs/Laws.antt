@@ -1,16 +1,17 @@
--- What is made of a request or a reply opens to it, whatever is left open: confounders, the kvnos
--- of authenticator and KRB-PRIV, name-types.
+-- What is made from a request or reply opens to it, for any confounders, kvnos of authenticator and KRB-PRIV, and
+-- name-types.
 use Rattle.std.specs.Prelude.{◌≡◌, ◌<◌, ◌^◌, ℕ, true, List, [], ◌++◌, length, Option, Some, None, Ok}
 use Rattle.std.specs.Int.{to_be_bytes, w16}
 use Rattle.krb_aes.specs.Bytes.{AreBytes}
 use Rattle.krb_keys.specs.declared.key.Key.{Key}
 use Rattle.krb_keys.specs.KeyUsages.{usage_ticket, usage_ap_req_authenticator, usage_ap_rep_enc_part, usage_krb_priv}
-use Rattle.krb_elements.specs.Shapes.{Shape, Value}
-use Rattle.krb_elements.specs.Grammar.{Spells}
-use Rattle.krb_elements.specs.Texts.{text, fits}
+use Rattle.krb_codec.specs.Shapes.{Shape, Value}
+use Rattle.krb_codec.specs.Grammar.{Spells}
+use Rattle.krb_codec.specs.Texts.{text, fits}
 use Rattle.krb_protocol.specs.Numbers as protocol
 use Rattle.krb_der.specs.Types.{ap_req, ap_rep, enc_ticket_part, authenticator, enc_ap_rep_part, krb_priv, enc_krb_priv_part, krb_error}
-use Rattle.krb_der.specs.Values.{ap_req_value, ap_rep_value, enc_ticket_part_value, authenticator_value, enc_ap_rep_part_value, krb_priv_value, enc_krb_priv_part_value, krb_error_value}
+use Rattle.krb_der.specs.Values.{ap_req_value, ap_rep_value, enc_ticket_part_value, authenticator_value}
+use Rattle.krb_der.specs.Values.{enc_ap_rep_part_value, krb_priv_value, enc_krb_priv_part_value, krb_error_value}
 use Rattle.krb_der.specs.declared.ap_req.ApReq.{ApReq}
 use Rattle.krb_der.specs.declared.encrypted_data.EncryptedData.{EncryptedData}
 use Rattle.krb_der.specs.declared.enc_ticket_part.EncTicketPart.{EncTicketPart}
@@ -20,9 +21,9 @@ use Rattle.krb_der.specs.declared.krb_priv.EncKrbPrivPart.{EncKrbPrivPart}
 use Rattle.krb_der.specs.declared.ap_rep.ApRep.{ApRep}
 use Rattle.krb_der.specs.declared.ap_rep.EncApRepPart.{EncApRepPart}
 use Rattle.krb_der.specs.declared.krb_error.KrbError.{KrbError}
-use Rattle.krb_elements.specs.declared.kerberos_time.KerberosTime.{KerberosTime}
-use Rattle.krb_elements.specs.declared.numbers.Microseconds.{Microseconds}
-use Rattle.krb_elements.specs.declared.numbers.SeqNumber.{SeqNumber}
+use Rattle.krb_codec.specs.declared.kerberos_time.KerberosTime.{KerberosTime}
+use Rattle.krb_codec.specs.declared.numbers.Microseconds.{Microseconds}
+use Rattle.krb_codec.specs.declared.numbers.SeqNumber.{SeqNumber}
 use Rattle.krb_msgs.specs.Parts.{sealed_part}
 use Rattle.krb_msgs.specs.Presented.{HasVersion, IsForUs, IsServiceKey, UsesSessionKey}
 use Rattle.krb_msgs.specs.Tickets.{IsKeyIn}
@@ -41,8 +42,8 @@ Seals key usage part s v =
     × (length confounder ≡ 16) × AreBytes confounder × (fits s v ≡ true) × AreBytes (text s v)
     × (part ≡ sealed_part key usage kvno confounder (text s v))
 
--- an AP-REQ for this service, made of a ticket's and an authenticator's records (section 3.2.2),
--- from a peer that may send it
+-- an AP-REQ for this service, made from a ticket's and an authenticator's records (section 3.2.2), from a peer that may
+-- send it
 pub record IsApReq (realm : List ℕ) (keys : List ServiceKey) (peer : List ℕ) (request : ApReq)
     (part : EncTicketPart) (a : Authenticator) (session subkey : Key) : Type 0 where
   pub fit : fits ap_req (ap_req_value request) ≡ true
@@ -50,7 +51,7 @@ pub record IsApReq (realm : List ℕ) (keys : List ServiceKey) (peer : List ℕ)
   pub message_type : request.msg_type ≡ protocol.krb_ap_req
   pub own_ticket : UsesSessionKey request → ⊥
   pub ours : IsForUs realm request.ticket
-  -- the ticket's part, under the service key that is taken
+  -- the ticket's part, under the service key that is chosen
   pub key : Key
   pub taken : IsServiceKey keys request.ticket.enc_part key
   pub ticket : Seals key usage_ticket request.ticket.enc_part enc_ticket_part (enc_ticket_part_value part)
@@ -71,20 +72,20 @@ ApReqsOpen = (realm : List ℕ) (keys : List ServiceKey) (peer : List ℕ) (requ
     → OpensAp realm keys (text ap_req (ap_req_value request)) peer
     (Ok (opened_of part session a subkey))
 
--- a KRB-PRIV under the subkey, made of its part's record (section 3.5.1)
+-- a KRB-PRIV under the subkey, made from its part's record (section 3.5.1)
 pub record IsKrbPriv (subkey : Key) (m : KrbPriv) (part : EncKrbPrivPart) : Type 0 where
   pub fit : fits krb_priv (krb_priv_value m) ≡ true
   pub private : IsPrivate m
   pub sealed : Seals subkey usage_krb_priv m.enc_part enc_krb_priv_part (enc_krb_priv_part_value part)
 
--- its text opens to what the record says, behind an authenticator that it may follow
+-- its text opens to what the record says, after an authenticator that it may follow
 abbrev pub PrivsOpen : Type 0
 PrivsOpen = (subkey : Key) (seq_number : Option SeqNumber) (m : KrbPriv) (part : EncKrbPrivPart)
     → IsKrbPriv subkey m part → MayFollow seq_number part.seq_number
     → OpensPriv subkey seq_number (text krb_priv (krb_priv_value m)) (Ok (private_of part))
 
--- Of an AP-REQ that opens, only the sealed parts and the service key count: two that share these
--- open alike, whatever else their bytes say.
+-- Of an AP-REQ that opens, only the sealed parts and the service key count: two with the same ones open alike, whatever
+-- else their bytes say.
 abbrev pub ApReqsOpenAlike : Type 0
 ApReqsOpenAlike = (realm : List ℕ) (keys : List ServiceKey) (peer bytes others : List ℕ) (request other : ApReq)
     (key : Key) (a b : ApOpened)
@@ -95,8 +96,8 @@ ApReqsOpenAlike = (realm : List ℕ) (keys : List ServiceKey) (peer bytes others
     → request.authenticator.cipher ≡ other.authenticator.cipher
     → OpensAp realm keys bytes peer (Ok a) → OpensAp realm keys others peer (Ok b) → a ≡ b
 
--- A reply of AP-REP and KRB-PRIV, made of their parts' records, opens to the result code and text of
--- its user-data, for who sent the authenticator with the time that it repeats.
+-- A reply of AP-REP and KRB-PRIV, made from their parts' records, opens to the result code and text of its user-data,
+-- for the sender of the authenticator whose time it repeats.
 abbrev pub RepliesOpen : Type 0
 RepliesOpen = (session subkey : Key) (m : ApRep) (part : EncApRepPart) (private : KrbPriv)
     (private_part : EncKrbPrivPart) (code : ℕ) (words : List ℕ)

@@ -1,7 +1,8 @@
--- How long the text of a value is at most: what a caller needs to show that a message fits.
+-- The greatest length of a value's text, from which a caller shows that a message fits.
 use Rattle.std.specs.Prelude.{◌≡◌, ◌≤◌, ℕ, ◌+◌, true, List, [], ◌∷◌, length, Option, Some, None}
-use Rattle.krb_elements.specs.Shapes.{Primitive, integer, sequence_number, octets, bits, time, Shape, primitive, tagged, many, further, nothing, field, option, Meaning, Value}
-use Rattle.krb_elements.specs.Texts.{text, fits, is_in_range, longest_text}
+use Rattle.krb_codec.specs.Shapes.{Primitive, integer, sequence_number, octets, bits, time, Shape}
+use Rattle.krb_codec.specs.Shapes.{primitive, tagged, many, further, nothing, field, option, Meaning, Value}
+use Rattle.krb_codec.specs.Texts.{text, fits, is_in_range, longest_text}
 
 -- the contents of a number have at most eight bytes
 abbrev pub longest_content : (kind : Primitive) → Meaning kind → ℕ
@@ -33,7 +34,7 @@ longest (option tag first rest) v =
 abbrev pub TextsAreShort : Type 0
 TextsAreShort = (s : Shape) (v : Value s) → length (text s v) ≤ longest s v
 
--- a value in its range fits where its text is short
+-- a value in its range fits if its text is short
 abbrev pub ShortTextsFit : Type 0
 ShortTextsFit = (s : Shape) (v : Value s)
     → is_in_range s v ≡ true → length (text s v) ≤ longest_text → fits s v ≡ true

@@ -1,15 +1,15 @@
--- The messages that are made (RFC 4120 sections 5.3, 5.5, 5.7, 5.9), and their parts. A text that is
--- sealed is that of its record.
+-- The messages that are made (RFC 4120 sections 5.3, 5.5, 5.7, 5.9), and their parts. The text that is sealed is that
+-- of the part's record.
 use Rattle.std.specs.Prelude.{ℕ, ℤ, List, [], ◌∷◌, Some, None}
 use Rattle.std.specs.List.{flat_map}
 use Rattle.std.specs.Int.{to_le_bytes, w32}
 use Rattle.krb_keys.specs.declared.key.Key.{Key}
 use Rattle.krb_keys.specs.KeyUsages.{usage_ticket, usage_ap_req_authenticator, usage_ap_rep_enc_part, usage_krb_priv}
-use Rattle.krb_elements.specs.Grammar.{Spells}
+use Rattle.krb_codec.specs.Grammar.{Spells}
 use Rattle.krb_protocol.specs.Numbers as protocol
 use Rattle.krb_der.specs.Types.{ticket, enc_ticket_part, authenticator, enc_ap_rep_part, enc_krb_priv_part}
 use Rattle.krb_der.specs.Values.{ticket_value, enc_ticket_part_value, authenticator_value, enc_ap_rep_part_value, enc_krb_priv_part_value}
-use Rattle.krb_elements.specs.Texts.{text}
+use Rattle.krb_codec.specs.Texts.{text}
 use Rattle.krb_der.specs.declared.principal_name.PrincipalName.{PrincipalName}
 use Rattle.krb_der.specs.declared.ticket.Ticket.{Ticket}
 use Rattle.krb_der.specs.declared.enc_ticket_part.EncTicketPart.{EncTicketPart}
@@ -21,8 +21,8 @@ use Rattle.krb_der.specs.declared.krb_priv.KrbPriv.{KrbPriv}
 use Rattle.krb_der.specs.declared.krb_priv.EncKrbPrivPart.{EncKrbPrivPart}
 use Rattle.krb_der.specs.declared.host_address.HostAddress.{HostAddress}
 use Rattle.krb_der.specs.declared.krb_error.KrbError.{KrbError}
-use Rattle.krb_elements.specs.declared.kerberos_time.KerberosTime.{KerberosTime}
-use Rattle.krb_elements.specs.declared.numbers.Microseconds.{Microseconds}
+use Rattle.krb_codec.specs.declared.kerberos_time.KerberosTime.{KerberosTime}
+use Rattle.krb_codec.specs.declared.numbers.Microseconds.{Microseconds}
 use Rattle.krb_msgs.specs.Parts.{sealed_part}
 use Rattle.krb_msgs.specs.Presented.{change_service}
 use Rattle.krb_msgs.specs.declared.service_keys.ServiceKey.{ServiceKey}
@@ -75,7 +75,7 @@ ap_rep_of part session confounder = record {
       (text enc_ap_rep_part (enc_ap_rep_part_value part));
 }
 
--- the address of both ends (section 7.5.3): the service listens on loopback alone
+-- the address of both ends (section 7.5.3): the service listens on loopback only
 abbrev pub loopback : HostAddress
 loopback = record { addr_type = protocol.addr_type_ipv4; address = 127 ∷ 0 ∷ 0 ∷ 1 ∷ [] }
 

@@ -1,5 +1,4 @@
--- What an AP-REQ shows in the clear (RFC 4120 section 3.2.3): the request, and the service key of
--- its ticket.
+-- The part of an AP-REQ that is in the clear (RFC 4120 section 3.2.3): the request, and the service key of its ticket.
 use Rattle.std.specs.Prelude.{◌≡◌, ◌⊎◌, true, ℕ, ℤ, pos, List, [], ◌∷◌, codes, Some, Result}
 use Rattle.krb_keys.specs.declared.key.Key.{Key}
 use Rattle.krb_protocol.specs.Numbers as protocol
@@ -8,7 +7,7 @@ use Rattle.krb_der.specs.Values.{ap_req_value}
 use Rattle.krb_der.specs.declared.ap_req.ApReq.{ApReq}
 use Rattle.krb_der.specs.declared.ticket.Ticket.{Ticket}
 use Rattle.krb_der.specs.declared.encrypted_data.EncryptedData.{EncryptedData}
-use Rattle.krb_elements.specs.BitStrings.{is_set}
+use Rattle.krb_codec.specs.BitStrings.{is_set}
 use Rattle.krb_msgs.specs.Checks.{Held, Found, Then, Passed}
 use Rattle.krb_msgs.specs.Parts.{Reads}
 use Rattle.krb_msgs.specs.ServiceKeys.{service_key}

@@ -7,8 +7,8 @@ use Rattle.krb_der.specs.Types.{krb_priv, enc_krb_priv_part}
 use Rattle.krb_der.specs.Values.{krb_priv_value, enc_krb_priv_part_value}
 use Rattle.krb_der.specs.declared.krb_priv.KrbPriv.{KrbPriv}
 use Rattle.krb_der.specs.declared.krb_priv.EncKrbPrivPart.{EncKrbPrivPart}
-use Rattle.krb_elements.specs.declared.numbers.SeqNumber.{SeqNumber}
-use Rattle.krb_elements.specs.declared.kerberos_time.KerberosTime.{KerberosTime}
+use Rattle.krb_codec.specs.declared.numbers.SeqNumber.{SeqNumber}
+use Rattle.krb_codec.specs.declared.kerberos_time.KerberosTime.{KerberosTime}
 use Rattle.krb_msgs.specs.Checks.{Held, Then, Passed}
 use Rattle.krb_msgs.specs.Parts.{Reads, OpensPart}
 use Rattle.krb_msgs.specs.declared.private_message.Private.{Private}
@@ -19,7 +19,7 @@ use Rattle.krb_msgs.specs.declared.fault.PrivFault.TheVariants as fault
 abbrev pub IsPrivate : KrbPriv → Type 0
 IsPrivate m = (m.pvno ≡ protocol.pvno) × (m.msg_type ≡ protocol.krb_priv)
 
--- the sequence numbers of authenticator and message are equal, where both are there
+-- the sequence numbers of authenticator and message are equal, if both are present
 abbrev pub MayFollow : Option SeqNumber → Option SeqNumber → Type 0
 MayFollow None second = Unit {0}
 MayFollow (Some first) None = Unit {0}
@@ -32,7 +32,7 @@ private_of part = record {
   stamp = option_map (λ (t : KerberosTime). t.0) part.timestamp;
 }
 
--- of the subkey, the authenticator's sequence number and the bytes of the KRB-PRIV
+-- arguments: subkey, the authenticator's sequence number, the bytes of the KRB-PRIV
 unfoldable pub OpensPriv : Key → Option SeqNumber → List ℕ
     → Result Private PrivFault → Type 0
 OpensPriv subkey seq_number bytes =

@@ -11,8 +11,8 @@ use Rattle.krb_der.specs.declared.ap_rep.EncApRepPart.{EncApRepPart}
 use Rattle.krb_der.specs.declared.krb_priv.KrbPriv.{KrbPriv}
 use Rattle.krb_der.specs.declared.krb_priv.EncKrbPrivPart.{EncKrbPrivPart}
 use Rattle.krb_der.specs.declared.krb_error.KrbError.{KrbError}
-use Rattle.krb_elements.specs.declared.kerberos_time.KerberosTime.{KerberosTime}
-use Rattle.krb_elements.specs.declared.numbers.Microseconds.{Microseconds}
+use Rattle.krb_codec.specs.declared.kerberos_time.KerberosTime.{KerberosTime}
+use Rattle.krb_codec.specs.declared.numbers.Microseconds.{Microseconds}
 use Rattle.krb_msgs.specs.Checks.{Held, Found, Then, Passed}
 use Rattle.krb_msgs.specs.Parts.{Reads, OpensPart}
 use Rattle.krb_msgs.specs.PrivateMessages.{IsPrivate}
@@ -50,7 +50,7 @@ OpensApRep session ctime cusec bytes =
     Held (MatchesTime ctime cusec part) fault.Mismatch (
     Passed tt))))
 
--- the KRB-PRIV behind it
+-- the KRB-PRIV after it
 unfoldable pub OpensResult : Key → List ℕ → Result Reply ReplyFault → Type 0
 OpensResult subkey bytes =
     Then (Reads krb_priv krb_priv_value bytes fault.Malformed) (λ (m : KrbPriv).
@@ -71,8 +71,8 @@ OpensError bytes =
     Found (λ (data_bytes : List ℕ). m.e_data ≡ Some data_bytes) fault.NoCode (λ data_bytes.
     SaysCode data_bytes (Some m.error_code))))
 
--- of session key, subkey, the authenticator's time and microseconds, the AP-REP and what follows
--- it: where there is no AP-REP, that is a KRB-ERROR
+-- arguments: session key, subkey, the authenticator's time and microseconds, the AP-REP and what follows it; without an
+-- AP-REP, that is a KRB-ERROR
 unfoldable pub OpensReply : (session subkey : Key) → KerberosTime → Microseconds
     → (ap_rep tail : List ℕ) → Result Reply ReplyFault → Type 0
 OpensReply session subkey ctime cusec [] tail = OpensError tail

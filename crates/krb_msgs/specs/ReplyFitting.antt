@@ -1,9 +1,9 @@
--- What a service's reply is made of fits: what a caller needs of the makers' conditions.
+-- The parts of a service's reply fit, which meets the conditions of the makers.
 use Rattle.std.specs.Prelude.{◌≡◌, ◌≤◌, ◌<◌, ◌^◌, ℕ, ◌+◌, ℤ, pos, true, List, length}
-use Rattle.krb_elements.specs.Shapes.{Shape, Value, int32, kerberos_time, microseconds}
-use Rattle.krb_elements.specs.Texts.{fits, is_in_range, text}
-use Rattle.krb_elements.specs.declared.kerberos_time.KerberosTime.{KerberosTime}
-use Rattle.krb_elements.specs.declared.numbers.Microseconds.{Microseconds}
+use Rattle.krb_codec.specs.Shapes.{Shape, Value, int32, kerberos_time, microseconds}
+use Rattle.krb_codec.specs.Texts.{fits, is_in_range, text}
+use Rattle.krb_codec.specs.declared.kerberos_time.KerberosTime.{KerberosTime}
+use Rattle.krb_codec.specs.declared.numbers.Microseconds.{Microseconds}
 use Rattle.krb_der.specs.Types.{enc_ap_rep_part, enc_krb_priv_part, krb_error}
 use Rattle.krb_der.specs.Values.{enc_ap_rep_part_value, enc_krb_priv_part_value, krb_error_value}
 use Rattle.krb_msgs.specs.Fitting.{longest_part}

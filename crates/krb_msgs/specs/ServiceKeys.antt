@@ -16,7 +16,7 @@ highest_kvno etype (k ∷ ks) =
     if is_of_etype etype k && nat_lt (highest_kvno etype ks) k.kvno then k.kvno
     else highest_kvno etype ks
 
--- the kvno that the ticket names, or else the highest
+-- the kvno that the ticket names, otherwise the highest
 abbrev pub wanted_kvno : ℤ → Option ℕ → List ServiceKey → ℕ
 wanted_kvno etype None ks = highest_kvno etype ks
 wanted_kvno etype (Some kvno) ks = kvno

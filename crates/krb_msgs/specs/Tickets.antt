@@ -1,5 +1,4 @@
--- What a ticket holds (RFC 4120 section 5.3): its part under the service's key, and the session
--- key.
+-- The contents of a ticket (RFC 4120 section 5.3): its part under the service's key, and the session key.
 use Rattle.std.specs.Prelude.{◌≡◌, Some, Result}
 use Rattle.krb_keys.specs.Keys.{key_of}
 use Rattle.krb_keys.specs.declared.key.Key.{Key}

@@ -1,5 +1,4 @@
-//! Whether ticket and authenticator go together, and come from the client's address (RFC 4120
-//! section 3.2.3).
+//! Whether ticket and authenticator belong together, and come from the client's address (RFC 4120 section 3.2.3).
 
 ghost use Rattle.std.specs.Prelude.{◌≡◌, ◌↔◌, IsTrue, Some};
 ghost use Rattle.std.specs.List.{list_any};
@@ -78,7 +77,8 @@ fn opened_of(part: EncTicketPart, session: Key, a: Authenticator, subkey: Key) -
     }
 }
 
-/// What ticket and authenticator say together to a service whose peer has this address.
+/// What ticket and authenticator together say to a service whose peer has this IPv4 address, high byte first. Refused
+/// as `ClientMismatch`, `WrongAddress`, `NoSubkey`, in this order.
 pub fn accepted(
     peer: [u8; 4],
     part: EncTicketPart,

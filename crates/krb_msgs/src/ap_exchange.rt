@@ -6,7 +6,7 @@ ghost use Rattle.krb_msgs.specs.ApExchange.{OpensAp};
 use crate::accepting::accepted;
 use crate::authenticators::open_authenticator;
 use crate::fault::{ApFault, OpenError};
-use crate::presenting::presented;
+use crate::presenting::read_request;
 use crate::service_keys::ServiceKey;
 use crate::tickets::open_ticket;
 use krb_der::{GeneralString, KerberosFlags, KerberosTime, Microseconds, PrincipalName, SeqNumber};
@@ -22,7 +22,7 @@ pub struct ApOpened {
     pub cname: PrincipalName,
     /// The ticket's flags.
     pub flags: KerberosFlags,
-    /// When the ticket becomes valid: its starttime, or its authtime where that is absent.
+    /// When the ticket becomes valid: its starttime, or if that is absent its authtime.
     pub starts: KerberosTime,
     /// When the ticket expires.
     pub ends: KerberosTime,
@@ -40,8 +40,7 @@ pub struct ApOpened {
 
 /// Opens an AP-REQ for kadmin/changepw (RFC 4120 section 3.2.3).
 ///
-/// `peer` is an IPv4 address, high byte first. Of several faults the first in the order of
-/// [`ApFault`] is given.
+/// `peer` is an IPv4 address, high byte first. Of several faults the first in the order of [`ApFault`] is returned.
 pub fn open_ap(
     alloc: Global,
     realm: &[u8],
@@ -51,7 +50,7 @@ pub fn open_ap(
 ) -> Result<ApOpened, OpenError<ApFault>>
     ensures opens { Answers (OpensAp realm.now keys.now ap_req.now peer) result }
 {
-    let (request, key) = presented(alloc, realm, keys, ap_req)?;
+    let (request, key) = read_request(alloc, realm, keys, ap_req)?;
     let (part, session) = open_ticket(alloc, &key, request.ticket)?;
     let authenticator = open_authenticator(alloc, &session, request.authenticator)?;
     accepted(peer, part, session, authenticator)

@@ -1,4 +1,4 @@
-//! What messages are made of.
+//! The contents of messages.
 
 ghost use Rattle.std.specs.Prelude.{◌≡◌, IfOk};
 ghost use Rattle.krb_msgs.specs.Making.{loopback, priv_part_of, service_name, word_bytes};
@@ -11,7 +11,7 @@ use krb_protocol::{ADDR_TYPE_IPV4, NT_SRV_INST};
 use std::alloc::{AllocError, Global};
 
 /// A copy of these bytes, under any tag.
-pub fn copied<const TAG: u8>(alloc: Global, bytes: &[u8]) -> Result<Bytes<TAG>, AllocError>
+pub fn copy_bytes<const TAG: u8>(alloc: Global, bytes: &[u8]) -> Result<Bytes<TAG>, AllocError>
     ensures value { IfOk result (λ copy. copy ≡ bytes.now) }
 {
     Ok(Bytes::of(Vec::from_slice(alloc, bytes)?))
@@ -22,8 +22,8 @@ pub fn service_name(alloc: Global) -> Result<PrincipalName, AllocError>
     ensures value { IfOk result (λ n. n ≡ service_name) }
 {
     let mut components = Vec::with_capacity(alloc, 2)?;
-    components.push(copied(alloc, b"kadmin")?)?;
-    components.push(copied(alloc, b"changepw")?)?;
+    components.push(copy_bytes(alloc, b"kadmin")?)?;
+    components.push(copy_bytes(alloc, b"changepw")?)?;
     Ok(PrincipalName {
         name_type: NT_SRV_INST,
         name_string: SequenceOf::of(components),
@@ -49,7 +49,7 @@ fn loopback(alloc: Global) -> Result<HostAddress, AllocError>
 {
     Ok(HostAddress {
         addr_type: ADDR_TYPE_IPV4,
-        address: copied(alloc, &[127, 0, 0, 1])?,
+        address: copy_bytes(alloc, &[127, 0, 0, 1])?,
     })
 }
 

@@ -63,7 +63,7 @@ pub enum ApFault {
 }
 
 impl ApFault {
-    /// What the message is refused with; the text tells no more than the result code.
+    /// What the message is refused with; the text says no more than the result code.
     pub fn refusal(self) -> Refusal
         ensures value { said result ≡ refusal_of self }
     {
@@ -73,23 +73,23 @@ impl ApFault {
                 error: KRB_ERR_GENERIC,
                 text: "malformed",
             },
-            ApFault::Version => unauthenticated(KRB_AP_ERR_BADVERSION),
-            ApFault::MessageType => unauthenticated(KRB_AP_ERR_MSG_TYPE),
-            ApFault::UserToUser => unauthenticated(KRB_AP_ERR_NOKEY),
-            ApFault::NotForUs => unauthenticated(KRB_AP_ERR_NOT_US),
-            ApFault::NoServiceKey => unauthenticated(KRB_AP_ERR_BADKEYVER),
-            ApFault::BadTicket => unauthenticated(KRB_AP_ERR_BAD_INTEGRITY),
-            ApFault::BadAuthenticator => unauthenticated(KRB_AP_ERR_BAD_INTEGRITY),
-            ApFault::ClientMismatch => unauthenticated(KRB_AP_ERR_BADMATCH),
-            ApFault::WrongAddress => unauthenticated(KRB_AP_ERR_BADADDR),
-            ApFault::TicketEtype => unauthenticated(KDC_ERR_ETYPE_NOSUPP),
-            ApFault::BadSessionKey => unauthenticated(KDC_ERR_ETYPE_NOSUPP),
-            ApFault::NoSubkey => unauthenticated(KDC_ERR_ETYPE_NOSUPP),
+            ApFault::Version => authentication_failed(KRB_AP_ERR_BADVERSION),
+            ApFault::MessageType => authentication_failed(KRB_AP_ERR_MSG_TYPE),
+            ApFault::UserToUser => authentication_failed(KRB_AP_ERR_NOKEY),
+            ApFault::NotForUs => authentication_failed(KRB_AP_ERR_NOT_US),
+            ApFault::NoServiceKey => authentication_failed(KRB_AP_ERR_BADKEYVER),
+            ApFault::BadTicket => authentication_failed(KRB_AP_ERR_BAD_INTEGRITY),
+            ApFault::BadAuthenticator => authentication_failed(KRB_AP_ERR_BAD_INTEGRITY),
+            ApFault::ClientMismatch => authentication_failed(KRB_AP_ERR_BADMATCH),
+            ApFault::WrongAddress => authentication_failed(KRB_AP_ERR_BADADDR),
+            ApFault::TicketEtype => authentication_failed(KDC_ERR_ETYPE_NOSUPP),
+            ApFault::BadSessionKey => authentication_failed(KDC_ERR_ETYPE_NOSUPP),
+            ApFault::NoSubkey => authentication_failed(KDC_ERR_ETYPE_NOSUPP),
         }
     }
 }
 
-fn unauthenticated(error: i32) -> Refusal
+fn authentication_failed(error: i32) -> Refusal
     ensures value { said result ≡ unauthenticated error }
 {
     Refusal {
@@ -99,8 +99,8 @@ fn unauthenticated(error: i32) -> Refusal
     }
 }
 
-/// Why a KRB-PRIV is refused. Whether its sealed part is DER is looked at after
-/// [`PrivFault::NotSealed`]; else the faults stand in the order of the checks.
+/// Why a KRB-PRIV is refused, in the order of the checks, but that its sealed part is read after
+/// [`PrivFault::NotSealed`].
 #[derive(Clone, Copy, Debug, Drop, Error)]
 pub enum PrivFault {
     /// The bytes are no KRB-PRIV, or its sealed part isn't DER.
@@ -112,25 +112,25 @@ pub enum PrivFault {
     /// It isn't sealed under the subkey.
     #[error("not sealed under the subkey")]
     NotSealed,
-    /// Its sequence number isn't the authenticator's.
+    /// Its sequence number isn't the authenticator's, and both are present.
     #[error("another sequence number")]
     WrongSeqNumber,
 }
 
-/// Why a reply is refused. The AP-REP is checked whole before what follows it, and each message in
-/// the clear before its sealed part.
+/// Why a reply is refused. The AP-REP is checked in full before what follows it, and of each message the part in the
+/// clear before the sealed part.
 #[derive(Clone, Copy, Debug, Drop, Error)]
 pub enum ReplyFault {
     /// A message or a sealed part isn't DER of its type.
     #[error("not a reply")]
     Malformed,
-    /// pvno, msg-type, ctime or cusec isn't as it should be.
+    /// pvno, msg-type, ctime or cusec has a wrong value.
     #[error("not the reply to this request")]
     Mismatch,
     /// A part isn't sealed under its key.
     #[error("not sealed under the session key or subkey")]
     NotSealed,
-    /// There are no two bytes of a result code.
+    /// There are no two bytes for a result code.
     #[error("no result code")]
     NoCode,
 }

@@ -6,8 +6,8 @@ ghost use Rattle.krb_msgs.specs.Lengths.{ShortTextsFit, TextsAreShort};
 ghost use Rattle.krb_msgs.specs.ReplyFitting.{ApRepPartsFit, ErrorsFit, PrivPartsFit};
 ghost use Rattle.krb_msgs.specs.Fitting.{ApRepsFit, ApReqsFit, OpenedTimesFit, PrivsFit, TicketsAreShort, TicketsFit};
 
-/// What is made of a request opens to that request, and what is made of a reply to its result code,
-/// text and error code.
+/// What is made of a request opens to that request, and what is made of a reply opens to its result code, text and
+/// error code.
 pub fn openings()
     ensures ap_req { ApReqsOpen }
     ensures krb_priv { PrivsOpen }
@@ -15,13 +15,13 @@ pub fn openings()
     ensures krb_error { ErrorsOpen }
 {}
 
-/// Two AP-REQs that share their sealed parts and the service key open alike, where both open: so
-/// what stands in the clear can make one a fault, and no other request.
+/// Two AP-REQs with the same sealed parts and service key open alike, where both open: what stands in the clear can
+/// turn one into a fault, but never into another request.
 pub fn sealed_parts()
     ensures ap_req { ApReqsOpenAlike }
 {}
 
-/// A message opens to one answer, so what a call answers is all that its relation allows.
+/// A message opens to one answer, so a call's answer is the only one that its relation allows.
 pub fn one_answer()
     ensures ap_req { ApReqsOpenOnce }
     ensures krb_priv { PrivsOpenOnce }
@@ -35,8 +35,8 @@ pub fn lengths()
     ensures fits { ShortTextsFit }
 {}
 
-/// Messages of short parts fit, and so do the times of a request that was opened: whoever makes a
-/// message has its conditions from this.
+/// Messages of short parts fit, and the times of an opened request can be written: this meets the conditions of the
+/// makers.
 pub fn messages_fit()
     ensures ticket { TicketsFit }
     ensures ticket_length { TicketsAreShort }

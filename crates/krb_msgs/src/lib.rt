@@ -1,5 +1,5 @@
-//! The AP exchange, KRB-PRIV and KRB-ERROR (RFC 4120 sections 3.2, 3.5 and 5.9): requests and
-//! replies are opened, and messages made.
+//! The AP exchange, KRB-PRIV and KRB-ERROR (RFC 4120 sections 3.2, 3.5 and 5.9): opens requests and replies, and makes
+//! messages.
 #![tactic(auto)]
 
 mod accepting;
@@ -18,7 +18,7 @@ mod service_keys;
 mod tickets;
 
 pub use ap_exchange::{ApOpened, open_ap};
-pub use contents::{copied, priv_part, service_name, word_bytes};
+pub use contents::{copy_bytes, priv_part, service_name, word_bytes};
 pub use fault::{ApFault, OpenError, PrivFault, ReplyFault};
 pub use making::{make_ap_rep, make_ap_req, make_error, make_priv, make_ticket};
 pub use private_message::{Private, open_priv};

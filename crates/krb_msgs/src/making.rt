@@ -1,15 +1,17 @@
-//! Messages, made of their parts (RFC 4120 sections 3.2, 3.5, 5.3 and 5.9). A message is for
-//! Kerberos 5, of the message type that is its application number.
+//! Messages made from their parts (RFC 4120 sections 3.2, 3.5, 5.3 and 5.9). A message has pvno 5, and its application
+//! number as message type.
 
 ghost use Rattle.std.specs.Prelude.{◌≡◌, true, IfOk};
-ghost use Rattle.krb_elements.specs.Texts.{fits, text};
+ghost use Rattle.krb_codec.specs.Texts.{fits, text};
 ghost use Rattle.krb_der.specs.Types as types;
 ghost use Rattle.krb_der.specs.Types.{enc_ap_rep_part, enc_krb_priv_part, enc_ticket_part, krb_error};
-ghost use Rattle.krb_der.specs.Values.{ap_rep_value, ap_req_value, authenticator_value, enc_ap_rep_part_value, enc_krb_priv_part_value, enc_ticket_part_value, krb_error_value, krb_priv_value, ticket_value};
+ghost use Rattle.krb_der.specs.Values.{ap_rep_value, ap_req_value, authenticator_value};
+ghost use Rattle.krb_der.specs.Values.{enc_ap_rep_part_value, enc_krb_priv_part_value};
+ghost use Rattle.krb_der.specs.Values.{enc_ticket_part_value, krb_error_value, krb_priv_value, ticket_value};
 ghost use Rattle.krb_der.specs.declared.ticket.Ticket.{Ticket};
 ghost use Rattle.krb_msgs.specs.Making.{SpellsTicket, ap_rep_of, ap_req_of, priv_of, ticket_of};
 
-use crate::contents::{copied, service_name};
+use crate::contents::{copy_bytes, service_name};
 use crate::sealed_part::seal_part;
 use crate::service_keys::ServiceKey;
 use krb_der::{
@@ -42,15 +44,15 @@ pub fn make_ticket(
     let kvno = Some(service.kvno);
     let ticket = Ticket {
         tkt_vno: PVNO,
-        realm: copied(alloc, realm)?,
+        realm: copy_bytes(alloc, realm)?,
         sname: service_name(alloc)?,
         enc_part: seal_part(alloc, &service.key, USAGE_TICKET, kvno, confounder, part)?,
     };
     write_ticket(alloc, &ticket)
 }
 
-/// An AP-REQ of a ticket's text and this authenticator, sealed under the session key (RFC 4120
-/// section 5.5.1). `options` are all 32 bits, the first the highest.
+/// An AP-REQ with a ticket's text and this authenticator, sealed under the session key (RFC 4120 section 5.5.1).
+/// `options` are all 32 bits, the first the highest.
 pub fn make_ap_req(
     alloc: Global,
     ticket: &[u8],

@@ -1,15 +1,15 @@
-//! Messages and their sealed parts are read: what all that is opened has in common.
+//! Reading messages and their sealed parts, for all messages alike.
 
 ghost use Rattle.krb_msgs.specs.Answers.{Answers};
 ghost use Rattle.krb_msgs.specs.Parts.{OpensPart, Reads};
 
 use crate::fault::OpenError;
+use krb_codec::{Read, read_all};
 use krb_der::{EncryptedData, ReadError};
-use krb_elements::{Read, read_all};
 use krb_keys::{Key, unseal_in_place};
 use std::alloc::Global;
 
-/// The record that a text spells, or a fault where it spells none.
+/// The record that a text spells, or the fault where it spells none.
 pub fn read_record<T: Read, F: Drop>(
     alloc: Global,
     text: &[u8],
@@ -24,8 +24,8 @@ pub fn read_record<T: Read, F: Drop>(
     }
 }
 
-/// The record that a part's plain text spells; or one fault where the part isn't sealed so, and
-/// another where its plain text spells none.
+/// The record that a part's plain text spells; one fault where the part isn't sealed under this key and usage, another
+/// where its plain text spells no record.
 pub fn open_part<T: Read, F: Drop>(
     alloc: Global,
     key: &Key,
@@ -40,7 +40,7 @@ pub fn open_part<T: Read, F: Drop>(
     if part.etype != key.etype().number() {
         return Err(OpenError::Fault(sealed_otherwise));
     }
-    // The plain text is read where the sealed one stood, so that no byte is copied in between.
+    // The plain text is read where the sealed one was, so that no byte is copied in between.
     let mut text = part.cipher.into_vec();
     match unseal_in_place(key, usage, &mut text) {
         Ok(plain) => read_record(alloc, plain, spelled_otherwise),

@@ -1,4 +1,4 @@
-//! What an AP-REQ shows in the clear (RFC 4120 section 3.2.3).
+//! The part of an AP-REQ that is in the clear (RFC 4120 section 3.2.3).
 
 ghost use Rattle.std.specs.Prelude.{◌≡◌, ◌↔◌, IsTrue};
 ghost use Rattle.krb_msgs.specs.Answers.{Answers};
@@ -49,8 +49,9 @@ fn key_for(keys: &[ServiceKey], part: &EncryptedData) -> Option<Key>
     service_key(keys, part.etype, part.kvno)
 }
 
-/// The request, and the service key of its ticket.
-pub fn presented(
+/// The request, and the service key of its ticket; refused as `Malformed`, `Version`, `MessageType`, `UserToUser`,
+/// `NotForUs`, `TicketEtype`, `NoServiceKey`, in this order.
+pub fn read_request(
     alloc: Global,
     realm: &[u8],
     keys: &[ServiceKey],

@@ -38,7 +38,7 @@ fn may_follow(first: Option<SeqNumber>, second: Option<SeqNumber>) -> bool
     }
 }
 
-// What it says to the service.
+// The contents of its sealed part.
 fn private_of(part: EncKrbPrivPart) -> Private
     ensures { result ≡ private_of part }
 {
@@ -50,8 +50,8 @@ fn private_of(part: EncKrbPrivPart) -> Private
 
 /// Opens a KRB-PRIV that follows an AP-REQ (RFC 4120 section 3.5.2). Addresses aren't compared.
 ///
-/// Of several faults the first is given, in the order of [`PrivFault`], where a sealed part that
-/// isn't DER comes after [`PrivFault::NotSealed`].
+/// Of several faults the first is returned, in the order of [`PrivFault`], except that a sealed part that isn't DER
+/// comes after [`PrivFault::NotSealed`].
 pub fn open_priv(
     alloc: Global,
     opened: &ApOpened,

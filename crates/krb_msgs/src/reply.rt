@@ -4,7 +4,7 @@ ghost use Rattle.std.specs.Prelude.{◌≡◌, ◌↔◌, IsTrue, Some};
 ghost use Rattle.krb_msgs.specs.Answers.{Answers};
 ghost use Rattle.krb_msgs.specs.Replies.{IsApRep, IsKrbError, MatchesTime, OpensApRep, OpensError, OpensReply, OpensResult, SaysCode};
 
-use crate::contents::copied;
+use crate::contents::copy_bytes;
 use crate::fault::{OpenError, ReplyFault};
 use crate::opening::{open_part, read_record};
 use crate::private_message::is_private;
@@ -20,20 +20,20 @@ use std::alloc::Global;
 pub struct Reply {
     /// The result code.
     pub code: u16,
-    /// The text behind it.
+    /// The text after it.
     pub text: OctetString,
     /// The error code of a KRB-ERROR.
     pub error: Option<i32>,
 }
 
-// The result code in the first two bytes, and the text behind it.
-fn said(alloc: Global, bytes: &[u8], error: Option<i32>) -> Result<Reply, OpenError<ReplyFault>>
+// The result code in the first two bytes, and the text after it.
+fn reply_of(alloc: Global, bytes: &[u8], error: Option<i32>) -> Result<Reply, OpenError<ReplyFault>>
     ensures { Answers (SaysCode bytes.now error) result }
 {
     match bytes {
         [high, low, text @ ..] => Ok(Reply {
             code: u16::from_be_bytes([*high, *low]),
-            text: copied(alloc, text)?,
+            text: copy_bytes(alloc, text)?,
             error,
         }),
         _ => Err(OpenError::Fault(ReplyFault::NoCode)),
@@ -96,7 +96,7 @@ fn open_result(alloc: Global, subkey: &Key, bytes: &[u8]) -> Result<Reply, OpenE
         ReplyFault::NotSealed,
         ReplyFault::Malformed,
     )?;
-    said(alloc, part.user_data.as_slice(), None)
+    reply_of(alloc, part.user_data.as_slice(), None)
 }
 
 fn is_krb_error(message: &KrbError) -> bool
@@ -121,19 +121,18 @@ fn open_error(alloc: Global, bytes: &[u8]) -> Result<Reply, OpenError<ReplyFault
         return Err(OpenError::Fault(ReplyFault::Mismatch));
     }
     match &message.e_data {
-        Some(bytes) => said(alloc, bytes.as_slice(), error_code_in(&message)),
+        Some(bytes) => reply_of(alloc, bytes.as_slice(), error_code_in(&message)),
         None => Err(OpenError::Fault(ReplyFault::NoCode)),
     }
 }
 
-/// Reads the reply to a request (RFC 3244 section 2): of the session key, the subkey, and the time
-/// and microseconds of its authenticator.
+/// Reads the reply to a request (RFC 3244 section 2), for its session key, subkey, and the time and microseconds of its
+/// authenticator.
 ///
-/// `ap_rep` is the AP-REP, and `tail` the KRB-PRIV behind it. Where `ap_rep` is empty, `tail` is a
-/// KRB-ERROR. Each message is checked in the order [`ReplyFault::Malformed`],
-/// [`ReplyFault::Mismatch`], [`ReplyFault::NotSealed`], then its sealed part
-/// [`ReplyFault::Malformed`], [`ReplyFault::Mismatch`], [`ReplyFault::NoCode`]. Sequence numbers
-/// aren't compared.
+/// `ap_rep` is the AP-REP, and `tail` the KRB-PRIV after it. If `ap_rep` is empty, `tail` is a KRB-ERROR. Each message
+/// is checked in the order [`ReplyFault::Malformed`], [`ReplyFault::Mismatch`], [`ReplyFault::NotSealed`], then its
+/// sealed part [`ReplyFault::Malformed`], [`ReplyFault::Mismatch`], [`ReplyFault::NoCode`]. Sequence numbers aren't
+/// compared.
 pub fn read_reply(
     alloc: Global,
     session: &Key,

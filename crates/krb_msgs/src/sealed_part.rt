@@ -1,11 +1,11 @@
 //! Sealed parts of messages (RFC 4120 section 5.2.9).
 
 ghost use Rattle.std.specs.Prelude.{◌≡◌, ◌<◌, IfOk, length};
-ghost use Rattle.krb_elements.specs.Texts.{text};
+ghost use Rattle.krb_codec.specs.Texts.{text};
 ghost use Rattle.krb_msgs.specs.Parts.{sealed_part};
 
+use krb_codec::{Write, write_all};
 use krb_der::{Bytes, EncryptedData};
-use krb_elements::{Write, write_all};
 use krb_keys::{CONFOUNDER_LEN, Key, seal};
 use std::alloc::{AllocError, Global};
 

@@ -43,8 +43,8 @@ fn highest_kvno(keys: &[ServiceKey], etype: i32) -> u32
     }
 }
 
-/// The key that a ticket is sealed under: the first one of its encryption type and kvno, or, where
-/// it names no kvno, of the highest kvno of that encryption type.
+/// The key that a ticket is sealed under: the first one of its encryption type and kvno, or, if it names no kvno, of
+/// the highest kvno of that encryption type.
 pub fn service_key(keys: &[ServiceKey], etype: i32, kvno: Option<u32>) -> Option<Key>
     ensures value { result ≡ service_key keys.now etype kvno }
 {

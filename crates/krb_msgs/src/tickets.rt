@@ -18,7 +18,7 @@ pub fn key_in(field: &EncryptionKey) -> Option<Key>
     key_of(field.keytype, field.keyvalue.as_slice()).ok()
 }
 
-/// The ticket's sealed part and the session key.
+/// The ticket's sealed part and the session key; refused as `BadTicket`, then `BadSessionKey`.
 pub fn open_ticket(
     alloc: Global,
     key: &Key,

@@ -8,6 +8,6 @@ pub record Refusal : Type 0 where
   pub error : ℤ
   pub text : List ℕ
 
--- what the program's refusal says
+-- the definition's view of a refusal
 abbrev pub said : program.Refusal → Refusal
 said r = record { code = r.code; error = r.error; text = r.text.now }

@@ -1,15 +1,15 @@
-//! Numbers of refusals.
+//! Result codes and error codes.
 
-/// The request was carried out (RFC 3244 section 2, as the result codes below).
+/// The request was carried out (RFC 3244 section 2, as are the result codes below).
 pub const KRB5_KPASSWD_SUCCESS: u16 = 0;
 
 /// The request isn't well formed.
 pub const KRB5_KPASSWD_MALFORMED: u16 = 1;
 
-/// The server failed, and the same request won't do better.
+/// The server failed, and repeating the request won't help.
 pub const KRB5_KPASSWD_HARDERROR: u16 = 2;
 
-/// The request isn't authentic, or not of now.
+/// The request isn't authentic, or its time is wrong.
 pub const KRB5_KPASSWD_AUTHERROR: u16 = 3;
 
 /// The new password is refused.
@@ -18,19 +18,19 @@ pub const KRB5_KPASSWD_SOFTERROR: u16 = 4;
 /// The client may not set this password.
 pub const KRB5_KPASSWD_ACCESSDENIED: u16 = 5;
 
-/// The request is of another version.
+/// The request has another protocol version.
 pub const KRB5_KPASSWD_BAD_VERSION: u16 = 6;
 
-/// The ticket must have the flag initial.
+/// The ticket must have the flag INITIAL.
 pub const KRB5_KPASSWD_INITIAL_FLAG_NEEDED: u16 = 7;
 
-/// An encryption type that isn't supported (RFC 4120 section 7.5.9, as the error codes below).
+/// An encryption type that isn't supported (RFC 4120 section 7.5.9, as are the error codes below).
 pub const KDC_ERR_ETYPE_NOSUPP: i32 = 14;
 
 /// A sealed part that can't be opened.
 pub const KRB_AP_ERR_BAD_INTEGRITY: i32 = 31;
 
-/// The ticket's time is over.
+/// The ticket has expired.
 pub const KRB_AP_ERR_TKT_EXPIRED: i32 = 32;
 
 /// The ticket isn't valid yet.
@@ -57,10 +57,10 @@ pub const KRB_AP_ERR_BADVERSION: i32 = 39;
 /// Another message type.
 pub const KRB_AP_ERR_MSG_TYPE: i32 = 40;
 
-/// A service key of that version isn't held.
+/// The service has no key of that version.
 pub const KRB_AP_ERR_BADKEYVER: i32 = 44;
 
-/// A key for the ticket isn't held.
+/// The service has no key for the ticket.
 pub const KRB_AP_ERR_NOKEY: i32 = 45;
 
 /// Any other error.

@@ -1,7 +1,9 @@
 //! The constants are the protocol's numbers.
 
 ghost use Rattle.std.specs.Prelude.{◌≡◌, ◌∷◌, [], pos};
-ghost use Rattle.krb_protocol.specs.Numbers.{pvno, krb_ap_req, krb_ap_rep, krb_priv, krb_error, addr_type_ipv4, nt_principal, nt_srv_inst, use_session_key, mutual_required, ticket_invalid, ticket_initial};
+ghost use Rattle.krb_protocol.specs.Numbers.{pvno, krb_ap_req, krb_ap_rep, krb_priv, krb_error};
+ghost use Rattle.krb_protocol.specs.Numbers.{addr_type_ipv4, nt_principal, nt_srv_inst, use_session_key};
+ghost use Rattle.krb_protocol.specs.Numbers.{mutual_required, ticket_invalid, ticket_initial};
 
 use crate::codes::{
     KDC_ERR_ETYPE_NOSUPP, KRB_AP_ERR_BAD_INTEGRITY, KRB_AP_ERR_BADADDR, KRB_AP_ERR_BADKEYVER,

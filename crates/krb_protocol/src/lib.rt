@@ -1,5 +1,5 @@
-//! The numbers of the protocol (RFC 4120 section 7.5), its result codes (RFC 3244 section 2) and error
-//! codes, and what a message is refused with.
+//! The numbers of the protocol (RFC 4120 section 7.5), its result codes (RFC 3244 section 2) and error codes, and
+//! `Refusal`, with which a message is refused.
 #![tactic(auto)]
 
 pub mod codes;

@@ -30,8 +30,8 @@ pub const USE_SESSION_KEY: u32 = 1;
 /// The bit of the AP options that asks for an AP-REP (section 5.5.1).
 pub const MUTUAL_REQUIRED: u32 = 2;
 
-/// The bit of a ticket's flags that makes it unfit for use until it is validated (section 5.3).
+/// The bit of a ticket's flags that says it must be validated before use (section 5.3).
 pub const TICKET_INVALID: u32 = 7;
 
-/// The bit of a ticket's flags that says it was issued by the AS exchange (section 5.3).
+/// The bit of a ticket's flags that says it was issued in the AS exchange (section 5.3).
 pub const TICKET_INITIAL: u32 = 9;

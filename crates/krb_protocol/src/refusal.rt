@@ -1,8 +1,8 @@
-//! What a message is refused with.
+//! Refusing a message.
 ghost use Rattle.std.specs.Prelude.{◌≤◌, length};
 
-/// What a KRB-ERROR says to a message that is refused: result code (RFC 3244 section 2), error code
-/// (RFC 4120 section 7.5.9), text. Contracts see it by `said` of `specs/Refusals.antt`.
+/// What the KRB-ERROR for a refused message has: result code (RFC 3244 section 2), error code (RFC 4120 section 7.5.9)
+/// and text. Contracts see it by `said` of `specs/Refusals.antt`.
 #[derive(Drop)]
 pub struct Refusal {
     pub code: u16,

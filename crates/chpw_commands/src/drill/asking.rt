@@ -3,7 +3,7 @@ ghost use Rattle.std.specs.Prelude.{◌≡◌, map, IfOk, IfSome};
 ghost use Rattle.chpw_table.specs.Times.{IsMoment};
 ghost use Rattle.chpw_commands.specs.Asking.{times_of, flags_of, target_in, derived_of, digest_of, bad_body_of, ask_of, body_of, opened_of, asked_of};
 
-use crate::drill::words::{CountedKey, counted_keys, named, number, split_first};
+use crate::drill::words::{CountedKey, counted_keys, number, parse_target, split_first};
 use chpw_rules::{Limits, MIN_CLASS_COUNTS};
 use chpw_table::{Body, COUNTS_LIMIT, Digest, LAST_SECOND, Moment, Opened, Target};
 use krb_keys::Key;
@@ -85,7 +85,7 @@ fn target(alloc: Global, realm: &[u8], word: &str) -> Result<Option<Option<Targe
     if word == "-" {
         return Ok(Some(None));
     }
-    match named(alloc, realm, word)? {
+    match parse_target(alloc, realm, word)? {
         None => Ok(None),
         Some(target) => Ok(Some(Some(target))),
     }
@@ -180,7 +180,7 @@ pub fn asked_from(alloc: Global, realm: &[u8], words: &[&str]) -> Result<Option<
     let Some(now) = number(now, SECONDS) else {
         return Ok(None);
     };
-    let Some(client) = named(alloc, realm, client)? else {
+    let Some(client) = parse_target(alloc, realm, client)? else {
         return Ok(None);
     };
     let Some(times) = times_from(stamp, starts, ends) else {
@@ -200,7 +200,7 @@ pub fn asked_from(alloc: Global, realm: &[u8], words: &[&str]) -> Result<Option<
     Ok(Some(Asked { now, opened }))
 }
 
-// The request of these parts; there is no timestamp in the KRB-PRIV.
+// The request with these parts; there is no timestamp in the KRB-PRIV.
 fn opened_from(client: Target, times: Times, flags: Flags, body: Body) -> Opened
     ensures value { result ≡ opened_of client times flags body }
 {

@@ -14,7 +14,7 @@ use chpw_rules::{
 use chpw_table::Moment;
 use std::alloc::{AllocError, Global};
 
-/// The bytes of a line, at the most.
+/// The most bytes of a line.
 pub const LINE_LENGTH: usize = 4096;
 
 /// A line of a drill script.
@@ -108,7 +108,7 @@ fn show(alloc: Global, words: &[&str]) -> Result<Option<Line>, AllocError>
     Ok(Some(Line::Show { name, text }))
 }
 
-// The line of these words, whose first tells its kind.
+// The line of these words, whose first word is its kind.
 fn line_from(alloc: Global, realm: &[u8], words: &[&str]) -> Result<Option<Line>, AllocError>
     ensures value { IfOk result (λ found.
         found ≡ line_from realm.now (map (λ w. w.now) words.now)) }
@@ -145,8 +145,7 @@ fn words_of(alloc: Global, text: &str) -> Result<Vec<&str>, AllocError>
     text.split(' ').collect(alloc)
 }
 
-/// The line that these bytes spell: `None` where they are a bad line. `realm` is that of names
-/// without `@`.
+/// The line that these bytes spell: `None` for a bad line. `realm` is that of names without `@`.
 pub fn parse_line(alloc: Global, realm: &[u8], bytes: &[u8]) -> Result<Option<Line>, AllocError>
     ensures value { IfOk result (λ found. found ≡ line_of realm.now bytes.now) }
     ensures fits { IfOk result (λ found. IfSome found FitsLine) }

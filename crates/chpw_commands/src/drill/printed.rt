@@ -7,7 +7,7 @@ ghost use Rattle.chpw_commands.specs.declared.drill.printed.Response.TheVariants
 use chpw_table::{Counts, KeyRow, RaiseVerdict, Verdict};
 use std::alloc::{AllocError, Global};
 
-/// What is answered to a request, or to a raise.
+/// The answer to a request, or to a raise.
 #[derive(Drop)]
 pub enum Response {
     /// The verdict.
@@ -16,7 +16,7 @@ pub enum Response {
     Need(Counts),
     /// The verdict on a raise.
     Told(RaiseVerdict),
-    /// The table has decided as many events as it may.
+    /// The table has decided as many events as allowed.
     Full,
 }
 
@@ -65,7 +65,7 @@ fn reply_line(
     Ok(line)
 }
 
-// The counts that lack.
+// The counts that are missing.
 fn need_line(alloc: Global, counts: &[u32]) -> Result<String, AllocError>
     ensures value { IfOk result (λ line. string_bytes line ≡ response_text (Need counts.now)) }
 {

@@ -1,23 +1,22 @@
-//! A script, read whole.
+//! Reading a whole script.
 ghost use Rattle.std.specs.Prelude.{◌<◌, ◌≤◌, IfErr, IfOk, OnOk, ◌≡◌, ◌⊎◌};
 ghost use Rattle.std.specs.Io.KnownBytes.{Consumes, IsAtEnd};
 ghost use Rattle.chpw_commands.specs.declared.drill.DrillFault.TheVariants.{Memory, Read as ReadFault};
 
 use crate::drill::DrillFault;
-use read_fully::{Filled, fill};
+use chpw_read_fully::{Filled, fill};
 use std::alloc::Global;
 use std::io::Read;
 
-/// Reads of a script, at the most, interrupted ones counted.
+/// The most reads of a script, interrupted ones counted.
 pub const MAX_READS: u64 = 16_777_216;
 
-/// The bytes that a read asks for, at the most.
+/// The most bytes that a read asks for.
 const CHUNK: usize = 8_192;
 
-/// Reads all that there is, in no more than so many reads, which are counted down. An interrupted read is
-/// tried again.
+/// Reads to the end, in at most `reads` reads, which are counted down. An interrupted read is tried again.
 ///
-/// `Read` where a read failed or there were too many, and `Memory` where a growth was refused.
+/// `Read` if a read failed or there were too many, and `Memory` if a growth was refused.
 pub fn read_script<R: Read>(
     alloc: Global,
     reader: &mut R,

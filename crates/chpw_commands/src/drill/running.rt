@@ -13,7 +13,7 @@ use chpw_rules::{Config, Items};
 use chpw_table::{DecideFault, Moment, Table};
 use std::alloc::{AllocError, Global};
 
-/// The table, and what the lines hold beside it.
+/// The table, and what the lines set beside it.
 #[derive(Drop)]
 pub struct Drill {
     pub table: Table,
@@ -38,8 +38,7 @@ pub fn open_drill(alloc: Global, config: Config, quiet_until: i64) -> Result<Dri
 }
 
 impl Drill {
-    /// What is answered to a request, and one step where that is a verdict. A pending failure is
-    /// over where it met an append.
+    /// The answer to a request, and one step if that is a verdict. A pending failure is over once it met an append.
     pub fn respond(&mut self, asked: Asked) -> Result<Response, AllocError>
         requires moment { IsMoment asked.now }
         ensures response { IfOk result (λ r. (m : Machine) → Runs self.old m
@@ -60,8 +59,7 @@ impl Drill {
         }
     }
 
-    /// What is answered to a raise, and one step unless the table is full. A pending failure is over
-    /// where it met an append.
+    /// The answer to a raise, and one step unless the table is full. A pending failure is over once it met an append.
     pub fn raise(&mut self, now: Moment, count: u32) -> Response
         requires moment { IsMoment now }
         requires count { is_in iteration_counts count ≡ true }
@@ -87,7 +85,7 @@ fn still_fails(fails: bool, met: bool) -> bool
     fails && !met
 }
 
-// What is answered where nothing is decided; none for want of memory.
+// The answer if nothing is decided; none for want of memory.
 fn refusal(fault: DecideFault) -> Option<Response>
     ensures value { result ≡ refusal_of fault }
 {

@@ -65,7 +65,7 @@ pub fn rule(alloc: Global, words: &[&str]) -> Result<Option<Rule>, AllocError>
 }
 
 // Keys whose versions go down from the newest.
-fn numbered(alloc: Global, newest: u32, keys: &[CountedKey]) -> Result<Vec<KeyBytes>, AllocError>
+fn number_keys(alloc: Global, newest: u32, keys: &[CountedKey]) -> Result<Vec<KeyBytes>, AllocError>
     requires versions { length keys.now ≤ newest }
     ensures value { IfOk result (λ rows. rows.items ≡ numbered newest keys.now) }
 {
@@ -109,6 +109,6 @@ pub fn principal(alloc: Global, words: &[&str]) -> Result<Option<PrincipalRow>, 
     if !KEY_COUNTS.allow(keys.len()) || newest < keys.len() {
         return Ok(None);
     }
-    let keys = Items::of(numbered(alloc, newest as u32, keys.as_slice())?);
+    let keys = Items::of(number_keys(alloc, newest as u32, keys.as_slice())?);
     Ok(Some(PrincipalRow { name, keys }))
 }

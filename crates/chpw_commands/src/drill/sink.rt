@@ -3,7 +3,7 @@ ghost use Rattle.std.specs.Prelude.{◌≡◌, if◌then◌else◌, [], Some, No
 
 use chpw_table::{JournalSink, SinkFault};
 
-/// The journal of one event. It keeps no bytes; its appends fail, or they don't.
+/// The journal of one event. It keeps no bytes; its appends fail or succeed.
 #[derive(Drop)]
 pub struct RequestSink {
     fails: bool,
@@ -11,6 +11,7 @@ pub struct RequestSink {
 }
 
 impl RequestSink {
+    /// A journal without appends; `fails` says whether they fail.
     pub fn new(fails: bool) -> RequestSink
         ensures value { result ≡ record { fails = fails; failed = 0 } }
     {
@@ -18,7 +19,7 @@ impl RequestSink {
     }
 }
 
-// One that fails takes nothing, and tells so.
+// A failing one takes nothing, and reports it.
 impl JournalSink for RequestSink {
     ghost failed = { λ s. if s.fails then s.failed else 0 };
 

@@ -4,7 +4,9 @@ ghost use Rattle.std.specs.List.{list_any};
 ghost use Rattle.chpw_rules.specs.Fitting.{is_same_principal};
 ghost use Rattle.chpw_commands.specs.declared.drill.line.Line.TheVariants.{Rule as RuleLine, Principal as PrincipalLine, Open as OpenLine};
 ghost use Rattle.chpw_commands.specs.Drilled.{turn};
-ghost use Rattle.chpw_commands.specs.Stages.{Stage as StageModel, Machine, blank, with_rule, with_principal, takes_principal, turn_first, turn_named, turn_listed, turn_running, turn_line};
+ghost use Rattle.chpw_commands.specs.Stages.{Stage as StageModel, Machine, blank, with_rule};
+ghost use Rattle.chpw_commands.specs.Stages.{with_principal, takes_principal, turn_first};
+ghost use Rattle.chpw_commands.specs.Stages.{turn_named, turn_listed, turn_running, turn_line};
 ghost use Rattle.chpw_commands.specs.Following.{Runs, Follows, held_realm, IsTurn, FitsLine};
 
 use crate::drill::line::{Line, parse_line};
@@ -48,7 +50,7 @@ impl Stage {
 }
 
 // A turn that prints nothing.
-fn silent(alloc: Global, stage: Stage) -> Turn
+fn silent_turn(alloc: Global, stage: Stage) -> Turn
     ensures value { result ≡ record { stage = stage; output = [] } }
 {
     Turn {
@@ -62,7 +64,7 @@ fn turn_first(alloc: Global, line: Line) -> Option<Turn>
     ensures value { IsTurn result (turn_first line) }
 {
     match line {
-        Line::Realm(realm) => Some(silent(alloc, Stage::Named(realm))),
+        Line::Realm(realm) => Some(silent_turn(alloc, Stage::Named(realm))),
         _ => None,
     }
 }
@@ -74,7 +76,7 @@ fn turn_named(alloc: Global, realm: Items<u8>, line: Line) -> Option<Turn>
     match line {
         Line::Policy(policy) => {
             let config = blank_config(alloc, realm, policy);
-            Some(silent(alloc, Stage::Listed(config)))
+            Some(silent_turn(alloc, Stage::Listed(config)))
         }
         _ => None,
     }
@@ -120,7 +122,7 @@ fn with_principal(config: Config, row: PrincipalRow) -> Result<Config, AllocErro
     })
 }
 
-// Whether there is room for this principal, and none of its name.
+// Whether there is room for this principal, and none of its name yet.
 fn takes_principal(config: &Config, row: &PrincipalRow) -> bool
     ensures value { result ≡ takes_principal config.now row.now }
 {
@@ -157,7 +159,7 @@ fn add_rule(alloc: Global, config: Config, rule: Rule) -> Result<Option<Turn>, A
         return Ok(None);
     }
     let config = with_rule(config, rule)?;
-    Ok(Some(silent(alloc, Stage::Listed(config))))
+    Ok(Some(silent_turn(alloc, Stage::Listed(config))))
 }
 
 fn add_principal(
@@ -171,7 +173,7 @@ fn add_principal(
         return Ok(None);
     }
     let config = with_principal(config, row)?;
-    Ok(Some(silent(alloc, Stage::Listed(config))))
+    Ok(Some(silent_turn(alloc, Stage::Listed(config))))
 }
 
 fn open(
@@ -191,7 +193,7 @@ fn open(
         return Ok(None);
     }
     let drill = open_drill(alloc, config, quiet_until)?;
-    Ok(Some(silent(alloc, Stage::Running(drill))))
+    Ok(Some(silent_turn(alloc, Stage::Running(drill))))
 }
 
 // Then the machine runs.
@@ -238,7 +240,7 @@ pub fn take_turn(alloc: Global, stage: Stage, line: &[u8]) -> Result<Option<Turn
         → IsTurn found (turn s line.now)) }
 {
     if line.is_empty() {
-        return Ok(Some(silent(alloc, stage)));
+        return Ok(Some(silent_turn(alloc, stage)));
     }
     let Some(line) = parse_line(alloc, stage.realm(), line)? else {
         return Ok(None);

@@ -16,7 +16,7 @@ pub struct CountedKey {
     pub byte: u8,
 }
 
-/// What stands before the first such character, and what after it.
+/// The parts before and after the first such character.
 pub fn split_first(word: &str, mark: char) -> Option<(&str, &str)>
     requires { mark < 128 }
     ensures value { option_map (λ parts. (parts.0.now, parts.1.now)) result
@@ -25,7 +25,7 @@ pub fn split_first(word: &str, mark: char) -> Option<(&str, &str)>
     word.split_once(mark)
 }
 
-// What stands before the last such character, and what after it.
+// The parts before and after the last such character.
 fn split_last(word: &str, mark: char) -> Option<(&str, &str)>
     requires { mark < 128 }
     ensures value { option_map (λ parts. (parts.0.now, parts.1.now)) result
@@ -34,7 +34,7 @@ fn split_last(word: &str, mark: char) -> Option<(&str, &str)>
     word.rsplit_once(mark)
 }
 
-// The number that digits spell, as far as `high`.
+// The number that digits spell, up to `high`.
 fn digits_up_to(digits: &[u8], high: usize) -> Option<usize>
     requires { high < 2 ^ 60 }
     ensures value { result ≡ keep_if
@@ -111,8 +111,8 @@ pub fn counted_keys(alloc: Global, words: &[&str]) -> Result<Option<Vec<CountedK
     Ok(Some(keys))
 }
 
-/// NAME, or NAME@REALM, where the realm stands after the last `@`.
-pub fn named(alloc: Global, realm: &[u8], word: &str) -> Result<Option<Target>, AllocError>
+/// NAME, or NAME@REALM, where the realm follows the last `@`.
+pub fn parse_target(alloc: Global, realm: &[u8], word: &str) -> Result<Option<Target>, AllocError>
     ensures value { IfOk result (λ found. found ≡ named_in realm.now word.now) }
 {
     let (text, realm) = match split_last(word, '@') {

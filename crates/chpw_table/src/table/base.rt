@@ -1,4 +1,4 @@
-//! The key that a compact journal begins a principal with, put back.
+//! Restoring the key that a compact journal begins a principal with.
 ghost use Rattle.std.specs.Prelude.{◌≡◌, ◌<◌, IfOk, IfErr, OnOk, OnErr, IsSome, true, length, map};
 ghost use Rattle.chpw_rules.specs.Limits.{is_in, iteration_counts};
 ghost use Rattle.chpw_table.specs.State.{State, keys_held};
@@ -10,14 +10,14 @@ ghost use Rattle.chpw_table.specs.BaseKeys.{with_base_key, IsBaseRefused};
 
 use super::changing::with_front;
 use super::{KeyFault, Table};
-use crate::key::KeyRow;
+use chpw_record::KeyRow;
 use chpw_rules::{Items, Name};
 
 impl Table {
-    /// Gives a name this key alone, whatever version it has and whatever keys were held: a compact journal
-    /// begins a principal with it. The name is unknown, or memory is refused; the version is never wrong.
-    /// All else in the table stays: it is no event. The key's iteration count is 1 to 16,777,216. After a
-    /// fault nothing has changed.
+    /// Gives a name this key alone, whatever version it has and whatever keys were held: a compact journal begins a
+    /// principal with it. Refused if the name is unknown, or memory is refused; the version is never wrong. The rest of
+    /// the table stays: it is no event. The key's iteration count is 1 to 16,777,216. After a fault nothing has
+    /// changed.
     pub fn restore_base(&mut self, name: &Name, key: KeyRow) -> Result<(), KeyFault>
         requires count { is_in iteration_counts key.count ≡ true }
         ensures step { OnOk result ((s : State) → Agrees self.old.state s

@@ -9,17 +9,17 @@ ghost use Rattle.chpw_table.specs.Verdicts.{is_done};
 ghost use Rattle.chpw_table.specs.Step.{new_key, with_key};
 ghost use Rattle.chpw_table.specs.Holding.{are_holders};
 ghost use Rattle.chpw_table.specs.Entering.{with_keys_at, IsAt};
-ghost use Rattle.chpw_table.specs.Journal.{record_bytes as record_bytes_spec};
+ghost use Rattle.chpw_record.specs.Records.{record_bytes as record_bytes_spec};
 
 use super::{Principal, Table, kept_by};
-use crate::journal::record_bytes;
-use crate::key::{KeyRow, kvno_of, newest};
+use crate::key::{kvno_of, newest};
 use crate::request::Opened;
+use chpw_ordered_keys::place_of;
+use chpw_record::{KeyRow, record_bytes};
 use chpw_rules::{Items, Name};
-use ordered_keys::place_of;
 use std::alloc::{AllocError, Global};
 
-// A change with all its memory at hand.
+// A change with all the memory that it needs.
 #[derive(Drop)]
 pub(super) struct Change {
     // The principal's place.
@@ -32,7 +32,7 @@ pub(super) struct Change {
 }
 
 impl Table {
-    // The change that a request makes which no row refuses.
+    // The change for a request that no row refuses.
     pub(super) fn change(&self, opened: &Opened) -> Result<Change, AllocError>
         requires done { is_done (key_row self.now.state opened.now false) ≡ true }
         requires derived { has_count (digest_of opened.now).derived (new_count self.now.state)
@@ -66,7 +66,7 @@ impl Table {
         })
     }
 
-    // The key that the request makes, in front of these.
+    // The key that the request makes, to come before these.
     fn new_key(&self, held: &[KeyRow], opened: &Opened) -> KeyRow
         requires held { unwrap_or (keys_held self.now.state (target_of opened.now).name) []
             ≡ held.now }
@@ -103,18 +103,18 @@ impl Table {
         }
     }
 
-    // Names are in order, so it is found by halves.
+    // Found by binary search, since names are sorted.
     pub(super) fn place_of(&self, name: &Name) -> Option<usize>
         ensures value { result
             ≡ position (λ p. is_same_name p.name name.now) self.now.state.principals }
     {
-        // A field is read, so that the type's invariant is known here.
+        // A field is read, so that the type's invariant is known.
         let _ = &self.principals;
         place_of(self.principals.as_slice(), name)
     }
 }
 
-// The key in front of these, of which the newest are kept.
+// The key before these, of which the newest are kept.
 pub(super) fn with_front(
     alloc: Global,
     key: KeyRow,
@@ -129,7 +129,7 @@ pub(super) fn with_front(
     Ok(Items::of(keys))
 }
 
-// Puts keys in the place of a principal's.
+// Replaces a principal's keys.
 pub(super) fn put_keys(principals: &mut [Principal], place: usize, keys: Items<KeyRow>)
     requires place { place < length principals.old }
     ensures value { principals.new ≡ with_keys_at place keys principals.old }

@@ -4,26 +4,27 @@ ghost use Rattle.chpw_rules.specs.Limits.{is_in, entry_counts, iteration_counts}
 ghost use Rattle.chpw_table.specs.State.{State};
 ghost use Rattle.chpw_table.specs.Times.{IsMoment};
 ghost use Rattle.chpw_table.specs.Raising.{raise_verdict, is_raised, step_raise, IsRaise, would_raise};
-ghost use Rattle.chpw_table.specs.Journal.{raise_appended, raise_bytes as raise_bytes_spec};
+ghost use Rattle.chpw_record.specs.Records.{raise_bytes as raise_bytes_spec};
+ghost use Rattle.chpw_table.specs.Journal.{raise_appended};
 ghost use Rattle.chpw_table.specs.Agreement.{Agrees};
 ghost use Rattle.chpw_table.specs.Entering.{with_broken, with_raise, raise_written, IsRaiseEntered};
 
 use super::Table;
-use crate::journal::raise_bytes;
 use crate::raising::{Full, Raise, RaiseVerdict};
 use crate::sink::JournalSink;
 use crate::times::Moment;
-use ordered_keys::KeyTree;
+use chpw_ordered_keys::KeyTree;
+use chpw_record::raise_bytes;
 
 impl Table {
-    /// Raises the iteration count of new keys to this one, 1 to 16,777,216: the verdict, and what it
-    /// does. It takes no memory.
+    /// Raises the iteration count of new keys to this one, 1 to 16,777,216: the verdict, and its effect. It takes no
+    /// memory.
     ///
-    /// `now` has seconds from 0 to `LAST_SECOND`; the table's clock never goes back, whatever is
-    /// handed in. Fewer than 2^64 - 1 appends to the sink have failed, or the table is broken. The
-    /// journal is appended to exactly where `would_raise`.
+    /// `now` has seconds from 0 to `LAST_SECOND`; the table's clock never goes back, whatever is given. Fewer than 2^64
+    /// - 1 appends to the sink have failed, or the table is broken. The journal is appended to exactly if
+    /// `would_raise`.
     ///
-    /// `Full` where the table has decided as many events as it may, and then nothing has changed.
+    /// `Full` if the table has decided as many events as allowed, and then nothing has changed.
     pub fn raise<S: JournalSink>(
         &mut self,
         now: Moment,
@@ -66,7 +67,7 @@ impl Table {
         self.events < self.max_entries && self.count < count && !self.broken
     }
 
-    // The same, by the table's own state.
+    // The step of a raise, by the table's own state.
     fn enter_raise<S: JournalSink>(&mut self, now: Moment, count: u32, sink: &mut S) -> Raise
         requires moment { IsMoment now }
         requires count { is_in iteration_counts count ≡ true }
@@ -91,7 +92,7 @@ impl Table {
         }
     }
 
-    // The verdict, where no append fails.
+    // The verdict, if no append fails.
     fn raise_row(&self, count: u32) -> RaiseVerdict
         ensures value { result ≡ raise_verdict self.now.state count false }
     {
@@ -104,7 +105,7 @@ impl Table {
         RaiseVerdict::Raised
     }
 
-    // The append decides: after a failed one the journal is broken, else the count is raised.
+    // The append decides: after a failed one the journal is broken, otherwise the count is raised.
     fn write_raise<S: JournalSink>(&mut self, count: u32, sink: &mut S) -> Raise
         requires count { is_in iteration_counts count ≡ true }
         requires room { self.old.seen < self.old.events }

@@ -1,4 +1,4 @@
-//! A kept key put back, and a kept count.
+//! Replaying a kept key, and a kept count.
 ghost use Rattle.std.specs.Prelude.{◌≡◌, ◌<◌, ◌==◌, ◌+◌, IfOk, IfErr, OnOk, OnErr, true, length, map};
 ghost use Rattle.chpw_rules.specs.Limits.{is_in, iteration_counts};
 ghost use Rattle.chpw_table.specs.State.{State, kept_count};
@@ -10,11 +10,12 @@ ghost use Rattle.chpw_table.specs.Restoring.{with_kept_count, with_kept_key, wit
 
 use super::changing::{put_keys, with_front};
 use super::{Table, kept_by};
-use crate::key::{KeyRow, kvno_of};
+use crate::key::kvno_of;
+use chpw_record::KeyRow;
 use chpw_rules::{Items, Name};
 use std::alloc::AllocError;
 
-/// Why a kept key isn't put back, in the order of the tests.
+/// Why a kept key isn't replayed, in the order of the checks.
 #[derive(Clone, Copy, Drop)]
 pub enum KeyFault {
     /// There is no such principal.
@@ -36,9 +37,9 @@ impl From<AllocError> for KeyFault {
 }
 
 impl Table {
-    /// Puts a key that a change made in a former run in front of the name's, as that change did: the
-    /// newest are kept, as many as the policy's depth and at least one. All else in the table stays: it
-    /// is no event. The key's iteration count is 1 to 16,777,216. After a fault nothing has changed.
+    /// Adds a key that a change made in a former run before the name's, as that change did: the newest are kept, as
+    /// many as the policy's depth and at least one. The rest of the table stays: it is no event. The key's iteration
+    /// count is 1 to 16,777,216. After a fault nothing has changed.
     pub fn restore_key(&mut self, name: &Name, key: KeyRow) -> Result<(), KeyFault>
         requires count { is_in iteration_counts key.count ≡ true }
         ensures step { OnOk result ((s : State) → Agrees self.old.state s
@@ -54,8 +55,8 @@ impl Table {
         Ok(())
     }
 
-    /// Puts back a count that was raised in a former run, 1 to 16,777,216: the count of new keys
-    /// becomes the greater of this and the present one. All else in the table stays: it is no event.
+    /// Replays a count that was raised in a former run, 1 to 16,777,216: the count of new keys becomes the greater of
+    /// this and the present one. The rest of the table stays: it is no event.
     pub fn restore_count(&mut self, count: u32)
         requires count { is_in iteration_counts count ≡ true }
         ensures step { (s : State) → Agrees self.old.state s
@@ -66,7 +67,7 @@ impl Table {
         self.keep_count(count);
     }
 
-    // The same, by the table's own state.
+    // Replays the count, by the table's own state.
     fn keep_count(&mut self, count: u32)
         requires count { is_in iteration_counts count ≡ true }
         ensures value { self.new ≡ record self.old { state = with_kept_count count self.old.state } }
@@ -74,7 +75,7 @@ impl Table {
         self.count = self.count.max(count);
     }
 
-    // Puts keys in the place of a principal's.
+    // Replaces a principal's keys.
     pub(super) fn put_kept(&mut self, place: usize, keys: Items<KeyRow>)
         requires place { place < length self.old.state.principals }
         requires holders { are_holders (with_keys_at place keys self.old.state.principals) ≡ true }
@@ -83,7 +84,7 @@ impl Table {
         put_keys(self.principals.as_mut_slice(), place, keys);
     }
 
-    // The name's place, and its keys with this one in front.
+    // The name's place, and its keys with this one before them.
     fn kept_keys(&self, name: &Name, key: KeyRow) -> Result<(usize, Items<KeyRow>), KeyFault>
         requires count { is_in iteration_counts key.count ≡ true }
         ensures place { IfOk result (λ r. r.0 < length self.now.state.principals) }

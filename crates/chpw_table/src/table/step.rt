@@ -1,5 +1,6 @@
 //! One step of the machine.
-ghost use Rattle.std.specs.Prelude.{[], ◌≡◌, ◌≢◌, ◌||◌, ◌&&◌, ◌+◌, ◌-◌, ◌^◌, ◌<◌, ◌≤◌, ◌++◌, IfOk, IfErr, OnOk, OnErr, if◌then◌else◌, true, false, option_map, length};
+ghost use Rattle.std.specs.Prelude.{[], ◌≡◌, ◌≢◌, ◌||◌, ◌&&◌, ◌+◌, ◌-◌, ◌^◌, ◌<◌, ◌≤◌, ◌++◌, IfOk};
+ghost use Rattle.std.specs.Prelude.{IfErr, OnOk, OnErr, if◌then◌else◌, true, false, option_map, length};
 ghost use Rattle.chpw_rules.specs.Limits.{entry_counts};
 ghost use Rattle.chpw_table.specs.declared.verdict.Verdict.TheVariants.{Broken, Done};
 ghost use Rattle.chpw_table.specs.Verdicts.{is_done};
@@ -20,19 +21,17 @@ use crate::request::{Opened, RequestId};
 use crate::sink::JournalSink;
 use crate::times::{Moment, is_later};
 use crate::verdict::Verdict;
-use ordered_keys::KeyTree;
+use chpw_ordered_keys::KeyTree;
 
 impl Table {
-    /// One step of the machine: the verdict on this request at this moment, and what it does.
+    /// One step of the machine: the verdict on this request at this moment, and its effect.
     ///
-    /// `now` has seconds from 0 to `LAST_SECOND`; the table's clock never goes back, whatever is
-    /// handed in. Fewer than 2^64 - 1 appends to the sink have failed, or the table is broken. The
-    /// journal is appended to only where no row before `Broken` applies and no append has failed;
-    /// all growths come before that.
+    /// `now` has seconds from 0 to `LAST_SECOND`; the table's clock never goes back, whatever is given. Fewer than 2^64
+    /// - 1 appends to the sink have failed, or the table is broken. The journal is appended to only if no row before
+    /// `Broken` applies and no append has failed; all growths come before that.
     ///
-    /// Refused, and then nothing has changed: `Full` where the table has decided as many events as
-    /// it may; `NeedKeys` where the new password's keys are to be looked at and the digest lacks
-    /// some of the wanted counts, which are named; `Memory`.
+    /// Refused, with nothing changed: `Full` if the table has decided as many events as allowed; `NeedKeys` if the new
+    /// password's keys are to be looked at and the digest lacks some of the wanted counts, which are named; `Memory`.
     pub fn decide<S: JournalSink>(
         &mut self,
         now: Moment,
@@ -53,11 +52,11 @@ impl Table {
         Ok(self.finish(prepared, sink))
     }
 
-    /// The rest of the step that was prepared, of a table that is as it was then: the same verdict
-    /// but for a failed append, and what it does. It takes no memory and can't be refused.
+    /// The rest of the step that was prepared, for a table that hasn't changed since: the same verdict except for a
+    /// failed append, and its effect. It takes no memory and can't be refused.
     ///
-    /// Fewer than 2^64 - 1 appends to the sink have failed, or the table is broken. The journal is
-    /// appended to only where `Prepared::change` has a row.
+    /// Fewer than 2^64 - 1 appends to the sink have failed, or the table is broken. The journal is appended to only if
+    /// `Prepared::change` has a row.
     pub fn finish<S: JournalSink>(&mut self, prepared: Prepared, sink: &mut S) -> Outcome
         requires ready { IsReady self.old prepared }
         requires sink { self.old.state.broken ≡ false → S.failed sink.old < 2 ^ 64 - 1 }
@@ -67,12 +66,12 @@ impl Table {
         ensures row { result.verdict
             ≡ (if is_done prepared.row && result.io_failed then Broken else prepared.row) }
     {
-        // A field is read, so that the type's invariant is known here.
+        // A field is read, so that the type's invariant is known.
         let _ = &self.principals;
         self.enter(prepared, sink)
     }
 
-    // The same, by the table's own state.
+    // The rest of the step, by the table's own state.
     fn enter<S: JournalSink>(&mut self, prepared: Prepared, sink: &mut S) -> Outcome
         requires ready { IsReady self.old prepared }
         requires sink { self.old.state.broken ≡ false → S.failed sink.old < 2 ^ 64 - 1 }
@@ -104,7 +103,7 @@ impl Table {
         }
     }
 
-    // One event more, at this moment, which uses these ids.
+    // One more event, at this moment, which uses these ids.
     pub(super) fn tick(&mut self, now: Moment, ids: KeyTree<RequestId>)
         requires moment { IsMoment now }
         requires room { self.old.events < self.old.max_entries }
@@ -117,7 +116,7 @@ impl Table {
         put_ids(&mut self.used, ids, self.clock);
     }
 
-    // The append decides: after a failed one the journal is broken, else the new keys are put in.
+    // The append decides: after a failed one the journal is broken, otherwise the new keys are added.
     fn write<S: JournalSink>(&mut self, change: Change, sink: &mut S) -> (Verdict, bool)
         requires place { change.place < length self.old.state.principals }
         requires holders { are_holders (with_keys_at change.place change.keys self.old.state.principals) ≡ true }
@@ -143,7 +142,7 @@ impl Table {
         }
     }
 
-    // Puts the new key in front of the principal's.
+    // Adds the new key before the principal's.
     fn put(&mut self, change: Change)
         requires place { change.place < length self.old.state.principals }
         requires holders { are_holders (with_keys_at change.place change.keys self.old.state.principals) ≡ true }
@@ -155,7 +154,7 @@ impl Table {
     }
 }
 
-// Puts an id in its place, in the memory that it is in, and forgets those too old to be judged.
+// Inserts an id, in the memory that it brought, and forgets those too old to be judged.
 fn put_ids(used: &mut KeyTree<RequestId>, ids: KeyTree<RequestId>, clock: i64)
     requires sorted { IsStrictlySortedBy id_cmp used.old }
     requires one { length ids ≤ 1 }

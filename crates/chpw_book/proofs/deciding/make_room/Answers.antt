@@ -1,6 +1,6 @@
 use Rattle.chpw_table.proofs.AgreementLemmas.{agrees_itself}
-use Rattle.chpw_fronts.specs.Pens.{opening_state}
-use Rattle.chpw_changes.proofs.RiseLemmas.{row_next}
+use Rattle.chpw_changelog.specs.Pens.{opening_state}
+use Rattle.chpw_book.proofs.RiseLemmas.{row_next}
 use Rattle.chpw_book.proofs.PublishLemmas.{whole_at}
 use Rattle.chpw_book.proofs.deciding.make_room.Goals as goal
 
@@ -13,4 +13,5 @@ pub prepare-requires-clause-next : goal.prepare-requires-clause-next
 prepare-requires-clause-next g c =
     let t = c.args.table.now in
     let k = c.requires.kept in
-    row_next (opening_state g.D.ListName.root) t.state k.0 c.args.shelf.now.list _ _ _ _ _ k.1 k.2 k.3.list (c.in-Some.ensures.some t c.requires.ready t.state (agrees_itself t.state)) c.count.ensures.value
+    row_next (opening_state g.D.LogName.root) t.state k.0 c.args.shelf.now.list _ _ _ _ _ k.1 k.2 k.3.list
+    (c.in-Some.ensures.some t c.requires.ready t.state (agrees_itself t.state)) c.count.ensures.value

@@ -24,5 +24,6 @@ returns-clause-short c =
     let w : Drawing = c.args.words.now in
     let sizes : HasSizes w = search rules in
     IfOk-weaker c.make_priv.result _ _ (λ v is. subst (λ (b : List ℕ). length b ≤ longest_krb_priv)
-    (sym (same_priv q w c.in_ok-part.part c.drawn_key.result c.word_bytes.result _ c.in_ok-part.ensures.value c.drawn_key.ensures.value c.word_bytes.ensures.value is))
+    (sym (same_priv q w c.in_ok-part.part c.drawn_key.result c.word_bytes.result _
+    c.in_ok-part.ensures.value c.drawn_key.ensures.value c.word_bytes.ensures.value is))
     (priv_short q w c.requires.askable sizes)) c.make_priv.ensures.text

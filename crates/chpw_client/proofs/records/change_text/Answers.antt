@@ -1,5 +1,5 @@
 use Rattle.std.proofs.Common.{◌≡◌, true, subst, sym}
-use Rattle.krb_elements.specs.Texts.{fits}
+use Rattle.krb_codec.specs.Texts.{fits}
 use Rattle.krb_der.specs.Types as types
 use Rattle.krb_der.specs.Values.{change_passwd_data_value}
 use Rattle.krb_der.specs.declared.change_passwd_data.ChangePasswdData.{ChangePasswdData}

@@ -5,5 +5,6 @@ use Rattle.chpw_commands.proofs.drill.lines_of.Goals as goal
 
 pub returns : goal.returns
 returns c = record {
-  value = map_from_collect _ c.collect.ensures.ran (YieldsList-from_slice_split _ _ c.args.script.now c.split.ensures.rest c.split.ensures.done c.split.ensures.closure (λ x r q k. search (rules, tests)));
+  value = map_from_collect _ c.collect.ensures.ran (YieldsList-from_slice_split _ _ c.args.script.now
+      c.split.ensures.rest c.split.ensures.done c.split.ensures.closure (λ x r q k. search (rules, tests)));
 }

@@ -14,7 +14,8 @@ returns-clause-value c =
     let b = row (codes "changes") (decimal s.changes) in
     let d = row (codes "all-entries") (decimal s.all_entries) in
     let e = row (codes "all-changes") (decimal s.all_changes) in
-    let until_b = further old c.put_count.new.text.items c.put_count-2.new.text.items (a ∷ []) (b ∷ []) c.in_ok-put_count.ensures.value c.in_ok-put_count-2.ensures.value in
+    let until_b = further old c.put_count.new.text.items c.put_count-2.new.text.items (a ∷ [])
+    (b ∷ []) c.in_ok-put_count.ensures.value c.in_ok-put_count-2.ensures.value in
     let until_d = further old c.put_count-2.new.text.items c.put_count-3.new.text.items (a ∷ b ∷ []) (d ∷ []) until_b c.in_ok-put_count-3.ensures.value in
     at_last c.put_count-4.result old c.put_count-3.new.text.items c.put_count-4.new.text.items (a ∷ b ∷ d ∷ []) (e ∷ []) until_d c.put_count-4.ensures.value
 
@@ -23,5 +24,11 @@ returns-clause-lines c =
     let s = c.args.status.now in
     on_ok c.put_count-4.result c.put_count-4.ensures.plain
     (λ (last : is_whole (decimal s.all_changes) ≡ false).
-    and_line (codes "entries") (decimal s.entries) (row (codes "changes") (decimal s.changes) ∷ row (codes "all-entries") (decimal s.all_entries) ∷ row (codes "all-changes") (decimal s.all_changes) ∷ []) refl c.in_ok-put_count.ensures.plain
-    (and_line (codes "changes") (decimal s.changes) (row (codes "all-entries") (decimal s.all_entries) ∷ row (codes "all-changes") (decimal s.all_changes) ∷ []) refl c.in_ok-put_count-2.ensures.plain (and_line (codes "all-entries") (decimal s.all_entries) (row (codes "all-changes") (decimal s.all_changes) ∷ []) refl c.in_ok-put_count-3.ensures.plain (and_line (codes "all-changes") (decimal s.all_changes) ([]) refl last refl))))
+    and_line (codes "entries") (decimal s.entries)
+    (row (codes "changes") (decimal s.changes) ∷ row (codes "all-entries") (decimal s.all_entries)
+    ∷ row (codes "all-changes") (decimal s.all_changes) ∷ []) refl c.in_ok-put_count.ensures.plain
+    (and_line (codes "changes") (decimal s.changes)
+    (row (codes "all-entries") (decimal s.all_entries) ∷ row (codes "all-changes") (decimal s.all_changes)
+    ∷ []) refl c.in_ok-put_count-2.ensures.plain (and_line (codes "all-entries") (decimal s.all_entries)
+    (row (codes "all-changes") (decimal s.all_changes) ∷ []) refl c.in_ok-put_count-3.ensures.plain
+    (and_line (codes "all-changes") (decimal s.all_changes) ([]) refl last refl))))

@@ -20,7 +20,8 @@ returns-clause-value c =
     let e = row (codes "follower") (follower_word s.follower) in
     let journal = c.in_ok-put_word.ensures.value ∙ ap (λ (word : List ℕ). one ++ lines_text (row (codes "journal") word ∷ [])) c.word.ensures.value in
     let follower : OnOk c.put_word-2.result (four ≡ three ++ lines_text (e ∷ [])) =
-    subst (λ (word : List ℕ). OnOk c.put_word-2.result (four ≡ three ++ lines_text (row (codes "follower") word ∷ []))) c.word-2.ensures.value c.put_word-2.ensures.value in
+    subst (λ (word : List ℕ). OnOk c.put_word-2.result (four ≡ three ++ lines_text (row (codes "follower") word ∷ [])))
+    c.word-2.ensures.value c.put_word-2.ensures.value in
     let until_two = further old one two (a ∷ []) (b ∷ []) c.in_ok-put_count.ensures.value journal in
     let until_three = further old two three (a ∷ b ∷ []) (d ∷ []) until_two c.in_ok-put_count-2.ensures.value in
     at_last c.put_word-2.result old three four (a ∷ b ∷ d ∷ []) (e ∷ []) until_three follower
@@ -29,5 +30,11 @@ pub returns-clause-lines : goal.returns-clause-lines
 returns-clause-lines c =
     let s = c.args.status.now in
     always c.put_word-2.result
-    (and_line (codes "journal-bytes") (decimal s.journal_bytes) (row (codes "journal") (journal_word s.journal) ∷ row (codes "log-lost") (decimal s.log_lost) ∷ row (codes "follower") (follower_word s.follower) ∷ []) refl c.in_ok-put_count.ensures.plain
-    (and_line (codes "journal") (journal_word s.journal) (row (codes "log-lost") (decimal s.log_lost) ∷ row (codes "follower") (follower_word s.follower) ∷ []) refl (journal_plain s.journal) (and_line (codes "log-lost") (decimal s.log_lost) (row (codes "follower") (follower_word s.follower) ∷ []) refl c.in_ok-put_count-2.ensures.plain (and_line (codes "follower") (follower_word s.follower) ([]) refl (follower_plain s.follower) refl))))
+    (and_line (codes "journal-bytes") (decimal s.journal_bytes)
+    (row (codes "journal") (journal_word s.journal) ∷ row (codes "log-lost") (decimal s.log_lost)
+    ∷ row (codes "follower") (follower_word s.follower) ∷ []) refl c.in_ok-put_count.ensures.plain
+    (and_line (codes "journal") (journal_word s.journal)
+    (row (codes "log-lost") (decimal s.log_lost) ∷ row (codes "follower") (follower_word s.follower) ∷ []) refl
+    (journal_plain s.journal) (and_line (codes "log-lost") (decimal s.log_lost)
+    (row (codes "follower") (follower_word s.follower) ∷ []) refl c.in_ok-put_count-2.ensures.plain
+    (and_line (codes "follower") (follower_word s.follower) ([]) refl (follower_plain s.follower) refl))))

@@ -1,4 +1,4 @@
-use Rattle.chpw_times.proofs.TimeLemmas.{time_field}
+use Rattle.chpw_printing.proofs.TimeLemmas.{time_field}
 use Rattle.chpw_control.specs.Statuses.{text_of}
 use Rattle.chpw_control.proofs.EndingLemmas.{always, field_plain}
 use Rattle.chpw_control.proofs.telling.put_told.Goals as goal

@@ -13,7 +13,8 @@ returns-clause-value c =
     let a = row (codes "workers") (decimal s.workers) in
     let b = row (codes "busy") (decimal s.busy) in
     let d = row (codes "queue") (decimal s.queue) in
-    let until_b = further old c.put_count.new.text.items c.put_count-2.new.text.items (a ∷ []) (b ∷ []) c.in_ok-put_count.ensures.value c.in_ok-put_count-2.ensures.value in
+    let until_b = further old c.put_count.new.text.items c.put_count-2.new.text.items (a ∷ [])
+    (b ∷ []) c.in_ok-put_count.ensures.value c.in_ok-put_count-2.ensures.value in
     at_last c.put_count-3.result old c.put_count-2.new.text.items c.put_count-3.new.text.items (a ∷ b ∷ []) (d ∷ []) until_b c.put_count-3.ensures.value
 
 pub returns-clause-lines : goal.returns-clause-lines
@@ -21,5 +22,7 @@ returns-clause-lines c =
     let s = c.args.status.now in
     on_ok c.put_count-3.result c.put_count-3.ensures.plain
     (λ (last : is_whole (decimal s.queue) ≡ false).
-    and_line (codes "workers") (decimal s.workers) (row (codes "busy") (decimal s.busy) ∷ row (codes "queue") (decimal s.queue) ∷ []) refl c.in_ok-put_count.ensures.plain
-    (and_line (codes "busy") (decimal s.busy) (row (codes "queue") (decimal s.queue) ∷ []) refl c.in_ok-put_count-2.ensures.plain (and_line (codes "queue") (decimal s.queue) ([]) refl last refl)))
+    and_line (codes "workers") (decimal s.workers) (row (codes "busy") (decimal s.busy)
+    ∷ row (codes "queue") (decimal s.queue) ∷ []) refl c.in_ok-put_count.ensures.plain
+    (and_line (codes "busy") (decimal s.busy) (row (codes "queue") (decimal s.queue)
+    ∷ []) refl c.in_ok-put_count-2.ensures.plain (and_line (codes "queue") (decimal s.queue) ([]) refl last refl)))

@@ -6,7 +6,8 @@ use Rattle.chpw_frame.proofs.change_data.read_change_data.Goals as goal
 
 pub returns-in-Ok-clause-sound : goal.returns-in-Ok-clause-sound
 returns-in-Ok-clause-sound c =
-    subst (λ r. IfOk r (λ change. IsChange c.args.bytes.now change)) (sym c.change_of.ensures.value) (asks_right c.args.bytes.now c.in-Ok.fields c.in-Ok.ensures.value).0
+    subst (λ r. IfOk r (λ change. IsChange c.args.bytes.now change))
+    (sym c.change_of.ensures.value) (asks_right c.args.bytes.now c.in-Ok.fields c.in-Ok.ensures.value).0
 
 pub returns-in-Ok-clause-complete : goal.returns-in-Ok-clause-complete
 returns-in-Ok-clause-complete c = λ change h.
@@ -15,7 +16,8 @@ returns-in-Ok-clause-complete c = λ change h.
 
 pub returns-in-Ok-clause-first : goal.returns-in-Ok-clause-first
 returns-in-Ok-clause-first c =
-    subst (λ r. IfErr r (λ fault. IsNoChange fault c.args.bytes.now)) (sym c.change_of.ensures.value) (asks_right c.args.bytes.now c.in-Ok.fields c.in-Ok.ensures.value).1
+    subst (λ r. IfErr r (λ fault. IsNoChange fault c.args.bytes.now))
+    (sym c.change_of.ensures.value) (asks_right c.args.bytes.now c.in-Ok.fields c.in-Ok.ensures.value).1
 
 pub returns-in-Err-Fault-clause-complete : goal.returns-in-Err-Fault-clause-complete
 returns-in-Err-Fault-clause-complete c = λ change h.

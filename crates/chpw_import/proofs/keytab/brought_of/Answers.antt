@@ -27,7 +27,8 @@ returns-clause-principals c =
 pub returns-clause-left : goal.returns-clause-left
 returns-clause-left c =
     let t = c.in_ok-table.table in
-    let holds : Holds c.args.realm.now c.args.entries.items t = subst (λ (zs : List KeytabEntry). Holds c.args.realm.now zs t) c.as_slice.ensures.value c.in_ok-table.ensures.value in
+    let holds : Holds c.args.realm.now c.args.entries.items t = subst (λ (zs : List KeytabEntry).
+    Holds c.args.realm.now zs t) c.as_slice.ensures.value c.in_ok-table.ensures.value in
     left_is c.args.realm.now c.args.entries.items _ t c.in_ok-service.service.items _ c.in_ok-principals.principals.items _ c.in_ok-left.left.items
     holds (search rules) (search rules) (search rules) c.in_ok-left.ensures.value
 

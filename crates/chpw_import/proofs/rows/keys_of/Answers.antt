@@ -15,6 +15,7 @@ returns c = elim c.loop-alloc-test.branch [
     value = finished _ _ _ c.loop-alloc.invariant.0 (no_more _ (16 - length c.loop-alloc.keys.items) c.loop-alloc.kvno (omega (arith, w.if-kvno-gt0.false)));
   }
   | else-loop-alloc-test w ↦ record {
-    value = finished _ _ _ c.loop-alloc.invariant.0 (all_there _ (16 - length c.loop-alloc.keys.items) c.loop-alloc.kvno (omega (arith, w.loop-alloc-test.false, c.len.ensures)));
+    value = finished _ _ _ c.loop-alloc.invariant.0 (all_there _ (16
+        - length c.loop-alloc.keys.items) c.loop-alloc.kvno (omega (arith, w.loop-alloc-test.false, c.len.ensures)));
   }
 ]

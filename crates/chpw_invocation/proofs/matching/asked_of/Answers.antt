@@ -8,15 +8,20 @@ use Rattle.chpw_invocation.proofs.matching.asked_of.Goals as goal
 
 pub returns-in-table-clause-none : goal.returns-in-table-clause-none
 returns-in-table-clause-none c = λ suited none.
-    let is = named_as c.args.matches.now c.in_ok-name.name.now (codes "table") (rows_of (found_of c.in_ok-name.options.now)) c.in_ok-name.ensures.name c.in_ok-name.ensures.rows c.in-table.is in
+    let is =
+    named_as c.args.matches.now c.in_ok-name.name.now (codes "table") (rows_of (found_of c.in_ok-name.options.now))
+    c.in_ok-name.ensures.name c.in_ok-name.ensures.rows c.in-table.is in
     subst IsOwnReason (sym is) (InvalidValue, inr (inr (inl (refl, refl, c.table_of.ensures.none (subst IsSuited is suited) none))))
 
 pub returns-in-import-clause-none : goal.returns-in-import-clause-none
 returns-in-import-clause-none c = λ suited none.
-    let is = named_as c.args.matches.now c.in_ok-name.name.now (codes "import") (rows_of (found_of c.in_ok-name.options.now)) c.in_ok-name.ensures.name c.in_ok-name.ensures.rows c.in-import.is in
+    let is =
+    named_as c.args.matches.now c.in_ok-name.name.now (codes "import") (rows_of (found_of c.in_ok-name.options.now))
+    c.in_ok-name.ensures.name c.in_ok-name.ensures.rows c.in-import.is in
     subst IsOwnReason (sym is) (InvalidValue, inr (inr (inr (inl refl, refl, c.import_of.ensures.none (subst IsSuited is suited) none))))
 
 pub returns-in-key-clause-none : goal.returns-in-key-clause-none
 returns-in-key-clause-none c = λ suited none.
-    let is = named_as c.args.matches.now c.in_ok-name.name.now (codes "key") (rows_of (found_of c.in_ok-name.options.now)) c.in_ok-name.ensures.name c.in_ok-name.ensures.rows c.in-key.is in
+    let is = named_as c.args.matches.now c.in_ok-name.name.now (codes "key")
+    (rows_of (found_of c.in_ok-name.options.now)) c.in_ok-name.ensures.name c.in_ok-name.ensures.rows c.in-key.is in
     subst IsOwnReason (sym is) (InvalidValue, inr (inr (inr (inr refl, refl, c.key_of.ensures.none (subst IsSuited is suited) none))))

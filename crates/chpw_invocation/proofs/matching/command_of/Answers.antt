@@ -28,7 +28,8 @@ returns-in_err-matches-clause-refused c =
     subst (λ (a : App). HasKind (fault_of a (map string_bytes c.args.words.now)) c.in_err-matches.field-0.0) is
     (c.in_err-matches.ensures.kinds (ap is_simple_and_free is)) in
     let p = err_from_is_err_and c.from_residual-in_err-matches.result c.from_residual-in_err-matches.ensures.1 in
-    rw p.1 (subst (IsRefusal (fault_of program (map string_bytes c.args.words.now)) (subcommand_of program (map string_bytes c.args.words.now))) (sym p.2) (inl kinds))
+    rw p.1 (subst (IsRefusal (fault_of program (map string_bytes c.args.words.now))
+    (subcommand_of program (map string_bytes c.args.words.now))) (sym p.2) (inl kinds))
 
 pub returns-clause-refused : goal.returns-clause-refused
 returns-clause-refused c =
@@ -37,7 +38,8 @@ returns-clause-refused c =
     ap (λ (a : App). fault_of a (map string_bytes c.args.words.now)) (sym is) ∙ c.in_ok-matches.ensures.kinds (ap is_simple_and_free is) in
     let matched = (c.in_ok-matches.ensures.ok.2 (ap is_simple is)).1 ∙ ap (λ (a : App). subcommand_of a (map string_bytes c.args.words.now)) is in
     let words = map string_bytes c.args.words.now in
-    let met = command_met c.in_ok-program.program _ c.in_ok-matches.matches c.in_ok-program.ensures.local c.in_ok-matches.ensures.ok.0 c.in_ok-matches.ensures.ok.1 (ap (λ (a : App). a.top.subcommand_required) is) in
+    let met = command_met c.in_ok-program.program _ c.in_ok-matches.matches c.in_ok-program.ensures.local
+    c.in_ok-matches.ensures.ok.0 c.in_ok-matches.ensures.ok.1 (ap (λ (a : App). a.top.subcommand_required) is) in
     let suited : IsSuited (subcommand_of program words) = command_suits words none (λ e. met (matched ∙ e)) in
     let here : IsSuited (subcommand_rows_of c.in_ok-matches.matches) = subst IsSuited (sym matched) suited in
     let why : IsOwnRefusal (subcommand_of program words) c.refusal_of-kind.result.0 =

@@ -4,7 +4,8 @@ use Rattle.chpw_invocation.proofs.matching.told_of.Goals as goal
 
 pub returns-in-None-clause-none : goal.returns-in-None-clause-none
 returns-in-None-clause-none c = λ suits none.
-    wants_other (rows_of (found_of c.args.options.now)) c.in_ok-word.word.now c.in_ok-word.ensures.value c.in-None.ensures.value (c.without_file.ensures.none none)
+    wants_other (rows_of (found_of c.args.options.now))
+    c.in_ok-word.word.now c.in_ok-word.ensures.value c.in-None.ensures.value (c.without_file.ensures.none none)
 
 pub returns-in-Some-clause-none : goal.returns-in-Some-clause-none
 returns-in-Some-clause-none c = λ suits none.

@@ -1,8 +1,8 @@
 use Rattle.std.proofs.Common.{◌≡◌, ◌≤◌, ◌++◌, ◌∷◌, ℕ, List, length, ◌∙◌, ap, arith, append_assoc}
 use Rattle.std.proofs.lemmas.Grind.{common_steps}
 use Rattle.std.proofs.lemmas.Result.{on_ok_weaker}
-use Rattle.chpw_journal.specs.declared.record.Record.TheVariants as record_of
-use Rattle.chpw_journal.specs.Records.{record_text, records_text}
+use Rattle.chpw_record.specs.declared.record.Record.TheVariants as record_of
+use Rattle.chpw_record.specs.Records.{record_text, records_text}
 use Rattle.chpw_journal.specs.Compact.{key_records}
 use Rattle.chpw_journal.proofs.CompactTextLemmas.{change_text, change_whole}
 use Rattle.chpw_journal.proofs.compact.+put_keys.Goals as goal
@@ -19,7 +19,9 @@ returns t c =
     let some : 1 ≤ length older = grind (arith, common_steps) in
     record {
       value = on_ok_weaker c.put_change.result
-          (λ g. g ∙ (ap (λ (xs : List ℕ). xs ++ last) c.in_ok-put_keys.ensures.value ∙ (append_assoc old front last ∙ ap (λ (xs : List ℕ). old ++ xs) (change_text name c.args.keys.now key older is some))))
+          (λ g. g ∙ (ap (λ (xs : List ℕ). xs ++ last) c.in_ok-put_keys.ensures.value ∙ (append_assoc old front last
+          ∙ ap (λ (xs : List ℕ). old ++ xs) (change_text name c.args.keys.now key older is some))))
           c.put_change.ensures.value;
-      whole = on_ok_weaker c.put_change.result (λ w. change_whole name c.args.keys.now key older is some c.in_ok-put_keys.ensures.whole w) c.put_change.ensures.whole;
+      whole = on_ok_weaker c.put_change.result (λ w. change_whole name
+          c.args.keys.now key older is some c.in_ok-put_keys.ensures.whole w) c.put_change.ensures.whole;
     }

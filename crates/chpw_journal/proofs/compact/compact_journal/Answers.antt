@@ -3,8 +3,8 @@ use Rattle.std.specs.Prelude.{slice_get}
 use Rattle.std.specs.List.{flat_map}
 use Rattle.chpw_rules.specs.declared.name.Name.{Name}
 use Rattle.chpw_table.specs.declared.table.Principal.{Principal}
-use Rattle.chpw_journal.specs.declared.record.Record.{Record}
-use Rattle.chpw_journal.specs.Records.{records_text}
+use Rattle.chpw_record.specs.declared.record.Record.{Record}
+use Rattle.chpw_record.specs.Records.{records_text}
 use Rattle.chpw_journal.specs.Compact.{name_records, raise_records, AreWholeRecords}
 use Rattle.chpw_journal.proofs.ListLemmas.{take_more, take_whole}
 use Rattle.chpw_journal.proofs.CompactTextLemmas.{names_more, names_whole}
@@ -25,7 +25,8 @@ loop-name-preserved c =
     let grown = c.in_ok-put_principal.ensures.value ∙ (ap (λ (xs : List ℕ). xs ++ records_text (records name)) c.loop-name.invariant.0
     ∙ (names_more raise records (take place names) name ∙ ap (λ (ns : List Name). records_text (raise ++ flat_map records ns)) (sym more.1))) in
     let whole : AreWholeRecords (raise ++ flat_map records (take (place + 1) names)) =
-    subst (λ (ns : List Name). AreWholeRecords (raise ++ flat_map records ns)) (sym more.1) (names_whole raise records (take place names) name c.loop-name.invariant.2 c.in_ok-put_principal.ensures.whole) in (
+    subst (λ (ns : List Name). AreWholeRecords (raise ++ flat_map records ns)) (sym more.1) (names_whole raise records
+    (take place names) name c.loop-name.invariant.2 c.in_ok-put_principal.ensures.whole) in (
       rw next grown,
       rw next more.0,
       rw next whole,

@@ -5,4 +5,11 @@ use Rattle.chpw_journal.proofs.StopLemmas.{fronts_are_cut_off}
 use Rattle.chpw_journal.proofs.laws.restoring.Goals as goal
 
 pub returns : goal.returns
-returns c = record { read = reads_journals; records = records_are_journals; keys = restores_keys; count = restores_count; torn = fronts_are_cut_off; sound = openings_are_sound }
+returns c = record {
+  read = reads_journals;
+  records = records_are_journals;
+  keys = restores_keys;
+  count = restores_count;
+  torn = fronts_are_cut_off;
+  sound = openings_are_sound;
+}

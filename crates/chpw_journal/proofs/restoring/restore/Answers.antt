@@ -1,9 +1,8 @@
 use Rattle.std.proofs.Common.{◌≡◌, ℕ, ◌≤◌, List, length, true, sym, ◌∙◌, ap, subst, arith}
 use Rattle.std.specs.Io.KnownBytes.{Consumes}
 use Rattle.std.proofs.lemmas.Result.{err_from_is_err_and}
-use Rattle.chpw_journal.specs.Records.{is_record_length}
-use Rattle.chpw_journal.specs.NextRecord.{framed}
-use Rattle.chpw_journal.proofs.CutLemmas.{length_most}
+use Rattle.chpw_record.specs.Records.{is_record_length, framed}
+use Rattle.chpw_record.proofs.LengthLemmas.{length_most}
 use Rattle.chpw_journal.proofs.RestoringLemmas.{so_far_next, ended, bad_length, cannot_read, record_fault}
 use Rattle.chpw_journal.proofs.restoring.restore.Goals as goal
 
@@ -33,21 +32,28 @@ returns-in_err-take_record-in-Record-clause-first g c =
     let next = rw c.in-Record.is at c.in_ok-body.ensures.next in
     let read : Consumes now new (framed body) = subst (λ (xs : List ℕ). Consumes now new (framed xs)) (sym c.as_slice.ensures.value) next.0 in
     let range : is_record_length (length body) ≡ true = ap (λ (xs : List ℕ). is_record_length (length xs)) c.as_slice.ensures.value ∙ next.1 in
-    let fault = record_fault c.args.table old now new c.loop-restored.restored body c.in_err-take_record-in-Record.field-0.0 c.loop-restored.invariant.0 read range c.in_err-take_record-in-Record.ensures.fault in
+    let fault =
+    record_fault c.args.table old now new c.loop-restored.restored body c.in_err-take_record-in-Record.field-0.0
+    c.loop-restored.invariant.0 read range c.in_err-take_record-in-Record.ensures.fault in
     let p = err_from_is_err_and c.from_residual-in_err-take_record-in-Record.result c.from_residual-in_err-take_record-in-Record.ensures.1 in
     rw (p.1, p.2) fault
 
 pub returns-in-BadLength-clause-first : goal.returns-in-BadLength-clause-first
 returns-in-BadLength-clause-first g c =
     let next = rw c.in-BadLength.is at c.in_ok-body.ensures.next in
-    bad_length c.args.table (g.R.Read.remaining c.args.reader.now) (g.R.Read.remaining c.loop-restored.reader) (g.R.Read.remaining c.next_record.new.reader) c.loop-restored.restored next.0 c.loop-restored.invariant.0 next.1 next.2
+    bad_length c.args.table (g.R.Read.remaining c.args.reader.now)
+    (g.R.Read.remaining c.loop-restored.reader) (g.R.Read.remaining c.next_record.new.reader)
+    c.loop-restored.restored next.0 c.loop-restored.invariant.0 next.1 next.2
 
 pub returns-in-CannotRead-clause-first : goal.returns-in-CannotRead-clause-first
 returns-in-CannotRead-clause-first g c =
     let next = rw c.in-CannotRead.is at c.in_ok-body.ensures.next in
-    cannot_read c.args.table (g.R.Read.remaining c.args.reader.now) (g.R.Read.remaining c.loop-restored.reader) (g.R.Read.remaining c.next_record.new.reader) c.loop-restored.restored next.0 c.loop-restored.invariant.0 next.1 next.2
+    cannot_read c.args.table (g.R.Read.remaining c.args.reader.now)
+    (g.R.Read.remaining c.loop-restored.reader) (g.R.Read.remaining c.next_record.new.reader)
+    c.loop-restored.restored next.0 c.loop-restored.invariant.0 next.1 next.2
 
 pub returns-in-Ended-clause-restored : goal.returns-in-Ended-clause-restored
 returns-in-Ended-clause-restored g c =
     let next = rw c.in-Ended.is at c.in_ok-body.ensures.next in
-    ended c.args.table (g.R.Read.remaining c.args.reader.now) (g.R.Read.remaining c.loop-restored.reader) (g.R.Read.remaining c.next_record.new.reader) c.loop-restored.restored c.loop-restored.invariant.0 next.0 next.1
+    ended c.args.table (g.R.Read.remaining c.args.reader.now) (g.R.Read.remaining c.loop-restored.reader)
+    (g.R.Read.remaining c.next_record.new.reader) c.loop-restored.restored c.loop-restored.invariant.0 next.0 next.1

@@ -8,7 +8,8 @@ returns-clause-value c =
     let old = c.args.text.now.items in
     let words = c.args.words.now in
     let number = decimal c.args.number in
-    let front : c.extend_from_slice.new.self.items ≡ old ++ words = c.in_ok-extend_from_slice.ensures.items ∙ ap (λ (xs : List ℕ). old ++ xs) c.as_bytes.ensures.value in
+    let front : c.extend_from_slice.new.self.items ≡ old ++ words =
+    c.in_ok-extend_from_slice.ensures.items ∙ ap (λ (xs : List ℕ). old ++ xs) c.as_bytes.ensures.value in
     subst (λ (xs : List ℕ). OnOk c.put_number.result (c.put_number.new.text.items ≡ xs))
     (ap (λ (xs : List ℕ). xs ++ number) front ∙ one_joined old words number) c.put_number.ensures.value
 

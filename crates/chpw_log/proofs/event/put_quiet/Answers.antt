@@ -4,7 +4,7 @@ use Rattle.chpw_table.specs.declared.times.Moment.{Moment}
 use Rattle.chpw_log.specs.Lines.{or_dash}
 use Rattle.chpw_log.specs.Moments.{moment_text}
 use Rattle.std.proofs.lemmas.Bool.{and_parts}
-use Rattle.chpw_printing.proofs.PrintedLemmas.{graphic_printed}
+use Rattle.chpw_printing.proofs.QuotingLemmas.{graphic_printed}
 use Rattle.chpw_log.proofs.LineLemmas.{always}
 use Rattle.chpw_log.proofs.event.put_quiet.Goals as goal
 

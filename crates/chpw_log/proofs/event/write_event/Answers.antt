@@ -1,7 +1,7 @@
 use Rattle.std.proofs.Common.{rules, ◌≡◌, ◌++◌, ◌∷◌, [], ◌∙◌, List, ℕ, ap, codes, subst, sym, true}
 use Rattle.std.proofs.lemmas.Bool.{and_parts}
 use Rattle.chpw_printing.specs.Quoting.{are_printed}
-use Rattle.chpw_printing.proofs.PrintedLemmas.{graphic_printed}
+use Rattle.chpw_printing.proofs.QuotingLemmas.{graphic_printed}
 use Rattle.chpw_log.specs.Lines.{IsRecord}
 use Rattle.chpw_log.specs.Moments.{moment_text}
 use Rattle.chpw_log.specs.Events.{event_line, event_words}

@@ -1,6 +1,6 @@
 use Rattle.std.proofs.Common.{rules, ◌≡◌, ◌+◌, ◌++◌, ◌∙◌, List, ℕ, ◌<◌, ◌^◌, arith, ap, codes}
 use Rattle.std.specs.Fmt.{decimal}
-use Rattle.chpw_printing.proofs.PrintedLemmas.{decimal_graphic, graphic_printed}
+use Rattle.chpw_printing.proofs.QuotingLemmas.{decimal_graphic, graphic_printed}
 use Rattle.chpw_log.proofs.LineLemmas.{words_joined, words_printed}
 use Rattle.chpw_log.proofs.summing.put_words.Goals as goal
 

@@ -1,6 +1,6 @@
 use Rattle.std.proofs.Common.{rules, ◌≡◌, ◌++◌, ◌∙◌, ◌<◌, ◌^◌, List, ℕ, ap, arith, codes, refl}
 use Rattle.std.specs.Fmt.{decimal}
-use Rattle.chpw_printing.proofs.PrintedLemmas.{decimal_graphic, graphic_printed}
+use Rattle.chpw_printing.proofs.QuotingLemmas.{decimal_graphic, graphic_printed}
 use Rattle.chpw_log.proofs.LineLemmas.{both_printed, mark_joined}
 use Rattle.chpw_log.proofs.unconfirmed.put_mark.Goals as goal
 

@@ -14,7 +14,8 @@ put_together c =
     let dashes = codes " client - target - code - error - kvno - text " in
     let empty : c.new-text.result.items ≡ [] = search rules in
     let started : c.put_start.new.text.items ≡ c.new-text.result.items ++ a ++ codes " worker - peer " ++ b = c.in_ok-put_start.ensures.value in
-    let front : c.put_start.new.text.items ≡ [] ++ a ++ codes " worker - peer " ++ b = started ∙ ap (λ (xs : List ℕ). xs ++ a ++ codes " worker - peer " ++ b) empty in
+    let front : c.put_start.new.text.items ≡ [] ++ a ++ codes " worker - peer " ++ b =
+    started ∙ ap (λ (xs : List ℕ). xs ++ a ++ codes " worker - peer " ++ b) empty in
     let middle : c.extend_from_slice.new.self.items ≡ c.put_start.new.text.items ++ dashes = search rules in
     let back : c.put_mark.new.text.items ≡ c.extend_from_slice.new.self.items ++ words = c.in_ok-put_mark.ensures.value in
     let pushed : c.push.new.self.items ≡ c.put_mark.new.text.items ++ 10 ∷ [] = search rules in

@@ -15,9 +15,9 @@ returns-clause-value c =
     let e = or_dash signed_decimal o.error in
     let f = or_dash decimal o.kvno in
     let g = words_text o.text in
-    let behind_codes : List ℕ → List ℕ = λ xs. xs ++ codes " kvno " ++ f ++ codes " text " ++ g in
-    let behind_parties : List ℕ → List ℕ = λ xs. xs ++ codes " code " ++ d ++ codes " error " ++ e in
-    let before = c.in_ok-put_codes.ensures.value ∙ ap behind_parties c.in_ok-put_parties.ensures.value in
+    let after_codes : List ℕ → List ℕ = λ xs. xs ++ codes " kvno " ++ f ++ codes " text " ++ g in
+    let after_parties : List ℕ → List ℕ = λ xs. xs ++ codes " code " ++ d ++ codes " error " ++ e in
+    let before = c.in_ok-put_codes.ensures.value ∙ ap after_parties c.in_ok-put_parties.ensures.value in
     subst (λ (xs : List ℕ). OnOk c.put_end.result (c.put_end.new.text.items ≡ xs))
-    (ap behind_codes before ∙ told_joined c.args.text.now.items a b d e f g)
+    (ap after_codes before ∙ told_joined c.args.text.now.items a b d e f g)
     c.put_end.ensures.value

@@ -3,7 +3,7 @@ use Rattle.std.proofs.lemmas.Result.{IfOk-weaker}
 use Rattle.krb_msgs.specs.declared.fault.PrivFault.{PrivFault}
 use Rattle.krb_msgs.specs.declared.fault.PrivFault.TheVariants.{Malformed, NotSealed, WrongMessage, WrongSeqNumber}
 use Rattle.chpw_table.specs.declared.request.Target.{Target}
-use Rattle.chpw_answer.specs.Requests.{body_under, password_in}
+use Rattle.chpw_serve.specs.Requests.{body_under, password_in}
 use Rattle.chpw_messages.specs.declared.content.Content.{Content}
 use Rattle.chpw_messages.specs.Opening.{content_despite}
 use Rattle.chpw_messages.proofs.content.open_content.Goals as goal
@@ -24,7 +24,8 @@ returns-in-Err-Fault c =
     let opens = rw c.in-Err-Fault.field-0-is at c.in-Err-Fault.ensures.opens in
     let is = c.bare.ensures.value in
     let body : (client : Target) → c.body_despite.result ≡ body_under [] client (content_despite c.in-Err-Fault.fault) =
-    subst (λ (f : PrivFault). (client : Target) → c.body_despite.result ≡ body_under [] client (content_despite f)) c.in-Err-Fault.fault-is c.body_despite.ensures.value in
+    subst (λ (f : PrivFault). (client : Target) → c.body_despite.result
+    ≡ body_under [] client (content_despite f)) c.in-Err-Fault.fault-is c.body_despite.ensures.value in
     record {
       content = (
         Err c.in-Err-Fault.fault,

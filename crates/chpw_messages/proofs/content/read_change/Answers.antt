@@ -2,7 +2,7 @@ use Rattle.std.proofs.Common.{ℕ, List, refl, sym, ap, subst}
 use Rattle.std.specs.Prelude.{option_map}
 use Rattle.std.proofs.lemmas.Result.{IfOk-weaker}
 use Rattle.chpw_frame.specs.ChangeData.{IsChange}
-use Rattle.chpw_answer.specs.Requests.{new_password, bad_data}
+use Rattle.chpw_serve.specs.Requests.{new_password, bad_data}
 use Rattle.chpw_messages.specs.declared.content.Content.{Content}
 use Rattle.chpw_messages.specs.Opening.{target_in}
 use Rattle.chpw_messages.proofs.content.read_change.Goals as goal

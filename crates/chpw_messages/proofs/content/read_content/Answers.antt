@@ -1,6 +1,6 @@
 use Rattle.std.proofs.Common.{None, refl}
 use Rattle.std.proofs.lemmas.Result.{IfOk-weaker}
-use Rattle.chpw_answer.specs.Requests.{new_password}
+use Rattle.chpw_serve.specs.Requests.{new_password}
 use Rattle.chpw_messages.proofs.content.read_content.Goals as goal
 
 pub returns-then-version-eq-OLD_REQUEST_VERSION : goal.returns-then-version-eq-OLD_REQUEST_VERSION

@@ -3,9 +3,9 @@ use Rattle.krb_protocol.specs.Refusals.{Refusal}
 use Rattle.krb_msgs.specs.declared.fault.ApFault.{ApFault}
 use Rattle.krb_msgs.specs.Codes as fault
 use Rattle.chpw_table.specs.Replies.{by_error}
-use Rattle.chpw_answer.specs.declared.messages.Seal.{Seal}
-use Rattle.chpw_answer.specs.Requests.{opened}
-use Rattle.chpw_answer.specs.Holding.{IsReplyTime, answer_in}
+use Rattle.chpw_serve.specs.declared.messages.Seal.{Seal}
+use Rattle.chpw_serve.specs.Requests.{opened}
+use Rattle.chpw_serve.specs.Holding.{IsReplyTime, answer_in}
 use Rattle.chpw_messages.specs.Opening.{refused_by, request_of, stamp_in}
 use Rattle.chpw_messages.proofs.OpenedLemmas.{reply_times}
 use Rattle.chpw_messages.proofs.opening.open_parts.Goals as goal

@@ -3,7 +3,7 @@ use Rattle.std.specs.Prelude.{FitsSigned}
 use Rattle.std.specs.Int.{w32}
 use Rattle.std.proofs.lemmas.Int.{ints}
 use Rattle.std.proofs.lemmas.Result.{IfOk-weaker}
-use Rattle.krb_elements.specs.Texts.{fits}
+use Rattle.krb_codec.specs.Texts.{fits}
 use Rattle.krb_der.specs.Types.{krb_error}
 use Rattle.krb_der.specs.Values.{krb_error_value}
 use Rattle.krb_der.specs.declared.krb_error.KrbError.{KrbError}
@@ -25,14 +25,19 @@ make_error-requires c =
 pub join_reply-requires : goal.join_reply-requires
 join_reply-requires c =
     let r = c.args.refusal in
-    let short = message_short c.args.realm.now r.code r.error r.text.now c.args.now c.in_ok-error.error c.in_ok-message.message.items c.requires.realm r.short c.in_ok-error.ensures.value c.in_ok-message.ensures.text in
+    let short = message_short
+    c.args.realm.now r.code r.error r.text.now c.args.now c.in_ok-error.error c.in_ok-message.message.items
+    c.requires.realm r.short c.in_ok-error.ensures.value c.in_ok-message.ensures.text in
     let same = ap length c.deref.ensures.value in
     record { fits = omega (arith, short, same) }
 
 pub returns-clause-fits : goal.returns-clause-fits
 returns-clause-fits c =
     let r = c.args.refusal in
-    let short = message_short c.args.realm.now r.code r.error r.text.now c.args.now c.in_ok-error.error c.in_ok-message.message.items c.requires.realm r.short c.in_ok-error.ensures.value c.in_ok-message.ensures.text in
+    let short = message_short
+    c.args.realm.now r.code r.error r.text.now c.args.now c.in_ok-error.error c.in_ok-message.message.items
+    c.requires.realm r.short c.in_ok-error.ensures.value c.in_ok-message.ensures.text in
     let same = ap length c.deref.ensures.value in
     let size = framed_length reply_version [] c.deref.result.now in
-    IfOk-weaker c.join_reply.result _ _ (λ bytes h. subst (λ (t : List ℕ). length t ≤ 65535) (sym h) (omega (arith, short, same, size))) c.join_reply.ensures.text
+    IfOk-weaker c.join_reply.result _ _ (λ bytes h. subst (λ (t : List ℕ). length t ≤ 65535)
+    (sym h) (omega (arith, short, same, size))) c.join_reply.ensures.text

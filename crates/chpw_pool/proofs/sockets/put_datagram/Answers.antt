@@ -1,5 +1,5 @@
 use Rattle.std.proofs.Common.{refl, Some}
-use Rattle.chpw_pool.specs.declared.sockets.Place.TheVariants as place
+use Rattle.chpw_pool.specs.declared.sockets.Transport.TheVariants as place
 use Rattle.chpw_pool.proofs.PlaceLemmas.{written}
 use Rattle.chpw_pool.proofs.sockets.put_datagram.Goals as goal
 

@@ -1,5 +1,5 @@
 use Rattle.std.proofs.Common.{◌<◌, rules}
-use Rattle.chpw_printing.proofs.PrintedLemmas.{escaped_graphic}
+use Rattle.chpw_printing.proofs.QuotingLemmas.{escaped_graphic}
 use Rattle.chpw_printing.proofs.quoting.put_escaped.Goals as goal
 
 pub returns-in_err-extend_from_slice-clause-graphic : goal.returns-in_err-extend_from_slice-clause-graphic

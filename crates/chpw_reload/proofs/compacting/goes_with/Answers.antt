@@ -12,9 +12,9 @@ returns c =
     record {
       goes = λ empty.
           let depth : base.fixed.policy.depth ≡ held.fixed.policy.depth = search rules in
-          let names = c.in_ok-lacked.field-0.items in
+          let names = c.in_ok-missing_names.field-0.items in
           let few : length names ≡ 0 = search rules in
-          let none : lacked base held ≡ [] = sym c.in_ok-lacked.ensures.value ∙ nil_from_length names few in
+          let none : lacked base held ≡ [] = sym c.in_ok-missing_names.ensures.value ∙ nil_from_length names few in
           record {
             realm = search rules;
             kept = ap (λ (n : ℕ). max n 1) depth;

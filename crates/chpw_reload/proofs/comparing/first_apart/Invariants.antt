@@ -1,6 +1,6 @@
 use Rattle.std.proofs.Common.{◌≤◌, ◌-◌, take, length, All}
 use Rattle.chpw_rules.specs.declared.name.Name.{Name}
-use Rattle.chpw_held.specs.Configurations.{names_of}
+use Rattle.chpw_report.specs.Configurations.{names_of}
 use Rattle.chpw_reload.specs.Comparing.{HoldAlike}
 use Rattle.chpw_reload.proofs.comparing.first_apart.Given as goal
 

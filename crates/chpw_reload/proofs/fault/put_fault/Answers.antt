@@ -5,7 +5,8 @@ use Rattle.chpw_reload.specs.Reasons.{fault_text}
 use Rattle.chpw_reload.proofs.fault.put_fault.Goals as goal
 
 -- words that were put at the end, unless memory ran out
-words_put : {A E : Type 0} (result : Result A E) (old new words text : List ℕ) → new ≡ (if is_ok result then old ++ words else old) → words ≡ text → OnOk result (new ≡ old ++ text)
+words_put : {A E : Type 0} (result : Result A E) (old new words text : List ℕ)
+    → new ≡ (if is_ok result then old ++ words else old) → words ≡ text → OnOk result (new ≡ old ++ text)
 words_put (Ok x) old new words text h e = h ∙ ap (λ xs. old ++ xs) e
 words_put (Err x) old new words text h e = tt
 

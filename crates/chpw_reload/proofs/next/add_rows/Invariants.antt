@@ -1,5 +1,5 @@
 use Rattle.std.proofs.Common.{◌≡◌, ◌++◌, map, take}
-use Rattle.chpw_held.specs.Configurations.{row_of}
+use Rattle.chpw_report.specs.Configurations.{row_of}
 use Rattle.chpw_reload.proofs.next.add_rows.Given as goal
 
 abbrev pub invariant-loop-name : goal.invariant-loop-name

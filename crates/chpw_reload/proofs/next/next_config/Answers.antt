@@ -10,4 +10,5 @@ returns-clause-once c =
     let closed = c.args.closed.now.state in
     let renewed = c.args.renewed.now.state in
     let rows : c.of.result ≡ (next_config c.args.settings closed renewed).principals = search rules in
-    subst (λ (rows : List PrincipalRow). are_distinct is_same_principal rows ≡ true) (sym rows) (next_once c.args.settings closed renewed c.tell_order.ensures.order c.tell_order-2.ensures.order)
+    subst (λ (rows : List PrincipalRow). are_distinct is_same_principal rows ≡ true)
+    (sym rows) (next_once c.args.settings closed renewed c.tell_order.ensures.order c.tell_order-2.ensures.order)

@@ -1,4 +1,4 @@
-use Rattle.chpw_fronts.specs.Pens.{opening_state}
+use Rattle.chpw_changelog.specs.Pens.{opening_state}
 use Rattle.chpw_book.specs.Starting.{ledger_name, ledger_parts, list_book, list_root, workers_of}
 use Rattle.chpw_reload.specs.ReloadRuns.{IsServiceRun}
 use Rattle.chpw_service.proofs.histories.serve_histories.Given as goal
@@ -9,8 +9,8 @@ ghosts-serve_history-D-DeskName g a = record { workers = workers_of a.opening.un
 abbrev pub ghosts-serve_history-D-Ledger : goal.ghosts-serve_history-D-Ledger
 ghosts-serve_history-D-Ledger g a = record { name = ledger_name a.opening.unnamed; parts = ledger_parts a.opening.unnamed }
 
-abbrev pub ghosts-serve_history-D-ListName : goal.ghosts-serve_history-D-ListName
-ghosts-serve_history-D-ListName g a = record { book = list_book a.opening.unnamed; root = list_root a.opening.unnamed }
+abbrev pub ghosts-serve_history-D-LogName : goal.ghosts-serve_history-D-LogName
+ghosts-serve_history-D-LogName g a = record { book = list_book a.opening.unnamed; root = list_root a.opening.unnamed }
 
 abbrev pub invariant-loop : goal.invariant-loop
-invariant-loop g l = IsServiceRun (opening_state g.D.ListName.root) l.served.table
+invariant-loop g l = IsServiceRun (opening_state g.D.LogName.root) l.served.table

@@ -7,5 +7,5 @@ ghosts-serve_opened-D-DeskName g a = record { workers = workers_of a.opening.unn
 abbrev pub ghosts-serve_opened-D-Ledger : goal.ghosts-serve_opened-D-Ledger
 ghosts-serve_opened-D-Ledger g a = record { name = ledger_name a.opening.unnamed; parts = ledger_parts a.opening.unnamed }
 
-abbrev pub ghosts-serve_opened-D-ListName : goal.ghosts-serve_opened-D-ListName
-ghosts-serve_opened-D-ListName g a = record { book = list_book a.opening.unnamed; root = list_root a.opening.unnamed }
+abbrev pub ghosts-serve_opened-D-LogName : goal.ghosts-serve_opened-D-LogName
+ghosts-serve_opened-D-LogName g a = record { book = list_book a.opening.unnamed; root = list_root a.opening.unnamed }

@@ -20,11 +20,13 @@ loop-k-preserved c =
       λ j h.
           let ne : j ≢ k = omega arith in
           get_or-set_other c.loop-k.sum k j (total % 256) 0 ne ∙ c.loop-k.invariant.1 j (omega arith),
-      add_part_step c.args.sum.now c.loop-k.sum c.args.part.now (length c.args.part.now) k c.loop-k.carry total (omega arith) (omega arith) refl (omega arith) same
+      add_part_step c.args.sum.now c.loop-k.sum c.args.part.now (length c.args.part.now) k c.loop-k.carry total
+          (omega arith) (omega arith) refl (omega arith) same
           (omega arith) old,
     )
 
 pub returns : goal.returns
 returns c =
     let none : c.loop-k.k ≡ 0 = omega arith in
-    let all : length c.args.part.now - 0 ≡ length c.args.part.now = omega arith in record { small = c.loop-k.invariant.0; total = rw (none, all) at c.loop-k.invariant.2 }
+    let all : length c.args.part.now - 0 ≡ length c.args.part.now =
+    omega arith in record { small = c.loop-k.invariant.0; total = rw (none, all) at c.loop-k.invariant.2 }

@@ -13,6 +13,7 @@ pub returns : goal.returns
 returns c =
     let end : c.loop-count.count ≡ c.args.part_len = omega arith in
     record {
-      value = copy_count_found c.args.len c.args.part_len c.args.part_len (omega arith) (omega arith) (mul-mod_right c.args.part_len c.args.len) (λ j low high. c.loop-count.invariant j low (omega arith));
+      value = copy_count_found c.args.len c.args.part_len c.args.part_len (omega arith) (omega arith)
+          (mul-mod_right c.args.part_len c.args.len) (λ j low high. c.loop-count.invariant j low (omega arith));
       short = omega arith;
     }

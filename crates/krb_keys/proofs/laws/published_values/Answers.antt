@@ -37,12 +37,29 @@ unfolding nfold residue sum_of_parts joined copy_count copy turned number_bytes 
 fold_128_value = refl
 
 aes_128_key_value : Aes128KeyValue
-unfolding s2k dk dr constant_block pbkdf2 blocks xored repeated xor_bytes hmac padded_key key_block sha1 digest_bytes hash_after compress rounds schedule first_words nfold residue sum_of_parts joined copy_count copy turned number_bytes value cipher.aes cipher.cipher cipher.add_round_key cipher.times_matrix cipher.shift_rows cipher.sub_bytes expanded key_step power_of_x sub_byte affine from_bits inverse times times_low times_x cipher.rounds
+unfolding s2k dk dr constant_block
+    pbkdf2 blocks xored repeated xor_bytes hmac padded_key key_block sha1 digest_bytes hash_after
+    compress rounds schedule first_words nfold residue sum_of_parts joined copy_count copy turned number_bytes
+    value cipher.aes cipher.cipher cipher.add_round_key cipher.times_matrix cipher.shift_rows cipher.sub_bytes expanded
+    key_step power_of_x sub_byte affine from_bits inverse times times_low times_x cipher.rounds
 aes_128_key_value = refl
 
 aes_256_key_value : Aes256KeyValue
-unfolding s2k dk dr constant_block pbkdf2 blocks xored repeated xor_bytes hmac padded_key key_block sha1 digest_bytes hash_after compress rounds schedule first_words nfold residue sum_of_parts joined copy_count copy turned number_bytes value cipher.aes cipher.cipher cipher.add_round_key cipher.times_matrix cipher.shift_rows cipher.sub_bytes expanded key_step power_of_x sub_byte affine from_bits inverse times times_low times_x cipher.rounds
+unfolding s2k dk dr constant_block
+    pbkdf2 blocks xored repeated xor_bytes hmac padded_key key_block sha1 digest_bytes hash_after
+    compress rounds schedule first_words nfold residue sum_of_parts joined copy_count copy turned number_bytes
+    value cipher.aes cipher.cipher cipher.add_round_key cipher.times_matrix cipher.shift_rows cipher.sub_bytes expanded
+    key_step power_of_x sub_byte affine from_bits inverse times times_low times_x cipher.rounds
 aes_256_key_value = refl
 
 pub returns : goal.returns
-returns c = record { hmac = hmac_value; pbkdf2 = pbkdf2_value; fold_64 = fold_64_value; fold_56 = fold_56_value; fold_168 = fold_168_value; fold_128 = fold_128_value; aes_128_key = aes_128_key_value; aes_256_key = aes_256_key_value }
+returns c = record {
+  hmac = hmac_value;
+  pbkdf2 = pbkdf2_value;
+  fold_64 = fold_64_value;
+  fold_56 = fold_56_value;
+  fold_168 = fold_168_value;
+  fold_128 = fold_128_value;
+  aes_128_key = aes_128_key_value;
+  aes_256_key = aes_256_key_value;
+}

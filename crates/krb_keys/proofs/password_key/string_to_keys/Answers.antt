@@ -12,7 +12,8 @@ returns c =
     let salt = c.args.salt.now in
     let n = c.args.n in
     let front : c.copy_from_slice.new.self ≡ pbkdf2 password salt n 16 =
-    c.copy_from_slice.ensures.after ∙ ap (take 16) c.pbkdf2.ensures.value ∙ pbkdf2_front password salt n 16 32 (omega arith) (omega arith) (omega arith) (omega arith) in
+    c.copy_from_slice.ensures.after ∙ ap (take 16) c.pbkdf2.ensures.value
+    ∙ pbkdf2_front password salt n 16 32 (omega arith) (omega arith) (omega arith) (omega arith) in
     record {
       aes128 = c.derive_key.ensures.value ∙ ap (λ (bytes : _). dk (Aes128 bytes) kerberos) front;
       aes256 = c.derive_key-2.ensures.value ∙ ap (λ (bytes : _). dk (Aes256 bytes) kerberos) c.pbkdf2.ensures.value;

@@ -19,13 +19,15 @@ returns-clause-only c = λ plain is_sealed.
     let same : c.deref_mut.result.now ≡ c.args.cipher.now = search rules in
     let there : IsSealed c.args.key.now c.args.usage c.deref_mut.result.now plain = rw same is_sealed in
     let whole : length c.opens_in_place.new.cipher ≡ c.in_ok-text.text.len = search rules in
-    let part : c.plain_part.result.items ≡ plain_part c.opens_in_place.new.cipher = c.plain_part.ensures ∙ ap plain_part (take_at c.opens_in_place.new.cipher _ _ whole) in
+    let part : c.plain_part.result.items ≡ plain_part c.opens_in_place.new.cipher =
+    c.plain_part.ensures ∙ ap plain_part (take_at c.opens_in_place.new.cipher _ _ whole) in
     part ∙ c.opens_in_place.ensures.only plain there
 
 pub returns-clause-len : goal.returns-clause-len
 returns-clause-len c =
     let same : c.deref_mut.result.now ≡ c.args.cipher.now = search rules in
     let whole : length c.opens_in_place.new.cipher ≡ c.in_ok-text.text.len = search rules in
-    let part : c.plain_part.result.items ≡ plain_part c.opens_in_place.new.cipher = c.plain_part.ensures ∙ ap plain_part (take_at c.opens_in_place.new.cipher _ _ whole) in
+    let part : c.plain_part.result.items ≡ plain_part c.opens_in_place.new.cipher =
+    c.plain_part.ensures ∙ ap plain_part (take_at c.opens_in_place.new.cipher _ _ whole) in
     let len = c.opens_in_place.ensures.len ∙ ap length same in
     ap (λ (xs : List ℕ). length xs + 28) part ∙ length-plain_part c.opens_in_place.new.cipher (omega arith) ∙ len

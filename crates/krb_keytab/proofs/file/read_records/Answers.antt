@@ -18,7 +18,9 @@ pub returns-in_err-record : goal.returns-in_err-record
 returns-in_err-record c =
     let p = err_from_is_err_and c.from_residual.result c.from_residual.ensures.1 in
     let total = from_place (length c.args.file.now) (length c.args.file.now - length c.args.records.now) c.args.records.now in
-    let failed : total ≡ Err c.in_err-record.field-0.0 = record_fails (views c.loop-entries.entries.items) (length c.args.file.now - length c.loop-entries.rest.now) c.loop-entries.rest.now total _ c.loop-entries.invariant.begun (sym c.in_err-record.ensures.value) in
+    let failed : total ≡ Err c.in_err-record.field-0.0 =
+    record_fails (views c.loop-entries.entries.items) (length c.args.file.now - length c.loop-entries.rest.now)
+    c.loop-entries.rest.now total _ c.loop-entries.invariant.begun (sym c.in_err-record.ensures.value) in
     rw (p.1, p.2) (record { value = failed })
 
 pub returns-in_err-entry_in : goal.returns-in_err-entry_in
@@ -27,14 +29,20 @@ returns-in_err-entry_in c =
     let piece : Piece = piece_at c.in-Some.record in
     let place : ℕ = length c.args.file.now - length c.loop-entries.rest.now in
     let total = from_place (length c.args.file.now) (length c.args.file.now - length c.args.records.now) c.args.records.now in
-    let next : record_at place c.loop-entries.rest.now ≡ Ok (Some piece) = sym c.in_ok-record.ensures.value ∙ ap (λ (o : Option Record). piece_of (Ok o)) c.in-Some.is in
-    rw (p.1, p.2) (record { value = entry_fails c.in_err-entry_in.field-0.0 (views c.loop-entries.entries.items) place c.loop-entries.rest.now total piece c.loop-entries.invariant.begun next c.if-record.true c.in_err-entry_in.ensures.value })
+    let next : record_at place c.loop-entries.rest.now ≡ Ok (Some piece) =
+    sym c.in_ok-record.ensures.value ∙ ap (λ (o : Option Record). piece_of (Ok o)) c.in-Some.is in
+    rw (p.1, p.2) (record {
+      value =
+          entry_fails c.in_err-entry_in.field-0.0 (views c.loop-entries.entries.items) place c.loop-entries.rest.now total
+          piece c.loop-entries.invariant.begun next c.if-record.true c.in_err-entry_in.ensures.value;
+    })
 
 pub loop-entries-smaller : goal.loop-entries-smaller
 loop-entries-smaller c =
     let piece : Piece = piece_at c.in-Some.record in
     let place : ℕ = length c.args.file.now - length c.loop-entries.rest.now in
-    let next : record_at place c.loop-entries.rest.now ≡ Ok (Some piece) = sym c.in_ok-record.ensures.value ∙ ap (λ (o : Option Record). piece_of (Ok o)) c.in-Some.is in
+    let next : record_at place c.loop-entries.rest.now ≡ Ok (Some piece) =
+    sym c.in_ok-record.ensures.value ∙ ap (λ (o : Option Record). piece_of (Ok o)) c.in-Some.is in
     let parts = whole place c.loop-entries.rest.now piece next in
     let less : length c.in-Some.record.rest.now < length c.loop-entries.rest.now = omega (arith, parts) in
     less
@@ -54,8 +62,11 @@ loop-entries-preserved c =
       begun = subst (λ (p : ℕ). IsBegun (views c.if-record.entries.items) p c.in-Some.record.rest.now total) behind (elim c.if-record.branch [
         | then-record+in_ok-entry_in+in_ok-push w ↦
             let one = w.in_ok-entry_in.field-0 in
-            let more : views c.if-record.entries.items ≡ views c.loop-entries.entries.items ++ view one ∷ [] = rw (w.entries-is, w.in_ok-push.ensures.items) (map_push view c.loop-entries.entries.items one) in
-            rw more (past_entry (views c.loop-entries.entries.items) place rest total piece (view one) c.loop-entries.invariant.begun next w.if-record.true w.in_ok-entry_in.ensures.value)
-        | else-record w ↦ rw w.entries-is (past_hole (views c.loop-entries.entries.items) place rest total piece c.loop-entries.invariant.begun next w.if-record.false)
+            let more : views c.if-record.entries.items ≡ views c.loop-entries.entries.items ++ view one ∷ [] =
+            rw (w.entries-is, w.in_ok-push.ensures.items) (map_push view c.loop-entries.entries.items one) in
+            rw more (past_entry (views c.loop-entries.entries.items) place rest total piece
+            (view one) c.loop-entries.invariant.begun next w.if-record.true w.in_ok-entry_in.ensures.value)
+        | else-record w ↦ rw w.entries-is (past_hole (views c.loop-entries.entries.items)
+            place rest total piece c.loop-entries.invariant.begun next w.if-record.false)
       ]);
     }

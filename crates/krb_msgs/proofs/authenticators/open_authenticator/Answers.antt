@@ -12,7 +12,8 @@ use Rattle.krb_msgs.proofs.authenticators.open_authenticator.Goals as goal
 pub returns-in_err-authenticator : goal.returns-in_err-authenticator
 unfolding OpensAuthenticator
 returns-in_err-authenticator c =
-    passes_on (OpensPart authenticator authenticator_value c.args.session.now usage_ap_req_authenticator c.args.sealed fault.BadAuthenticator fault.BadAuthenticator)
+    passes_on (OpensPart authenticator authenticator_value
+    c.args.session.now usage_ap_req_authenticator c.args.sealed fault.BadAuthenticator fault.BadAuthenticator)
     (OpensAuthenticator c.args.session.now c.args.sealed) (λ f h. stops f h refl)
     c.in_err-authenticator.field-0.0 _ c.from_residual.ensures.1 c.in_err-authenticator.ensures
 

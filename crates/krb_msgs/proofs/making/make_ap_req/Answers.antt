@@ -1,9 +1,9 @@
 use Rattle.std.proofs.Common.{◌≡◌, ℕ, true, subst, sym, ap, ◌∙◌, Ok, Err}
 use Rattle.std.proofs.lemmas.Result.{IfOk-weaker}
-use Rattle.krb_elements.specs.Reading.{Gives}
-use Rattle.krb_elements.specs.Texts.{text, fits}
-use Rattle.krb_elements.specs.declared.fault.DerFault.{DerFault}
-use Rattle.krb_elements.specs.declared.fault.ReadError.TheVariants as errors
+use Rattle.krb_codec.specs.Reading.{Gives}
+use Rattle.krb_codec.specs.Texts.{text, fits}
+use Rattle.krb_codec.specs.declared.fault.DerFault.{DerFault}
+use Rattle.krb_codec.specs.declared.fault.ReadError.TheVariants as errors
 use Rattle.krb_protocol.specs.Numbers as protocol
 use Rattle.krb_der.specs.Types.{ap_req}
 use Rattle.krb_der.specs.Values.{ticket_value, ap_req_value}
@@ -43,6 +43,11 @@ pub returns : goal.returns
 returns c = record {
   text =
       IfOk-weaker c.write_ap_req.result _ _
-      (λ v h. (c.in-Ok.ticket, c.in-Ok.ensures.value, h ∙ ap (λ (x : EncryptedData). text ap_req (ap_req_value (message_of c.in-Ok.ticket c.args.options x))) c.in_ok-seal_part.ensures.value))
+      (λ v h. (
+        c.in-Ok.ticket,
+        c.in-Ok.ensures.value,
+        h ∙ ap (λ (x : EncryptedData). text ap_req
+            (ap_req_value (message_of c.in-Ok.ticket c.args.options x))) c.in_ok-seal_part.ensures.value,
+      ))
       c.write_ap_req.ensures.text;
 }

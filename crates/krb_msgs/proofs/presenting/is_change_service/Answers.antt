@@ -14,6 +14,7 @@ returns-then-eq c =
     let second = c.second-item.result in
     let items = two_items c.args.name.now first second (omega arith) (omega arith) c.first-item.is c.second-item.is in
     let kadmin : first ≡ codes "kadmin" = search rules in (
-      λ yes. let changepw : second ≡ codes "changepw" = search (rules, yes) in sym items ∙ ap (λ (z : List ℕ). z ∷ second ∷ []) kadmin ∙ ap (λ (z : List ℕ). codes "kadmin" ∷ z ∷ []) changepw,
+      λ yes. let changepw : second ≡ codes "changepw" = search (rules, yes) in sym items
+          ∙ ap (λ (z : List ℕ). z ∷ second ∷ []) kadmin ∙ ap (λ (z : List ℕ). codes "kadmin" ∷ z ∷ []) changepw,
       λ same. let changepw : second ≡ codes "changepw" = ap (λ (zs : List (List ℕ)). get_or zs 1 []) (items ∙ same) in search (rules, changepw),
     )

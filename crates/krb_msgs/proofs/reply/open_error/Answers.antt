@@ -24,10 +24,10 @@ unfolding OpensError
 returns-in-Some c =
     let m = c.in_ok-message.message in
     let is : IsKrbError m = c.is_krb_error.ensures.0 (search rules) in
-    let said = rw (c.as_slice.ensures.value, c.error_code_in.ensures) at c.said.ensures in
+    let said = rw (c.as_slice.ensures.value, c.error_code_in.ensures) at c.reply_of.ensures in
     says (SaysCode c.in-Some.bytes (Some m.error_code)) (OpensError c.args.bytes.now)
     (λ answer h. goes_on m c.in_ok-message.ensures (met is (of_one c.in-Some.bytes c.in-Some.is h)))
-    c.said.result said
+    c.reply_of.result said
 
 pub returns : goal.returns
 unfolding OpensError

@@ -37,7 +37,7 @@ returns c =
     let m = c.in_ok-message.message in
     let part = c.in_ok-part.part in
     let is : IsPrivate m = c.is_private.ensures.0 (search rules) in
-    let said = rw c.as_slice.ensures.value at c.said.ensures in
+    let said = rw c.as_slice.ensures.value at c.reply_of.ensures in
     says (SaysCode part.user_data None) (OpensResult c.args.subkey.now c.args.bytes.now)
     (λ answer h. goes_on m c.in_ok-message.ensures (met is (goes_on part c.in_ok-part.ensures h)))
-    c.said.result said
+    c.reply_of.result said

@@ -1,7 +1,7 @@
 use Rattle.std.proofs.Common.{rules, ◌≡◌, ◌<◌, ℕ, List, [], ◌∷◌, length, refl, arith, Result}
 use Rattle.krb_keys.specs.declared.key.Key.{Key}
-use Rattle.krb_elements.specs.declared.kerberos_time.KerberosTime.{KerberosTime}
-use Rattle.krb_elements.specs.declared.numbers.Microseconds.{Microseconds}
+use Rattle.krb_codec.specs.declared.kerberos_time.KerberosTime.{KerberosTime}
+use Rattle.krb_codec.specs.declared.numbers.Microseconds.{Microseconds}
 use Rattle.krb_msgs.specs.declared.fault.ReplyFault.{ReplyFault}
 use Rattle.krb_msgs.specs.declared.reply.Reply.{Reply}
 use Rattle.krb_msgs.specs.Checks.{Then, goes_on, stops}
@@ -43,6 +43,7 @@ pub returns : goal.returns
 returns c =
     let some : 0 < length c.args.ap_rep.now = grind arith in record {
       opens =
-          says (OpensResult c.args.subkey.now c.args.tail.now) (OpensReply c.args.session.now c.args.subkey.now c.args.ctime c.args.cusec c.args.ap_rep.now c.args.tail.now)
+          says (OpensResult c.args.subkey.now c.args.tail.now) (OpensReply
+          c.args.session.now c.args.subkey.now c.args.ctime c.args.cusec c.args.ap_rep.now c.args.tail.now)
           (λ answer h. with_ap_rep _ _ _ _ _ _ answer some (goes_on tt c.in_ok-open_ap_rep.ensures h)) c.open_result.result c.open_result.ensures;
     }

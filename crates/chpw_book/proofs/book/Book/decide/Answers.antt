@@ -1,27 +1,35 @@
 use Rattle.std.proofs.Common.{rules}
 use mathlib.Core.List.{IsPrefix}
-use Rattle.chpw_fronts.specs.Pens.{opening_state}
-use Rattle.chpw_book.specs.Stored.{Stored}
+use Rattle.chpw_changelog.specs.Pens.{opening_state}
+use Rattle.chpw_book.specs.Recorded.{RecordedView}
 use Rattle.chpw_table.proofs.AgreementLemmas.{agrees_itself}
 use Rattle.chpw_book.proofs.CallLemmas.{asks_of_first}
-use Rattle.chpw_book.proofs.PublishLemmas.{published_next, list_room, notes_next}
+use Rattle.chpw_book.proofs.PublishLemmas.{published_next, list_room, adds_next}
 use Rattle.chpw_book.proofs.book.Book.decide.Goals as goal
 
 pub tell-requires-clause-room : goal.tell-requires-clause-room
-tell-requires-clause-room g c = list_room (opening_state g.D.ListName.root) g.D.DeskName.workers c.self.inside.store c.decide.new.self _ _ c.has.new.self _ _ _ (rw c.has.ensures.same c.self.invariant) c.in_ok-verdict.ensures.stored
+tell-requires-clause-room g c =
+    list_room (opening_state g.D.LogName.root) g.D.DeskName.workers c.self.inside.recorded c.decide.new.self _
+    _ c.has.new.self _ _ _ (rw c.has.ensures.same c.self.invariant) c.in_ok-verdict.ensures.recorded
 
 pub invariant_of-self-2 : goal.invariant_of-self-2
 invariant_of-self-2 g c =
-    rw c.tell.ensures.shelf (published_next (opening_state g.D.ListName.root) g.D.DeskName.workers c.self.inside.store c.decide.new.self _ _ c.has.new.self _ _ _ (rw c.has.ensures.same c.self.invariant) c.in_ok-verdict.ensures.stored)
+    rw c.tell.ensures.shelf (published_next (opening_state g.D.LogName.root)
+    g.D.DeskName.workers c.self.inside.recorded c.decide.new.self _ _ c.has.new.self _ _ _
+    (rw c.has.ensures.same c.self.invariant) c.in_ok-verdict.ensures.recorded)
 
-pub returns-clause-notes : goal.returns-clause-notes
+pub returns-clause-adds : goal.returns-clause-adds
 unfolding invariant_of-self-2
-returns-clause-notes g c =
+returns-clause-adds g c =
     let begins : IsPrefix c.args.pass.now.place.told c.has.new.self.list = search rules in
-    notes_next (opening_state g.D.ListName.root) g.D.DeskName.workers c.self.inside.store c.decide.new.self _ _ c.tell.new.pass c.has.new.self _ c.tell.new.shelf _ _ (rw c.has.ensures.same c.self.invariant) c.in_ok-verdict.ensures.stored (invariant_of-self-2 g c) begins c.tell.ensures.pass
+    rw (← c.self.view_is) (adds_next (opening_state g.D.LogName.root) g.D.DeskName.workers c.self.inside.recorded
+    c.decide.new.self _ _ c.tell.new.pass c.has.new.self _ c.tell.new.shelf _ _ (rw c.has.ensures.same c.self.invariant)
+    c.in_ok-verdict.ensures.recorded (invariant_of-self-2 g c) begins c.tell.ensures.pass)
 
 pub returns-in_err-verdict-clause-asks : goal.returns-in_err-verdict-clause-asks
 returns-in_err-verdict-clause-asks g c =
-    let b : Stored = c.self.inside.store in
-    let asks = asks_of_first (opening_state g.D.ListName.root) g.D.DeskName.workers b c.args.now c.args.opened c.in_err-verdict.field-0.0.fault c.decide.ensures.replays (c.in_err-verdict.ensures.refused.first b.table.state (agrees_itself b.table.state)) in
+    let b : RecordedView = c.self.inside.recorded in
+    let asks = asks_of_first (opening_state g.D.LogName.root)
+    g.D.DeskName.workers b c.args.now c.args.opened c.in_err-verdict.field-0.0.fault c.decide.ensures.linearized
+    (c.in_err-verdict.ensures.refused.first b.table.state (agrees_itself b.table.state)) in
     search (rules, asks)

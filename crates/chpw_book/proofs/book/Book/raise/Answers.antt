@@ -1,18 +1,25 @@
 use Rattle.std.proofs.Common.{rules}
 use mathlib.Core.List.{IsPrefix}
-use Rattle.chpw_fronts.specs.Pens.{opening_state}
-use Rattle.chpw_book.proofs.PublishLemmas.{published_next, list_room, notes_next}
+use Rattle.chpw_changelog.specs.Pens.{opening_state}
+use Rattle.chpw_book.proofs.PublishLemmas.{published_next, list_room, adds_next}
 use Rattle.chpw_book.proofs.book.Book.raise.Goals as goal
 
 pub tell_raise-requires-clause-room : goal.tell_raise-requires-clause-room
-tell_raise-requires-clause-room g c = list_room (opening_state g.D.ListName.root) g.D.DeskName.workers c.self.inside.store c.raise.new.self _ _ c.has.new.self _ _ _ (rw c.has.ensures.same c.self.invariant) c.in_ok-verdict.ensures.stored
+tell_raise-requires-clause-room g c =
+    list_room (opening_state g.D.LogName.root) g.D.DeskName.workers c.self.inside.recorded c.raise.new.self _
+    _ c.has.new.self _ _ _ (rw c.has.ensures.same c.self.invariant) c.in_ok-verdict.ensures.recorded
 
 pub invariant_of-self-2 : goal.invariant_of-self-2
 invariant_of-self-2 g c =
-    rw c.tell_raise.ensures.shelf (published_next (opening_state g.D.ListName.root) g.D.DeskName.workers c.self.inside.store c.raise.new.self _ _ c.has.new.self _ _ _ (rw c.has.ensures.same c.self.invariant) c.in_ok-verdict.ensures.stored)
+    rw c.tell_raise.ensures.shelf (published_next (opening_state g.D.LogName.root)
+    g.D.DeskName.workers c.self.inside.recorded c.raise.new.self _ _ c.has.new.self _ _ _
+    (rw c.has.ensures.same c.self.invariant) c.in_ok-verdict.ensures.recorded)
 
-pub returns-clause-notes : goal.returns-clause-notes
+pub returns-clause-adds : goal.returns-clause-adds
 unfolding invariant_of-self-2
-returns-clause-notes g c =
+returns-clause-adds g c =
     let begins : IsPrefix c.args.pass.now.place.told c.has.new.self.list = search rules in
-    notes_next (opening_state g.D.ListName.root) g.D.DeskName.workers c.self.inside.store c.raise.new.self _ _ c.tell_raise.new.pass c.has.new.self _ c.tell_raise.new.shelf _ _ (rw c.has.ensures.same c.self.invariant) c.in_ok-verdict.ensures.stored (invariant_of-self-2 g c) begins c.tell_raise.ensures.pass
+    rw (← c.self.view_is)
+    (adds_next (opening_state g.D.LogName.root) g.D.DeskName.workers c.self.inside.recorded c.raise.new.self _
+    _ c.tell_raise.new.pass c.has.new.self _ c.tell_raise.new.shelf _ _ (rw c.has.ensures.same c.self.invariant)
+    c.in_ok-verdict.ensures.recorded (invariant_of-self-2 g c) begins c.tell_raise.ensures.pass)

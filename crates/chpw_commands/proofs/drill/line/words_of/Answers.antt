@@ -5,5 +5,6 @@ use Rattle.chpw_commands.proofs.drill.line.words_of.Goals as goal
 
 pub returns : goal.returns
 returns c = record {
-  value = map_from_collect _ c.collect.ensures.ran (YieldsList-from_str_split 32 c.args.text.now (lit< tt) c.split.ensures.text c.split.ensures.has_more c.split.ensures.pattern);
+  value = map_from_collect _ c.collect.ensures.ran (YieldsList-from_str_split 32 c.args.text.now
+      (lit< tt) c.split.ensures.text c.split.ensures.has_more c.split.ensures.pattern);
 }

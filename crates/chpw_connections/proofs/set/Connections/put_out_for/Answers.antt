@@ -14,11 +14,13 @@ loop-who-preserved c = record {
   counts = search rules;
   expired = search rules;
   bounds = search rules;
-  queues = c.fail.ensures.same (longest_besides_not_queued (slots_of c.loop-who.self) c.args.slot c.args.who c.in-Some.other c.in-Some.ensures.found) ∙ c.loop-who.invariant.queues;
+  queues = c.fail.ensures.same (longest_besides_not_queued (slots_of c.loop-who.self)
+      c.args.slot c.args.who c.in-Some.other c.in-Some.ensures.found) ∙ c.loop-who.invariant.queues;
 }
 
 pub loop-who-smaller : goal.loop-who-smaller
-loop-who-smaller c = fewer_held c.args.who (slots_of c.loop-who.self) (slots_of c.fail.new.self) c.args.slot c.in-Some.other c.in-Some.ensures.found c.fail.ensures.happens
+loop-who-smaller c = fewer_held c.args.who (slots_of c.loop-who.self)
+    (slots_of c.fail.new.self) c.args.slot c.in-Some.other c.in-Some.ensures.found c.fail.ensures.happens
 
 pub returns-in-None-clause-room : goal.returns-in-None-clause-room
 returns-in-None-clause-room c =

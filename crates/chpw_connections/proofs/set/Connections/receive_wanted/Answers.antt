@@ -40,21 +40,29 @@ invariant_of-self-in-Ok-true-clause-waiting c =
 
 pub returns-then-not-reserve-clause-read : goal.returns-then-not-reserve-clause-read
 returns-then-not-reserve-clause-read c =
-    inr (happens_with_room (for_message (bounds_of c.args.self.now) c.args.now (get (slots_of c.args.self.now) c.args.slot)) 0 (slots_of c.args.self.now) (slots_of c.find_room_to_read.new.self) (slots_of c.fail-then-not-reserve.new.self) c.args.slot failed
+    inr (happens_with_room (for_message (bounds_of c.args.self.now) c.args.now
+    (get (slots_of c.args.self.now) c.args.slot)) 0 (slots_of c.args.self.now)
+    (slots_of c.find_room_to_read.new.self) (slots_of c.fail-then-not-reserve.new.self) c.args.slot failed
     c.find_room_to_read.ensures.makes_room c.fail-then-not-reserve.ensures.happens)
 
 pub returns-in-Err-clause-read : goal.returns-in-Err-clause-read
 returns-in-Err-clause-read c =
-    inr (happens_with_room (for_message (bounds_of c.args.self.now) c.args.now (get (slots_of c.args.self.now) c.args.slot)) 0 (slots_of c.args.self.now) (slots_of c.find_room_to_read.new.self) (slots_of c.note.new.self) c.args.slot failed
+    inr (happens_with_room
+    (for_message (bounds_of c.args.self.now) c.args.now (get (slots_of c.args.self.now) c.args.slot)) 0
+    (slots_of c.args.self.now) (slots_of c.find_room_to_read.new.self) (slots_of c.note.new.self) c.args.slot failed
     c.find_room_to_read.ensures.makes_room
     (subst (λ (s : Slab Connection). Happens 0 (slots_of c.find_room_to_read.new.self) s c.args.slot failed) (sym c.note.ensures.slots) c.in-Err.ensures.ended))
 
 pub returns-in-Ok-false-clause-read : goal.returns-in-Ok-false-clause-read
 returns-in-Ok-false-clause-read c =
-    inl (happens_with_room (for_message (bounds_of c.args.self.now) c.args.now (get (slots_of c.args.self.now) c.args.slot)) c.args.now (slots_of c.args.self.now) (slots_of c.find_room_to_read.new.self) c.receive.new.self.connections c.args.slot
+    inl (happens_with_room (for_message (bounds_of c.args.self.now) c.args.now
+    (get (slots_of c.args.self.now) c.args.slot)) c.args.now (slots_of c.args.self.now)
+    (slots_of c.find_room_to_read.new.self) c.receive.new.self.connections c.args.slot
     (came c.args.bytes.now) c.find_room_to_read.ensures.makes_room c.in-Ok-false.ensures.happens)
 
 pub returns-in-Ok-true-clause-queued : goal.returns-in-Ok-true-clause-queued
 returns-in-Ok-true-clause-queued c =
-    happens_with_room (for_message (bounds_of c.args.self.now) c.args.now (get (slots_of c.args.self.now) c.args.slot)) c.args.now (slots_of c.args.self.now) (slots_of c.find_room_to_read.new.self) c.receive.new.self.connections c.args.slot
+    happens_with_room (for_message (bounds_of c.args.self.now) c.args.now (get (slots_of c.args.self.now) c.args.slot))
+    c.args.now (slots_of c.args.self.now)
+    (slots_of c.find_room_to_read.new.self) c.receive.new.self.connections c.args.slot
     (came c.args.bytes.now) c.find_room_to_read.ensures.makes_room c.in-Ok-true.ensures.happens

@@ -13,4 +13,5 @@ pub returns-in_err-message-clause-some : goal.returns-in_err-message-clause-some
 returns-in_err-message-clause-some c =
     let old = c.args.self.now in
     let queues = lists_of old.queues in
-    absurd (front_queued queues old.slots.connections c.args.worker c.args.slot (drop 1 (queue_in queues c.args.worker)) c.requires.first old.waiting c.in_err-message.ensures.none)
+    absurd (front_queued queues old.slots.connections c.args.worker c.args.slot (drop 1
+    (queue_in queues c.args.worker)) c.requires.first old.waiting c.in_err-message.ensures.none)

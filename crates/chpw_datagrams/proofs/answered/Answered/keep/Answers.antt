@@ -2,7 +2,7 @@ use Rattle.std.proofs.Common.{◌≡◌, ◌≤◌, List, ◌∷◌, length, ap,
 use Rattle.std.specs.List.{filter}
 use Rattle.std.proofs.lemmas.Fn.{filter_same}
 use Rattle.chpw_datagrams.specs.declared.kept.Kept.{Kept}
-use Rattle.chpw_datagrams.specs.Answers.{Answer, is_recent, bytes_of, within, behind_keep}
+use Rattle.chpw_datagrams.specs.Answers.{Answer, is_recent, bytes_of, within, after_keep}
 use Rattle.chpw_datagrams.specs.Fields.{answer_of, answers_of}
 use Rattle.chpw_datagrams.proofs.KeptLemmas.{kept_is}
 use Rattle.chpw_datagrams.proofs.WithinLemmas.{bytes-within, few_kept}
@@ -16,10 +16,11 @@ returns-clause-value c =
     c.drop_oldest.ensures.value
     ∙ ap (λ (xs : List Kept). within 4194304 (answers_of xs)) (c.push_front_reserved.ensures.items ∙ ap (λ (xs : List Kept). k ∷ xs) c.truncate.ensures.items)
     ∙ kept_is k c.retain.new.self.items c.self.inside.kept.items recent
-    ∙ ap (λ (xs : List Answer). behind_keep xs (answer_of k)) c.self.view_is
+    ∙ ap (λ (xs : List Answer). after_keep xs (answer_of k)) c.self.view_is
 
 pub returns-clause-few : goal.returns-clause-few
 returns-clause-few c = subst (λ (xs : List Answer). length xs ≤ 1024) (sym (returns-clause-value c)) (few_kept _ _)
 
 pub returns-clause-bytes : goal.returns-clause-bytes
-returns-clause-bytes c = subst (λ (xs : List Answer). bytes_of xs ≤ 4194304) (sym c.drop_oldest.ensures.value) (bytes-within 4194304 (answers_of c.push_front_reserved.new.self.items))
+returns-clause-bytes c = subst (λ (xs : List Answer). bytes_of xs ≤ 4194304)
+    (sym c.drop_oldest.ensures.value) (bytes-within 4194304 (answers_of c.push_front_reserved.new.self.items))

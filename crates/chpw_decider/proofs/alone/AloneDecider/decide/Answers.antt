@@ -9,13 +9,18 @@ use Rattle.chpw_table.specs.Outcomes.{Steps, Writes}
 use Rattle.chpw_table.proofs.AgreementLemmas.{agrees_itself}
 use Rattle.chpw_table.proofs.DecideLemmas.{refused_for_all}
 use Rattle.chpw_decider.specs.Keeping.{Kept, IsKept, basis_after}
-use Rattle.chpw_decider.specs.Entered.{receipt_behind}
+use Rattle.chpw_decider.specs.Entered.{receipt_after}
 use Rattle.chpw_decider.proofs.KeepingLemmas.{kept_next, may_be_full, basis_next, basis_few}
 use Rattle.chpw_decider.proofs.alone.AloneDecider.decide.Goals as goal
 
 pub returns-in_err-prepared-clause-fault : goal.returns-in_err-prepared-clause-fault
 returns-in_err-prepared-clause-fault g c =
-    let k : Kept = record { opening = c.self.inside.opening.value; table = c.self.inside.journaled.table; receipts = c.self.inside.receipts.items; told = g.S.JournalSink.told c.self.inside.journaled.sink } in
+    let k : Kept = record {
+      opening = c.self.inside.opening.value;
+      table = c.self.inside.journaled.table;
+      receipts = c.self.inside.receipts.items;
+      told = g.S.JournalSink.told c.self.inside.journaled.sink;
+    } in
     let first = c.in_err-prepared.ensures.refused.first k.table.state (agrees_itself k.table.state) in
     let may = may_be_full k _ c.in_err-prepared.field-0.0.fault c.self.invariant.0 first in
     search (rules, may)
@@ -41,14 +46,26 @@ invariant_of-self-2 g c =
     let table : Held = c.self.inside.journaled.table in
     let outcome = c.finish-outcome.result in
     let later = c.finish-outcome.new.self in
-    let k : Kept = record { opening = c.self.inside.opening.value; table = table; receipts = before; told = g.S.JournalSink.told c.self.inside.journaled.sink } in
-    let pushed : c.note.new.receipts.items ≡ before ++ receipt_behind before c.args.now outcome ∷ [] =
-    c.note.ensures.receipt ∙ ap (λ (rs : List Receipt). rs ++ receipt_behind rs c.args.now outcome ∷ []) c.reserve.ensures.items in
+    let k : Kept = record {
+      opening = c.self.inside.opening.value;
+      table = table;
+      receipts = before;
+      told = g.S.JournalSink.told c.self.inside.journaled.sink;
+    } in
+    let pushed : c.note.new.receipts.items ≡ before ++ receipt_after before c.args.now outcome ∷ [] =
+    c.note.ensures.receipt ∙ ap (λ (rs : List Receipt). rs ++ receipt_after rs c.args.now outcome ∷ []) c.reserve.ensures.items in
     let steps : Steps table later.table c.args.now c.args.opened outcome =
     rw (← c.prepare.ensures.unchanged.0, ← c.in_ok-prepared.ensures.parts.0, ← c.in_ok-prepared.ensures.parts.1) c.finish-outcome.ensures.steps in
     let writes : Writes g.S.JournalSink.failed g.S.JournalSink.told table.state c.self.inside.journaled.sink later.sink c.args.opened outcome =
     rw (← c.prepare.ensures.unchanged.0, ← c.prepare.ensures.unchanged.1, ← c.in_ok-prepared.ensures.parts.1) c.finish-outcome.ensures.writes in
-    let kept = kept_next g.S.JournalSink.failed g.S.JournalSink.told k later.table c.self.inside.journaled.sink later.sink c.args.now c.args.opened outcome c.self.invariant.0 refl steps writes in (
-      subst (λ (rs : List Receipt). IsKept (record { opening = c.self.inside.opening.value; table = later.table; receipts = rs; told = g.S.JournalSink.told later.sink })) (sym pushed) kept,
-      c.note.ensures.changes ∙ (ap (λ (n : ℕ). if is_done outcome.verdict then n + 1 else n) c.self.invariant.1 ∙ (sym (basis_next before c.args.now outcome) ∙ ap (basis_after 0) (sym pushed))),
+    let kept = kept_next g.S.JournalSink.failed g.S.JournalSink.told k later.table c.self.inside.journaled.sink
+    later.sink c.args.now c.args.opened outcome c.self.invariant.0 refl steps writes in (
+      subst (λ (rs : List Receipt). IsKept (record {
+        opening = c.self.inside.opening.value;
+        table = later.table;
+        receipts = rs;
+        told = g.S.JournalSink.told later.sink;
+      })) (sym pushed) kept,
+      c.note.ensures.changes ∙ (ap (λ (n : ℕ). if is_done outcome.verdict then n + 1 else n) c.self.invariant.1
+          ∙ (sym (basis_next before c.args.now outcome) ∙ ap (basis_after 0) (sym pushed))),
     )

@@ -12,12 +12,14 @@ returns-in-Some-clause-taken c =
     takes (bounds_of c.args.self.now.connections) (bounds_of c.accept.new.self) (bounds_of c.length_came.new.self.connections)
     c.args.now (accepted_by c.args.self.now.connections) c.in_ok-slot.slot c.in-Some.worker
     (workers_of c.args.self.now.connections) c.args.peer c.args.message.now
-    (slots_of c.args.self.now.connections) (slots_of c.accept.new.self) (slots_of c.length_came.new.self.connections) (slots_of c.message_came.new.self.connections)
+    (slots_of c.args.self.now.connections) (slots_of c.accept.new.self)
+    (slots_of c.length_came.new.self.connections) (slots_of c.message_came.new.self.connections)
     c.in_ok-length.ensures.fits
     (sym c.in_ok-slot.ensures.bounds ∙ sym c.length_came.ensures.bounds)
     c.length_came.ensures.bounds
     c.in_ok-slot.ensures.accepted
-    (subst (λ (l : List ℕ). CameOrFailed (bounds_of c.accept.new.self) c.args.now (slots_of c.accept.new.self) (slots_of c.length_came.new.self.connections) c.in_ok-slot.slot l)
+    (subst (λ (l : List ℕ). CameOrFailed (bounds_of c.accept.new.self) c.args.now (slots_of c.accept.new.self)
+    (slots_of c.length_came.new.self.connections) c.in_ok-slot.slot l)
     c.in_ok-length.ensures.value c.length_came.ensures.happens)
     c.in-Some.ensures.wanted
     c.in-Some.ensures.queued
@@ -26,7 +28,8 @@ returns-in-Some-clause-taken c =
 
 pub returns-in-None-clause-dropped : goal.returns-in-None-clause-dropped
 returns-in-None-clause-dropped c =
-    drops (bounds_of c.accept.new.self) (bounds_of c.length_came.new.self.connections) c.args.now (accepted_by c.args.self.now.connections) c.in_ok-slot.slot c.args.peer
+    drops (bounds_of c.accept.new.self) (bounds_of c.length_came.new.self.connections) c.args.now
+    (accepted_by c.args.self.now.connections) c.in_ok-slot.slot c.args.peer
     c.in_ok-length.length
     c.args.message.now (slots_of c.args.self.now.connections) (slots_of c.accept.new.self) (slots_of c.length_came.new.self.connections)
     (slots_of c.message_came.new.self.connections) (slots_of c.fail.new.self) (slots_of c.remove.new.self)

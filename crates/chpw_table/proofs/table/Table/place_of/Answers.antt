@@ -18,6 +18,8 @@ returns c =
     let rows : c.as_slice.result.now ≡ c.args.self.now.state.principals = search rules in
     record {
       value = c.place_of.ensures.value
-          ∙ (position_alike (λ (p : Principal). eq_by_cmp name_cmp p.name c.args.name.now) (λ (p : Principal). is_same_name p.name c.args.name.now) (λ p. sym (same_name_ties p.name c.args.name.now)) c.as_slice.result.now
+          ∙ (position_alike (λ (p : Principal). eq_by_cmp name_cmp p.name c.args.name.now)
+          (λ (p : Principal). is_same_name p.name c.args.name.now)
+          (λ p. sym (same_name_ties p.name c.args.name.now)) c.as_slice.result.now
           ∙ ap (position (λ (p : Principal). is_same_name p.name c.args.name.now)) rows);
     }

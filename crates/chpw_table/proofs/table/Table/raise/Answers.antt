@@ -8,4 +8,5 @@ returns-clause-legal g c s a = raise_for_all c.args.self.now.state s c.args.coun
 pub returns-clause-step : goal.returns-clause-step
 returns-clause-step g c s a =
     let e = c.enter_raise.ensures.entered in
-    raised_for_all c.args.self.now.state c.enter_raise.new.self.state s c.args.now c.args.count _ (entered_raise c.args.self.now c.enter_raise.new.self c.args.now c.args.count _ _ e) a
+    raised_for_all c.args.self.now.state c.enter_raise.new.self.state s c.args.now c.args.count _
+    (entered_raise c.args.self.now c.enter_raise.new.self c.args.now c.args.count _ _ e) a

@@ -16,13 +16,26 @@ opening_table-requires-clause-fit c = rw c.into_vec.ensures.value (principals_of
 
 pub opening_table-requires-clause-kept : goal.opening_table-requires-clause-kept
 opening_table-requires-clause-kept c =
-    rw c.kept_by-kept.ensures.value (kept_at_least c.args.config.policy.depth, depth_at_most c.args.config.policy (policy_of_fits c.args.config c.requires.fits))
+    rw c.kept_by-kept.ensures.value (
+      kept_at_least c.args.config.policy.depth,
+      depth_at_most c.args.config.policy (policy_of_fits c.args.config c.requires.fits),
+    )
 
 pub invariant_of-result : goal.invariant_of-result
 invariant_of-result c =
     let none = none_held (pos 0) c.new.result c.new.ensures.empty in
-    let count = iterations_in_range c.args.config.policy (policy_of_fits c.args.config c.requires.fits) in
-    (omega arith, omega arith, entries_of_fits c.args.config c.requires.fits, search rules, search rules, search rules, omega (arith, none.0), none.1, none.2, count)
+    let count = iterations_in_range c.args.config.policy (policy_of_fits c.args.config c.requires.fits) in (
+      omega arith,
+      omega arith,
+      entries_of_fits c.args.config c.requires.fits,
+      search rules,
+      search rules,
+      search rules,
+      omega (arith, none.0),
+      none.1,
+      none.2,
+      count,
+    )
 
 pub returns-clause-opening : goal.returns-clause-opening
 returns-clause-opening c = record {
@@ -30,7 +43,8 @@ returns-clause-opening c = record {
   principals = λ name. ap (option_map (λ (p : Principal). p.keys))
       (c.in_ok-principals.ensures.found name
       ∙ (ap (λ (k : ℕ). find (λ (p : Principal). is_same_name p.name name) (map (opening_principal k) c.into_vec.result.items)) c.kept_by-kept.ensures.value
-      ∙ ap (λ (rows : List PrincipalRow). find (λ (p : Principal). is_same_name p.name name) (map (opening_principal (max c.args.config.policy.depth 1)) rows)) c.into_vec.ensures.value));
+      ∙ ap (λ (rows : List PrincipalRow). find (λ (p : Principal). is_same_name p.name name)
+      (map (opening_principal (max c.args.config.policy.depth 1)) rows)) c.into_vec.ensures.value));
   clock = refl;
   broken = refl;
   count = refl;

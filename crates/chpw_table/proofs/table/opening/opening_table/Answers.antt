@@ -15,6 +15,7 @@ returns-clause-holders c =
 
 pub returns-clause-found : goal.returns-clause-found
 returns-clause-found c = λ name.
-    let hold : hold_keys c.in_ok-principals.principals.items ≡ true = rw c.in_ok-principals.ensures.value (opening_hold c.args.kept c.requires.kept.0 c.requires.kept.1 c.args.rows.items c.requires.fit) in
+    let hold : hold_keys c.in_ok-principals.principals.items ≡ true = rw c.in_ok-principals.ensures.value
+    (opening_hold c.args.kept c.requires.kept.0 c.requires.kept.1 c.args.rows.items c.requires.fit) in
     found_permuted name c.in_ok-principals.principals.items _ c.sort.ensures.permutation (and_right _ _ hold)
     ∙ ap (find (λ (p : Principal). is_same_name p.name name)) c.in_ok-principals.ensures.value

@@ -16,11 +16,14 @@ begun c = subst (Begun c) c.new-sink.ensures.value (c.in-Ok.ensures.io, c.in-Ok.
 
 pub returns-in-Ok-clause-response : goal.returns-in-Ok-clause-response
 returns-in-Ok-clause-response c = λ m r.
-    told_is c.args.self.now c.args.now c.args.count c.in-Ok.raise c.raise.new.sink c.raise.new.self c.in-Ok.ensures.legal c.in-Ok.ensures.step (begun c).0 (begun c).1 c.in-Ok.ensures.room m r
+    told_is c.args.self.now c.args.now c.args.count c.in-Ok.raise c.raise.new.sink
+    c.raise.new.self c.in-Ok.ensures.legal c.in-Ok.ensures.step (begun c).0 (begun c).1 c.in-Ok.ensures.room m r
 
 pub returns-in-Ok-clause-step : goal.returns-in-Ok-clause-step
 returns-in-Ok-clause-step c = λ m r.
-    rw c.still_fails-self.ensures.value (raised_runs c.args.self.now c.args.now c.args.count c.in-Ok.raise c.raise.new.sink c.raise.new.self c.in-Ok.ensures.legal c.in-Ok.ensures.step (begun c).0 (begun c).1 c.in-Ok.ensures.room m r c.in-Ok.ensures.counts.0 c.in-Ok.ensures.counts.2)
+    rw c.still_fails-self.ensures.value (raised_runs c.args.self.now c.args.now
+    c.args.count c.in-Ok.raise c.raise.new.sink c.raise.new.self c.in-Ok.ensures.legal c.in-Ok.ensures.step
+    (begun c).0 (begun c).1 c.in-Ok.ensures.room m r c.in-Ok.ensures.counts.0 c.in-Ok.ensures.counts.2)
 
 pub returns-in-Err-clause-response : goal.returns-in-Err-clause-response
 returns-in-Err-clause-response c = λ m r. full_is c.args.self.now c.args.now c.args.count c.in-Err.ensures.full m r

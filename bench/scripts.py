@@ -1,0 +1,123 @@
+"""The measurements of bench/ that all.py runs as they are: the words of each, in full and in small, and its figures.
+
+A figure is a line that a script prints on standard output and that has a digit, but for a limit's `ok`. What the pictures
+need of them is read from these lines.
+"""
+
+import dataclasses
+import os
+import pathlib
+import re
+import signal
+import subprocess
+import sys
+
+from realm import packages_folder
+
+HERE = pathlib.Path(__file__).resolve().parent
+# seconds that one may take
+PATIENCE, QUICK_PATIENCE = 3_600, 180
+
+
+@dataclasses.dataclass(frozen=True)
+class Script:
+    words: tuple
+    # in place of the words after the first, where one round in small is enough
+    quick: tuple
+    what: str
+    needs_packages: bool = False
+    # in place of the temporary folder
+    folder: str | None = None
+
+    def command(self, program, is_quick):
+        words = [it.format(program=program) for it in (self.words[0], *(self.quick if is_quick else self.words[1:]))]
+        path = HERE / words[0]
+        return [sys.executable, str(path), *words[1:]] if path.suffix == ".py" else [str(path), *words[1:]]
+
+    def told(self, is_quick):
+        """The command as a reader would type it, without the program's path."""
+        words = [it for it in (self.words[0], *(self.quick if is_quick else self.words[1:])) if it not in OF_THE_PROGRAM]
+        where = [f"TMPDIR={self.folder}"] if self.folder else []
+        return " ".join([*where, "bench/" + words[0], *words[1:]])
+
+
+OF_THE_PROGRAM = "--server", "{program}"
+MEMORY = "/dev/shm"
+
+
+def followers():
+    """On the disk of the temporary folder, and in memory."""
+    for folder, where in (None, "on the disk"), (MEMORY, "in memory"):
+        for kind, name in ("mit", "MIT"), ("heimdal", "Heimdal"):
+            yield Script(("follower.py", "{program}", kind), ("{program}", kind, "100", "5", "1"),
+                         f"time to {name}'s KDC, {where}", True, folder)
+
+
+SCRIPTS = (
+    Script(("keys.sh",), ("1",), "keys and the cipher, beside OpenSSL"),
+    Script(("der.sh",), ("1",), "an AP-REQ as DER"),
+    Script(("open.sh",), ("1",), "an AP-REQ and its KRB-PRIV opened"),
+    Script(("stream.sh",), ("1",), "a change from memory to memory, by principals"),
+    Script(("lookup.sh",), ("1",), "lookups"),
+    Script(("drill.sh",), ("2000",), "decisions, by events"),
+    Script(("restore.sh",), ("1000", "100"), "a journal restored"),
+    Script(("table.sh",), ("3000", "100"), "`table` of a long journal"),
+    Script(("serve.sh",), ("1", "20"), "changes a second over one connection each"),
+    Script(("replays.sh",), ("500",), "replays refused"),
+    Script(("sync.sh", *OF_THE_PROGRAM), (*OF_THE_PROGRAM, "--count", "3", "--changers", "1"), "a slow sync"),
+    Script(("reload.sh", *OF_THE_PROGRAM), (*OF_THE_PROGRAM, "--principals", "100", "--reloads", "2"), "a reload"),
+    Script(("siege.sh", *OF_THE_PROGRAM), (*OF_THE_PROGRAM, *"--requests 20 --flooded 3 --silent 50 --flood 5 2 6".split()),
+           "hostile clients"),
+    *followers(),
+)
+
+
+def figures(script, program, is_quick):
+    """The lines with figures, and None; or those before it failed, and the reason."""
+    environment = {**os.environ, "PYTHONDONTWRITEBYTECODE": "1", "PYTHONPATH": f"{HERE.parent}/interop:{HERE}"}
+    if script.folder:
+        environment["TMPDIR"] = script.folder
+        # which the packages are not in
+        environment["CHPW_PACKAGES"] = str(packages_folder())
+    with subprocess.Popen(script.command(program, is_quick), stdin=subprocess.DEVNULL, stdout=subprocess.PIPE,
+                          stderr=subprocess.PIPE, text=True, env=environment, start_new_session=True) as process:
+        patience = QUICK_PATIENCE if is_quick else PATIENCE
+        try:
+            out, errors = process.communicate(timeout=patience)
+            without = "a limit is passed" if process.returncode == 1 else f"status {process.returncode}"
+            reason = (errors.strip().splitlines() or [without])[-1]
+        except subprocess.TimeoutExpired:
+            out, reason = ended(process), f"it took more than {patience} seconds"
+        except BaseException:
+            ended(process)
+            raise
+    lines = [line.strip() for line in out.splitlines() if re.search(r"\d", line) and not line.startswith("ok: ")]
+    return lines, None if process.returncode == 0 and lines else reason
+
+
+def ended(process):
+    """What it printed; an interrupt, which a shell's command gets too, lets it end what it started."""
+    os.killpg(process.pid, signal.SIGINT)
+    try:
+        return process.communicate(timeout=60)[0]
+    except subprocess.TimeoutExpired:
+        os.killpg(process.pid, signal.SIGKILL)
+        return process.communicate()[0]
+
+
+def by_principals(lines):
+    """Microseconds of a change from memory to memory, by principals: stream.sh, whose last line is of 100."""
+    found = [(int(count), float(micros)) for count, micros in re.findall(r"of (\d+) principals (\d+) us", "\n".join(lines))]
+    return found + [(100, float(it)) for it in re.findall(r"answered (\d+) us", "\n".join(lines))]
+
+
+def by_events(lines):
+    """Microseconds of a decision, by decisions: drill.sh."""
+    found = re.findall(r"(\d+) requests over \d+ principals in ([\d.]+) s", "\n".join(lines))
+    return [(int(count), float(seconds) * 1e6 / int(count)) for count, seconds in found]
+
+
+def to_the_kdc(lines):
+    """Median and 99th milliseconds from the question to the answer: follower.py."""
+    found = re.search(r"from the ask to the answer ([\d.]+) ms, ([\d.]+) ms", "\n".join(lines))
+    return {"median": float(found[1]), "99 of 100": float(found[2])} if found else {}

@@ -1,0 +1,121 @@
+//! Calls that take memory, one a line on standard input, with what each gives on standard output.
+//!
+//! The program is run with one of its allocations refused (`hostile/allocations`). A call that then answers want of
+//! memory is made again, after a check of what the refusal left; if memory was refused outside the call, everything is
+//! set up again. So a line prints the same whichever allocation was refused, unless a call answers something else, or
+//! leaves something changed: that prints `wrong` and what it was.
+//!
+//! `where` before a call prints in front of its line where the refused allocation fell, in brackets. `refused` means
+//! that the call answered so, `refused behind its entry` that its entry stands; after `beside` the call was not made,
+//! and `nowhere` says that nothing was noticed. README.md lists the calls. A line that begins with `#`, or is empty, is
+//! copied. Neither reading nor printing takes memory.
+#![tactic(auto)]
+
+mod calls;
+mod client;
+mod commands;
+mod deciding;
+mod desks;
+mod frames;
+mod keys;
+mod making;
+mod messages;
+mod page;
+mod pools;
+mod records;
+mod seen;
+mod stop;
+mod streams;
+mod tables;
+mod workers;
+mod world;
+
+use calls::told;
+use chpw_read_fully::{Filled, fill};
+use page::Page;
+use pools::Machine;
+use std::io::{self, Error, ErrorKind, Write};
+use std::net::{Net, TcpListener, TcpStream};
+use std::sync::Wait;
+use std::thread::Threads;
+use std::time::Clock;
+use stop::{Fell, Stop};
+
+/// The longest input.
+const INPUT: usize = 32_768;
+
+fn main(rt: HostRuntime) -> io::Result<()> {
+    print_lines(&rt)
+}
+
+// The bounds of `Machine` are written out, since a caller of one type has to name what they speak of.
+fn print_lines<R>(rt: &R) -> io::Result<()>
+where
+    R: Threads
+        + Wait
+        + Clock
+        + Sync
+        + AllocGlobal
+        + Net<Listener = TcpListener, Stream = TcpStream>
+        + Input
+        + Print,
+{
+    let mut input = [0; INPUT];
+    let mut reads = u64::MAX;
+    let count = match fill(&mut rt.reader(), &mut input, &mut reads) {
+        Filled::Short(count) => count,
+        _ => return Err(Error::from(ErrorKind::InvalidInput)),
+    };
+    let (input, _) = input.split_at(count.min(INPUT));
+    for line in str::from_utf8(input).unwrap_or("no UTF-8").lines() {
+        print_line(rt, line)?;
+    }
+    Ok(())
+}
+
+fn print_line<R: Machine + Print>(rt: &R, line: &str) -> io::Result<()> {
+    if line.is_empty() || line.starts_with('#') {
+        return println!(rt; "{line}");
+    }
+    let call = line.strip_prefix("where ");
+    let mut page = Page::new(rt.alloc());
+    let said = twice(rt, &mut page, call.unwrap_or(line));
+    print_said(rt, page.text(), said, call.is_some())
+}
+
+/// Prints what a line gives, and where the refused allocation fell if that is asked for.
+fn print_said(
+    rt: &impl Print,
+    text: &str,
+    said: Result<Fell, Stop>,
+    asks_where: bool,
+) -> io::Result<()> {
+    let mut out = io::writer(rt);
+    if let (true, Ok(fell)) = (asks_where, said) {
+        write!(out, "[{}] ", fell.text())?;
+    }
+    match said {
+        Ok(_) => writeln!(out, "{text}"),
+        Err(Stop::Wrong(what)) => writeln!(out, "wrong: {what}"),
+        Err(_) => writeln!(out, "wrong: memory wanting twice"),
+    }
+}
+
+/// Writes what a line gives; if memory was refused outside the call, everything is set up again. Returns where the
+/// refused allocation fell.
+fn twice<R: Machine>(rt: &R, page: &mut Page, line: &str) -> Result<Fell, Stop> {
+    let fell = match once(rt, page, line) {
+        Err(Stop::Call) => Fell::Call,
+        Err(Stop::Beside) => Fell::Beside,
+        said => return said,
+    };
+    page.clear();
+    once(rt, page, line)?;
+    Ok(fell)
+}
+
+fn once<R: Machine>(rt: &R, page: &mut Page, line: &str) -> Result<Fell, Stop> {
+    let fell = told(rt, page, line)?;
+    page.whole()?;
+    Ok(fell)
+}

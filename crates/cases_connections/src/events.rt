@@ -1,0 +1,119 @@
+//! What happens to the connection in a slot.
+
+use crate::script::Script;
+use crate::words::{bytes, filled, no_case, number};
+use std::io;
+
+impl Script {
+    /// What an event does: the stage of the connection afterwards.
+    pub fn event(&mut self, kind: &str, slot: usize, rest: &str, now: u64) -> io::Result<String> {
+        match kind {
+            "bytes" => return self.read_told(slot, &bytes(self.alloc, rest)?, now),
+            "fill" => return self.read_told(slot, &filled(self.alloc, rest)?, now),
+            "push" => {
+                let worker = self
+                    .connections
+                    .receive(slot, &bytes(self.alloc, rest)?, now);
+                return self.received(slot, worker);
+            }
+            "has" => return self.room(slot, now),
+            "rounds" => return self.rounds(slot, number(rest)?, now),
+            "remove" => return self.removed(slot),
+            "answer" => self.answered(slot, rest, now)?,
+            "defer" => self.deferred(slot, rest, now)?,
+            "unanswered" => self.connections.leave_unanswered(slot, now),
+            "wrote" => self.connections.wrote(slot, number(rest)?, now),
+            "end" => self.connections.input_ended(slot),
+            "fail" => self.connections.fail(slot),
+            "again" => self.connections.look_again(slot),
+            _ => return Err(no_case()),
+        }
+        self.state(slot)
+    }
+
+    /// Reads from a socket that has these bytes, never more than are wanted: how many were read, and the worker for
+    /// whom the message waits now.
+    pub fn read(&mut self, slot: usize, bytes: &[u8], now: u64) -> (usize, Option<usize>) {
+        let mut left = bytes;
+        for _ in 0..bytes.len() {
+            let wanted = self.connections.wanted(slot);
+            if wanted == 0 || left.is_empty() {
+                break;
+            }
+            let (piece, rest) = left.split_at(wanted.min(left.len()));
+            left = rest;
+            if let Some(worker) = self.connections.receive(slot, piece, now) {
+                return (bytes.len().saturating_sub(left.len()), Some(worker));
+            }
+        }
+        (bytes.len().saturating_sub(left.len()), None)
+    }
+
+    fn read_told(&mut self, slot: usize, bytes: &[u8], now: u64) -> io::Result<String> {
+        let (count, worker) = self.read(slot, bytes, now);
+        let received = self.received(slot, worker)?;
+        Ok(format!(in self.alloc; "{count} of {} read, {received}", bytes.len())?)
+    }
+
+    fn received(&self, slot: usize, worker: Option<usize>) -> io::Result<String> {
+        match worker {
+            None => self.state(slot),
+            Some(worker) => Ok(format!(in self.alloc; "message for worker {worker}")?),
+        }
+    }
+
+    fn room(&self, slot: usize, now: u64) -> io::Result<String> {
+        let word = if self.connections.has_room_to_read(slot, now) {
+            "has room"
+        } else {
+            "no room"
+        };
+        Ok(String::from_str(self.alloc, word)?)
+    }
+
+    // `HEX`, or `HEX last`
+    fn answered(&mut self, slot: usize, rest: &str, now: u64) -> io::Result<()> {
+        let (reply, end) = rest.split_once(' ').unwrap_or((rest, ""));
+        let reply = bytes(self.alloc, reply)?;
+        self.connections.answer(slot, reply, end == "last", now);
+        Ok(())
+    }
+
+    // `HEX MARK`, or `HEX MARK last`
+    fn deferred(&mut self, slot: usize, rest: &str, now: u64) -> io::Result<()> {
+        let (reply, rest) = rest.split_once(' ').unwrap_or((rest, ""));
+        let (mark, end) = rest.split_once(' ').unwrap_or((rest, ""));
+        let reply = bytes(self.alloc, reply)?;
+        self.connections
+            .defer(slot, reply, end == "last", number(mark)?, now);
+        Ok(())
+    }
+
+    fn removed(&mut self, slot: usize) -> io::Result<String> {
+        let word = if self.connections.remove(slot) {
+            "removed"
+        } else {
+            "not removed"
+        };
+        Ok(String::from_str(self.alloc, word)?)
+    }
+
+    /// `count` empty messages, each answered with one byte, which is written; or until none is read.
+    fn rounds(&mut self, slot: usize, count: u32, now: u64) -> io::Result<String> {
+        for done in 0..count {
+            let (_, Some(worker)) = self.read(slot, &[0; 4], now) else {
+                return self.rounds_told(slot, done);
+            };
+            let _ = self.connections.take(worker, now);
+            let reply = Vec::from_slice(self.alloc, b"*")?;
+            self.connections.answer(slot, reply, false, now);
+            self.connections.wrote(slot, 1, now);
+        }
+        self.rounds_told(slot, count)
+    }
+
+    fn rounds_told(&self, slot: usize, count: u32) -> io::Result<String> {
+        let state = self.state(slot)?;
+        Ok(format!(in self.alloc; "{count} rounds, {state}")?)
+    }
+}

@@ -1,0 +1,93 @@
+//! Lines that concern no particular slot.
+
+use crate::script::Script;
+use crate::showing::{peer_text, shown, slots_text};
+use crate::words::{address, no_case, number};
+use chpw_connections::{TakenMessage, Todo};
+use std::io;
+
+/// More than any case here notes.
+const LOOKS: usize = 10_000;
+
+impl Script {
+    /// `accept A.B.C.D`, `pass`, `room`, `look`, `show`, `confirm MARK` or `overdue WAIT`.
+    pub fn whole(&mut self, kind: &str, words: &str, now: u64) -> io::Result<String> {
+        match kind {
+            "accept" => self.accepted(words, now),
+            "look" => self.looked(),
+            "show" => self.shown(),
+            "pass" => {
+                self.connections.pass(now);
+                Ok(String::from_str(self.alloc, "passed")?)
+            }
+            "confirm" => {
+                self.connections.confirm(number(words)?, now);
+                Ok(String::from_str(self.alloc, "confirmed")?)
+            }
+            "overdue" => self.overdue(number(words)?, now),
+            "room" if self.connections.make_room() => {
+                Ok(String::from_str(self.alloc, "made room")?)
+            }
+            "room" => Ok(String::from_str(self.alloc, "nobody waits")?),
+            _ => Err(no_case()),
+        }
+    }
+
+    fn accepted(&mut self, words: &str, now: u64) -> io::Result<String> {
+        let peer = address(self.alloc, words)?;
+        match self.connections.accept(peer, now) {
+            None => Ok(String::from_str(self.alloc, "no room")?),
+            Some(slot) => Ok(format!(in self.alloc; "slot {slot}")?),
+        }
+    }
+
+    /// The message that a worker takes, with its slot and peer.
+    pub fn taken(&mut self, worker: usize, now: u64) -> io::Result<String> {
+        let waits = self.connections.has_message(worker);
+        match self.connections.take(worker, now) {
+            Some(taken) => self.taken_told(&taken),
+            None if waits => Ok(String::from_str(self.alloc, "dropped")?),
+            None => Ok(String::from_str(self.alloc, "none")?),
+        }
+    }
+
+    fn taken_told(&self, taken: &TakenMessage) -> io::Result<String> {
+        let slot = taken.slot;
+        let peer = peer_text(self.alloc, taken.peer)?;
+        let message = shown(self.alloc, &taken.message)?;
+        Ok(format!(in self.alloc; "slot {slot} from {peer}: {message}")?)
+    }
+
+    /// The slot whose reply has waited for its confirmation for `wait`, and its mark.
+    fn overdue(&mut self, wait: u64, now: u64) -> io::Result<String> {
+        match self.connections.overdue(wait, now) {
+            None => Ok(String::from_str(self.alloc, "none")?),
+            Some(unconfirmed) => {
+                let peer = peer_text(self.alloc, unconfirmed.peer)?;
+                let mark = unconfirmed.mark;
+                Ok(format!(in self.alloc; "{peer} waited for {mark}")?)
+            }
+        }
+    }
+
+    /// The slots that were noted, each once, if something is to be done that the socket doesn't report.
+    fn looked(&mut self) -> io::Result<String> {
+        let mut slots = Vec::new(self.alloc);
+        for _ in 0..LOOKS {
+            let Some(slot) = self.connections.changed() else {
+                break;
+            };
+            let is_told = matches!(self.connections.todo(slot), Todo::Read(_) | Todo::Wait);
+            if !is_told && !slots.contains(&slot) {
+                slots.push(slot)?;
+            }
+        }
+        let more = if self.connections.has_changed() {
+            " and more"
+        } else {
+            ""
+        };
+        let slots = slots_text(self.alloc, &slots)?;
+        Ok(format!(in self.alloc; "look at {slots}{more}")?)
+    }
+}

@@ -1,0 +1,37 @@
+//! Cases of chpw_control, a line each on standard input; what each gives is printed. README.md lists their kinds.
+#![tactic(auto)]
+
+mod answers;
+mod dialogs;
+mod statuses;
+mod words;
+
+use std::alloc::Global;
+use std::io;
+use support_cases::{Answers, Fault, print_answers};
+
+#[derive(Drop)]
+struct Cases;
+
+impl Answers for Cases {
+    fn answer(&mut self, alloc: Global, case: &str) -> io::Result<String> {
+        Ok(answer(alloc, case)?)
+    }
+}
+
+fn answer(alloc: Global, case: &str) -> Result<String, Fault> {
+    let words: Vec<&str> = case.split(' ').collect(alloc)?;
+    match words.as_slice() {
+        ["hear", events @ ..] => dialogs::heard(alloc, events),
+        ["status", values @ ..] => statuses::told(alloc, values),
+        ["line", text] => answers::line(alloc, text),
+        ["error", text] => answers::error(alloc, text),
+        ["ended", text] => answers::ended(alloc, text),
+        ["beginnings", text] => answers::beginnings(alloc, text),
+        _ => Err(Fault::NoSuchCase),
+    }
+}
+
+fn main(rt: HostRuntime) -> io::Result<()> {
+    print_answers(&rt, &mut Cases)
+}

@@ -1,0 +1,49 @@
+//! What is written for passwords.
+ghost use Rattle.std.specs.Prelude.{◌≤◌};
+
+use crate::words::{behind, bytes, count, joined, said};
+use chpw_import::write_password;
+use chpw_invocation::{KeyOptions, LONGEST_REALM};
+use chpw_rules::Name;
+use std::alloc::Global;
+use std::io::{self, Error, ErrorKind};
+
+// The options of the command.
+fn options<'a>(
+    realm: &'a str,
+    name: &'a str,
+    iterations: u32,
+    kvno: u32,
+) -> io::Result<KeyOptions<'a>>
+    requires least { (1 ≤ iterations) × (1 ≤ kvno) }
+{
+    if realm.is_empty() || realm.len() > LONGEST_REALM || iterations > 16_777_216 {
+        return Err(Error::from(ErrorKind::InvalidInput));
+    }
+    Ok(KeyOptions {
+        realm,
+        name,
+        password_file: "password",
+        iterations,
+        kvno,
+    })
+}
+
+/// The result of the password in a file.
+pub fn written(alloc: Global, rest: &str) -> io::Result<String> {
+    let mut words = rest.split(' ');
+    let realm = words.next().unwrap_or("");
+    let name = words.next().unwrap_or("");
+    let iterations = count(words.next().unwrap_or(""))?;
+    let kvno = count(words.next().unwrap_or(""))?;
+    let file = bytes(alloc, words.next().unwrap_or(""))?;
+    let options = options(realm, name, iterations, kvno)?;
+    let Some(name) = Name::parse(alloc, name)? else {
+        return Ok(String::from_str(alloc, "no name")?);
+    };
+    let (mut text, mut notes) = (Vec::new(alloc), Vec::new(alloc));
+    match write_password(alloc, options, name, &file, &mut text, &mut notes) {
+        Ok(()) => Ok(behind(joined(alloc, &text)?, &notes)?),
+        Err(fault) => said(alloc, fault),
+    }
+}

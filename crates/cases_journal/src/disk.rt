@@ -1,0 +1,82 @@
+//! A journal's sink over a file, whose disk may fail.
+use crate::refusal::Refusal;
+use chpw_journal::FileSink;
+use chpw_table::JournalSink;
+use std::alloc::Global;
+use std::fs::{Metadata, OpenFile};
+use std::io::{self, Error, ErrorKind, Write};
+use support_streams::{Course, Taker, Way};
+
+/// The length of a record.
+const RECORD: usize = 66;
+
+/// Adds the result of appending a record to a file that takes bytes in this way, and is then synced (`synced`) or can't
+/// be (`not synced`).
+pub fn show_appended(
+    alloc: Global,
+    text: &mut String,
+    way: &str,
+    end: &str,
+) -> Result<(), Refusal> {
+    let disk = Disk {
+        taker: Taker {
+            taken: Vec::new(alloc),
+            course: Course::start(Way::of(way)),
+        },
+        is_synced: end == "synced",
+    };
+    let mut sink = FileSink::new(disk);
+    let told = told(&mut sink);
+    let failures = sink.failures();
+    drop(sink);
+    write!(text, "{told}, failures {failures}").map_err(Refusal::from)
+}
+
+fn told(sink: &mut FileSink<Disk>) -> &'static str {
+    if sink.failures() == u64::MAX {
+        return "failed too often";
+    }
+    match sink.append(&[7; RECORD]) {
+        Ok(()) => "appended",
+        Err(_) => "failed",
+    }
+}
+
+/// A file, and whether what it takes can be synced.
+#[derive(Drop)]
+struct Disk {
+    taker: Taker,
+    is_synced: bool,
+}
+
+impl Write for Disk {
+    fn write(&mut self, bytes: &[u8]) -> io::Result<usize> {
+        self.taker.write(bytes)
+    }
+
+    fn flush(&mut self) -> io::Result<()> {
+        Ok(())
+    }
+}
+
+impl OpenFile for Disk {
+    fn metadata(&self) -> io::Result<Metadata> {
+        Err(Error::from(ErrorKind::Unsupported))
+    }
+
+    fn set_len(&self, _size: u64) -> io::Result<()> {
+        Err(Error::from(ErrorKind::Unsupported))
+    }
+
+    fn sync_all(&self) -> io::Result<()> {
+        if self.is_synced {
+            Ok(())
+        } else {
+            Err(Error::from(ErrorKind::Other))
+        }
+    }
+
+    fn sync_data(&self) -> io::Result<()> {
+        self.sync_all()
+    }
+}

@@ -1,0 +1,80 @@
+//! Words of a case.
+
+use chpw_table::Verdict;
+use std::alloc::Global;
+use std::str::FromStr;
+use support_cases::Fault;
+
+/// A number in decimal digits.
+pub fn number<N: FromStr>(word: &str) -> Result<N, Fault>
+where
+    N::Err: Drop,
+{
+    match word.parse() {
+        Ok(number) => Ok(number),
+        Err(_) => Err(Fault::NoSuchCase),
+    }
+}
+
+/// A number, or `-` for none.
+pub fn maybe_number(word: &str) -> Result<Option<u32>, Fault> {
+    if word == "-" {
+        return Ok(None);
+    }
+    Ok(Some(number(word)?))
+}
+
+/// An error code.
+pub fn error_of(word: &str) -> Result<i32, Fault> {
+    number(word)
+}
+
+/// Bytes in hexadecimal.
+pub fn bytes(alloc: Global, word: &str) -> Result<Vec<u8>, Fault> {
+    hex::decode(alloc, word).map_err(|_| Fault::NoSuchCase)
+}
+
+/// Four bytes in hexadecimal.
+pub fn octets(alloc: Global, word: &str) -> Result<[u8; 4], Fault> {
+    let bytes = bytes(alloc, word)?;
+    let [a, b, c, d] = bytes.as_slice() else {
+        return Err(Fault::NoSuchCase);
+    };
+    Ok([*a, *b, *c, *d])
+}
+
+/// The texts that a refusal may have in these cases.
+pub fn text_of(word: &str) -> Result<&'static str, Fault> {
+    match word {
+        "malformed" => Ok("malformed"),
+        "failed" => Ok("authentication failed"),
+        "version" => Ok("bad version"),
+        "long" => Ok("message too long"),
+        "full" => Ok("history full"),
+        "none" => Ok(""),
+        "strange" => Ok(" a\tb\\c\u{e9}d\ne~\u{7f}/@ "),
+        _ => Err(Fault::NoSuchCase),
+    }
+}
+
+/// A verdict by its name.
+pub fn verdict_of(word: &str) -> Result<Verdict, Fault> {
+    match word {
+        "Skew" => Ok(Verdict::Skew),
+        "Replay" => Ok(Verdict::Replay),
+        "NotYet" => Ok(Verdict::NotYet),
+        "Expired" => Ok(Verdict::Expired),
+        "BadPrivate" => Ok(Verdict::BadPrivate),
+        "BadBody" => Ok(Verdict::BadBody),
+        "Denied" => Ok(Verdict::Denied),
+        "NeedInitial" => Ok(Verdict::NeedInitial),
+        "Unknown" => Ok(Verdict::Unknown),
+        "Short" => Ok(Verdict::Short),
+        "Classes" => Ok(Verdict::Classes),
+        "Reused" => Ok(Verdict::Reused),
+        "LastVersion" => Ok(Verdict::LastVersion),
+        "Broken" => Ok(Verdict::Broken),
+        "Done" => Ok(Verdict::Done),
+        _ => Err(Fault::NoSuchCase),
+    }
+}

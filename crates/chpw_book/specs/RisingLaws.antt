@@ -1,0 +1,25 @@
+-- Versions rise along the list of accepted changes, and so does the count of new keys.
+use Rattle.std.specs.Prelude.{◌≡◌, ◌≤◌, List, [], ◌++◌, Some}
+use Rattle.chpw_rules.specs.declared.name.Name.{Name}
+use Rattle.chpw_table.specs.declared.history.Entry.{Entry}
+use Rattle.chpw_table.specs.declared.change.Accepted.{Accepted}
+use Rattle.chpw_table.specs.State.{State}
+use Rattle.chpw_table.specs.History.{IsLegal}
+use Rattle.chpw_table.specs.Versions.{Shown, accepted, shown, shown_count}
+use Rattle.chpw_snapshots.specs.Rising.{AreNextVersions}
+
+-- each accepted change of a key raises its name's version by one, and each of the count raises the count
+abbrev pub VersionsRise : Type 0
+VersionsRise = (opening : State) (history : List Entry) → IsLegal opening history →
+    AreNextVersions opening [] (accepted opening history)
+
+-- if a list goes on so, what it shows of a name is no older
+abbrev pub LaterListsShowNoOlder : Type 0
+LaterListsShowNoOlder = (opening : State) (before more : List Accepted) →
+    (name : Name) (row : Shown) → AreNextVersions opening before more → shown opening before name ≡ Some row →
+    (later : Shown) × (shown opening (before ++ more) name ≡ Some later) × (row.kvno ≤ later.kvno)
+
+-- and its count of new keys is no lower
+abbrev pub LaterListsShowNoLower : Type 0
+LaterListsShowNoLower = (opening : State) (before more : List Accepted) → AreNextVersions opening before more →
+    shown_count opening before ≤ shown_count opening (before ++ more)

@@ -1,0 +1,98 @@
+-- What the rule for versions comes to.
+use Rattle.std.proofs.Common.{◌≡◌, ◌≢◌, ℕ, List, Bool, true, false, not, ◌&&◌, Option, Some, None, refl, sym, ◌∙◌, ap, subst}
+use Rattle.std.specs.Prelude.{◌==◌}
+use Rattle.std.proofs.lemmas.Bool.{eq-eqb, eqb-true, ne_eqb}
+use Rattle.krb_protocol.specs.Refusals.{Refusal, said}
+use Rattle.krb_protocol.specs.declared.refusal.Refusal.{Refusal as ProgramRefusal}
+use Rattle.krb_msgs.specs.OneAnswer.{AreProtocolKeys, IsOne}
+use Rattle.krb_msgs.specs.declared.service_keys.ServiceKey.{ServiceKey}
+use Rattle.chpw_frame.specs.declared.fault.FrameFault.{FrameFault}
+use Rattle.chpw_frame.specs.declared.fault.FrameFault.TheVariants.{BadLength, BadVersion}
+use Rattle.chpw_frame.specs.Faults as frame
+use Rattle.chpw_frame.specs.Framing.{first_fault, is_whole, request_version, request_versions, version_of}
+use Rattle.chpw_table.specs.Replies.{by_error}
+use Rattle.chpw_serve.specs.declared.messages.OpenResult as program
+use Rattle.chpw_serve.specs.declared.messages.OpenResult.TheVariants as found
+use Rattle.chpw_serve.specs.Requests.{Request, opened, refused}
+use Rattle.chpw_messages.specs.declared.versions.Versions.{Versions}
+use Rattle.chpw_messages.specs.declared.versions.Versions.TheVariants.{Both, Rfc3244Only}
+use Rattle.chpw_messages.specs.Holds.{HoldsMessage, HoldsUnder}
+use Rattle.chpw_messages.specs.Opening.{OpensFramed}
+use Rattle.chpw_messages.specs.Versions.{OpensUnless, bad_version, is_of_another, refuses}
+use Rattle.chpw_messages.specs.VersionLaws.{AllStay, ItsOwnStay, MessagesOpenOnceUnder, OthersAddNothing, OthersAreRefused, RequestsAreOfIt}
+use Rattle.chpw_messages.proofs.OneOpeningLemmas.{messages_open_once}
+
+-- ---- what the program has
+
+pub holds_refused : (versions : Versions) (realm : List ℕ) (keys : List ServiceKey) (peer bytes : List ℕ) (r : ProgramRefusal)
+    → refuses versions bytes ≡ true → said r ≡ frame.refusal_of BadVersion
+    → HoldsUnder versions realm keys peer bytes (found.Refused r)
+holds_refused versions realm keys peer bytes r e is = (
+  bad_version,
+  subst (λ (b : Bool). OpensUnless b realm keys peer bytes bad_version) (sym e) refl,
+  ap (λ (s : Refusal). by_error s.code s.error s.text) (sym is),
+)
+
+pub holds_opened : (versions : Versions) (realm : List ℕ) (keys : List ServiceKey) (peer bytes : List ℕ) (r : program.OpenResult)
+    → refuses versions bytes ≡ false → HoldsMessage realm keys peer bytes r → HoldsUnder versions realm keys peer bytes r
+holds_opened versions realm keys peer bytes r e h =
+    (h.0, subst (λ (b : Bool). OpensUnless b realm keys peer bytes h.0) (sym e) h.1, h.2)
+
+-- ---- the laws
+
+-- whole, and of another version
+is_another : (bytes : List ℕ) → is_whole bytes ≡ true → version_of bytes ≢ request_version → is_of_another bytes ≡ true
+is_another bytes whole other = rw (whole, ne_eqb (version_of bytes) request_version other) refl
+
+pub others_are_refused : OthersAreRefused
+others_are_refused realm keys peer bytes o whole other h =
+    subst (λ (b : Bool). OpensUnless b realm keys peer bytes o) (is_another bytes whole other) h
+
+-- a message of another length is no request
+no_request : (realm : List ℕ) (keys : List ServiceKey) (peer bytes : List ℕ) (q : Request) (f : Option FrameFault)
+    → f ≡ Some BadLength → OpensFramed realm keys peer bytes f (opened q) → ⊥
+no_request realm keys peer bytes q None e h = cc
+no_request realm keys peer bytes q (Some fault) e h = cc
+
+of_it : (realm : List ℕ) (keys : List ServiceKey) (peer bytes : List ℕ) (q : Request) (whole its : Bool)
+    → is_whole bytes ≡ whole → (version_of bytes == request_version) ≡ its
+    → OpensUnless (whole && not its) realm keys peer bytes (opened q) → version_of bytes ≡ request_version
+of_it realm keys peer bytes q whole true is same h = eqb-true (version_of bytes) request_version same
+of_it realm keys peer bytes q true false is same h = absurd (let bad : opened q ≡ bad_version = h in cc)
+of_it realm keys peer bytes q false false is same h =
+    absurd (no_request realm keys peer bytes q (first_fault request_versions false bytes) (rw is refl) h)
+
+pub requests_are_of_it : RequestsAreOfIt
+requests_are_of_it realm keys peer bytes q h =
+    of_it realm keys peer bytes q (is_whole bytes) (version_of bytes == request_version) refl refl h
+
+pub others_add_nothing : (full : Type 0) → OthersAddNothing full
+others_add_nothing full error_frame private_frame realm keys peer bytes words reply now old new (refused a) other h answered = answered.0
+others_add_nothing full error_frame private_frame realm keys peer bytes words reply now old new (opened q) other h answered =
+    absurd (other (requests_are_of_it realm keys peer bytes q h))
+
+nothing_else : (b : Bool) → (b && false) ≡ false
+nothing_else true = refl
+nothing_else false = refl
+
+not_refused : (versions : Versions) (bytes : List ℕ) → version_of bytes ≡ request_version → refuses versions bytes ≡ false
+not_refused Both bytes its = refl
+not_refused Rfc3244Only bytes its = rw (eq-eqb (version_of bytes) request_version its) (nothing_else (is_whole bytes))
+
+pub its_own_stay : ItsOwnStay
+its_own_stay versions realm keys peer bytes o its =
+    let e = not_refused versions bytes its in (
+      λ h. subst (λ (b : Bool). OpensUnless b realm keys peer bytes o) e h,
+      λ h. subst (λ (b : Bool). OpensUnless b realm keys peer bytes o) (sym e) h,
+    )
+
+pub all_stay : AllStay
+all_stay realm keys peer bytes o = (λ h. h, λ h. h)
+
+once : (realm : List ℕ) (keys : List ServiceKey) (peer bytes : List ℕ) (b : Bool) → AreProtocolKeys keys
+    → IsOne (OpensUnless b realm keys peer bytes)
+once realm keys peer bytes true are one other h k = h ∙ sym k
+once realm keys peer bytes false are one other h k = messages_open_once realm keys peer bytes are one other h k
+
+pub messages_open_once_under : MessagesOpenOnceUnder
+messages_open_once_under versions realm keys peer bytes are = once realm keys peer bytes (refuses versions bytes) are

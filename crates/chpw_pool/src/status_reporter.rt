@@ -1,0 +1,66 @@
+//! The service's side of its control socket.
+ghost use Rattle.std.specs.Prelude.{◌≡◌, ◌-◌, ◌^◌, min};
+ghost use Rattle.chpw_pool.specs.Controlling.{sum_of};
+
+use crate::follower::NoFollower;
+use chpw_control::put_error;
+use mio::net::UnixListener;
+use std::alloc::Global;
+
+/// How many connections there are, by their stages, and whether the follower is behind.
+#[derive(Clone, Copy, PartialEq, Eq, Debug, Drop)]
+pub struct ConnectionCounts {
+    /// Those whose message is being read.
+    pub reading: usize,
+    /// Those whose message waits for a worker.
+    pub waiting: usize,
+    /// Those whose message a worker answers.
+    pub answering: usize,
+    /// Those whose reply waits for the follower.
+    pub confirming: usize,
+    /// Those whose reply is being written.
+    pub writing: usize,
+    /// Those that are ending.
+    pub ending: usize,
+    /// Whether the follower is asked about a change, or the last reply to a change was sent unconfirmed.
+    pub is_behind: bool,
+}
+
+impl ConnectionCounts {
+    /// Those of all stages.
+    pub fn connections(&self) -> usize
+        ensures value { result ≡ min (sum_of self.now) (2 ^ 64 - 1) }
+    {
+        let coming = self
+            .reading
+            .saturating_add(self.waiting)
+            .saturating_add(self.answering);
+        let going = self
+            .confirming
+            .saturating_add(self.writing)
+            .saturating_add(self.ending);
+        coming.saturating_add(going)
+    }
+}
+
+/// Answers for the service at its control socket.
+pub trait StatusReporter {
+    /// The socket's listener, which doesn't block; it is asked for once. None without a control socket.
+    fn listener(&mut self) -> Option<UnixListener>;
+
+    /// The answer to `status` for this standing of the connections. Empty if memory is refused.
+    fn status(&mut self, alloc: Global, standing: &ConnectionCounts) -> Vec<u8>;
+}
+
+/// No control socket.
+impl StatusReporter for NoFollower {
+    fn listener(&mut self) -> Option<UnixListener> {
+        None
+    }
+
+    fn status(&mut self, alloc: Global, _standing: &ConnectionCounts) -> Vec<u8> {
+        let mut text = Vec::new(alloc);
+        let _ = put_error(&mut text, "no service");
+        text
+    }
+}

@@ -1,0 +1,71 @@
+//! A buffer filled from a reader, read by read.
+ghost use Rattle.std.specs.Prelude.{◌≡◌, ◌<◌, ◌≤◌, length};
+ghost use Rattle.chpw_read_fully.specs.Filling.{IsFill, IsRead, FillCounts};
+
+use std::io::{ErrorKind, Read};
+
+/// How far a buffer was filled.
+#[derive(Clone, Copy, Drop)]
+pub enum Filled {
+    Whole,
+    /// Up to here; the stream ended.
+    Short(usize),
+    /// Up to here; a read failed, or there were too many.
+    Fault(usize),
+}
+
+/// Fills the buffer, in at most `reads` reads, which it counts down. An interrupted read is tried again, and counted.
+pub fn fill<R: Read>(reader: &mut R, buffer: &mut [u8], reads: &mut u64) -> Filled
+    ensures bytes { IsFill result buffer.new (R.remaining reader.old) (R.remaining reader.new) }
+    ensures count { FillCounts result (length buffer.old) reads.old reads.new }
+{
+    let mut filled = 0;
+    while filled < buffer.len() {
+        if *reads == 0 {
+            return Filled::Fault(filled);
+        }
+        *reads -= 1;
+        match read_once(reader, &mut buffer[filled..]) {
+            Step::Read(count) => filled += count,
+            Step::Ended => return Filled::Short(filled),
+            Step::Fault => return Filled::Fault(filled),
+        }
+    }
+    Filled::Whole
+}
+
+/// Fills the bytes of a `Vec` as [`fill`] does a buffer.
+pub fn fill_vec<R: Read>(reader: &mut R, buffer: &mut Vec<u8>, reads: &mut u64) -> Filled
+    ensures bytes { IsFill result buffer.new.items (R.remaining reader.old) (R.remaining reader.new) }
+    ensures length { length buffer.new.items ≡ length buffer.old.items }
+    ensures count { FillCounts result (length buffer.old.items) reads.old reads.new }
+{
+    fill(reader, buffer.as_mut_slice(), reads)
+}
+
+/// The result of one read.
+#[derive(Clone, Copy, Drop)]
+enum Step {
+    /// This many bytes; none if it was interrupted.
+    Read(usize),
+    Ended,
+    Fault,
+}
+
+/// One read into a buffer.
+fn read_once<R: Read>(reader: &mut R, buffer: &mut [u8]) -> Step
+    requires room { 0 < length buffer.old }
+    ensures bytes { IsRead result buffer.new (R.remaining reader.old) (R.remaining reader.new) }
+{
+    match reader.read(buffer) {
+        Ok(0) => Step::Ended,
+        Ok(count) => Step::Read(count),
+        Err(error) => {
+            if error.kind() == ErrorKind::Interrupted {
+                Step::Read(0)
+            } else {
+                Step::Fault
+            }
+        }
+    }
+}

@@ -1,0 +1,3 @@
+pub mod Laws
+pub mod RecordKeys
+pub mod Records

@@ -1,6 +1,0 @@
-use Rattle.std.proofs.Common.{rules, ◌∙◌, ap, refl, map}
-use Rattle.chpw_service.proofs.NumberLemmas.{numbered_more}
-use Rattle.chpw_service.proofs.gates.log_gates.Goals as goal
-
-pub loop-worker-preserved : goal.loop-worker-preserved
-loop-worker-preserved g c = (search rules, ap (map (λ gate. gate.worker)) c.in_ok-push.ensures.items ∙ numbered_more (λ gate. gate.worker) c.loop-worker.gates.items _ c.loop-worker.worker c.loop-worker.invariant.1 refl)

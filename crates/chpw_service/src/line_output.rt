@@ -1,0 +1,188 @@
+//! What the lines of a log are appended to.
+ghost use Rattle.std.specs.Prelude.{◌≡◌, true, false};
+ghost use Rattle.std.specs.Io.KnownBytes.{Appends};
+ghost use Rattle.chpw_service.specs.Sheets.{ended, is_begun, is_taken, is_told_at_once};
+
+use crate::readiness::Readiness;
+use std::alloc::Global;
+use std::fs::{self, File, Files, OpenOptions};
+use std::io::{self, ErrorKind, Write};
+use std::net::Net;
+use std::os::fd::AsRawFd;
+use std::os::unix::fs::{FileExt, FileTypeExt, OpenOptionsExt};
+use std::str;
+
+/// The name of standard error, which is no path.
+const STANDARD_ERROR: &str = "-";
+
+/// Its descriptor.
+const STANDARD_ERROR_FD: i32 = 2;
+
+/// The kind of file at a path.
+#[derive(Clone, Copy, Drop)]
+pub(crate) enum Kind {
+    /// None, or none that can be examined.
+    Missing,
+    /// A regular file.
+    File,
+    /// A character device.
+    Device,
+    /// A directory, a pipe, a socket or a disk.
+    Other,
+}
+
+/// An output for lines.
+#[derive(Drop)]
+pub(crate) enum Output {
+    File(File),
+    StandardError,
+}
+
+/// An output, and whether its last line is incomplete.
+#[derive(Drop)]
+pub(crate) struct LineOutput {
+    output: Output,
+    torn: bool,
+    /// Whether it takes a line without blocking, if that can be asked.
+    readiness: Option<Readiness>,
+}
+
+/// Whether this is the name of standard error.
+pub(crate) fn is_standard_error(path: &str) -> bool {
+    path == STANDARD_ERROR
+}
+
+impl LineOutput {
+    /// The file at a path, or standard error for `-`. A missing file is made, readable and writable by its owner alone.
+    /// A pipe would block its openers, and is refused before it is opened.
+    pub(crate) fn at<R: Files<File = File> + Net>(
+        rt: &R,
+        alloc: Global,
+        path: &str,
+    ) -> io::Result<LineOutput> {
+        if is_standard_error(path) {
+            return Ok(LineOutput {
+                output: Output::StandardError,
+                torn: false,
+                readiness: Readiness::of(rt, alloc, STANDARD_ERROR_FD)?,
+            });
+        }
+        if !takes_lines(kind_of(rt, path)) {
+            return Err(io::Error::from(ErrorKind::InvalidInput));
+        }
+        let mut how = OpenOptions::new();
+        how.append(true).create(true).mode(0o600);
+        let file = how.open(rt, path)?;
+        let torn = is_torn(rt, path, &file);
+        let readiness = Readiness::of(rt, alloc, file.as_raw_fd())?;
+        Ok(LineOutput {
+            output: Output::File(file),
+            torn,
+            readiness,
+        })
+    }
+
+    /// Appends a line, after a newline if the last one is incomplete; whether it is written whole. Nothing is written
+    /// if the output takes no line within half a second, or took none for the line before.
+    pub(crate) fn append<R: Eprint>(&mut self, rt: &R, line: &[u8]) -> bool
+        ensures whole { result ≡ true → self.new.torn ≡ false }
+    {
+        if !self.is_ready() {
+            return false;
+        }
+        let whole = match &mut self.output {
+            Output::File(file) => write_line(file, self.torn, line),
+            Output::StandardError => print_line(rt, self.torn, line),
+        };
+        self.torn = !whole;
+        whole
+    }
+
+    fn is_ready(&mut self) -> bool {
+        match &mut self.readiness {
+            None => true,
+            Some(readiness) => readiness.is_ready(),
+        }
+    }
+
+    /// Whether a line on standard error can be written without waiting, as far as the output shows.
+    pub(crate) fn can_tell(&self) -> bool
+        ensures value { result ≡ is_told_at_once self.now.output self.now.readiness }
+    {
+        match (&self.output, &self.readiness) {
+            (Output::StandardError, Some(readiness)) => !readiness.is_stalled(),
+            _ => true,
+        }
+    }
+}
+
+/// The kind of file at a path.
+pub(crate) fn kind_of<R: Files>(rt: &R, path: &str) -> Kind {
+    let Ok(metadata) = fs::metadata(rt, path) else {
+        return Kind::Missing;
+    };
+    let kind = metadata.file_type();
+    if kind.is_file() {
+        Kind::File
+    } else if kind.is_char_device() {
+        Kind::Device
+    } else {
+        Kind::Other
+    }
+}
+
+// Whether a log can be there.
+fn takes_lines(kind: Kind) -> bool
+    ensures value { result ≡ is_taken kind }
+{
+    match kind {
+        Kind::Missing | Kind::File | Kind::Device => true,
+        Kind::Other => false,
+    }
+}
+
+// Whether the last line of an open file is incomplete. If its last byte can't be read, it may not be.
+fn is_torn<R: Files<File = File>>(rt: &R, path: &str, file: &File) -> bool {
+    let length = match file.metadata() {
+        Ok(metadata) => metadata.len(),
+        Err(_) => 0,
+    };
+    begins_torn(length, last_byte(rt, path, length))
+}
+
+// Whether a file of this many bytes, of which this is the last, ends within a line.
+fn begins_torn(length: u64, last: Option<u8>) -> bool
+    ensures value { result ≡ is_begun length last }
+{
+    length != 0 && last != Some(b'\n')
+}
+
+// The last byte of a file of this length.
+fn last_byte<R: Files<File = File>>(rt: &R, path: &str, length: u64) -> Option<u8> {
+    let place = length.checked_sub(1)?;
+    let file = File::open(rt, path).ok()?;
+    let mut last = [0];
+    match file.read_at(&mut last, place) {
+        Ok(1) => Some(last[0]),
+        _ => None,
+    }
+}
+
+// Writes a line, after a newline if one is needed; whether it is written whole.
+fn write_line<W: Write>(writer: &mut W, torn: bool, line: &[u8]) -> bool
+    ensures whole { result ≡ true
+        → Appends (W.contents writer.old) (W.contents writer.new) (ended torn line.now) }
+{
+    if torn && writer.write_all(b"\n").is_err() {
+        return false;
+    }
+    writer.write_all(line).is_ok()
+}
+
+// Writes a line on standard error, after a newline if one is needed; whether it is written whole.
+fn print_line<R: Eprint>(rt: &R, torn: bool, line: &[u8]) -> bool {
+    if torn && rt.eprint("\n").is_err() {
+        return false;
+    }
+    rt.eprint(str::from_utf8(line).unwrap_or("\n")).is_ok()
+}

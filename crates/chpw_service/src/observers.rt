@@ -1,0 +1,168 @@
+//! What hears what came of a worker's messages, and writes it into the log.
+ghost use Rattle.std.specs.Prelude.{◌≡◌, ◌<◌, IfOk, map, vec_len};
+ghost use Rattle.std.specs.List.{range_with_len};
+ghost use Rattle.chpw_table.specs.Times.{IsMoment};
+ghost use Rattle.chpw_serve.specs.Holding.{answer_in};
+ghost use Rattle.chpw_serve.specs.InTurn.{InTurn};
+ghost use Rattle.chpw_log.specs.Lines.{line_of};
+ghost use Rattle.chpw_service.specs.Noting.{Noted, opened as opened_line, unopened, journal_failed, decided_line, refused_line, failed_under};
+
+use crate::logging::{Log, LogLines};
+use chpw_log::{Asked, Line, MessageEvent};
+use chpw_serve::{Gate, Observer, Spot};
+use chpw_table::{Event, Moment, Opened, Receipt, Verdict};
+use krb_protocol::Refusal;
+use std::alloc::{AllocError, Global};
+use std::sync::Wait;
+
+/// Where the lines of a log go.
+pub trait Lines {
+    /// Taking this leads from the first state to the second.
+    ghost takes: { Self → Noted → Self → Type 0 };
+
+    /// The line of a message that opened.
+    fn put(&mut self, line: &Line<'_>)
+        ensures taken { takes self.old (opened_line line.now.moment (line_of line.now)) self.new };
+
+    /// The line of a message that didn't open. It may be held back.
+    fn put_unopened(&mut self, line: &Line<'_>)
+        ensures taken { takes self.old (unopened line.now.moment line.now.peer (line_of line.now)) self.new };
+
+    /// The journal did not take a change, at this moment.
+    fn tell_failed(&mut self, now: Moment)
+        requires moment { IsMoment now }
+        requires micros { now.micros < 1000000 }
+        ensures taken { takes self.old (journal_failed now) self.new };
+}
+
+/// Hears what comes of this worker's messages; a gate that holds nobody.
+#[derive(Drop)]
+pub struct Logging<L: Lines> {
+    lines: L,
+    worker: u8,
+}
+
+/// One for each worker, in their order.
+pub(crate) fn log_observers<'l, R: Wait + Eprint>(
+    alloc: Global,
+    log: &'l Log<'l, R>,
+    workers: u8,
+) -> Result<Vec<Logging<LogLines<'l, R>>>, AllocError>
+    ensures count { IfOk result (λ observers. vec_len observers ≡ workers) }
+    ensures workers { IfOk result (λ observers.
+        map (λ observer. observer.worker) observers.items ≡ range_with_len 0 workers) }
+{
+    let mut observers = Vec::with_capacity(alloc, usize::from(workers))?;
+    for worker in 0..workers {
+        observers.push(Logging {
+            lines: LogLines { log },
+            worker,
+        })?;
+    }
+    Ok(observers)
+}
+
+impl<L: Lines> Gate for Logging<L> {
+    ghost use Rattle.chpw_serve.specs.Hearing.{HoldsNobody};
+
+    ghost passes = { HoldsNobody };
+
+    fn at(&mut self, _spot: Spot) {}
+}
+
+impl<L: Lines> Observer for Logging<L> {
+    ghost use Rattle.std.specs.Prelude.{◌≡◌};
+    ghost use Rattle.chpw_serve.specs.InTurn.{InTurn};
+    ghost use Rattle.chpw_service.specs.Noting.{noted};
+
+    ghost hears = { λ a h b. (b.worker ≡ a.worker) × InTurn L.takes a.lines (noted a.worker h) b.lines };
+
+    // A raise belongs to no message.
+    fn decided(&mut self, peer: [u8; 4], now: Moment, receipt: &Receipt, kvno: Option<u32>) {
+        if let Event::Ask { opened, verdict } = &receipt.entry.event {
+            tell_failed(&mut self.lines, now, *verdict);
+            put_decided(
+                &mut self.lines,
+                self.worker,
+                peer,
+                now,
+                opened,
+                *verdict,
+                kvno,
+            );
+        }
+    }
+
+    fn refused(&mut self, peer: [u8; 4], now: Moment, opened: Option<&Opened>, refusal: &Refusal) {
+        match opened {
+            Some(opened) => put_full(&mut self.lines, self.worker, peer, now, opened, refusal),
+            None => self.lines.put_unopened(&Line {
+                moment: now,
+                worker: self.worker,
+                peer,
+                news: MessageEvent::Unopened { refusal },
+            }),
+        }
+    }
+}
+
+// Reports it if the journal did not take the change that was decided so.
+fn tell_failed<L: Lines>(lines: &mut L, now: Moment, verdict: Verdict)
+    requires moment { IsMoment now }
+    requires micros { now.micros < 1000000 }
+    ensures told { InTurn L.takes lines.old (failed_under now verdict) lines.new }
+{
+    if matches!(verdict, Verdict::Broken) {
+        lines.tell_failed(now);
+    }
+}
+
+// Writes the line of a decision.
+fn put_decided<L: Lines>(
+    lines: &mut L,
+    worker: u8,
+    peer: [u8; 4],
+    now: Moment,
+    opened: &Opened,
+    verdict: Verdict,
+    kvno: Option<u32>,
+)
+    requires moment { IsMoment now }
+    requires micros { now.micros < 1000000 }
+    ensures taken { L.takes lines.old (opened_line now (decided_line worker peer now opened.now verdict kvno)) lines.new }
+{
+    lines.put(&Line {
+        moment: now,
+        worker,
+        peer,
+        news: MessageEvent::Decided {
+            asked: Asked::of(opened),
+            verdict,
+            kvno,
+        },
+    });
+}
+
+// Writes the line of a request that came to a full history.
+fn put_full<L: Lines>(
+    lines: &mut L,
+    worker: u8,
+    peer: [u8; 4],
+    now: Moment,
+    opened: &Opened,
+    refusal: &Refusal,
+)
+    requires moment { IsMoment now }
+    requires micros { now.micros < 1000000 }
+    ensures taken { L.takes lines.old (opened_line now (refused_line worker peer now opened.now (answer_in refusal.now))) lines.new }
+{
+    lines.put(&Line {
+        moment: now,
+        worker,
+        peer,
+        news: MessageEvent::Full {
+            asked: Asked::of(opened),
+            refusal,
+        },
+    });
+}

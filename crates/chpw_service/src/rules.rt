@@ -1,0 +1,43 @@
+//! What messages are answered by.
+ghost use Rattle.std.specs.Prelude.{◌≡◌, IfOk, map, true};
+ghost use Rattle.krb_msgs.specs.OneAnswer.{AreProtocolKeys};
+ghost use Rattle.chpw_rules.specs.Fitting.{config_fits};
+ghost use Rattle.chpw_messages.specs.Service.{configured, held};
+ghost use Rattle.chpw_service.specs.Serving.{versions_asked};
+
+use chpw_invocation::ServeOptions;
+use chpw_messages::Service;
+use chpw_rules::Config;
+use std::alloc::{AllocError, Global};
+
+/// What messages are answered by, until the configuration is reloaded.
+#[derive(Drop)]
+pub struct Rules {
+    pub service: Service,
+    /// The most entries of a history.
+    pub max_entries: u32,
+}
+
+/// The rules of a configuration, and the versions of requests that are asked for.
+pub(crate) fn rules_of(
+    alloc: Global,
+    config: &Config,
+    options: &ServeOptions<'_>,
+) -> Result<Rules, AllocError>
+    requires fits { config_fits config.now ≡ true }
+    ensures realm { IfOk result (λ r. r.service.realm ≡ config.now.realm) }
+    ensures keys { IfOk result (λ r. map held r.service.keys ≡ map configured config.now.service) }
+    ensures protocol { IfOk result (λ r. AreProtocolKeys r.service.keys) }
+    ensures versions { IfOk result (λ r. r.service.versions ≡ versions_asked options.now.rfc3244_only) }
+    ensures max_entries { IfOk result (λ r. r.max_entries ≡ config.now.max_entries) }
+{
+    let service = Service::of(alloc, config)?;
+    Ok(Rules {
+        service: if options.rfc3244_only {
+            service.rfc3244_only()
+        } else {
+            service
+        },
+        max_entries: config.max_entries,
+    })
+}

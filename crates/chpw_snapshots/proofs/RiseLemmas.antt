@@ -1,0 +1,112 @@
+-- Versions rise along a list, and so does the count of new keys: no longer list shows an older version or
+-- a lower count.
+use Rattle.std.proofs.Common.{◌≡◌, ◌+◌, ◌≤◌, List, [], ◌∷◌, ◌++◌, length, Bool, true, false, if◌then◌else◌, Option}
+use Rattle.std.proofs.Common.{Some, None, IsSomeAnd, refl, sym, ◌∙◌, ap, subst, arith, append_assoc, append-nil}
+use Rattle.std.specs.Prelude.{option_map, IfSome}
+use mathlib.Core.List.{IsPrefix}
+use Rattle.chpw_rules.specs.declared.name.Name.{Name}
+use Rattle.chpw_rules.specs.Names.{is_same_name}
+use Rattle.chpw_table.specs.declared.table.Lookup.{Lookup}
+use Rattle.chpw_table.specs.declared.change.KeyChange.{KeyChange}
+use Rattle.chpw_table.specs.declared.change.Accepted.{Accepted}
+use Rattle.chpw_table.specs.declared.change.Accepted.TheVariants.{Key, Count}
+use Rattle.chpw_table.specs.State.{State, kept_count}
+use Rattle.chpw_table.specs.Agreement.{Held}
+use Rattle.chpw_table.specs.Versions.{Shown, shown, shown_count, with_change}
+use Rattle.chpw_table.proofs.NameLemmas.{is_same_name-Decides}
+use Rattle.chpw_snapshots.specs.Rows.{lookup_with, lookup_after}
+use Rattle.chpw_snapshots.specs.Rising.{IsNextVersion, AreNextVersions}
+use Rattle.chpw_snapshots.proofs.RowLemmas.{shown_more, count_more}
+
+-- one version more
+pub next_on : (opening : State) (before list : List Accepted) (c : Accepted) → AreNextVersions opening before list
+    → IsNextVersion opening (before ++ list) c → AreNextVersions opening before (list ++ c ∷ [])
+next_on opening before [] c all next = (subst (λ l. IsNextVersion opening l c) (append-nil before) next, tt)
+next_on opening before (d ∷ ds) c all next = (
+  all.0,
+  next_on opening
+      (before ++ d ∷ []) ds c all.1 (subst (λ l. IsNextVersion opening l c) (sym (append_assoc before (d ∷ []) ds)) next),
+)
+
+-- what comes behind a beginning
+behind : (opening : State) (before list rest : List Accepted) → AreNextVersions opening before (list ++ rest) → AreNextVersions opening (before ++ list) rest
+behind opening before [] rest all = subst (λ l. AreNextVersions opening l rest) (sym (append-nil before)) all
+behind opening before (d ∷ ds) rest all = subst (λ l. AreNextVersions opening l rest)
+    (append_assoc before (d ∷ []) ds) (behind opening (before ++ d ∷ []) ds rest all.1)
+
+key_later : (opening : State) (before : List Accepted) (c : KeyChange) (name : Name) (row : Shown)
+    → IsNextVersion opening before (Key c) → shown opening before name ≡ Some row
+    → (b : Bool) → is_same_name c.name name ≡ b → (later : Shown) × (shown opening (before ++ Key c ∷ []) name ≡ Some later) × (row.kvno ≤ later.kvno)
+key_later opening before c name row next h true e =
+    let same : c.name ≡ name = (is_same_name-Decides c.name name).0 e in
+    let there : Some next.0 ≡ Some row = sym next.1 ∙ (ap (λ (n : Name). shown opening before n) same ∙ h) in
+    let is : next.0 ≡ row = cc in
+    let kvno : next.0.kvno ≡ row.kvno = ap (λ (r : Shown). r.kvno) is in (
+      with_change (kept_count opening) c row,
+      shown_more opening before (Key c) name ∙ (ap (λ (b : Bool). if b then
+          option_map (with_change (kept_count opening) c) (shown opening before name) else shown opening before name) e
+          ∙ ap (λ (x : Option Shown). option_map (with_change (kept_count opening) c) x) h),
+      (let n = next.2 in omega (arith, n, kvno)),
+    )
+key_later opening before c name row next h false e = (
+  row,
+  shown_more opening before (Key c) name
+      ∙ (ap (λ (b : Bool). if b then option_map (with_change (kept_count opening) c) (shown opening before name)
+      else shown opening before name) e ∙ h),
+  omega arith,
+)
+
+one_later : (opening : State) (before : List Accepted) (c : Accepted) (name : Name) (row : Shown)
+    → IsNextVersion opening before c → shown opening before name ≡ Some row
+    → (later : Shown) × (shown opening (before ++ c ∷ []) name ≡ Some later) × (row.kvno ≤ later.kvno)
+one_later opening before (Key c) name row next h = key_later opening before c name row next h (is_same_name c.name name) refl
+one_later opening before (Count n) name row next h = (row, shown_more opening before (Count n) name ∙ h, omega arith)
+
+-- where a list goes on so, what it shows of a name is no older
+pub no_older : (opening : State) (before more : List Accepted) (name : Name) (row : Shown)
+    → AreNextVersions opening before more → shown opening before name ≡ Some row
+    → (later : Shown) × (shown opening (before ++ more) name ≡ Some later) × (row.kvno ≤ later.kvno)
+no_older opening before [] name row next h = (row, ap (λ (cs : List Accepted). shown opening cs name) (append-nil before) ∙ h, omega arith)
+no_older opening before (c ∷ cs) name row next h =
+    let one = one_later opening before c name row next.0 h in
+    let all = no_older opening (before ++ c ∷ []) cs name one.0 next.1 one.1 in
+    let a = one.2 in
+    let b = all.2 in
+    (all.0, ap (λ (xs : List Accepted). shown opening xs name) (sym (append_assoc before (c ∷ []) cs)) ∙ all.1, omega (arith, a, b))
+
+one_higher : (opening : State) (before : List Accepted) (c : Accepted)
+    → IsNextVersion opening before c → shown_count opening before ≤ shown_count opening (before ++ c ∷ [])
+one_higher opening before (Key c) next = let more = count_more opening before (Key c) in omega (arith, more)
+one_higher opening before (Count n) next = let more = count_more opening before (Count n) in omega (arith, more, next)
+
+-- nor is its count of new keys lower
+pub no_lower : (opening : State) (before more : List Accepted)
+    → AreNextVersions opening before more → shown_count opening before ≤ shown_count opening (before ++ more)
+no_lower opening before [] next =
+    let same = ap (λ (l : List Accepted). shown_count opening l) (append-nil before) in
+    omega (arith, same)
+no_lower opening before (c ∷ cs) next =
+    let one = one_higher opening before c next.0 in
+    let all = no_lower opening (before ++ c ∷ []) cs next.1 in
+    let same = ap (λ (l : List Accepted). shown_count opening l) (append_assoc before (c ∷ []) cs) in
+    omega (arith, one, all, same)
+
+-- so no lookup after a list shows an older version than one after a beginning of it
+pub lookup_rises : (opening : Held) (list : List Accepted) (name : Name) (found : Option Lookup)
+    → AreNextVersions opening.state [] list → found ≡ lookup_after opening list name
+    → (before : List Accepted) → IsPrefix before list → IfSome (lookup_after opening before name) (λ earlier. IsSomeAnd found (λ now. earlier.kvno ≤ now.kvno))
+lookup_rises opening list name found rise is before p = at (shown opening.state before name) refl
+  where
+    at : (row : Option Shown) → shown opening.state before name ≡ row
+        → IfSome (option_map (lookup_with (shown_count opening.state before) (opening.seen + length before))
+        (shown opening.state before name)) (λ earlier. IsSomeAnd found (λ now. earlier.kvno ≤ now.kvno))
+    at None e = rw e tt
+    at (Some row) e =
+        let next : AreNextVersions opening.state before p.0 = behind opening.state [] before p.0
+        (subst (λ (l : List Accepted). AreNextVersions opening.state [] l) (sym p.1) rise) in
+        let later = no_older opening.state before p.0 name row next e in
+        let there : shown opening.state list name ≡ Some later.0 = ap (λ (l : List Accepted). shown opening.state l name) (sym p.1) ∙ later.1 in
+        let shows : found ≡ Some (lookup_with (shown_count opening.state list) (opening.seen + length list) later.0) =
+        is ∙ ap (λ (o : Option Shown). option_map (lookup_with (shown_count opening.state list) (opening.seen + length list)) o) there in
+        let one : IsSomeAnd found (λ now. row.kvno ≤ now.kvno) = subst (λ (o : Option Lookup). IsSomeAnd o (λ now. row.kvno ≤ now.kvno)) (sym shows) later.2 in
+        rw e one

@@ -1,5 +1,0 @@
-use Rattle.chpw_times.proofs.TimeLemmas.{time_told}
-use Rattle.chpw_times.proofs.laws.times.Goals as goal
-
-pub returns : goal.returns
-returns c = record { tells = time_told c.args.seconds c.args.micros c.requires.seconds }

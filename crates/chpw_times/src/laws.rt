@@ -1,9 +1,0 @@
-//! What is printed is the time that is meant.
-ghost use Rattle.krb_elements.specs.Times.{IsWritable};
-ghost use Rattle.chpw_times.specs.Printed.{Tells, time_text};
-
-/// What is printed of a time is a day of the calendar and a time of that day, and it is that time's.
-pub fn times(seconds: i64, micros: u32)
-    requires seconds { IsWritable seconds }
-    ensures tells { Tells (time_text seconds micros) seconds micros }
-{}

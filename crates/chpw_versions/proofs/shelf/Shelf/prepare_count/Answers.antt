@@ -1,4 +1,0 @@
-use Rattle.chpw_versions.proofs.shelf.Shelf.prepare_count.Goals as goal
-
-pub wait-requires-clause-shown : goal.wait-requires-clause-shown
-wait-requires-clause-shown g c = (tt, c.requires.next)

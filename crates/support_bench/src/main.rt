@@ -1,0 +1,124 @@
+//! Does one thing many times, to be measured from outside (the scripts of `bench/`).
+//!
+//! The first word of the command line names a part of the program, the next what it does, the third how often: `keys`,
+//! `der`, `open`, `stream`, `lookup` and `serve`. Each is a module, which says more. Without words each except `serve`
+//! is run once, or a few times.
+#![tactic(auto)]
+
+ghost use Rattle.std.specs.Prelude.{◌≤◌};
+
+mod der;
+mod keys;
+mod lookup;
+mod open;
+mod reading;
+mod serve;
+mod stream;
+
+use reading::{Given, read_given};
+use std::env;
+use std::io::{self, BufReader};
+use std::net::{Net, TcpListener, TcpStream};
+use std::rt::Env;
+use std::sync::Wait;
+use std::thread::Threads;
+use std::time::Clock;
+
+/// The error for words or an input that this program doesn't know.
+fn no_such() -> io::Error {
+    io::Error::from(io::ErrorKind::InvalidInput)
+}
+
+/// What is asked for on the command line.
+#[derive(Drop)]
+struct Task {
+    part: String,
+    what: String,
+    count: u32,
+    further: u32,
+}
+
+fn task_of<R: Env + AllocGlobal>(rt: &R) -> io::Result<Option<Task>> {
+    let mut words = env::args(rt)?.skip(1);
+    let (Some(part), Some(what)) = (words.next(), words.next()) else {
+        return Ok(None);
+    };
+    let count = words.next().and_then(|word| word.as_str().parse().ok());
+    let further = words.next().and_then(|word| word.as_str().parse().ok());
+    Ok(Some(Task {
+        part,
+        what,
+        count: count.unwrap_or(1),
+        further: further.unwrap_or(1),
+    }))
+}
+
+// Each part but `serve`, as the gate does.
+fn once<R>(rt: &R) -> io::Result<()>
+where
+    R: Input + Threads + Wait + Clock + Print + AllocGlobal + Sync,
+{
+    let given = read_stdin(rt, 5)?;
+    once_of(rt, &given)
+}
+
+fn once_of<R>(rt: &R, given: &Given) -> io::Result<()>
+where
+    R: Threads + Wait + Clock + Print + AllocGlobal + Sync,
+{
+    keys::measure(rt, "both", 1)?;
+    der::measure(rt, "read", 1)?;
+    open::measure(rt, &given.messages, 1)?;
+    let others = given.messages.get(2..).unwrap_or(&[]);
+    stream::measure(rt, "serve", given.config.as_str(), others)?;
+    lookup::measure(rt, "count", 16)
+}
+
+fn read_stdin<R: Input + AllocGlobal>(rt: &R, count: u32) -> io::Result<Given> {
+    let alloc = rt.alloc();
+    read_given(alloc, BufReader::new(alloc, rt.reader())?, count as usize)
+}
+
+fn main(rt: HostRuntime) -> io::Result<()> {
+    match task_of(&rt)? {
+        Some(task) => measure(&rt, &task),
+        None => once(&rt),
+    }
+}
+
+fn measure<R>(rt: &R, task: &Task) -> io::Result<()>
+where
+    R: Input
+        + Threads
+        + Wait
+        + Clock
+        + Print
+        + AllocGlobal
+        + Sync
+        + Net<Listener = TcpListener, Stream = TcpStream>,
+{
+    let (what, count) = (task.what.as_str(), task.count);
+    match task.part.as_str() {
+        "keys" => keys::measure(rt, what, count.max(1)),
+        "der" => der::measure(rt, what, count),
+        "open" => opened(rt, count),
+        "stream" => streamed(rt, what, count),
+        "lookup" => lookup::measure(rt, what, u16::try_from(count).map_err(|_| no_such())?),
+        "serve" => {
+            let port = what.parse().map_err(|_| no_such())?;
+            let clients = u8::try_from(count).map_err(|_| no_such())?;
+            serve::measure(rt, port, clients, task.further)
+        }
+        _ => Err(no_such()),
+    }
+}
+
+fn opened<R: Input + Print + AllocGlobal>(rt: &R, count: u32) -> io::Result<()> {
+    let given = read_stdin(rt, 2)?;
+    open::measure(rt, &given.messages, count)
+}
+
+fn streamed<R: Input + Print + AllocGlobal>(rt: &R, what: &str, count: u32) -> io::Result<()> {
+    let given = read_stdin(rt, count)?;
+    stream::measure(rt, what, given.config.as_str(), &given.messages)
+}

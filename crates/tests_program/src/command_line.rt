@@ -1,0 +1,322 @@
+//! The command lines and what they ask for, and words that are no UTF-8.
+use chpw_invocation::{Invocation, PasswordSource, command_of};
+use chpw_program::{Ending, explain_misuse, words as words_of};
+use std::alloc::{AllocError, Global};
+use std::env::FillError;
+use std::process::Abort;
+use std::rt::Env;
+
+/// Command lines without the program's name, and what they ask for; of one that asks for no command, a word
+/// of clap's text.
+const LINES: [(&str, &str); 63] = [
+    ("drill", "drill"),
+    ("drill --config c", "unexpected"),
+    ("check --config c", "check c"),
+    ("check", "--config"),
+    ("change", "unrecognized"),
+    ("", "Usage"),
+    ("--help", "Usage"),
+    ("help client", "Usage"),
+    ("--version", "chpw_server"),
+    // the service: each value of a whole line, and each bound
+    (
+        "serve --config realm.toml --journal journal --seed seed --port 464 --workers 4 --connections 1000 \
+         --idle 1 --clients 2 --buffers 3 --raise 5 --log log",
+        "serve realm.toml journal seed port 464 workers 4 connections 1000 idle 1 clients 2 buffers 3 \
+         raise 5 log log",
+    ),
+    (
+        "serve --config c --journal j --seed s --port 65535 --workers 16 --connections 4294967295 \
+         --idle=3600 --clients=65536 --buffers=1024 --raise=16777216",
+        "serve c j s port 65535 workers 16 connections 4294967295 idle 3600 clients 65536 buffers 1024 \
+         raise 16777216 log -",
+    ),
+    (
+        "serve --config c --journal j --seed s --port 1 --workers 1 --connections 1",
+        "serve c j s port 1 workers 1 connections 1 idle 30 clients 1024 buffers 32 raise - log -",
+    ),
+    (
+        "serve --config c --journal j --seed s --port 1 --workers 17 --connections 1",
+        "--workers",
+    ),
+    (
+        "serve --config c --journal j --seed s --port 1 --workers 0 --connections 1",
+        "--workers",
+    ),
+    (
+        "serve --config c --journal j --seed s --workers 1 --connections 1",
+        "--port",
+    ),
+    (
+        "serve --config c --journal j --seed s --port 0 --workers 1 --connections 1",
+        "--port",
+    ),
+    (
+        "serve --config c --journal j --seed s --port 65536 --workers 1 --connections 1",
+        "--port",
+    ),
+    (
+        "serve --config c --journal j --seed s --port 1 --workers 1 --connections 0",
+        "--connections",
+    ),
+    (
+        "serve --config c --journal j --port 1 --workers 1 --connections 1",
+        "--seed",
+    ),
+    (
+        "serve --config c --journal j --seed s --port 1 --workers 1 --connections 1 --idle 0",
+        "--idle",
+    ),
+    (
+        "serve --config c --journal j --seed s --port 1 --workers 1 --connections 1 --idle 3601",
+        "--idle",
+    ),
+    (
+        "serve --config c --journal j --seed s --port 1 --workers 1 --connections 1 --clients 0",
+        "--clients",
+    ),
+    (
+        "serve --config c --journal j --seed s --port 1 --workers 1 --connections 1 --clients 65537",
+        "--clients",
+    ),
+    (
+        "serve --config c --journal j --seed s --port 1 --workers 1 --connections 1 --buffers 0",
+        "--buffers",
+    ),
+    (
+        "serve --config c --journal j --seed s --port 1 --workers 1 --connections 1 --buffers 1025",
+        "--buffers",
+    ),
+    (
+        "serve --config c --journal j --seed s --port 1 --workers 1 --connections 1 --buffers=-1",
+        "--buffers",
+    ),
+    (
+        "serve --config c --journal j --seed s --port 1 --workers 1 --connections 1 --raise=0",
+        "--raise",
+    ),
+    (
+        "serve --config c --journal j --seed s --port 1 --workers 1 --connections 1 --raise=16777217",
+        "--raise",
+    ),
+    (
+        "serve --config c --journal j --seed s --port 1 --workers 1 --connections 1 --raise=many",
+        "--raise",
+    ),
+    (
+        "serve --config c --journal j --seed s --port 1 --workers 1 --connections 1 --raise=-1",
+        "--raise",
+    ),
+    (
+        "serve --config c --journal j --seed s --port 1 --workers 1 --connections 1 --control=c.socket",
+        "serve c j s port 1 workers 1 connections 1 idle 30 clients 1024 buffers 32 raise - log - \
+         control c.socket",
+    ),
+    // a running service
+    ("control --socket s status", "control s status"),
+    ("control --socket s reload", "control s reload"),
+    ("control --socket=s reopen-log", "control s reopen-log"),
+    ("control stop --socket s", "control s stop"),
+    ("control --socket s compact j", "control s compact j"),
+    ("control compact --socket s -- -j", "control s compact -j"),
+    ("control --socket s", "<COMMAND>"),
+    ("control status", "--socket"),
+    ("control --socket s start", "reopen-log"),
+    ("control --socket s start f", "reopen-log"),
+    ("control --socket s compact", "requires"),
+    ("control --socket s stop now", "'compact'"),
+    ("control --socket s compact a b", "unexpected"),
+    // a request
+    (
+        "client --config c --seed s --port 464 --client alice --password-file f",
+        "client c s port 464 client alice password-file f target - no-initial false old false",
+    ),
+    (
+        "client --config c --seed s --port 464 --client alice --password-file - --old",
+        "client c s port 464 client alice password-file standard input target - no-initial false old true",
+    ),
+    (
+        "client --config c --seed s --port 464 --client alice",
+        "--password-file",
+    ),
+    (
+        "client --config c --seed s --port 464 --client alice --password p --password-file f",
+        "--password-file",
+    ),
+    (
+        "client --config realm.toml --seed seed --port 464 --client alice/admin --password=-New-pass2- \
+         --target bob --no-initial",
+        "client realm.toml seed port 464 client alice/admin password -New-pass2- target bob no-initial true \
+         old false",
+    ),
+    (
+        "client --config c --seed s --port 464 --client alice --password p --old",
+        "client c s port 464 client alice password p target - no-initial false old true",
+    ),
+    (
+        "client --config c --port 464 --client alice --password p",
+        "--seed",
+    ),
+    (
+        "client --config c --seed s --port 0 --client alice --password p",
+        "--port",
+    ),
+    (
+        "client --config c --seed s --port 65536 --client alice --password p",
+        "--port",
+    ),
+    (
+        "client --config c --seed s --port 1 --client alice --password p --target bob --old",
+        "--old",
+    ),
+    // a table
+    ("table --config c --journal j", "table c j Lines"),
+    ("table --config c --journal j --as lines", "table c j Lines"),
+    (
+        "table --config c --journal j --as configuration",
+        "table c j Configuration",
+    ),
+    ("table --config c --journal j --as=keys", "table c j Keys"),
+    ("table --config c --journal j --as key", "--as"),
+    ("table --config c --journal j --as=", "--as"),
+    ("table --config c --journal j --as", "--as"),
+    // keys
+    (
+        "import --keytab k --realm EXAMPLE.COM --iterations 5",
+        "import k EXAMPLE.COM iterations 5",
+    ),
+    (
+        "key --realm EXAMPLE.COM --name alice --password-file f --kvno 4294967295",
+        "key EXAMPLE.COM alice f iterations 4096 kvno 4294967295",
+    ),
+];
+
+/// A machine on which the program is called with these words.
+#[derive(Drop)]
+struct Called<'a> {
+    words: &'a [&'a [u8]],
+}
+
+impl Env for Called<'_> {
+    fn arg(&self, i: usize, buf: &mut [u8]) -> Result<usize, FillError> {
+        let Some(word) = self.words.get(i) else {
+            return Err(FillError::NotPresent);
+        };
+        let Some(start) = buf.get_mut(..word.len()) else {
+            return Err(FillError::TooLong);
+        };
+        start.copy_from_slice(word);
+        Ok(word.len())
+    }
+
+    fn var(&self, _name: &str, _buf: &mut [u8]) -> Result<usize, FillError> {
+        Err(FillError::NotPresent)
+    }
+
+    fn var_at(&self, _i: usize, _buf: &mut [u8]) -> Result<usize, FillError> {
+        Err(FillError::NotPresent)
+    }
+}
+
+/// The words of a line.
+pub fn words(rt: &impl Abort, alloc: Global, line: &str) -> Vec<String> {
+    let mut words = Vec::new(alloc);
+    for word in line.split(' ') {
+        let word = String::from_str(alloc, word).ok().expect(rt, "memory");
+        assert!(rt; words.push(word).is_ok());
+    }
+    words
+}
+
+// What a command line asks for, in words; otherwise what is on standard error.
+fn asked(rt: &impl Abort, alloc: Global, line: &str) -> String {
+    let line = format!(in alloc; "chpw_server {line}").ok();
+    let words = words(rt, alloc, line.expect(rt, "memory").trim_end());
+    let mut text = String::new(alloc);
+    match command_of(alloc, words.as_slice()) {
+        Ok(invocation) => assert!(rt; show(&mut text, invocation).is_ok()),
+        Err(error) => {
+            let mut errors = Vec::new(alloc);
+            assert!(rt; matches!(explain_misuse(&mut errors, error), Ending::Misused));
+            assert!(rt; text.push_str(str::from_utf8(&errors).unwrap_or("")).is_ok());
+        }
+    }
+    text
+}
+
+fn show(text: &mut String, asked: Invocation<'_>) -> Result<(), AllocError> {
+    match asked {
+        Invocation::Drill => text.push_str("drill"),
+        Invocation::Check { config } => write!(text, "check {config}"),
+        Invocation::Table(it) => write!(text, "table {} {} {:?}", it.config, it.journal, it.form),
+        Invocation::Import(it) => {
+            write!(
+                text,
+                "import {} {} iterations {}",
+                it.keytab, it.realm, it.iterations
+            )
+        }
+        Invocation::Key(it) => {
+            write!(text, "key {} {} {} ", it.realm, it.name, it.password_file)?;
+            write!(text, "iterations {} kvno {}", it.iterations, it.kvno)
+        }
+        Invocation::Serve(it) => {
+            write!(text, "serve {} {} {} ", it.config, it.journal, it.seed)?;
+            write!(text, "port {} workers {} ", it.port, it.workers)?;
+            write!(text, "connections {} idle {} ", it.connections, it.idle)?;
+            write!(text, "clients {} buffers {} raise ", it.clients, it.buffers)?;
+            match it.raise {
+                Some(count) => write!(text, "{count}")?,
+                None => text.push_str("-")?,
+            }
+            write!(text, " log {}", it.log.unwrap_or("-"))?;
+            match it.control {
+                Some(socket) => write!(text, " control {socket}"),
+                None => Ok(()),
+            }
+        }
+        Invocation::Control(it) => {
+            write!(text, "control {} {}", it.socket, it.command.word())?;
+            match it.command.file() {
+                Some(file) => write!(text, " {file}"),
+                None => Ok(()),
+            }
+        }
+        Invocation::Client(it) => {
+            write!(text, "client {} {} port {} ", it.config, it.seed, it.port)?;
+            write!(text, "client {} ", it.client)?;
+            match it.password {
+                PasswordSource::Text(it) => write!(text, "password {it} ")?,
+                PasswordSource::File(it) => write!(text, "password-file {it} ")?,
+                PasswordSource::StandardInput => text.push_str("password-file standard input ")?,
+            }
+            write!(text, "target {} ", it.target.unwrap_or("-"))?;
+            write!(text, "no-initial {} old {}", it.no_initial, it.old)
+        }
+    }
+}
+
+// A line that asks for a command is shown whole; of another the text has the word.
+#[test]
+fn command_lines(rt: HostRuntime) {
+    for (line, wanted) in LINES {
+        let asked = asked(&rt, rt.alloc(), line);
+        let asked = asked.as_str();
+        let is_whole = wanted.contains(' ') || wanted == line;
+        assert!(rt; asked == wanted || (!is_whole && asked.contains(wanted)));
+    }
+}
+
+#[test]
+fn words_that_are_no_text(rt: HostRuntime) {
+    let called = Called {
+        words: &[b"chpw_server", b"drill", b"\xff"],
+    };
+    let ended = words_of(&(called, rt.alloc()));
+    assert!(rt; matches!(ended, Err(Ending::NotText)));
+    let called = Called {
+        words: &[b"chpw_server", "Größe".as_bytes()],
+    };
+    let words = words_of(&(called, rt.alloc())).ok().expect(&rt, "words");
+    assert!(rt; words.len() == 2 && words[1].as_str() == "Größe");
+}

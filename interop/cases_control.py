@@ -1,0 +1,102 @@
+#!/usr/bin/env python3
+"""What `cases_control` must print, worked out with nothing of ours: of the cases on standard input the answers.
+
+    python3 interop/cases_control.py < crates/cases_control/stdin > crates/cases_control/stdout
+
+The commands, faults and lines are docs/PROTOCOL.md's and docs/ADMIN.md's, the times datetime's.
+"""
+import datetime
+
+from command import answer_lines
+
+COMMANDS = {b"status": "Status", b"reload": "Reload", b"reopen-log": "ReopenLog", b"stop": "Stop"}
+
+NAMES = ("principals iterations entries changes all-entries all-changes connections reading waiting answering "
+         "confirming writing ending workers busy queue journal-bytes log-lost").split()
+
+
+def octets(word):
+    digits, _, times = word.partition("*")
+    return bytes.fromhex(digits) * int(times or 1)
+
+
+def command(line):
+    if line in COMMANDS:
+        return COMMANDS[line]
+    word, space, file = line.partition(b" ")
+    if word != b"compact":
+        return "error: unknown command"
+    if not file:
+        return "error: compact wants a file"
+    try:
+        file.decode("utf-8")
+    except UnicodeDecodeError:
+        return "error: bad file name"
+    return "error: bad file name" if b"\0" in file else f"Compact {file.hex()}"
+
+
+def told(heard):
+    line, newline, _ = heard.partition(b"\n")
+    if len(line) > 4200:
+        return "error: line too long"
+    return command(line) if newline else "-"
+
+
+def hear(events):
+    heard, shown = b"", []
+    for event in events:
+        if heard is None:
+            shown.append("-")
+        elif event in ("end", "late"):
+            shown.append("error: no whole line" if event == "end" else "error: no command within a second")
+            heard = None
+        else:
+            heard += octets(event)
+            shown.append(told(heard))
+            heard = heard if shown[-1] == "-" else None
+    return ", ".join(shown)
+
+
+def time(word):
+    if word == "-":
+        return "-"
+    seconds, micros = map(int, word.split("."))
+    at = datetime.datetime(1970, 1, 1) + datetime.timedelta(seconds=seconds, microseconds=micros)
+    return f"{at.year:04}-{at.month:02}-{at.day:02}T{at.hour:02}:{at.minute:02}:{at.second:02}.{at.microsecond:06}Z"
+
+
+def words(text):
+    return "".join(chr(b) if 32 <= b <= 126 and b != 92 else f"\\x{b:02x}" for b in text)
+
+
+def status(version, since, quiet, journal, follower, *numbers):
+    values = dict(zip(NAMES, numbers, strict=True))
+    values |= {"version": words(octets(version)), "since": time(since), "quiet-until": time(quiet),
+               "journal": {"Good": "good", "Failed": "failed"}[journal],
+               "follower": {"Absent": "none", "Confirmed": "confirmed", "Unconfirmed": "unconfirmed"}[follower]}
+    order = ["version", "since", "quiet-until"] + NAMES[:-1] + ["journal", "log-lost", "follower"]
+    return "".join(f"{name} {values[name]}\\n" for name in order) + "ok\\n"
+
+
+def is_done(text):
+    lines = text.split(b"\n")
+    return lines[-1] == b"" and lines[-2:-1] == [b"ok"]
+
+
+def answer(case):
+    kind, *values = case.split(" ")
+    if kind == "hear":
+        return hear(values)
+    if kind == "status":
+        return status(*values)
+    text = octets(*values)
+    if kind == "line":
+        return words(text) + "\\nok\\n"
+    if kind == "error":
+        return "error: " + words(text) + "\\n"
+    if kind == "ended":
+        return "yes" if is_done(text) else "no"
+    return " ".join(["at"] + [str(n) for n in range(len(text) + 1) if is_done(text[:n])])
+
+
+answer_lines(__doc__, answer)

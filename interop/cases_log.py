@@ -1,0 +1,143 @@
+#!/usr/bin/env python3
+"""What `cases_log` must print, worked out with nothing of ours: of the cases on standard input the answers.
+
+    python3 interop/cases_log.py < crates/cases_log/stdin > crates/cases_log/stdout
+
+The codes, errors and texts are docs/PROTOCOL.md's, the times datetime's, the addresses ipaddress's.
+"""
+import datetime
+import ipaddress
+import string
+
+from command import answer_lines
+
+# the rows of the decision (docs/PROTOCOL.md): code, error, text
+ROWS = {
+    "Skew": (3, 37, "clock skew too great"),
+    "Replay": (3, 34, "request replayed"),
+    "NotYet": (3, 33, "ticket not yet valid"),
+    "Expired": (3, 32, "ticket expired"),
+    "BadPrivate": (3, "-", "authentication failed"),
+    "BadBody": (1, "-", "malformed"),
+    "Denied": (5, "-", "access denied"),
+    "NeedInitial": (7, "-", "initial ticket needed"),
+    "Unknown": (2, "-", "no such principal"),
+    "Short": (4, "-", "password too short"),
+    "Classes": (4, "-", "too few character classes"),
+    "Reused": (4, "-", "password used before"),
+    "LastVersion": (2, "-", "no version left"),
+    "Broken": (2, "-", "journal failed"),
+    "Done": (0, "-", "password changed"),
+}
+
+TEXTS = {
+    "malformed": "malformed",
+    "failed": "authentication failed",
+    "version": "bad version",
+    "long": "message too long",
+    "full": "history full",
+    "none": "",
+    "strange": " a\tb\\c\u00e9d\ne~\u007f/@ ",
+}
+
+PRINTED = (string.ascii_letters + string.digits + string.punctuation).encode()
+
+
+def shown(octets, plain):
+    return "".join(chr(b) if b in plain else "\\x" + bytes([b]).hex() for b in octets)
+
+
+def name(octets):
+    return shown(octets, PRINTED.translate(None, b"/@\\"))
+
+
+def principal(word):
+    realm, _, parts = word.partition(":")
+    parts = [name(bytes.fromhex(part)) for part in parts.split(".")] if ":" in word else []
+    return "/".join(parts) + "@" + name(bytes.fromhex(realm))
+
+
+def target(client, word):
+    if word in ("bad-private", "bad-data"):
+        return "-"
+    return principal(client if word == "own" else word)
+
+
+def moment(seconds, micros):
+    start = datetime.datetime(1970, 1, 1)
+    time = start + datetime.timedelta(seconds=int(seconds), microseconds=int(micros))
+    return time.isoformat(timespec="microseconds") + "Z"
+
+
+def held(seconds, micros, loopback, other):
+    return (f"{moment(seconds, micros)} worker - peer - client - target - code - error - kvno - "
+            f"text {int(loopback) + int(other)} more did not open: {loopback} from 127.0.0.0/8, {other} from elsewhere")
+
+
+def limited(words):
+    """Ten lines in any second; the others are told once the first of them is a second away, or at the end."""
+    shown, lines, others = "", [], []
+    for word in words:
+        time, _, peer = word.partition("@")
+        time = int(time)
+        if others and (abs(time - others[0][0]) >= 10**6 or len(others) == 10**6):
+            shown += told(others)
+            others = []
+        if len(lines) < 10 or abs(time - lines[-10]) >= 10**6:
+            lines.append(time)
+            shown += "+"
+        else:
+            others.append((time, ipaddress.IPv4Address(bytes.fromhex(peer))))
+            shown += "-"
+    return shown + (told(others) if others else "")
+
+
+# what happens to the service (docs/PROTOCOL.md), and the names of its numbers
+EVENTS = {
+    "started": ["principals", "iterations", "quiet-until"],
+    "reloaded": ["principals", "iterations"],
+    "raised": ["iterations"],
+    "rolled-over": ["entries", "changes"],
+    "journal-failed": [],
+    "log-reopened": [],
+    "ended": ["entries", "changes"],
+}
+
+
+def event(seconds, micros, kind, *values):
+    shown_values = [moment(*value.split(".")) if "." in value else value for value in values]
+    pairs = zip(EVENTS[kind], shown_values, strict=True)
+    return " ".join([moment(seconds, micros), "service", kind] + [f"{name} {value}" for name, value in pairs])
+
+
+def told(others):
+    here = sum(peer.is_loopback for _, peer in others)
+    return f"({here} {len(others) - here})"
+
+
+def answer(case):
+    first, *words = case.split(" ")
+    if first == "held":
+        return held(*words)
+    if first == "limit":
+        return limited(words)
+    if first == "event":
+        return event(*words)
+    kind, seconds, micros, worker, peer, *rest = case.split(" ")
+    client = asked = kvno = "-"
+    if kind == "unopened":
+        code, error, text = rest
+    elif kind == "full":
+        who, whose, code, error, text = rest
+        client, asked = principal(who), target(who, whose)
+    else:
+        who, whose, verdict, kvno = rest
+        client, asked = principal(who), target(who, whose)
+        code, error, text = ROWS[verdict]
+    text = shown(TEXTS.get(text, text).encode(), PRINTED.replace(b"\\", b" "))
+    address = ipaddress.IPv4Address(bytes.fromhex(peer))
+    return (f"{moment(seconds, micros)} worker {worker} peer {address} client {client} target {asked} "
+            f"code {code} error {error} kvno {kvno} text {text}")
+
+
+answer_lines(__doc__, answer)

@@ -1,0 +1,138 @@
+"""The packages under a real systemd: a container whose first process it is, by systemd-nspawn. MIT's KDC alone."""
+
+import subprocess
+
+import mit
+import root
+import steps
+
+# seconds for all of it
+PATIENCE = 400
+UNIT = """\
+[Unit]
+Description=Tries the packages
+After=krb5-kdc.service krb5-admin-server.service
+
+[Service]
+Type=oneshot
+ExecStart=/bin/sh /opt/try/inside
+ExecStopPost=/usr/bin/systemctl --no-block poweroff
+StandardOutput=file:/opt/try/output
+StandardError=file:/opt/try/output
+TimeoutStartSec=300
+
+[Install]
+WantedBy=multi-user.target
+"""
+SCRIPT = r"""
+export LC_ALL=C.UTF-8 HOME=/root DEBIAN_FRONTEND=noninteractive
+cd /root
+S=boddrelyn F=boddrelyn-follow-mit J=/var/lib/boddrelyn/journal
+check() {
+    what=$1
+    shift
+    if "$@" > /opt/try/last 2>&1; then echo "ok: systemd: $what"; else echo "FAILED: systemd: $what: $(cat /opt/try/last)"; fi
+}
+says() { for _ in $(seq 100); do journalctl --no-pager -q -u "$1" | grep -q "$2" && return 0; sleep 0.2; done; journalctl --no-pager -u "$1"; return 1; }
+is() { [ "$(systemctl show -p "$2" --value "$1")" = "$3" ] || { systemctl status "$1" --no-pager; return 1; }; }
+changed() { printf '%s\n' "$2" "$3" "$3" | kpasswd "$1"; }
+logs_in() { printf '%s\n' "$2" | kinit "$1"; }
+pid() { systemctl show -p MainPID --value "$1"; }
+new_pid() { [ "$(pid "$1")" != "$2" ] && [ "$(pid "$1")" != 0 ]; }
+wait_for() { for _ in $(seq 100); do "$@" > /dev/null 2>&1 && return 0; sleep 0.2; done; "$@"; }
+files() { find /etc/boddrelyn /var/lib/boddrelyn /var/log/boddrelyn /run/boddrelyn /run/boddrelyn-follow -printf '%M %u:%g %p\n' | sort > /opt/try/found; diff /opt/try/files /opt/try/found; }
+none() { ! "$@"; }
+
+check "install" dpkg -i /opt/try/0/*.deb
+check "the units are without a fault" sh -c "systemd-analyze verify --man=no $S.service $F.service 2>&1 | tee /dev/stderr | grep -c boddrelyn | grep -qx 0"
+for it in $S $F; do
+    check "$it is enabled" systemctl is-enabled $it
+    systemctl start $it
+    check "$it is skipped without a configuration" is $it ConditionResult no
+    check "$it isn't failed" is $it ActiveState inactive
+done
+sh -eu /opt/try/first > /opt/try/said 2>&1
+check "README.Debian: import and check" grep "ok: principals 2" /opt/try/said
+check "port 464 is taken: it says so" says $S "port 464: in use"
+check "port 464 is taken: it is given up" wait_for is $S Result exit-code
+systemctl stop $S; rm -f $J
+sed -i "s/# here/$(cat /opt/try/gives-up)/" /etc/krb5kdc/kdc.conf
+check "kadmind gives it up" systemctl restart krb5-admin-server
+systemctl reset-failed $S
+check "start" systemctl start $F $S
+check "it listens" says $S "listening on 127.0.0.1:464"
+check "the follower runs" says $F "principals 2, set 0, failed 0"
+check "the files are those of the start by hand" files
+check "kpasswd" changed alice Old-pass1 New-pass1
+check "kinit, at once" logs_in alice New-pass1
+check "the follower copied it" says $F "alice@EXAMPLE.COM: set, kvno 2"
+check "reload" systemctl reload $S
+check "logrotate" logrotate --force /etc/logrotate.d/boddrelyn
+check "the log was opened again" grep log-reopened /var/log/boddrelyn/log
+cp $J /opt/try/journal; A=$(pid $S) B=$(pid $F)
+check "upgrade" dpkg -i /opt/try/1/*.deb
+check "upgrade: the service is restarted" new_pid $S $A
+check "upgrade: the follower is restarted" new_pid $F $B
+check "upgrade: the journal stays" cmp $J /opt/try/journal
+check "upgrade: it answers" wait_for chpw_server control --socket /run/boddrelyn/control status
+A=$(pid $S); kill -9 $A
+check "a kill: it is started again" wait_for new_pid $S $A
+check "a kill: it answers" wait_for chpw_server control --socket /run/boddrelyn/control status
+check "stop" systemctl stop $S $F
+check "stop: with status 0" is $S ExecMainStatus 0
+check "stop: the follower with status 0" is $F ExecMainStatus 0
+check "stop: not failed" is $S Result success
+check "start again" systemctl start $F $S
+check "it runs" wait_for chpw_server control --socket /run/boddrelyn/control status
+check "remove" dpkg -r $F $S
+check "remove: it is stopped" none pidof chpw_server
+check "remove: the follower is stopped" none pidof follow_mit
+check "purge" dpkg -P $F $S
+cp /opt/try/last /opt/try/said
+check "purge: it names what goes" grep "removed: $J" /opt/try/said
+check "purge: no file is left" none sh -c "find / -xdev -not -path '/opt/*' -not -path '/proc/*' -not -path '/var/log/journal/*' '(' -user boddrelyn -o -name '*boddrelyn*' ')' | grep ."
+echo "systemd: the end"
+"""
+
+
+def run(cache, put, files, report, keep):
+    """`put` puts the packages there, and `files` is what a start leaves where no systemd runs."""
+    with root.Root("mit", cache, keep) as where:
+        print("-- systemd", flush=True)
+        put(where, mit)
+        realm = mit.Realm(where)
+        realm.write()
+        for name in ("usr/local/bin/systemctl", "etc/machine-id"):
+            where.path(name).unlink(missing_ok=True)
+        where.path("/etc/machine-id").write_text("")
+        where.path("/opt/try/inside").write_text(SCRIPT)
+        where.path("/opt/try/first").write_text("cd /root\n" + steps.block("First start"))
+        where.path("/opt/try/gives-up").write_text(mit.GIVES_UP)
+        where.path("/opt/try/files").write_text("".join(f"{it}\n" for it in files))
+        where.path("/etc/systemd/system/try.service").write_text(UNIT)
+        where.must("/usr/bin/systemctl", "enable", "try.service", SYSTEMD_OFFLINE="1")
+        where.leave()
+        boot(where)
+        output = where.path("/opt/try/output")
+        text = output.read_text(errors="replace") if output.is_file() else ""
+        for line in text.splitlines():
+            if line.startswith("ok: "):
+                report.tell(line[4:], True)
+            elif line.startswith("FAILED: "):
+                report.tell(line[8:], False)
+            elif not line.startswith("systemd: the end"):
+                print(line)
+        report.tell("systemd: the container ran to its end", "systemd: the end" in text)
+
+
+def boot(where):
+    words = ["--quiet", "--register=no", "--keep-unit", "--private-network", "--boot", "--directory", where.folder]
+    with where.path("/opt/try/boot").open("w") as out:
+        process = subprocess.Popen(["systemd-nspawn", *words], stdin=subprocess.DEVNULL, stdout=out, stderr=out,
+                                   start_new_session=True)
+        try:
+            process.wait(PATIENCE)
+        except subprocess.TimeoutExpired:
+            print("the container didn't end")
+            process.terminate()
+            process.wait()
