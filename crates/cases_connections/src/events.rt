@@ -36,7 +36,7 @@ impl Script {
     pub fn read(&mut self, slot: usize, bytes: &[u8], now: u64) -> (usize, Option<usize>) {
         let mut left = bytes;
         for _ in 0..bytes.len() {
-            let wanted = self.connections.wanted(slot);
+            let wanted = self.connections.bytes_to_read(slot);
             if wanted == 0 || left.is_empty() {
                 break;
             }

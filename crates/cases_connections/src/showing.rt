@@ -45,8 +45,8 @@ impl Script {
     /// The stage of the connection in a slot.
     pub fn state(&self, slot: usize) -> io::Result<String> {
         let alloc = self.alloc;
-        let left = self.connections.unwritten(slot);
-        let wanted = self.connections.wanted(slot);
+        let left = self.connections.pending_output(slot);
+        let wanted = self.connections.bytes_to_read(slot);
         if self.connections.is_ended(slot) {
             Ok(String::from_str(alloc, "has ended")?)
         } else if self.connections.is_lingering(slot) {
@@ -67,7 +67,7 @@ impl Script {
         match self.connections.todo(slot) {
             Todo::Read(count) => Ok(format!(in alloc; "read {count}")?),
             Todo::Write => {
-                let left = shown(alloc, self.connections.unwritten(slot))?;
+                let left = shown(alloc, self.connections.pending_output(slot))?;
                 Ok(format!(in alloc; "write {left}")?)
             }
             Todo::Linger => Ok(String::from_str(alloc, "linger")?),
@@ -81,8 +81,8 @@ impl Script {
         let mut text = String::new(self.alloc);
         for slot in 0..self.slots {
             let todo = self.todo(slot)?;
-            let wanted = self.connections.wanted(slot);
-            let left = self.connections.unwritten(slot).len();
+            let wanted = self.connections.bytes_to_read(slot);
+            let left = self.connections.pending_output(slot).len();
             let slot = format!(in self.alloc; "{slot} {todo}, wanted {wanted}, left {left} | ")?;
             text.push_str(slot.as_str())?;
         }
@@ -100,8 +100,8 @@ impl Script {
         } else {
             ""
         };
-        let (held, accepted) = (connections.held(), connections.accepted());
-        let (expired, workers) = (connections.expired(), self.waited_for()?);
+        let (held, accepted) = (connections.bytes_held(), connections.accepted_count());
+        let (expired, workers) = (connections.expired_count(), self.waited_for()?);
         Ok(format!(in self.alloc;
             "connections {count}{word}, held {held}, accepted {accepted}, expired {expired}, messages for {workers}"
         )?)

@@ -74,7 +74,7 @@ impl Script {
     fn looked(&mut self) -> io::Result<String> {
         let mut slots = Vec::new(self.alloc);
         for _ in 0..LOOKS {
-            let Some(slot) = self.connections.changed() else {
+            let Some(slot) = self.connections.take_changed() else {
                 break;
             };
             let is_told = matches!(self.connections.todo(slot), Todo::Read(_) | Todo::Wait);

@@ -143,7 +143,7 @@ impl<
     // How long to wait for the next event.
     fn patience(&self) -> u64 {
         let hub = self.engine.hub.lock(self.rt);
-        let accepted = hub.state.connections.accepted();
+        let accepted = hub.state.connections.accepted_count();
         let may_come = self.can_accept(accepted) || self.can_take_datagram(accepted);
         let patience = hub.state.patience(may_come, self.accepting);
         MutexGuard::unlock(hub);
@@ -187,7 +187,7 @@ impl<
     // Handles the connections that ended, and those for which more is to be done.
     fn look_at_changed(&mut self) {
         for _ in 0..self.clients {
-            let changed = self.engine.hub.lock(self.rt).state.connections.changed();
+            let changed = self.engine.hub.lock(self.rt).state.connections.take_changed();
             match changed {
                 None => return,
                 Some(slot) => self.drive(slot),
@@ -272,7 +272,7 @@ impl<
     // Accepts the connections that have come.
     fn accept(&mut self) {
         for _ in 0..ACCEPTS {
-            let accepted = self.engine.hub.lock(self.rt).state.connections.accepted();
+            let accepted = self.engine.hub.lock(self.rt).state.connections.accepted_count();
             if self.pending.is_none() && self.can_accept(accepted) {
                 self.pending = self.next();
             }

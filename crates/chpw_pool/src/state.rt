@@ -293,7 +293,7 @@ impl State {
             (I.remaining reader.old) (I.remaining reader.new) }
         ensures bounds { bounds_of self.new.connections ≡ bounds_of self.old.connections }
     {
-        let most = buffer.len().min(self.connections.wanted(slot));
+        let most = buffer.len().min(self.connections.bytes_to_read(slot));
         if most == 0 || !self.may_read(slot, now) {
             return Progress::None;
         }
@@ -348,7 +348,7 @@ impl State {
             (W.contents writer.old) (W.contents writer.new) }
         ensures bounds { bounds_of self.new.connections ≡ bounds_of self.old.connections }
     {
-        let left = self.connections.unwritten(slot);
+        let left = self.connections.pending_output(slot);
         if left.is_empty() {
             self.connections.wrote(slot, 0, now);
             return Progress::Some;
@@ -433,7 +433,7 @@ impl State {
     pub fn is_finished(&self, wanted: u32, accepting: Accepting) -> bool
         ensures value { result ≡ is_finished wanted accepting self.now }
     {
-        let has_all = self.connections.accepted() >= wanted || accepting.has_failed();
+        let has_all = self.connections.accepted_count() >= wanted || accepting.has_failed();
         self.is_deserted || (has_all && self.connections.is_empty())
     }
 
