@@ -275,7 +275,7 @@ impl<G> Engine<G> {
     }
 
     /// How many messages waited too long for their worker and were dropped.
-    pub fn expired<R: Wait>(&self, rt: &R) -> u32 {
+    pub fn expired_count<R: Wait>(&self, rt: &R) -> u32 {
         self.hub.lock(rt).state.connections.expired_count()
     }
 

@@ -171,7 +171,7 @@ impl<
 
     fn look_at(&mut self, event: &Event) {
         match EventSource::of(event.token(), self.clients) {
-            EventSource::Listener => self.accepting = self.accepting.reported(),
+            EventSource::Listener => self.accepting = self.accepting.after_report(),
             EventSource::Follower => self.link.is_reported = true,
             EventSource::Datagrams => self.has_datagrams = true,
             EventSource::Control => self.port.is_due = true,
@@ -203,7 +203,7 @@ impl<
         }
         self.looked = now;
         self.port.is_due = true;
-        self.accepting = self.accepting.resumed(now);
+        self.accepting = self.accepting.after_time(now);
         self.release_overdue();
         let had = self.pass(now);
         self.look_round(registry, had.is_any());
