@@ -214,7 +214,7 @@ pub fn closed<D: DeskName, R: Wait>(
 fn counted(closed: &Closed<MemorySink>, before: u32, fell: Fell) -> Result<(), Stop> {
     let changes = before.saturating_add(if fell == Fell::Call { 0 } else { 1 });
     let count = changes as usize;
-    let is_so = closed.table.seen() == changes
+    let is_so = closed.table.changes_accepted() == changes
         && closed.history.len() == count
         && closed.sink.bytes().len() == count.saturating_mul(RECORD);
     if is_so {

@@ -13,7 +13,7 @@ const NAMES: [&str; 2] = ["alice", "bob"];
 /// The changes accepted, how many ids are held, and each principal's keys, newest first.
 pub fn put_table(page: &mut Page, table: &Table) {
     page.put("seen ");
-    page.number(table.seen());
+    page.number(table.changes_accepted());
     page.put(" ids ");
     page.number(table.ids_held());
     for principal in NAMES {

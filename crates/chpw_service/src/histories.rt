@@ -340,7 +340,7 @@ pub(crate) fn next_opening<'a>(
     ensures workers { IfOk result (λ next. workers_of next.unnamed ≡ workers) }
     ensures fault { IfErr result (λ fault. fault ≡ Memory) }
 {
-    match table.reopened() {
+    match table.for_next_history() {
         Err(_) => Err(ServeFault::Memory),
         Ok(table) => Ok(Opening {
             unnamed: UnnamedDesk::of(table, workers),
