@@ -106,7 +106,12 @@ impl<
     // The follower sent these bytes. One that sends anything but what it was asked is disconnected.
     fn hear_bytes(&mut self, bytes: &[u8]) {
         let now = milliseconds(self.rt);
-        let heard = self.engine.hub.lock(self.rt).state.hear_unless_former(bytes, now);
+        let heard = self
+            .engine
+            .hub
+            .lock(self.rt)
+            .state
+            .hear_unless_former(bytes, now);
         match heard {
             Ok(None) => {}
             Ok(Some(_)) => self.link.follower.confirmed(),

@@ -187,7 +187,13 @@ impl<
     // Handles the connections that ended, and those for which more is to be done.
     fn look_at_changed(&mut self) {
         for _ in 0..self.clients {
-            let changed = self.engine.hub.lock(self.rt).state.connections.take_changed();
+            let changed = self
+                .engine
+                .hub
+                .lock(self.rt)
+                .state
+                .connections
+                .take_changed();
             match changed {
                 None => return,
                 Some(slot) => self.drive(slot),
@@ -272,7 +278,13 @@ impl<
     // Accepts the connections that have come.
     fn accept(&mut self) {
         for _ in 0..ACCEPTS {
-            let accepted = self.engine.hub.lock(self.rt).state.connections.accepted_count();
+            let accepted = self
+                .engine
+                .hub
+                .lock(self.rt)
+                .state
+                .connections
+                .accepted_count();
             if self.pending.is_none() && self.can_accept(accepted) {
                 self.pending = self.next();
             }

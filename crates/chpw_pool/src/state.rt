@@ -200,7 +200,11 @@ impl State {
     }
 
     /// As `hear`, unless the connection concerns a former journal: that is ignored.
-    pub fn hear_unless_former(&mut self, bytes: &[u8], now: u64) -> Result<Option<u64>, ProtocolFault>
+    pub fn hear_unless_former(
+        &mut self,
+        bytes: &[u8],
+        now: u64,
+    ) -> Result<Option<u64>, ProtocolFault>
         ensures former { self.old.is_of_former ≡ true → (result ≡ Ok None) × (self.new ≡ self.old) }
         ensures asking { self.old.is_of_former ≡ false → OnOk result (after_bytes self.old.asking bytes.now ≡ Some self.new.asking) }
         ensures confirmed { self.old.is_of_former ≡ false → IfOk result (λ mark. mark ≡ confirmed_by self.old.asking.asked bytes.now) }

@@ -124,7 +124,8 @@ pub(crate) fn compact<
         let _ = fs::remove_file(rt, compaction.copy.as_str());
     }
     let answer = answer_of(rt.alloc(), hall.options.journal, replaced);
-    hall.engine.answer_order(rt, answer_or_empty(rt.alloc(), answer));
+    hall.engine
+        .answer_order(rt, answer_or_empty(rt.alloc(), answer));
     next_opening(table, sink, hall.workers)
 }
 

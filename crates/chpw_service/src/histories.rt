@@ -204,7 +204,11 @@ fn serve_desk<
     let served = serve_shift(rt, time, hall, rules, &desk, &mut passes);
     let Left { tally, table, sink } = close_desk(rt, desk, passes)?;
     let over = hall.engine.is_over(rt);
-    report_expired(hall.log, hall.engine.expired_count(rt), &mut reported.expired);
+    report_expired(
+        hall.log,
+        hall.engine.expired_count(rt),
+        &mut reported.expired,
+    );
     let last = over || served.is_err();
     tell_tally(rt, hall.log, tally, last, &mut reported.is_lost)?;
     match served {

@@ -41,7 +41,7 @@ invariant_of-self-in-Ok g c =
       (
         ap (λ m. m.book) (c.shown_prefix-shown.ensures.parts.1 ∙ ap (λ (z : Snapshot). z.seen) c.get-version.ensures) ∙ shows.seen_book,
         c.shown_prefix-shown.ensures.parts.0
-          ∙ (ap (λ (z : Snapshot). z.len) c.get-version.ensures ∙ (shows.len_is ∙ ap (λ (l : List Accepted). length l) list)),
+            ∙ (ap (λ (z : Snapshot). z.len) c.get-version.ensures ∙ (shows.len_is ∙ ap (λ (l : List Accepted). length l) list)),
       ),
     )
 
