@@ -7,7 +7,7 @@ use std::alloc::Global;
 use std::io;
 
 /// Bytes in hexadecimal, `-` for none; of many the first and the last.
-pub fn shown(alloc: Global, bytes: &[u8]) -> io::Result<String> {
+pub fn bytes_text(alloc: Global, bytes: &[u8]) -> io::Result<String> {
     if bytes.is_empty() {
         return Ok(String::from_str(alloc, "-")?);
     }
@@ -52,7 +52,7 @@ impl Script {
         } else if self.connections.is_lingering(slot) {
             Ok(String::from_str(alloc, "lingers")?)
         } else if !left.is_empty() {
-            let bytes = shown(alloc, left)?;
+            let bytes = bytes_text(alloc, left)?;
             Ok(format!(in alloc; "has {} to write: {bytes}", left.len())?)
         } else if wanted > 0 {
             Ok(format!(in alloc; "wants {wanted}")?)
@@ -67,7 +67,7 @@ impl Script {
         match self.connections.todo(slot) {
             Todo::Read(count) => Ok(format!(in alloc; "read {count}")?),
             Todo::Write => {
-                let left = shown(alloc, self.connections.pending_output(slot))?;
+                let left = bytes_text(alloc, self.connections.pending_output(slot))?;
                 Ok(format!(in alloc; "write {left}")?)
             }
             Todo::Linger => Ok(String::from_str(alloc, "linger")?),
@@ -77,7 +77,7 @@ impl Script {
     }
 
     /// Each slot, and then the totals.
-    pub fn shown(&self) -> io::Result<String> {
+    pub fn overview(&self) -> io::Result<String> {
         let mut text = String::new(self.alloc);
         for slot in 0..self.slots {
             let todo = self.todo(slot)?;
