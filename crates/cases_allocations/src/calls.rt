@@ -6,12 +6,12 @@ use crate::stop::{Fell, Stop};
 use crate::{client, commands, desks, frames, keys, messages, pools, records, tables};
 
 /// Writes what the call of a line gives; returns where the refused allocation fell.
-pub fn told<R: Machine>(rt: &R, page: &mut Page, line: &str) -> Result<Fell, Stop> {
+pub fn run_call<R: Machine>(rt: &R, page: &mut Page, line: &str) -> Result<Fell, Stop> {
     let (call, text) = line.split_once(' ').unwrap_or((line, ""));
     match call {
-        "desk" => desks::told(rt, page, text),
-        "pool" => pools::told(rt, page),
-        "alone" => tables::told(page, text),
+        "desk" => desks::run_call(rt, page, text),
+        "pool" => pools::run_call(rt, page),
+        "alone" => tables::run_call(page, text),
         _ => {
             plain(page, call, text)?;
             Ok(Fell::Nowhere)
@@ -22,12 +22,12 @@ pub fn told<R: Machine>(rt: &R, page: &mut Page, line: &str) -> Result<Fell, Sto
 /// A call that changes nothing when it is refused.
 fn plain(page: &mut Page, call: &str, text: &str) -> Result<(), Stop> {
     match call {
-        "read" | "write" => records::told(page, call == "read", text),
-        "key" => keys::told(page, text),
-        "message" => messages::told(page, text),
-        "frame" => frames::told(page, text),
-        "client" => client::told(page, text),
-        "command" => commands::told(page, text),
+        "read" | "write" => records::run_call(page, call == "read", text),
+        "key" => keys::run_call(page, text),
+        "message" => messages::run_call(page, text),
+        "frame" => frames::run_call(page, text),
+        "client" => client::run_call(page, text),
+        "command" => commands::run_call(page, text),
         "table" => tables::plain(page, text),
         _ => Err(Stop::Wrong("no such call")),
     }

@@ -1,30 +1,30 @@
 //! Calls of chpw_client, and what a reply says.
 
 use crate::page::Page;
-use crate::stop::{Stop, called, opened};
+use crate::stop::{Stop, called, open_result};
 use crate::streams::{Exchange, exchanged, reply_of};
-use crate::world::sent;
+use crate::world::sent_request;
 use chpw_client::{Sent, client_line};
 use chpw_frame::split_reply;
 use krb_msgs::read_reply;
 
 /// `client_request`, `client_line` and `read_reply`.
-pub fn told(page: &mut Page, call: &str) -> Result<(), Stop> {
+pub fn run_call(page: &mut Page, call: &str) -> Result<(), Stop> {
     match call {
         "client_request" => {
-            let sent = sent(page.alloc(), 0)?;
+            let sent = sent_request(page.alloc(), 0)?;
             page.hexadecimal(sent.message.as_slice());
             Ok(())
         }
         _ => {
             let exchange = exchanged(page.alloc())?;
-            told_of(page, call, &exchange)
+            run_reply_call(page, call, &exchange)
         }
     }
 }
 
 /// The calls that read a reply.
-fn told_of(page: &mut Page, call: &str, exchange: &Exchange) -> Result<(), Stop> {
+fn run_reply_call(page: &mut Page, call: &str, exchange: &Exchange) -> Result<(), Stop> {
     let (sent, reply) = (&exchange.request.sent, reply_of(&exchange.written));
     match call {
         "client_line" => put_line(page, sent, reply),
@@ -53,7 +53,7 @@ fn put_reply(page: &mut Page, sent: &Sent, reply: &[u8]) -> Result<(), Stop> {
     let (session, subkey) = (&sent.session, &sent.subkey);
     let (ctime, cusec) = (sent.ctime, sent.cusec);
     let alloc = page.alloc();
-    let said = opened(read_reply(alloc, session, subkey, ctime, cusec, parts.ap, parts.tail))?;
+    let said = open_result(read_reply(alloc, session, subkey, ctime, cusec, parts.ap, parts.tail))?;
     page.put("code ");
     page.number(u32::from(said.code));
     page.put(" ");

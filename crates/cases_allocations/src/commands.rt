@@ -43,13 +43,13 @@ const SCRIPT: &str = "realm EXAMPLE.COM
 ";
 
 /// The command, and the words after it.
-pub fn told(page: &mut Page, line: &str) -> Result<(), Stop> {
+pub fn run_call(page: &mut Page, line: &str) -> Result<(), Stop> {
     let (call, text) = line.split_once(' ').unwrap_or((line, ""));
     match call {
         "read_config" => read(page, config_of(text)),
-        "run_check" => checked(page, config_of(text)),
-        "explain_check" => explained(page, config_of("faulty")),
-        "run_drill" => drilled(page, text),
+        "run_check" => put_check(page, config_of(text)),
+        "explain_check" => put_explanation(page, config_of("faulty")),
+        "run_drill" => put_drill(page, text),
         "command_of" => commanded(page, text),
         _ => Err(Stop::Wrong("no such call")),
     }
@@ -82,7 +82,7 @@ fn put_config(page: &mut Page, config: &Config) {
 }
 
 /// What a command printed; after a refusal it must have printed nothing.
-fn printed<T>(answer: Result<T, DrillFault>, written: &[u8]) -> Result<T, Stop> {
+fn command_result<T>(answer: Result<T, DrillFault>, written: &[u8]) -> Result<T, Stop> {
     match answer {
         Ok(value) => Ok(value),
         Err(DrillFault::Memory) if written.is_empty() => Err(Stop::Call),
@@ -95,17 +95,17 @@ fn text_of(bytes: &[u8]) -> &str {
     str::from_utf8(bytes).unwrap_or("no UTF-8").trim_end()
 }
 
-fn checked(page: &mut Page, config: &str) -> Result<(), Stop> {
+fn put_check(page: &mut Page, config: &str) -> Result<(), Stop> {
     let mut written = Vec::with_capacity(page.alloc(), PRINTED)?;
     let answer = run_check(page.alloc(), config.as_bytes(), &mut written);
-    let status = printed(answer, &written)?;
+    let status = command_result(answer, &written)?;
     page.put(text_of(&written));
     page.put(", status ");
     page.number(u32::from(status));
     Ok(())
 }
 
-fn explained(page: &mut Page, config: &str) -> Result<(), Stop> {
+fn put_explanation(page: &mut Page, config: &str) -> Result<(), Stop> {
     match called(explain_check(page.alloc(), config.as_bytes()))? {
         None => Err(Stop::Wrong("a fault that isn't explained")),
         Some(words) => {
@@ -116,7 +116,7 @@ fn explained(page: &mut Page, config: &str) -> Result<(), Stop> {
 }
 
 /// The lines of the script with `;` between them; what it prints, with `;` for newlines.
-fn drilled(page: &mut Page, script: &str) -> Result<(), Stop> {
+fn put_drill(page: &mut Page, script: &str) -> Result<(), Stop> {
     let alloc = page.alloc();
     let script = script.replace(alloc, ";", "\n")?;
     let mut written = Vec::with_capacity(alloc, PRINTED)?;
@@ -129,7 +129,7 @@ fn drilled(page: &mut Page, script: &str) -> Result<(), Stop> {
 fn drill(alloc: Global, script: &[u8], written: &mut Vec<u8>) -> Result<(), Stop> {
     let mut reader = script;
     let answer = run_drill(alloc, &mut reader, written);
-    printed(answer, written)
+    command_result(answer, written)
 }
 
 /// A word of the command that these words ask for, or why they ask for none.
@@ -137,7 +137,7 @@ fn commanded(page: &mut Page, text: &str) -> Result<(), Stop> {
     let words = words_of(page.alloc(), text)?;
     match command_of(page.alloc(), &words) {
         Ok(invocation) => {
-            page.put(named(&invocation));
+            page.put(word_of(&invocation));
             Ok(())
         }
         Err(error) => put_kind(page, error.kind()),
@@ -160,7 +160,7 @@ fn words_of(alloc: Global, text: &str) -> Result<Vec<String>, Stop> {
     Ok(words)
 }
 
-fn named<'a>(invocation: &Invocation<'a>) -> &'a str {
+fn word_of<'a>(invocation: &Invocation<'a>) -> &'a str {
     match invocation {
         Invocation::Drill => "drill",
         Invocation::Check { config } => config,

@@ -2,7 +2,7 @@
 
 use crate::page::Page;
 use crate::stop::{Fell, Stop};
-use crate::world::{asked, complete, password};
+use crate::world::{complete, opened_request, password};
 use chpw_table::{DecideFault, Opened, Refused, Verdict};
 use std::alloc::Global;
 
@@ -19,7 +19,7 @@ pub trait Decides {
 const ANOTHER: Stop = Stop::Wrong("another refusal");
 
 /// All that can be seen.
-pub fn seen<D: Decides>(alloc: Global, decider: &mut D) -> Result<Page, Stop> {
+pub fn visible_state<D: Decides>(alloc: Global, decider: &mut D) -> Result<Page, Stop> {
     let mut page = Page::new(alloc);
     decider.show(&mut page);
     page.whole()?;
@@ -27,8 +27,8 @@ pub fn seen<D: Decides>(alloc: Global, decider: &mut D) -> Result<Page, Stop> {
 }
 
 /// Checks that all that can be seen is unchanged.
-pub fn unchanged<D: Decides>(decider: &mut D, was: &Page) -> Result<(), Stop> {
-    let now = seen(was.alloc(), decider)?;
+pub fn check_unchanged<D: Decides>(decider: &mut D, was: &Page) -> Result<(), Stop> {
+    let now = visible_state(was.alloc(), decider)?;
     if now.text() == was.text() {
         Ok(())
     } else {
@@ -66,7 +66,7 @@ pub fn change_often<D: Decides>(alloc: Global, decider: &mut D, count: u32) -> R
 }
 
 /// The verdict of a request after this many changes, with its keys or with keys to be derived.
-pub fn decided<D: Decides>(
+pub fn decide_after_changes<D: Decides>(
     page: &mut Page,
     decider: &mut D,
     before: u32,
@@ -75,7 +75,7 @@ pub fn decided<D: Decides>(
     let alloc = page.alloc();
     change_often(alloc, decider, before)?;
     let (fell, verdict) = if derives {
-        derived(alloc, decider, before)?
+        verdict_deriving(alloc, decider, before)?
     } else {
         verdict_of(alloc, decider, complete(alloc, before)?, None)?
     };
@@ -86,14 +86,14 @@ pub fn decided<D: Decides>(
 }
 
 /// The verdict of a request whose keys are derived.
-fn derived<D: Decides>(
+fn verdict_deriving<D: Decides>(
     alloc: Global,
     decider: &mut D,
     number: u32,
 ) -> Result<(Fell, Verdict), Stop> {
     let password = password(alloc, number)?;
     let password = Some(password.as_str().as_bytes());
-    verdict_of(alloc, decider, asked(alloc, number)?, password)
+    verdict_of(alloc, decider, opened_request(alloc, number)?, password)
 }
 
 /// What a refused request is compared with.
@@ -104,7 +104,7 @@ struct Before {
 }
 
 fn looked_at<D: Decides>(alloc: Global, decider: &mut D, opened: &Opened) -> Result<Before, Stop> {
-    let seen = seen(alloc, decider)?;
+    let seen = visible_state(alloc, decider)?;
     let opened = opened.clone()?;
     Ok(Before { opened, seen })
 }
@@ -154,7 +154,7 @@ fn left_alone<D: Decides>(
     was: &Before,
 ) -> Result<(), Stop> {
     handed_back(refused, password, was)?;
-    unchanged(decider, &was.seen)
+    check_unchanged(decider, &was.seen)
 }
 
 /// Checks that want of memory refused a request, and returned it unchanged; if its keys are to be derived it may have

@@ -2,12 +2,12 @@
 ghost use Rattle.std.specs.Prelude.{◌≡◌};
 ghost use Rattle.chpw_book.specs.Starting.{IsNamed, workers_of};
 
-use crate::deciding::{change_often, decided_once, seen, unchanged};
+use crate::deciding::{change_often, check_unchanged, decided_once, visible_state};
 use crate::page::Page;
 use crate::seen::{put_history, put_kept};
 use crate::stop::{Fell, Stop, wanting};
 use crate::streams::{Serves, decided_or_served};
-use crate::world::{JOURNAL, known, table};
+use crate::world::{JOURNAL, known_name, table};
 use chpw_book::{AtDesk, CloseRefused, Closed, Desk, DeskName, Pass, RaiseFault, UnnamedDesk};
 use chpw_journal::MemorySink;
 use chpw_rules::Name;
@@ -40,7 +40,7 @@ struct Asked<'a> {
 
 /// `start`, `decide N`, `derive N`, `serve N`, `lookup N`: the call after N changes. `leave N`: the desk is closed
 /// after a decision, which is not made again if it was refused.
-pub fn told<R: Wait>(rt: &R, page: &mut Page, line: &str) -> Result<Fell, Stop> {
+pub fn run_call<R: Wait>(rt: &R, page: &mut Page, line: &str) -> Result<Fell, Stop> {
     let (call, number) = line.split_once(' ').unwrap_or((line, "0"));
     let before = number.parse().unwrap_or(0);
     let asked = Asked { call, before };
@@ -72,7 +72,7 @@ fn with_desk<D: DeskName, R: Wait>(
     asked: Asked<'_>,
 ) -> Result<Fell, Stop> {
     let fell = with_first(rt, page, &desk, &mut passes, asked);
-    match closed(rt, desk, passes) {
+    match close_desk(rt, desk, passes) {
         Ok(closed) => with_left(page, &closed, asked, fell),
         Err(stop) => Err(stop),
     }
@@ -101,7 +101,7 @@ fn with_left(
     let fell = fell?;
     page.put("; ");
     if asked.call == "leave" {
-        counted(closed, asked.before, fell)?;
+        check_counts(closed, asked.before, fell)?;
         page.put("as many entries, changes and records");
     } else {
         put_history(page, &closed.history);
@@ -120,7 +120,7 @@ fn with_worker<W: Works>(page: &mut Page, worker: &mut W, asked: Asked<'_>) -> R
         }
         "leave" => decided_once(page, worker, before),
         "lookup" => looked_up(page, worker, before),
-        "raise" => raised(page, worker, before),
+        "raise" => raise_after(page, worker, before),
         call => decided_or_served(page, worker, call, before),
     }
 }
@@ -130,7 +130,7 @@ fn looked_up<W: Works>(page: &mut Page, worker: &mut W, before: u32) -> Result<F
     let alloc = page.alloc();
     change_often(alloc, worker, before)?;
     let was = receipts_of(alloc, worker)?;
-    let alice = known(alloc, "alice")?;
+    let alice = known_name(alloc, "alice")?;
     match worker.look_up(page, &alice) {
         Ok(()) => Ok(Fell::Nowhere),
         Err(_) => looked_up_again(page, worker, &alice, &was),
@@ -162,9 +162,9 @@ fn receipts_of<W: Works>(alloc: Global, worker: &W) -> Result<Page, Stop> {
 }
 
 /// The result of a raise.
-fn raised<W: Works>(page: &mut Page, worker: &mut W, before: u32) -> Result<Fell, Stop> {
+fn raise_after<W: Works>(page: &mut Page, worker: &mut W, before: u32) -> Result<Fell, Stop> {
     change_often(page.alloc(), worker, before)?;
-    let was = seen(page.alloc(), worker)?;
+    let was = visible_state(page.alloc(), worker)?;
     match worker.raise() {
         Ok(verdict) => put_raise(page, worker, verdict),
         Err(RaiseFault::Memory) => return raised_again(page, worker, &was),
@@ -175,7 +175,7 @@ fn raised<W: Works>(page: &mut Page, worker: &mut W, before: u32) -> Result<Fell
 
 /// The raise after a refusal, which has left the pass unchanged.
 fn raised_again<W: Works>(page: &mut Page, worker: &mut W, was: &Page) -> Result<Fell, Stop> {
-    unchanged(worker, was)?;
+    check_unchanged(worker, was)?;
     match worker.raise() {
         Ok(verdict) => put_raise(page, worker, verdict),
         Err(_) => return Err(Stop::Wrong("refused again")),
@@ -190,7 +190,7 @@ fn put_raise<W: Works>(page: &mut Page, worker: &mut W, verdict: RaiseVerdict) {
 }
 
 /// A desk that can be closed.
-pub fn closed<D: DeskName, R: Wait>(
+pub fn close_desk<D: DeskName, R: Wait>(
     rt: &R,
     desk: Desk<D, MemorySink>,
     passes: Vec<Pass<D>>,
@@ -211,10 +211,10 @@ pub fn closed<D: DeskName, R: Wait>(
 }
 
 /// Checks that a desk leaves this many changes, and one more unless the last was refused.
-fn counted(closed: &Closed<MemorySink>, before: u32, fell: Fell) -> Result<(), Stop> {
+fn check_counts(closed: &Closed<MemorySink>, before: u32, fell: Fell) -> Result<(), Stop> {
     let changes = before.saturating_add(if fell == Fell::Call { 0 } else { 1 });
     let count = changes as usize;
-    let is_so = closed.table.seen() == changes
+    let is_so = closed.table.changes_accepted() == changes
         && closed.history.len() == count
         && closed.sink.bytes().len() == count.saturating_mul(RECORD);
     if is_so {

@@ -12,25 +12,25 @@ use std::alloc::Global;
 const SHORT: usize = 10_000;
 
 /// `join_.. HEX HEX`, a message of these parts; `read_.. HEX`.
-pub fn told(page: &mut Page, line: &str) -> Result<(), Stop> {
+pub fn run_call(page: &mut Page, line: &str) -> Result<(), Stop> {
     let (call, text) = line.split_once(' ').unwrap_or((line, ""));
     let (first, second) = text.split_once(' ').unwrap_or((text, ""));
     let first = bytes_of(page.alloc(), first)?;
     let second = bytes_of(page.alloc(), second)?;
-    let made = made(page.alloc(), call, &first, &second)?;
+    let made = call_result(page.alloc(), call, &first, &second)?;
     page.hexadecimal(&made);
     Ok(())
 }
 
-fn made(alloc: Global, call: &str, first: &[u8], second: &[u8]) -> Result<Vec<u8>, Stop> {
+fn call_result(alloc: Global, call: &str, first: &[u8], second: &[u8]) -> Result<Vec<u8>, Stop> {
     match call {
-        "read_change_data" => changed(alloc, first),
-        "read_tcp" => received(alloc, first),
-        _ => joined(alloc, call, first, second),
+        "read_change_data" => asked_password(alloc, first),
+        "read_tcp" => read_message(alloc, first),
+        _ => join_parts(alloc, call, first, second),
     }
 }
 
-fn joined(alloc: Global, call: &str, ap: &[u8], tail: &[u8]) -> Result<Vec<u8>, Stop> {
+fn join_parts(alloc: Global, call: &str, ap: &[u8], tail: &[u8]) -> Result<Vec<u8>, Stop> {
     if ap.is_empty() || ap.len() > SHORT || tail.len() > SHORT {
         return Err(Stop::Wrong("parts of another length"));
     }
@@ -43,7 +43,7 @@ fn joined(alloc: Global, call: &str, ap: &[u8], tail: &[u8]) -> Result<Vec<u8>, 
 }
 
 /// The password that is asked for.
-fn changed(alloc: Global, text: &[u8]) -> Result<Vec<u8>, Stop> {
+fn asked_password(alloc: Global, text: &[u8]) -> Result<Vec<u8>, Stop> {
     match read_change_data(alloc, text) {
         Ok(change) => Ok(change.password.into_vec()),
         Err(ChangeFault::Memory) => Err(Stop::Call),
@@ -51,7 +51,7 @@ fn changed(alloc: Global, text: &[u8]) -> Result<Vec<u8>, Stop> {
     }
 }
 
-fn received(alloc: Global, stream: &[u8]) -> Result<Vec<u8>, Stop> {
+fn read_message(alloc: Global, stream: &[u8]) -> Result<Vec<u8>, Stop> {
     let mut stream = stream;
     match called(read_tcp(alloc, &mut stream))? {
         Received::Message(message) => Ok(message),

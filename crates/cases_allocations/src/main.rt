@@ -30,7 +30,7 @@ mod tables;
 mod workers;
 mod world;
 
-use calls::told;
+use calls::run_call;
 use chpw_read_fully::{Filled, fill};
 use page::Page;
 use pools::Machine;
@@ -115,7 +115,7 @@ fn twice<R: Machine>(rt: &R, page: &mut Page, line: &str) -> Result<Fell, Stop> 
 }
 
 fn once<R: Machine>(rt: &R, page: &mut Page, line: &str) -> Result<Fell, Stop> {
-    let fell = told(rt, page, line)?;
+    let fell = run_call(rt, page, line)?;
     page.whole()?;
     Ok(fell)
 }

@@ -3,8 +3,8 @@
 use crate::making::{KEY, SERVICE, ap_rep, ap_req, krb_error, krb_priv, ticket};
 use crate::page::Page;
 use crate::records::bytes_of;
-use crate::stop::{Stop, beside, called, opened};
-use crate::world::{PEER, configured, sent};
+use crate::stop::{Stop, beside, called, open_result};
+use crate::world::{PEER, realm_config, sent_request};
 use chpw_client::Sent;
 use chpw_frame::{Parts, split_request};
 use chpw_messages::Service;
@@ -17,14 +17,14 @@ use krb_msgs::{ApOpened, ServiceKey, open_ap, open_priv};
 use std::alloc::Global;
 
 /// `make_.. HEX`, a message of that part; `open_..`, of alice's request; and `service`.
-pub fn told(page: &mut Page, line: &str) -> Result<(), Stop> {
+pub fn run_call(page: &mut Page, line: &str) -> Result<(), Stop> {
     let (call, text) = line.split_once(' ').unwrap_or((line, ""));
     match call {
         "open_ap" => ap_opened(page),
         "open_priv" => priv_opened(page),
         "service" => service(page),
         _ => {
-            let made = made(page.alloc(), call, text)?;
+            let made = message_of_part(page.alloc(), call, text)?;
             page.hexadecimal(&made);
             Ok(())
         }
@@ -32,7 +32,7 @@ pub fn told(page: &mut Page, line: &str) -> Result<(), Stop> {
 }
 
 /// The message of a part, whose text is in hexadecimal; for an AP-REQ of two.
-fn made(alloc: Global, call: &str, text: &str) -> Result<Vec<u8>, Stop> {
+fn message_of_part(alloc: Global, call: &str, text: &str) -> Result<Vec<u8>, Stop> {
     let (first, second) = text.split_once(' ').unwrap_or((text, ""));
     let (first, second) = (bytes_of(alloc, first)?, bytes_of(alloc, second)?);
     made_of(alloc, call, &first, &second)
@@ -89,11 +89,11 @@ fn open(alloc: Global, ap: &[u8]) -> Result<ApOpened, Stop> {
         kvno: 3,
         key: Key::Aes256([0x5a; 32]),
     }];
-    opened(open_ap(alloc, b"EXAMPLE.COM", &keys, ap, PEER))
+    open_result(open_ap(alloc, b"EXAMPLE.COM", &keys, ap, PEER))
 }
 
 fn ap_opened(page: &mut Page) -> Result<(), Stop> {
-    let sent = beside(sent(page.alloc(), 0))?;
+    let sent = beside(sent_request(page.alloc(), 0))?;
     put_ap(page, &sent)
 }
 
@@ -120,7 +120,7 @@ fn put_opened(page: &mut Page, found: &ApOpened) {
 
 /// The user-data of the KRB-PRIV.
 fn priv_opened(page: &mut Page) -> Result<(), Stop> {
-    let sent = beside(sent(page.alloc(), 0))?;
+    let sent = beside(sent_request(page.alloc(), 0))?;
     put_priv_of(page, &sent)
 }
 
@@ -131,14 +131,14 @@ fn put_priv_of(page: &mut Page, sent: &Sent) -> Result<(), Stop> {
 }
 
 fn put_priv(page: &mut Page, found: &ApOpened, text: &[u8]) -> Result<(), Stop> {
-    let private = opened(open_priv(page.alloc(), found, text))?;
+    let private = open_result(open_priv(page.alloc(), found, text))?;
     page.hexadecimal(private.user_bytes.as_slice());
     Ok(())
 }
 
 /// The realm of a service that is made.
 fn service(page: &mut Page) -> Result<(), Stop> {
-    let config = configured(page.alloc())?;
+    let config = realm_config(page.alloc())?;
     let service = called(Service::of(page.alloc(), &config))?;
     page.hexadecimal(chpw_serve::Messages::realm(&service));
     Ok(())

@@ -2,7 +2,7 @@
 ghost use Rattle.std.specs.Prelude.{◌≡◌};
 ghost use Rattle.chpw_book.specs.Starting.{IsNamed};
 
-use crate::desks::closed;
+use crate::desks::close_desk;
 use crate::page::Page;
 use crate::seen::put_kept;
 use crate::stop::{Fell, Stop, beside};
@@ -58,14 +58,14 @@ struct Site<'a> {
 
 /// Alice's request, sent three times to a pool that is run until it has served as many connections:
 /// whether the pool was refused, or a connection.
-pub fn told<R: Machine>(rt: &R, page: &mut Page) -> Result<Fell, Stop> {
+pub fn run_call<R: Machine>(rt: &R, page: &mut Page) -> Result<Fell, Stop> {
     let alloc = page.alloc();
     let now = machine_moment(rt).ok_or(Stop::Wrong("no clock"))?;
     let request = Request::of(alloc, beside(sent_at(alloc, now, 0))?)?;
-    told_of(rt, page, &request)
+    run_with_request(rt, page, &request)
 }
 
-fn told_of<R: Machine>(rt: &R, page: &mut Page, request: &Request) -> Result<Fell, Stop> {
+fn run_with_request<R: Machine>(rt: &R, page: &mut Page, request: &Request) -> Result<Fell, Stop> {
     let listener = TcpListener::bind(rt, ("127.0.0.1", 0u16))?;
     let site = Site {
         listener: &listener,
@@ -73,10 +73,10 @@ fn told_of<R: Machine>(rt: &R, page: &mut Page, request: &Request) -> Result<Fel
         service: &request.service,
         stream: &request.stream,
     };
-    told_at(rt, page, site)
+    run_at_site(rt, page, site)
 }
 
-fn told_at<R: Machine>(rt: &R, page: &mut Page, site: Site<'_>) -> Result<Fell, Stop> {
+fn run_at_site<R: Machine>(rt: &R, page: &mut Page, site: Site<'_>) -> Result<Fell, Stop> {
     let unnamed = UnnamedDesk::of(table(page.alloc())?, 2);
     at::<Brand, R>(rt, page, unnamed, site)
 }
@@ -104,7 +104,7 @@ fn with_desk<D: DeskName + Send + Sync, R: Machine>(
     site: Site<'_>,
 ) -> Result<Fell, Stop> {
     let fell = at_once(rt, page.alloc(), &desk, &mut passes, site);
-    match closed(rt, desk, passes) {
+    match close_desk(rt, desk, passes) {
         Ok(closed) => put_left(page, &closed, fell),
         Err(stop) => Err(stop),
     }
@@ -121,8 +121,8 @@ fn at_once<D: DeskName + Send + Sync, R: Machine>(
     let (listener, service) = (site.listener, site.service);
     let (fell, answered) = join(
         rt,
-        || pooled(rt, alloc, listener, service, desk, passes),
-        || asked(rt, site),
+        || run_pools(rt, alloc, listener, service, desk, passes),
+        || count_replies(rt, site),
     );
     match fell {
         Fell::Nowhere if answered < CONNECTIONS => Fell::Connection,
@@ -131,7 +131,7 @@ fn at_once<D: DeskName + Send + Sync, R: Machine>(
 }
 
 /// Runs the pool until it has served this many connections: whether it was refused.
-fn pooled<D: DeskName + Send + Sync, R: Machine>(
+fn run_pools<D: DeskName + Send + Sync, R: Machine>(
     rt: &R,
     alloc: Global,
     listener: &TcpListener,
@@ -164,7 +164,7 @@ fn pooled<D: DeskName + Send + Sync, R: Machine>(
 }
 
 /// The client: how often it gets a reply.
-fn asked<R: Machine>(rt: &R, site: Site<'_>) -> u32 {
+fn count_replies<R: Machine>(rt: &R, site: Site<'_>) -> u32 {
     let mut answered = 0u32;
     for _ in 0..CONNECTIONS {
         if exchange(rt, site).unwrap_or(0) > 0 {

@@ -31,7 +31,7 @@ fn legal<T: Write + Drop>(reads: bool, found: Result<T, ReadError>) -> Result<T,
 }
 
 /// The bytes that were written.
-fn written(reads: bool, made: Result<Vec<u8>, AllocError>) -> Result<Vec<u8>, Stop> {
+fn written_bytes(reads: bool, made: Result<Vec<u8>, AllocError>) -> Result<Vec<u8>, Stop> {
     match made {
         Ok(text) => Ok(text),
         Err(_) => Err(wanting(!reads)),
@@ -40,87 +40,87 @@ fn written(reads: bool, made: Result<Vec<u8>, AllocError>) -> Result<Vec<u8>, St
 
 fn principal_name(alloc: Global, reads: bool, text: &[u8]) -> Result<Vec<u8>, Stop> {
     let value = legal(reads, read_principal_name(alloc, text))?;
-    written(reads, write_principal_name(alloc, &value))
+    written_bytes(reads, write_principal_name(alloc, &value))
 }
 
 fn encrypted_data(alloc: Global, reads: bool, text: &[u8]) -> Result<Vec<u8>, Stop> {
     let value = legal(reads, read_encrypted_data(alloc, text))?;
-    written(reads, write_encrypted_data(alloc, &value))
+    written_bytes(reads, write_encrypted_data(alloc, &value))
 }
 
 fn encryption_key(alloc: Global, reads: bool, text: &[u8]) -> Result<Vec<u8>, Stop> {
     let value = legal(reads, read_encryption_key(alloc, text))?;
-    written(reads, write_encryption_key(alloc, &value))
+    written_bytes(reads, write_encryption_key(alloc, &value))
 }
 
 fn host_address(alloc: Global, reads: bool, text: &[u8]) -> Result<Vec<u8>, Stop> {
     let value = legal(reads, read_host_address(alloc, text))?;
-    written(reads, write_host_address(alloc, &value))
+    written_bytes(reads, write_host_address(alloc, &value))
 }
 
 fn checksum(alloc: Global, reads: bool, text: &[u8]) -> Result<Vec<u8>, Stop> {
     let value = legal(reads, read_checksum(alloc, text))?;
-    written(reads, write_checksum(alloc, &value))
+    written_bytes(reads, write_checksum(alloc, &value))
 }
 
 fn transited_encoding(alloc: Global, reads: bool, text: &[u8]) -> Result<Vec<u8>, Stop> {
     let value = legal(reads, read_transited_encoding(alloc, text))?;
-    written(reads, write_transited_encoding(alloc, &value))
+    written_bytes(reads, write_transited_encoding(alloc, &value))
 }
 
 fn authorization_data(alloc: Global, reads: bool, text: &[u8]) -> Result<Vec<u8>, Stop> {
     let value = legal(reads, read_authorization_data(alloc, text))?;
-    written(reads, write_authorization_data(alloc, &value))
+    written_bytes(reads, write_authorization_data(alloc, &value))
 }
 
 fn change_passwd_data(alloc: Global, reads: bool, text: &[u8]) -> Result<Vec<u8>, Stop> {
     let value = legal(reads, read_change_passwd_data(alloc, text))?;
-    written(reads, write_change_passwd_data(alloc, &value))
+    written_bytes(reads, write_change_passwd_data(alloc, &value))
 }
 
 fn ticket(alloc: Global, reads: bool, text: &[u8]) -> Result<Vec<u8>, Stop> {
     let value = legal(reads, read_ticket(alloc, text))?;
-    written(reads, write_ticket(alloc, &value))
+    written_bytes(reads, write_ticket(alloc, &value))
 }
 
 fn enc_ticket_part(alloc: Global, reads: bool, text: &[u8]) -> Result<Vec<u8>, Stop> {
     let value = legal(reads, read_enc_ticket_part(alloc, text))?;
-    written(reads, write_enc_ticket_part(alloc, &value))
+    written_bytes(reads, write_enc_ticket_part(alloc, &value))
 }
 
 fn authenticator(alloc: Global, reads: bool, text: &[u8]) -> Result<Vec<u8>, Stop> {
     let value = legal(reads, read_authenticator(alloc, text))?;
-    written(reads, write_authenticator(alloc, &value))
+    written_bytes(reads, write_authenticator(alloc, &value))
 }
 
 fn ap_req(alloc: Global, reads: bool, text: &[u8]) -> Result<Vec<u8>, Stop> {
     let value = legal(reads, read_ap_req(alloc, text))?;
-    written(reads, write_ap_req(alloc, &value))
+    written_bytes(reads, write_ap_req(alloc, &value))
 }
 
 fn ap_rep(alloc: Global, reads: bool, text: &[u8]) -> Result<Vec<u8>, Stop> {
     let value = legal(reads, read_ap_rep(alloc, text))?;
-    written(reads, write_ap_rep(alloc, &value))
+    written_bytes(reads, write_ap_rep(alloc, &value))
 }
 
 fn enc_ap_rep_part(alloc: Global, reads: bool, text: &[u8]) -> Result<Vec<u8>, Stop> {
     let value = legal(reads, read_enc_ap_rep_part(alloc, text))?;
-    written(reads, write_enc_ap_rep_part(alloc, &value))
+    written_bytes(reads, write_enc_ap_rep_part(alloc, &value))
 }
 
 fn krb_priv(alloc: Global, reads: bool, text: &[u8]) -> Result<Vec<u8>, Stop> {
     let value = legal(reads, read_krb_priv(alloc, text))?;
-    written(reads, write_krb_priv(alloc, &value))
+    written_bytes(reads, write_krb_priv(alloc, &value))
 }
 
 fn enc_krb_priv_part(alloc: Global, reads: bool, text: &[u8]) -> Result<Vec<u8>, Stop> {
     let value = legal(reads, read_enc_krb_priv_part(alloc, text))?;
-    written(reads, write_enc_krb_priv_part(alloc, &value))
+    written_bytes(reads, write_enc_krb_priv_part(alloc, &value))
 }
 
 fn krb_error(alloc: Global, reads: bool, text: &[u8]) -> Result<Vec<u8>, Stop> {
     let value = legal(reads, read_krb_error(alloc, text))?;
-    written(reads, write_krb_error(alloc, &value))
+    written_bytes(reads, write_krb_error(alloc, &value))
 }
 
 /// The bytes of a text in hexadecimal.
@@ -133,15 +133,15 @@ pub fn bytes_of(alloc: Global, text: &str) -> Result<Vec<u8>, Stop> {
 }
 
 /// `RECORD HEX`: the text of the record that was read.
-pub fn told(page: &mut Page, reads: bool, line: &str) -> Result<(), Stop> {
+pub fn run_call(page: &mut Page, reads: bool, line: &str) -> Result<(), Stop> {
     let (record, text) = line.split_once(' ').unwrap_or((line, ""));
     let bytes = bytes_of(page.alloc(), text)?;
-    let made = made(page.alloc(), reads, record, &bytes)?;
+    let made = record_text(page.alloc(), reads, record, &bytes)?;
     page.hexadecimal(&made);
     Ok(())
 }
 
-fn made(alloc: Global, reads: bool, record: &str, text: &[u8]) -> Result<Vec<u8>, Stop> {
+fn record_text(alloc: Global, reads: bool, record: &str, text: &[u8]) -> Result<Vec<u8>, Stop> {
     match record {
         "principal_name" => principal_name(alloc, reads, text),
         "encrypted_data" => encrypted_data(alloc, reads, text),

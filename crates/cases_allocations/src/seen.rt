@@ -1,7 +1,7 @@
 //! Tables, receipts and passes, shown as text.
 
 use crate::page::Page;
-use crate::world::known;
+use crate::world::known_name;
 use chpw_book::{Desk, DeskName, Pass};
 use chpw_decider::{Alone, Decider};
 use chpw_journal::MemorySink;
@@ -13,7 +13,7 @@ const NAMES: [&str; 2] = ["alice", "bob"];
 /// The changes accepted, how many ids are held, and each principal's keys, newest first.
 pub fn put_table(page: &mut Page, table: &Table) {
     page.put("seen ");
-    page.number(table.seen());
+    page.number(table.changes_accepted());
     page.put(" ids ");
     page.number(table.ids_held());
     for principal in NAMES {
@@ -24,7 +24,7 @@ pub fn put_table(page: &mut Page, table: &Table) {
 fn put_principal(page: &mut Page, table: &Table, principal: &str) {
     page.put(" ");
     page.put(principal);
-    match known(page.alloc(), principal) {
+    match known_name(page.alloc(), principal) {
         Ok(name) => {
             for key in table.keys_of(&name).unwrap_or(&[]) {
                 put_key(page, key);
@@ -122,7 +122,7 @@ fn put_shown<D: DeskName>(
     pass: &mut Pass<D>,
     principal: &str,
 ) {
-    let Ok(name) = known(page.alloc(), principal) else {
+    let Ok(name) = known_name(page.alloc(), principal) else {
         return page.leave_out();
     };
     match desk.lookup(pass, &name) {

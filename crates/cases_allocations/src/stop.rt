@@ -87,7 +87,7 @@ pub fn wanting(in_call: bool) -> Stop {
 }
 
 /// The result of a call that opens a message.
-pub fn opened<T, F: Drop>(answer: Result<T, OpenError<F>>) -> Result<T, Stop> {
+pub fn open_result<T, F: Drop>(answer: Result<T, OpenError<F>>) -> Result<T, Stop> {
     match answer {
         Ok(value) => Ok(value),
         Err(OpenError::Memory) => Err(Stop::Call),

@@ -1,11 +1,13 @@
 //! Streams, repeated when memory was refused.
 
 use crate::client::put_line;
-use crate::deciding::{Decides, change_often, decided, seen, unchanged};
+use crate::deciding::{
+    Decides, change_often, check_unchanged, decide_after_changes, visible_state,
+};
 use crate::page::Page;
 use crate::stop::{Fell, Stop, beside};
-use crate::tables::started;
-use crate::world::{REPLIES, configured, sent};
+use crate::tables::start_alone;
+use crate::world::{REPLIES, realm_config, sent_request};
 use chpw_client::Sent;
 use chpw_frame::{LONGEST_MESSAGE, write_tcp};
 use chpw_messages::Service;
@@ -49,7 +51,7 @@ impl Request {
 
     /// The request with these microseconds.
     pub fn new(alloc: Global, micros: u32) -> Result<Request, Stop> {
-        Request::of(alloc, beside(sent(alloc, micros))?)
+        Request::of(alloc, beside(sent_request(alloc, micros))?)
     }
 }
 
@@ -62,7 +64,7 @@ fn served_with(alloc: Global, message: &[u8]) -> Result<(Vec<u8>, Service), Stop
 
 /// The realm's service.
 fn service(alloc: Global) -> Result<Service, Stop> {
-    let config = configured(alloc)?;
+    let config = realm_config(alloc)?;
     Ok(Service::of(alloc, &config)?)
 }
 
@@ -108,7 +110,7 @@ pub fn exchanged(alloc: Global) -> Result<Exchange, Stop> {
 }
 
 fn first_answer(alloc: Global, request: &Request) -> Result<Vec<u8>, Stop> {
-    let mut alone = started(alloc)?;
+    let mut alone = start_alone(alloc)?;
     answer(alloc, &mut alone, request)
 }
 
@@ -120,15 +122,19 @@ pub fn decided_or_served<D: Serves>(
     before: u32,
 ) -> Result<Fell, Stop> {
     match call {
-        "decide" => decided(page, decider, before, false),
-        "derive" => decided(page, decider, before, true),
-        "serve" => served(page, decider, before),
+        "decide" => decide_after_changes(page, decider, before, false),
+        "derive" => decide_after_changes(page, decider, before, true),
+        "serve" => serve_after_changes(page, decider, before),
         _ => Err(Stop::Wrong("no such call")),
     }
 }
 
 /// A request served after this many others, and then its bytes once more.
-fn served<D: Serves>(page: &mut Page, decider: &mut D, before: u32) -> Result<Fell, Stop> {
+fn serve_after_changes<D: Serves>(
+    page: &mut Page,
+    decider: &mut D,
+    before: u32,
+) -> Result<Fell, Stop> {
     change_often(page.alloc(), decider, before)?;
     let request = Request::new(page.alloc(), before)?;
     served_twice(page, decider, &request)
@@ -149,14 +155,14 @@ fn served_twice<D: Serves>(
 
 /// Serves a request until it has its entry: it is accepted, or served again if memory was refused and it has no entry.
 fn change<D: Serves>(alloc: Global, decider: &mut D, request: &Request) -> Result<Fell, Stop> {
-    let was = seen(alloc, decider)?;
+    let was = visible_state(alloc, decider)?;
     let count = decider.receipt_count();
-    match accepted(alloc, decider, request) {
+    match serve_accepted(alloc, decider, request) {
         Ok(()) => Ok(Fell::Nowhere),
         Err(Stop::Call) if decider.receipt_count() != count => Ok(Fell::Behind),
         Err(Stop::Call) => {
-            unchanged(decider, &was)?;
-            beside(accepted(alloc, decider, request))?;
+            check_unchanged(decider, &was)?;
+            beside(serve_accepted(alloc, decider, request))?;
             Ok(Fell::Call)
         }
         Err(stop) => Err(stop),
@@ -164,7 +170,11 @@ fn change<D: Serves>(alloc: Global, decider: &mut D, request: &Request) -> Resul
 }
 
 /// Serves a request whose reply has to say that it is accepted.
-fn accepted<D: Serves>(alloc: Global, decider: &mut D, request: &Request) -> Result<(), Stop> {
+fn serve_accepted<D: Serves>(
+    alloc: Global,
+    decider: &mut D,
+    request: &Request,
+) -> Result<(), Stop> {
     let written = answer(alloc, decider, request)?;
     is_accepted(alloc, &request.sent, &written)
 }

@@ -1,13 +1,13 @@
 //! Calls of chpw_rules, chpw_table and chpw_journal, and a table that one thread owns.
 ghost use Rattle.std.specs.Prelude.{◌≤◌, All};
 
-use crate::deciding::decided;
+use crate::deciding::decide_after_changes;
 use crate::page::Page;
 use crate::seen::{put_history, put_table};
 use crate::stop::{Fell, Stop, beside, called};
 use crate::streams::decided_or_served;
 use crate::workers::Bare;
-use crate::world::{JOURNAL, NOW, complete, configured, known, table};
+use crate::world::{JOURNAL, NOW, complete, known_name, realm_config, table};
 use chpw_decider::Alone;
 use chpw_journal::{MemorySink, RestoreFault, restore};
 use chpw_rules::Name;
@@ -17,7 +17,7 @@ use std::slice;
 
 /// `decide N`, `derive N`, `serve N`, `table N`: the call after N changes; `add`: keys derived beside
 /// others.
-pub fn told(page: &mut Page, line: &str) -> Result<Fell, Stop> {
+pub fn run_call(page: &mut Page, line: &str) -> Result<Fell, Stop> {
     let (call, number) = line.split_once(' ').unwrap_or((line, "0"));
     let before = number.parse().unwrap_or(0);
     match call {
@@ -28,12 +28,12 @@ pub fn told(page: &mut Page, line: &str) -> Result<Fell, Stop> {
 }
 
 fn by_alone(page: &mut Page, call: &str, before: u32) -> Result<Fell, Stop> {
-    let mut alone = started(page.alloc())?;
+    let mut alone = start_alone(page.alloc())?;
     decided_or_served(page, &mut alone, call, before)
 }
 
 /// A table that one thread owns, without events.
-pub fn started(alloc: Global) -> Result<Alone<MemorySink>, Stop> {
+pub fn start_alone(alloc: Global) -> Result<Alone<MemorySink>, Stop> {
     let sink = MemorySink::new(alloc, JOURNAL)?;
     Ok(Alone::new(alloc, table(alloc)?, sink))
 }
@@ -54,7 +54,7 @@ fn bare(alloc: Global) -> Result<Bare, Stop> {
 }
 
 fn handed_back(page: &mut Page, bare: &mut Bare, before: u32) -> Result<Fell, Stop> {
-    let fell = decided(page, bare, before, false)?;
+    let fell = decide_after_changes(page, bare, before, false)?;
     let asked = complete(page.alloc(), before)?;
     if bare.handed_back(&asked) {
         Ok(fell)
@@ -128,18 +128,18 @@ fn put_digest(page: &mut Page, digest: &Digest) {
 pub fn plain(page: &mut Page, line: &str) -> Result<(), Stop> {
     let (call, text) = line.split_once(' ').unwrap_or((line, ""));
     match call {
-        "parse" => parsed(page, text),
+        "parse" => put_name(page, text),
         "start" => opening(page),
-        "derive" => derived(page),
-        "record_bytes" => recorded(page),
-        "restore" => restored(page, text.parse().unwrap_or(0)),
+        "derive" => put_derivation(page),
+        "record_bytes" => put_record(page),
+        "restore" => restore_records(page, text.parse().unwrap_or(0)),
         "sink" => sink(page),
         "clone" => cloned(page),
         _ => Err(Stop::Wrong("no such call")),
     }
 }
 
-fn parsed(page: &mut Page, text: &str) -> Result<(), Stop> {
+fn put_name(page: &mut Page, text: &str) -> Result<(), Stop> {
     match called(Name::parse(page.alloc(), text))? {
         None => Err(Stop::Wrong("no name")),
         Some(name) => {
@@ -153,13 +153,13 @@ fn parsed(page: &mut Page, text: &str) -> Result<(), Stop> {
 }
 
 fn opening(page: &mut Page) -> Result<(), Stop> {
-    let config = configured(page.alloc())?;
+    let config = realm_config(page.alloc())?;
     let table = called(Table::start(page.alloc(), config, -1))?;
     put_table(page, &table);
     Ok(())
 }
 
-fn derived(page: &mut Page) -> Result<(), Stop> {
+fn put_derivation(page: &mut Page) -> Result<(), Stop> {
     let mut counts = Counts::new();
     counts.push(3);
     counts.push(4);
@@ -170,7 +170,7 @@ fn derived(page: &mut Page) -> Result<(), Stop> {
 
 /// A record of alice's key with this version.
 fn record(alloc: Global, kvno: u32) -> Result<Vec<u8>, Stop> {
-    let alice = known(alloc, "alice")?;
+    let alice = known_name(alloc, "alice")?;
     let key = KeyRow {
         kvno,
         count: 4,
@@ -180,14 +180,14 @@ fn record(alloc: Global, kvno: u32) -> Result<Vec<u8>, Stop> {
     called(record_bytes(alloc, &alice, &key))
 }
 
-fn recorded(page: &mut Page) -> Result<(), Stop> {
+fn put_record(page: &mut Page) -> Result<(), Stop> {
     let record = record(page.alloc(), 2)?;
     page.hexadecimal(&record);
     Ok(())
 }
 
 /// A table with this many records of alice's.
-fn restored(page: &mut Page, records: u32) -> Result<(), Stop> {
+fn restore_records(page: &mut Page, records: u32) -> Result<(), Stop> {
     let journal = journal(page.alloc(), records)?;
     put_restored(page, &journal)
 }

@@ -29,7 +29,7 @@ pub const JOURNAL: usize = 10_000;
 pub const REPLIES: usize = 10_000;
 
 /// The principal with this name.
-pub fn known(alloc: Global, text: &str) -> Result<Name, Stop>
+pub fn known_name(alloc: Global, text: &str) -> Result<Name, Stop>
     ensures fits { IfOk result (λ name. is_name name ≡ true) }
 {
     match name(alloc, text) {
@@ -39,12 +39,12 @@ pub fn known(alloc: Global, text: &str) -> Result<Name, Stop>
 }
 
 fn principals(alloc: Global) -> Result<Vec<Name>, Stop> {
-    let (alice, bob) = (known(alloc, "alice")?, known(alloc, "bob")?);
+    let (alice, bob) = (known_name(alloc, "alice")?, known_name(alloc, "bob")?);
     Ok(vec![in alloc; alice, bob]?)
 }
 
 /// The realm's configuration.
-pub fn configured(alloc: Global) -> Result<Config, Stop>
+pub fn realm_config(alloc: Global) -> Result<Config, Stop>
     ensures fits { IfOk result (λ config. config_fits config ≡ true) }
 {
     match support_realm::config(alloc, principals(alloc)?, 4, 100) {
@@ -55,12 +55,12 @@ pub fn configured(alloc: Global) -> Result<Config, Stop>
 
 /// The table that it opens with.
 pub fn table(alloc: Global) -> Result<Table, Stop> {
-    let config = configured(alloc)?;
+    let config = realm_config(alloc)?;
     Ok(Table::start(alloc, config, -1)?)
 }
 
 /// Alice's request, with these microseconds; each is for another password.
-pub fn sent(alloc: Global, micros: u32) -> Result<Sent, Stop> {
+pub fn sent_request(alloc: Global, micros: u32) -> Result<Sent, Stop> {
     let now = Moment {
         seconds: NOW.seconds,
         micros,
@@ -71,8 +71,8 @@ pub fn sent(alloc: Global, micros: u32) -> Result<Sent, Stop> {
 /// Alice's request at a moment, for the password of this number.
 pub fn sent_at(alloc: Global, now: Moment, number: u32) -> Result<Sent, Stop> {
     let password = password(alloc, number)?;
-    let alice = known(alloc, "alice")?;
-    let config = configured(alloc)?;
+    let alice = known_name(alloc, "alice")?;
+    let config = realm_config(alloc)?;
     request(alloc, &config, &alice, password.as_str().as_bytes(), now)
 }
 
@@ -102,8 +102,8 @@ fn request(
 }
 
 /// Alice's request as it opened, with these microseconds and no keys yet.
-pub fn asked(alloc: Global, cusec: u32) -> Result<Opened, Stop> {
-    let client = known(alloc, "alice")?;
+pub fn opened_request(alloc: Global, cusec: u32) -> Result<Opened, Stop> {
+    let client = known_name(alloc, "alice")?;
     let Some(digest) = Digest::of(9, 4, Vec::new(alloc)) else {
         return Err(Stop::Wrong("no digest"));
     };
@@ -115,7 +115,7 @@ pub fn asked(alloc: Global, cusec: u32) -> Result<Opened, Stop> {
 
 /// The request with the keys of its password under the one count that there is.
 pub fn complete(alloc: Global, cusec: u32) -> Result<Opened, Stop> {
-    let mut opened = asked(alloc, cusec)?;
+    let mut opened = opened_request(alloc, cusec)?;
     derive(alloc, &mut opened, cusec)?;
     Ok(opened)
 }

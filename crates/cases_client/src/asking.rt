@@ -41,7 +41,7 @@ impl<'a> Question<'a> {
             target,
             initial: flagless.is_none(),
             old: earlier.is_some(),
-            password: expanded(alloc, password)?,
+            password: expand(alloc, password)?,
         })
     }
 
@@ -96,7 +96,7 @@ fn moment_at(second: i64, micros: u32) -> Moment
 }
 
 /// `N * TEXT` is that text N times, any other text itself.
-fn expanded(alloc: Global, text: &str) -> io::Result<String> {
+fn expand(alloc: Global, text: &str) -> io::Result<String> {
     let (count, text) = match text.split_once(" * ") {
         Some((count, text)) => (count.parse().unwrap_or(0), text),
         None => (1, text),

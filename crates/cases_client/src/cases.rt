@@ -1,8 +1,8 @@
 //! The cases, line by line.
 
 use crate::asking::Question;
-use crate::reading::{changed, cut, told};
-use crate::replying::{configured, no_case, reply_of};
+use crate::reading::{read_when_changed, read_when_cut, reply_line};
+use crate::replying::{no_case, read_configuration, reply_of};
 use chpw_client::Sent;
 use hex::{decode, encode};
 use std::alloc::{AllocError, Global};
@@ -88,7 +88,7 @@ impl Cases {
     }
 
     fn set_client(&mut self, alloc: Global, text: &str) -> io::Result<()> {
-        let client = edited(alloc, self.base.as_str(), text)?;
+        let client = apply_edits(alloc, self.base.as_str(), text)?;
         drop(mem::replace(&mut self.client, client));
         Ok(())
     }
@@ -111,7 +111,7 @@ impl Cases {
 
     fn request(&mut self, alloc: Global, text: &str) -> io::Result<Sent> {
         let question = Question::of(alloc, text)?;
-        let config = configured(alloc, self.client.as_str())?;
+        let config = read_configuration(alloc, self.client.as_str())?;
         let micros = u32::try_from(self.sent.len()).unwrap_or(0);
         let sent = question.request(alloc, &config, self.asked, micros, &mut self.words);
         drop(config);
@@ -127,7 +127,7 @@ impl Cases {
             return Err(no_case());
         };
         let reply = reply_of(alloc, world, self.answered, sent.message.as_slice())?;
-        let told = told(alloc, sent, &reply);
+        let told = reply_line(alloc, sent, &reply);
         drop(mem::replace(&mut self.reply, reply));
         told
     }
@@ -146,10 +146,10 @@ impl Cases {
         };
         match kind {
             "sent" => encode(alloc, sent.message.as_slice()).map_err(Error::from),
-            "reply" if text.is_empty() => told(alloc, sent, &self.reply),
-            "reply" => told_of(alloc, sent, text),
-            "cut" => cut(alloc, sent, &self.reply),
-            "changed" => changed(alloc, sent, &self.reply),
+            "reply" if text.is_empty() => reply_line(alloc, sent, &self.reply),
+            "reply" => reply_line_of(alloc, sent, text),
+            "cut" => read_when_cut(alloc, sent, &self.reply),
+            "changed" => read_when_changed(alloc, sent, &self.reply),
             "mistaken" => self.mistaken(alloc),
             _ => Err(no_case()),
         }
@@ -157,22 +157,22 @@ impl Cases {
 
     fn mistaken(&self, alloc: Global) -> io::Result<String> {
         match self.sent.as_slice() {
-            [.., before, _] => told(alloc, before, &self.reply),
+            [.., before, _] => reply_line(alloc, before, &self.reply),
             _ => Err(no_case()),
         }
     }
 }
 
 /// What the client prints for a reply in hexadecimal.
-fn told_of(alloc: Global, sent: &Sent, hex: &str) -> io::Result<String> {
+fn reply_line_of(alloc: Global, sent: &Sent, hex: &str) -> io::Result<String> {
     match decode(alloc, hex) {
-        Ok(reply) => told(alloc, sent, &reply),
+        Ok(reply) => reply_line(alloc, sent, &reply),
         Err(_) => Err(no_case()),
     }
 }
 
 /// A text with the edits of a line, `OLD -> NEW | OLD -> NEW`, made.
-fn edited(alloc: Global, base: &str, edits: &str) -> io::Result<String> {
+fn apply_edits(alloc: Global, base: &str, edits: &str) -> io::Result<String> {
     let mut text = String::from_str(alloc, base)?;
     for edit in edits.split(" | ") {
         if let Some((old, new)) = edit.split_once(" -> ") {

@@ -5,7 +5,7 @@ use std::alloc::{AllocError, Global};
 use std::io::{self, Error};
 
 /// The line and the status, or `none`.
-pub fn told(alloc: Global, sent: &Sent, reply: &[u8]) -> io::Result<String> {
+pub fn reply_line(alloc: Global, sent: &Sent, reply: &[u8]) -> io::Result<String> {
     match client_line(alloc, sent, reply)? {
         None => String::from_str(alloc, "none").map_err(Error::from),
         Some((line, status)) => {
@@ -20,7 +20,7 @@ fn is_read(alloc: Global, sent: &Sent, reply: &[u8]) -> Result<bool, AllocError>
 }
 
 /// How many are read of the reply cut before each of its bytes.
-pub fn cut(alloc: Global, sent: &Sent, reply: &[u8]) -> io::Result<String> {
+pub fn read_when_cut(alloc: Global, sent: &Sent, reply: &[u8]) -> io::Result<String> {
     let mut read = 0u32;
     for count in 0..reply.len() {
         if is_read(alloc, sent, &reply[..count])? {
@@ -31,7 +31,7 @@ pub fn cut(alloc: Global, sent: &Sent, reply: &[u8]) -> io::Result<String> {
 }
 
 /// How many are read of the reply with the lowest bit of each of its bytes changed in turn.
-pub fn changed(alloc: Global, sent: &Sent, reply: &[u8]) -> io::Result<String> {
+pub fn read_when_changed(alloc: Global, sent: &Sent, reply: &[u8]) -> io::Result<String> {
     let mut read = 0u32;
     for place in 0..reply.len() {
         if is_read_changed(alloc, sent, reply, place)? {

@@ -19,7 +19,7 @@ pub fn no_case() -> Error {
 }
 
 /// A configuration.
-pub fn configured(alloc: Global, text: &str) -> io::Result<Config>
+pub fn read_configuration(alloc: Global, text: &str) -> io::Result<Config>
     ensures fits { IfOk result (λ config. config_fits config ≡ true) }
 {
     match read_config(alloc, text) {

@@ -1,5 +1,7 @@
 //! A block of cases.
-use crate::case::{checked, drilled, edited, explained, line_ending, of_bytes, streamed};
+use crate::case::{
+    apply_edits, check_output, drill_output, explanation, line_ending, of_bytes, stream_ending,
+};
 use std::alloc::Global;
 use std::io::{Result, Write};
 use support_cases::Blocks;
@@ -50,21 +52,21 @@ fn print_whole<W: Write>(alloc: Global, out: &mut W, body: &str) -> Result<()> {
 
 // What a script prints, and how it ends.
 fn print_drill<W: Write>(alloc: Global, out: &mut W, script: &str) -> Result<()> {
-    let (printed, ending) = drilled(alloc, script)?;
+    let (printed, ending) = drill_output(alloc, script)?;
     out.write_all(printed.as_slice())?;
     writeln!(out, "{}", ending.as_str())
 }
 
 // The check of a configuration.
 fn print_check<W: Write>(alloc: Global, out: &mut W, body: &str) -> Result<()> {
-    let (line, status) = checked(alloc, body)?;
+    let (line, status) = check_output(alloc, body)?;
     writeln!(out, "{}\nstatus {status}", line.as_str())?;
     print_words(alloc, out, body)
 }
 
 // What is wrong with a configuration, in words.
 fn print_words<W: Write>(alloc: Global, out: &mut W, text: &str) -> Result<()> {
-    match explained(alloc, text)? {
+    match explanation(alloc, text)? {
         Some(words) => writeln!(out, "    {}", words.as_str()),
         None => Ok(()),
     }
@@ -82,7 +84,7 @@ fn print_lines<W: Write>(alloc: Global, out: &mut W, base: &str, body: &str) -> 
 // The base, read or printed as each line says.
 fn print_streams<W: Write>(alloc: Global, out: &mut W, base: &str, body: &str) -> Result<()> {
     for line in body.lines() {
-        let ending = streamed(alloc, base, line)?;
+        let ending = stream_ending(alloc, base, line)?;
         writeln!(out, "{line}: {}", ending.as_str())?;
     }
     Ok(())
@@ -106,12 +108,12 @@ fn print_edits<W: Write>(
     in_words: bool,
 ) -> Result<()> {
     for line in body.lines() {
-        let text = edited(alloc, base, line)?;
+        let text = apply_edits(alloc, base, line)?;
         let text = text.as_str();
         if text == base {
             writeln!(out, "{line}: nothing is changed")?;
         } else {
-            let (found, _status) = checked(alloc, text)?;
+            let (found, _status) = check_output(alloc, text)?;
             writeln!(out, "{line}: {}", found.as_str())?;
             if in_words {
                 print_words(alloc, out, text)?;

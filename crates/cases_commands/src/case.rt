@@ -6,7 +6,7 @@ use std::io::{Error, ErrorKind, Result};
 use support_streams::{Course, Giver, Taker, Way};
 
 /// What a script prints, and how it ends.
-pub fn drilled(alloc: Global, script: &str) -> Result<(Vec<u8>, String)> {
+pub fn drill_output(alloc: Global, script: &str) -> Result<(Vec<u8>, String)> {
     let mut printed = Vec::new(alloc);
     let ended = run_drill(alloc, &mut script.as_bytes(), &mut printed);
     Ok((printed, ending(alloc, ended)?))
@@ -21,12 +21,12 @@ fn ending(alloc: Global, ended: std::result::Result<(), DrillFault>) -> Result<S
 
 /// How the script of a case of streams ends, `read WAY`, `write WAY` or `check WAY`: it is read in this way, or what it
 /// prints, or its check as a configuration, is written in this way.
-pub fn streamed(alloc: Global, script: &str, case: &str) -> Result<String> {
+pub fn stream_ending(alloc: Global, script: &str, case: &str) -> Result<String> {
     let (what, way) = case.split_once(' ').unwrap_or((case, ""));
     let way = Way::of(way);
     match what {
         "read" => read(alloc, script, way),
-        "write" => written(alloc, script, way),
+        "write" => write_ending(alloc, script, way),
         "check" => check_written(alloc, script, way),
         _ => Ok(String::from_str(alloc, "no such case")?),
     }
@@ -51,7 +51,7 @@ fn taker(alloc: Global, way: Way) -> Taker {
     }
 }
 
-fn written(alloc: Global, script: &str, way: Way) -> Result<String> {
+fn write_ending(alloc: Global, script: &str, way: Way) -> Result<String> {
     let mut writer = taker(alloc, way);
     let ended = run_drill(alloc, &mut script.as_bytes(), &mut writer);
     let ending = ending(alloc, ended)?;
@@ -79,7 +79,7 @@ pub fn of_bytes(alloc: Global, text: &str) -> Result<String> {
 }
 
 /// The line that the check prints, without its newline, and the status.
-pub fn checked(alloc: Global, text: &str) -> Result<(String, u8)> {
+pub fn check_output(alloc: Global, text: &str) -> Result<(String, u8)> {
     let mut printed = Vec::new(alloc);
     let status = run_check(alloc, text.as_bytes(), &mut printed).map_err(no_memory)?;
     let line = String::from_utf8(printed).map_err(|_| Error::from(ErrorKind::InvalidData))?;
@@ -87,7 +87,7 @@ pub fn checked(alloc: Global, text: &str) -> Result<(String, u8)> {
 }
 
 /// What is wrong with a configuration, in words.
-pub fn explained(alloc: Global, text: &str) -> Result<Option<String>> {
+pub fn explanation(alloc: Global, text: &str) -> Result<Option<String>> {
     Ok(explain_check(alloc, text.as_bytes())?)
 }
 
@@ -97,10 +97,10 @@ fn no_memory(_fault: DrillFault) -> Error {
 
 /// How the script ends that is the base, a line and `show alice`; and how many lines it prints, if any.
 pub fn line_ending(alloc: Global, base: &str, line: &str) -> Result<String> {
-    let line = expanded(alloc, line)?;
+    let line = expand(alloc, line)?;
     let end = if base.is_empty() { "" } else { "\n" };
     let script = format!(in alloc; "{base}{end}{}\nshow alice\n", line.as_str())?;
-    let (printed, ending) = drilled(alloc, script.as_str())?;
+    let (printed, ending) = drill_output(alloc, script.as_str())?;
     let count = printed
         .as_slice()
         .iter()
@@ -113,12 +113,12 @@ pub fn line_ending(alloc: Global, base: &str, line: &str) -> Result<String> {
 }
 
 /// The base with the edits of a line, `OLD -> NEW | OLD -> NEW`: each OLD is replaced everywhere.
-pub fn edited(alloc: Global, base: &str, line: &str) -> Result<String> {
+pub fn apply_edits(alloc: Global, base: &str, line: &str) -> Result<String> {
     let mut text = String::from_str(alloc, base)?;
     for edit in line.split(" | ") {
         if let Some((old, new)) = edit.split_once(" -> ") {
             let old = old.replace(alloc, ";", "\n")?;
-            let new = expanded(alloc, new)?;
+            let new = expand(alloc, new)?;
             text = text.as_str().replace(alloc, old.as_str(), new.as_str())?;
         }
     }
@@ -126,7 +126,7 @@ pub fn edited(alloc: Global, base: &str, line: &str) -> Result<String> {
 }
 
 /// A text in which `;` stands for a newline, or `N * TEXT` for N such texts.
-fn expanded(alloc: Global, text: &str) -> Result<String> {
+fn expand(alloc: Global, text: &str) -> Result<String> {
     let (count, text) = match text.split_once(" * ") {
         Some((count, rest)) => match count.parse() {
             Ok(count) => (count, rest),

@@ -23,7 +23,7 @@ pub fn each(alloc: Global, bytes: &[u8], is_ended: bool) -> io::Result<String> {
         let answer = cut_at(alloc, bytes, place, is_ended)?;
         census.add(alloc, place, answer.as_str())?;
     }
-    Ok(census.shown(alloc)?)
+    Ok(census.text(alloc)?)
 }
 
 fn cut_at(alloc: Global, bytes: &[u8], place: usize, is_ended: bool) -> io::Result<String> {
@@ -38,7 +38,7 @@ fn cut_at(alloc: Global, bytes: &[u8], place: usize, is_ended: bool) -> io::Resu
     } else {
         script.read(slot, rest, 1);
     }
-    let taken = script.taken(0, 1)?;
+    let taken = script.take(0, 1)?;
     let state = script.state(slot)?;
     Ok(format!(in alloc; "{taken}, {state}")?)
 }

@@ -1,7 +1,7 @@
 //! What happens to the connection in a slot.
 
 use crate::script::Script;
-use crate::words::{bytes, filled, no_case, number};
+use crate::words::{bytes, filler_bytes, no_case, number};
 use std::io;
 
 impl Script {
@@ -9,18 +9,18 @@ impl Script {
     pub fn event(&mut self, kind: &str, slot: usize, rest: &str, now: u64) -> io::Result<String> {
         match kind {
             "bytes" => return self.read_told(slot, &bytes(self.alloc, rest)?, now),
-            "fill" => return self.read_told(slot, &filled(self.alloc, rest)?, now),
+            "fill" => return self.read_told(slot, &filler_bytes(self.alloc, rest)?, now),
             "push" => {
                 let worker = self
                     .connections
                     .receive(slot, &bytes(self.alloc, rest)?, now);
-                return self.received(slot, worker);
+                return self.received_text(slot, worker);
             }
             "has" => return self.room(slot, now),
             "rounds" => return self.rounds(slot, number(rest)?, now),
-            "remove" => return self.removed(slot),
-            "answer" => self.answered(slot, rest, now)?,
-            "defer" => self.deferred(slot, rest, now)?,
+            "remove" => return self.remove(slot),
+            "answer" => self.give_reply(slot, rest, now)?,
+            "defer" => self.defer_reply(slot, rest, now)?,
             "unanswered" => self.connections.leave_unanswered(slot, now),
             "wrote" => self.connections.wrote(slot, number(rest)?, now),
             "end" => self.connections.input_ended(slot),
@@ -36,7 +36,7 @@ impl Script {
     pub fn read(&mut self, slot: usize, bytes: &[u8], now: u64) -> (usize, Option<usize>) {
         let mut left = bytes;
         for _ in 0..bytes.len() {
-            let wanted = self.connections.wanted(slot);
+            let wanted = self.connections.bytes_to_read(slot);
             if wanted == 0 || left.is_empty() {
                 break;
             }
@@ -51,11 +51,11 @@ impl Script {
 
     fn read_told(&mut self, slot: usize, bytes: &[u8], now: u64) -> io::Result<String> {
         let (count, worker) = self.read(slot, bytes, now);
-        let received = self.received(slot, worker)?;
+        let received = self.received_text(slot, worker)?;
         Ok(format!(in self.alloc; "{count} of {} read, {received}", bytes.len())?)
     }
 
-    fn received(&self, slot: usize, worker: Option<usize>) -> io::Result<String> {
+    fn received_text(&self, slot: usize, worker: Option<usize>) -> io::Result<String> {
         match worker {
             None => self.state(slot),
             Some(worker) => Ok(format!(in self.alloc; "message for worker {worker}")?),
@@ -72,7 +72,7 @@ impl Script {
     }
 
     // `HEX`, or `HEX last`
-    fn answered(&mut self, slot: usize, rest: &str, now: u64) -> io::Result<()> {
+    fn give_reply(&mut self, slot: usize, rest: &str, now: u64) -> io::Result<()> {
         let (reply, end) = rest.split_once(' ').unwrap_or((rest, ""));
         let reply = bytes(self.alloc, reply)?;
         self.connections.answer(slot, reply, end == "last", now);
@@ -80,7 +80,7 @@ impl Script {
     }
 
     // `HEX MARK`, or `HEX MARK last`
-    fn deferred(&mut self, slot: usize, rest: &str, now: u64) -> io::Result<()> {
+    fn defer_reply(&mut self, slot: usize, rest: &str, now: u64) -> io::Result<()> {
         let (reply, rest) = rest.split_once(' ').unwrap_or((rest, ""));
         let (mark, end) = rest.split_once(' ').unwrap_or((rest, ""));
         let reply = bytes(self.alloc, reply)?;
@@ -89,7 +89,7 @@ impl Script {
         Ok(())
     }
 
-    fn removed(&mut self, slot: usize) -> io::Result<String> {
+    fn remove(&mut self, slot: usize) -> io::Result<String> {
         let word = if self.connections.remove(slot) {
             "removed"
         } else {

@@ -50,13 +50,13 @@ impl Script {
 
     /// What a line does, and which other connections it ended.
     pub fn answer(&mut self, kind: &str, words: &str, now: u64) -> io::Result<String> {
-        let before = self.ended()?;
+        let before = self.ended_slots()?;
         let (slot, rest) = words.split_once(' ').unwrap_or((words, ""));
         let (own, text) = match kind {
             "accept" | "pass" | "room" | "show" | "look" | "confirm" | "overdue" => {
                 (None, self.whole(kind, words, now)?)
             }
-            "take" => (None, self.taken(number(words)?, now)?),
+            "take" => (None, self.take(number(words)?, now)?),
             _ => {
                 let slot = number(slot)?;
                 (Some(slot), self.event(kind, slot, rest, now)?)
@@ -71,7 +71,7 @@ impl Script {
     }
 
     /// The slots whose connections have ended.
-    fn ended(&self) -> io::Result<Vec<usize>> {
+    fn ended_slots(&self) -> io::Result<Vec<usize>> {
         self.ended_besides(&[], None)
     }
 

@@ -7,7 +7,7 @@ use std::alloc::Global;
 use std::io;
 
 /// Bytes in hexadecimal, `-` for none; of many the first and the last.
-pub fn shown(alloc: Global, bytes: &[u8]) -> io::Result<String> {
+pub fn bytes_text(alloc: Global, bytes: &[u8]) -> io::Result<String> {
     if bytes.is_empty() {
         return Ok(String::from_str(alloc, "-")?);
     }
@@ -45,14 +45,14 @@ impl Script {
     /// The stage of the connection in a slot.
     pub fn state(&self, slot: usize) -> io::Result<String> {
         let alloc = self.alloc;
-        let left = self.connections.unwritten(slot);
-        let wanted = self.connections.wanted(slot);
+        let left = self.connections.pending_output(slot);
+        let wanted = self.connections.bytes_to_read(slot);
         if self.connections.is_ended(slot) {
             Ok(String::from_str(alloc, "has ended")?)
         } else if self.connections.is_lingering(slot) {
             Ok(String::from_str(alloc, "lingers")?)
         } else if !left.is_empty() {
-            let bytes = shown(alloc, left)?;
+            let bytes = bytes_text(alloc, left)?;
             Ok(format!(in alloc; "has {} to write: {bytes}", left.len())?)
         } else if wanted > 0 {
             Ok(format!(in alloc; "wants {wanted}")?)
@@ -67,7 +67,7 @@ impl Script {
         match self.connections.todo(slot) {
             Todo::Read(count) => Ok(format!(in alloc; "read {count}")?),
             Todo::Write => {
-                let left = shown(alloc, self.connections.unwritten(slot))?;
+                let left = bytes_text(alloc, self.connections.pending_output(slot))?;
                 Ok(format!(in alloc; "write {left}")?)
             }
             Todo::Linger => Ok(String::from_str(alloc, "linger")?),
@@ -77,12 +77,12 @@ impl Script {
     }
 
     /// Each slot, and then the totals.
-    pub fn shown(&self) -> io::Result<String> {
+    pub fn overview(&self) -> io::Result<String> {
         let mut text = String::new(self.alloc);
         for slot in 0..self.slots {
             let todo = self.todo(slot)?;
-            let wanted = self.connections.wanted(slot);
-            let left = self.connections.unwritten(slot).len();
+            let wanted = self.connections.bytes_to_read(slot);
+            let left = self.connections.pending_output(slot).len();
             let slot = format!(in self.alloc; "{slot} {todo}, wanted {wanted}, left {left} | ")?;
             text.push_str(slot.as_str())?;
         }
@@ -100,8 +100,8 @@ impl Script {
         } else {
             ""
         };
-        let (held, accepted) = (connections.held(), connections.accepted());
-        let (expired, workers) = (connections.expired(), self.waited_for()?);
+        let (held, accepted) = (connections.bytes_held(), connections.accepted_count());
+        let (expired, workers) = (connections.expired_count(), self.waited_for()?);
         Ok(format!(in self.alloc;
             "connections {count}{word}, held {held}, accepted {accepted}, expired {expired}, messages for {workers}"
         )?)

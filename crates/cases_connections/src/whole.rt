@@ -1,7 +1,7 @@
 //! Lines that concern no particular slot.
 
 use crate::script::Script;
-use crate::showing::{peer_text, shown, slots_text};
+use crate::showing::{bytes_text, peer_text, slots_text};
 use crate::words::{address, no_case, number};
 use chpw_connections::{TakenMessage, Todo};
 use std::io;
@@ -13,9 +13,9 @@ impl Script {
     /// `accept A.B.C.D`, `pass`, `room`, `look`, `show`, `confirm MARK` or `overdue WAIT`.
     pub fn whole(&mut self, kind: &str, words: &str, now: u64) -> io::Result<String> {
         match kind {
-            "accept" => self.accepted(words, now),
-            "look" => self.looked(),
-            "show" => self.shown(),
+            "accept" => self.accept(words, now),
+            "look" => self.look(),
+            "show" => self.overview(),
             "pass" => {
                 self.connections.pass(now);
                 Ok(String::from_str(self.alloc, "passed")?)
@@ -33,7 +33,7 @@ impl Script {
         }
     }
 
-    fn accepted(&mut self, words: &str, now: u64) -> io::Result<String> {
+    fn accept(&mut self, words: &str, now: u64) -> io::Result<String> {
         let peer = address(self.alloc, words)?;
         match self.connections.accept(peer, now) {
             None => Ok(String::from_str(self.alloc, "no room")?),
@@ -42,7 +42,7 @@ impl Script {
     }
 
     /// The message that a worker takes, with its slot and peer.
-    pub fn taken(&mut self, worker: usize, now: u64) -> io::Result<String> {
+    pub fn take(&mut self, worker: usize, now: u64) -> io::Result<String> {
         let waits = self.connections.has_message(worker);
         match self.connections.take(worker, now) {
             Some(taken) => self.taken_told(&taken),
@@ -54,7 +54,7 @@ impl Script {
     fn taken_told(&self, taken: &TakenMessage) -> io::Result<String> {
         let slot = taken.slot;
         let peer = peer_text(self.alloc, taken.peer)?;
-        let message = shown(self.alloc, &taken.message)?;
+        let message = bytes_text(self.alloc, &taken.message)?;
         Ok(format!(in self.alloc; "slot {slot} from {peer}: {message}")?)
     }
 
@@ -71,10 +71,10 @@ impl Script {
     }
 
     /// The slots that were noted, each once, if something is to be done that the socket doesn't report.
-    fn looked(&mut self) -> io::Result<String> {
+    fn look(&mut self) -> io::Result<String> {
         let mut slots = Vec::new(self.alloc);
         for _ in 0..LOOKS {
-            let Some(slot) = self.connections.changed() else {
+            let Some(slot) = self.connections.take_changed() else {
                 break;
             };
             let is_told = matches!(self.connections.todo(slot), Todo::Read(_) | Todo::Wait);

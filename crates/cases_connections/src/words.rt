@@ -27,7 +27,7 @@ pub fn bytes(alloc: Global, word: &str) -> io::Result<Vec<u8>> {
 }
 
 /// This many bytes, 00 01 .. fa 00 ..
-pub fn filled(alloc: Global, count: &str) -> io::Result<Vec<u8>> {
+pub fn filler_bytes(alloc: Global, count: &str) -> io::Result<Vec<u8>> {
     let mut bytes = Vec::new(alloc);
     let mut next = 0_u8;
     for _ in 0..number::<u32>(count)? {

@@ -1,6 +1,6 @@
 //! Lines of answers, and their ends.
 
-use crate::words::{bytes, shown};
+use crate::words::{bytes, escaped_text};
 use chpw_control::{ended_ok, put_error, put_line, put_ok};
 use std::alloc::Global;
 use std::str;
@@ -12,7 +12,7 @@ pub fn line(alloc: Global, word: &str) -> Result<String, Fault> {
     let mut text = Vec::new(alloc);
     put_line(&mut text, str::from_utf8(&words).unwrap_or("(no text)"))?;
     put_ok(&mut text)?;
-    shown(alloc, &text)
+    escaped_text(alloc, &text)
 }
 
 /// An error.
@@ -20,11 +20,11 @@ pub fn error(alloc: Global, word: &str) -> Result<String, Fault> {
     let words = bytes(alloc, word)?;
     let mut text = Vec::new(alloc);
     put_error(&mut text, str::from_utf8(&words).unwrap_or("(no text)"))?;
-    shown(alloc, &text)
+    escaped_text(alloc, &text)
 }
 
 /// Whether an answer ends with `ok`.
-pub fn ended(alloc: Global, word: &str) -> Result<String, Fault> {
+pub fn ends_ok(alloc: Global, word: &str) -> Result<String, Fault> {
     let end = if ended_ok(bytes(alloc, word)?.as_slice()) {
         "yes"
     } else {

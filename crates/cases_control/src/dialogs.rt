@@ -6,39 +6,39 @@ use std::alloc::Global;
 use support_cases::Fault;
 
 /// Bytes, `end` and `late`; for each `-` if it gives nothing.
-pub fn heard(alloc: Global, events: &[&str]) -> Result<String, Fault> {
+pub fn dialog_text(alloc: Global, events: &[&str]) -> Result<String, Fault> {
     let mut dialog = Dialog::new(alloc);
     let mut text = String::new(alloc);
     for event in events {
         if !text.is_empty() {
             text.push_str(", ")?;
         }
-        let told = happened(alloc, &mut dialog, event)?;
+        let told = event_text(alloc, &mut dialog, event)?;
         text.push_str(told.as_str())?;
     }
     Ok(text)
 }
 
-fn happened(alloc: Global, dialog: &mut Dialog, event: &str) -> Result<String, Fault> {
+fn event_text(alloc: Global, dialog: &mut Dialog, event: &str) -> Result<String, Fault> {
     match event {
-        "end" => ended(alloc, dialog.end()),
-        "late" => ended(alloc, dialog.expire()),
+        "end" => fault_text(alloc, dialog.end()),
+        "late" => fault_text(alloc, dialog.expire()),
         piece => match dialog.hear(alloc, bytes(alloc, piece)?.as_slice()) {
-            Some(Ok(command)) => asked(alloc, &command),
-            Some(Err(fault)) => ended(alloc, Some(fault)),
-            None => ended(alloc, None),
+            Some(Ok(command)) => command_text(alloc, &command),
+            Some(Err(fault)) => fault_text(alloc, Some(fault)),
+            None => fault_text(alloc, None),
         },
     }
 }
 
-fn ended(alloc: Global, fault: Option<ControlFault>) -> Result<String, Fault> {
+fn fault_text(alloc: Global, fault: Option<ControlFault>) -> Result<String, Fault> {
     match fault {
         Some(fault) => Ok(format!(in alloc; "error: {}", fault.text())?),
         None => Ok(String::from_str(alloc, "-")?),
     }
 }
 
-fn asked(alloc: Global, command: &Command) -> Result<String, Fault> {
+fn command_text(alloc: Global, command: &Command) -> Result<String, Fault> {
     let word = match command {
         Command::Status => "Status",
         Command::Reload => "Reload",

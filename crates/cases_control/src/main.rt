@@ -22,11 +22,11 @@ impl Answers for Cases {
 fn answer(alloc: Global, case: &str) -> Result<String, Fault> {
     let words: Vec<&str> = case.split(' ').collect(alloc)?;
     match words.as_slice() {
-        ["hear", events @ ..] => dialogs::heard(alloc, events),
-        ["status", values @ ..] => statuses::told(alloc, values),
+        ["hear", events @ ..] => dialogs::dialog_text(alloc, events),
+        ["status", values @ ..] => statuses::status_text(alloc, values),
         ["line", text] => answers::line(alloc, text),
         ["error", text] => answers::error(alloc, text),
-        ["ended", text] => answers::ended(alloc, text),
+        ["ended", text] => answers::ends_ok(alloc, text),
         ["beginnings", text] => answers::beginnings(alloc, text),
         _ => Err(Fault::NoSuchCase),
     }

@@ -4,7 +4,7 @@ ghost use Rattle.std.specs.Prelude.{◌≡◌, ◌<◌, true, IfOk};
 ghost use Rattle.std.specs.Option.{ForSome};
 ghost use Rattle.chpw_control.specs.Statuses.{AreTold, IsTold};
 
-use crate::words::{bytes, number, shown};
+use crate::words::{bytes, escaped_text, number};
 use chpw_control::{FollowerState, JournalState, Status, Time, status_answer};
 use std::alloc::Global;
 use std::str;
@@ -26,7 +26,7 @@ struct Words<'a> {
 }
 
 /// The answer to VERSION SINCE QUIET JOURNAL FOLLOWER PRINCIPALS ..
-pub fn told(alloc: Global, values: &[&str]) -> Result<String, Fault> {
+pub fn status_text(alloc: Global, values: &[&str]) -> Result<String, Fault> {
     let [version, since, quiet, journal, follower, rest @ ..] = values else {
         return Err(Fault::NoSuchCase);
     };
@@ -99,7 +99,7 @@ fn answer(alloc: Global, words: &Words<'_>, counts: &[u64]) -> Result<String, Fa
         log_lost: *log_lost,
         follower: words.follower,
     };
-    shown(alloc, status_answer(alloc, &status)?.as_slice())
+    escaped_text(alloc, status_answer(alloc, &status)?.as_slice())
 }
 
 fn numbers(alloc: Global, words: &[&str]) -> Result<Vec<u64>, Fault> {

@@ -22,7 +22,7 @@ pub fn number(word: &str) -> Result<u64, Fault> {
 }
 
 /// The text of an answer, with `\n` for each newline.
-pub fn shown(alloc: Global, text: &[u8]) -> Result<String, Fault> {
+pub fn escaped_text(alloc: Global, text: &[u8]) -> Result<String, Fault> {
     let mut shown = String::new(alloc);
     for piece in str::from_utf8(text)
         .unwrap_or("(no text)")

@@ -46,7 +46,7 @@ fn answer(alloc: Global, line: &str) -> Result<String, AllocError> {
 
 /// The answer to a text of a record.
 fn of_text(alloc: Global, kind: &str, text: &[u8]) -> Result<String, AllocError> {
-    let found = match values::shown(alloc, kind, text) {
+    let found = match values::value_text(alloc, kind, text) {
         Ok(None) => records::again(alloc, kind, text),
         found => found,
     };

@@ -35,7 +35,7 @@ fn legal<T: Write + Drop>(found: Result<T, ReadError>) -> Result<T, Unwritten>
 }
 
 /// The text of the bytes that were written.
-fn shown(alloc: Global, made: Result<Vec<u8>, AllocError>) -> Result<String, Unwritten> {
+fn written_text(alloc: Global, made: Result<Vec<u8>, AllocError>) -> Result<String, Unwritten> {
     let shown = match made {
         Ok(text) => encode(alloc, &text),
         Err(error) => Err(error),
@@ -45,92 +45,92 @@ fn shown(alloc: Global, made: Result<Vec<u8>, AllocError>) -> Result<String, Unw
 
 fn principal_name(alloc: Global, text: &[u8]) -> Result<String, Unwritten> {
     let value = legal(read_principal_name(alloc, text))?;
-    shown(alloc, write_principal_name(alloc, &value))
+    written_text(alloc, write_principal_name(alloc, &value))
 }
 
 fn encrypted_data(alloc: Global, text: &[u8]) -> Result<String, Unwritten> {
     let value = legal(read_encrypted_data(alloc, text))?;
-    shown(alloc, write_encrypted_data(alloc, &value))
+    written_text(alloc, write_encrypted_data(alloc, &value))
 }
 
 fn encryption_key(alloc: Global, text: &[u8]) -> Result<String, Unwritten> {
     let value = legal(read_encryption_key(alloc, text))?;
-    shown(alloc, write_encryption_key(alloc, &value))
+    written_text(alloc, write_encryption_key(alloc, &value))
 }
 
 fn host_address(alloc: Global, text: &[u8]) -> Result<String, Unwritten> {
     let value = legal(read_host_address(alloc, text))?;
-    shown(alloc, write_host_address(alloc, &value))
+    written_text(alloc, write_host_address(alloc, &value))
 }
 
 fn checksum(alloc: Global, text: &[u8]) -> Result<String, Unwritten> {
     let value = legal(read_checksum(alloc, text))?;
-    shown(alloc, write_checksum(alloc, &value))
+    written_text(alloc, write_checksum(alloc, &value))
 }
 
 fn transited_encoding(alloc: Global, text: &[u8]) -> Result<String, Unwritten> {
     let value = legal(read_transited_encoding(alloc, text))?;
-    shown(alloc, write_transited_encoding(alloc, &value))
+    written_text(alloc, write_transited_encoding(alloc, &value))
 }
 
 fn authorization_data(alloc: Global, text: &[u8]) -> Result<String, Unwritten> {
     let value = legal(read_authorization_data(alloc, text))?;
-    shown(alloc, write_authorization_data(alloc, &value))
+    written_text(alloc, write_authorization_data(alloc, &value))
 }
 
 fn change_passwd_data(alloc: Global, text: &[u8]) -> Result<String, Unwritten> {
     let value = legal(read_change_passwd_data(alloc, text))?;
-    shown(alloc, write_change_passwd_data(alloc, &value))
+    written_text(alloc, write_change_passwd_data(alloc, &value))
 }
 
 fn ticket(alloc: Global, text: &[u8]) -> Result<String, Unwritten> {
     let value = legal(read_ticket(alloc, text))?;
-    shown(alloc, write_ticket(alloc, &value))
+    written_text(alloc, write_ticket(alloc, &value))
 }
 
 fn enc_ticket_part(alloc: Global, text: &[u8]) -> Result<String, Unwritten> {
     let value = legal(read_enc_ticket_part(alloc, text))?;
-    shown(alloc, write_enc_ticket_part(alloc, &value))
+    written_text(alloc, write_enc_ticket_part(alloc, &value))
 }
 
 fn authenticator(alloc: Global, text: &[u8]) -> Result<String, Unwritten> {
     let value = legal(read_authenticator(alloc, text))?;
-    shown(alloc, write_authenticator(alloc, &value))
+    written_text(alloc, write_authenticator(alloc, &value))
 }
 
 fn ap_req(alloc: Global, text: &[u8]) -> Result<String, Unwritten> {
     let value = legal(read_ap_req(alloc, text))?;
-    shown(alloc, write_ap_req(alloc, &value))
+    written_text(alloc, write_ap_req(alloc, &value))
 }
 
 fn ap_rep(alloc: Global, text: &[u8]) -> Result<String, Unwritten> {
     let value = legal(read_ap_rep(alloc, text))?;
-    shown(alloc, write_ap_rep(alloc, &value))
+    written_text(alloc, write_ap_rep(alloc, &value))
 }
 
 fn enc_ap_rep_part(alloc: Global, text: &[u8]) -> Result<String, Unwritten> {
     let value = legal(read_enc_ap_rep_part(alloc, text))?;
-    shown(alloc, write_enc_ap_rep_part(alloc, &value))
+    written_text(alloc, write_enc_ap_rep_part(alloc, &value))
 }
 
 fn krb_priv(alloc: Global, text: &[u8]) -> Result<String, Unwritten> {
     let value = legal(read_krb_priv(alloc, text))?;
-    shown(alloc, write_krb_priv(alloc, &value))
+    written_text(alloc, write_krb_priv(alloc, &value))
 }
 
 fn enc_krb_priv_part(alloc: Global, text: &[u8]) -> Result<String, Unwritten> {
     let value = legal(read_enc_krb_priv_part(alloc, text))?;
-    shown(alloc, write_enc_krb_priv_part(alloc, &value))
+    written_text(alloc, write_enc_krb_priv_part(alloc, &value))
 }
 
 fn krb_error(alloc: Global, text: &[u8]) -> Result<String, Unwritten> {
     let value = legal(read_krb_error(alloc, text))?;
-    shown(alloc, write_krb_error(alloc, &value))
+    written_text(alloc, write_krb_error(alloc, &value))
 }
 
 /// The text of the value that a text spells, if there is such a record.
 pub fn again(alloc: Global, record: &str, text: &[u8]) -> Result<Option<String>, ReadError> {
-    match written(alloc, record, text) {
+    match record_text(alloc, record, text) {
         None => Ok(None),
         Some(Ok(text)) => Ok(Some(text)),
         Some(Err(Unwritten::Unread(error))) => Err(error),
@@ -138,7 +138,7 @@ pub fn again(alloc: Global, record: &str, text: &[u8]) -> Result<Option<String>,
     }
 }
 
-fn written(alloc: Global, record: &str, text: &[u8]) -> Option<Result<String, Unwritten>> {
+fn record_text(alloc: Global, record: &str, text: &[u8]) -> Option<Result<String, Unwritten>> {
     match record {
         "principal_name" => Some(principal_name(alloc, text)),
         "encrypted_data" => Some(encrypted_data(alloc, text)),
@@ -148,12 +148,12 @@ fn written(alloc: Global, record: &str, text: &[u8]) -> Option<Result<String, Un
         "transited_encoding" => Some(transited_encoding(alloc, text)),
         "authorization_data" => Some(authorization_data(alloc, text)),
         "change_passwd_data" => Some(change_passwd_data(alloc, text)),
-        _ => message_written(alloc, record, text),
+        _ => message_text(alloc, record, text),
     }
 }
 
 /// The text of the value that a text spells, for messages and their sealed parts.
-fn message_written(alloc: Global, record: &str, text: &[u8]) -> Option<Result<String, Unwritten>> {
+fn message_text(alloc: Global, record: &str, text: &[u8]) -> Option<Result<String, Unwritten>> {
     match record {
         "ticket" => Some(ticket(alloc, text)),
         "enc_ticket_part" => Some(enc_ticket_part(alloc, text)),

@@ -12,7 +12,7 @@ use std::alloc::{AllocError, Global};
 /// - `kvno` of an EncryptedData, a UInt32, or `absent`;
 /// - `ctime`, `cusec` and `seq_number` of an EncAPRepPart, the last one or `absent`;
 /// - `ap_options` of an AP-REQ, the numbers of the bits that are set.
-pub fn shown(alloc: Global, name: &str, text: &[u8]) -> Result<Option<String>, ReadError> {
+pub fn value_text(alloc: Global, name: &str, text: &[u8]) -> Result<Option<String>, ReadError> {
     let value = match name {
         "addr_type" => {
             let address = read_host_address(alloc, text)?;

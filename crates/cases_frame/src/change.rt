@@ -1,6 +1,6 @@
 //! What user-data asks for.
 
-use crate::framing::{bytes, shown};
+use crate::framing::{bytes, hex_text};
 use chpw_frame::{ChangeData, ChangeFault, ChangeTarget, read_change_data};
 use std::alloc::Global;
 use std::io;
@@ -15,7 +15,7 @@ pub fn answer(alloc: Global, text: &str) -> io::Result<String> {
 }
 
 fn shown_change(alloc: Global, change: &ChangeData) -> io::Result<String> {
-    let password = shown(alloc, change.password.as_slice())?;
+    let password = hex_text(alloc, change.password.as_slice())?;
     match &change.target {
         None => Ok(format!(in alloc; "password {password}")?),
         Some(target) => {

@@ -15,7 +15,7 @@ pub fn bytes(alloc: Global, text: &str) -> io::Result<Vec<u8>> {
 }
 
 /// Bytes in hexadecimal, `-` for none.
-pub fn shown(alloc: Global, bytes: &[u8]) -> io::Result<String> {
+pub fn hex_text(alloc: Global, bytes: &[u8]) -> io::Result<String> {
     if bytes.is_empty() {
         return Ok(String::from_str(alloc, "-")?);
     }
@@ -35,8 +35,8 @@ pub fn reply(alloc: Global, text: &str) -> io::Result<String> {
 fn shown_parts(alloc: Global, parts: Result<Parts<'_>, FrameFault>) -> io::Result<String> {
     match parts {
         Ok(Parts { version, ap, tail }) => {
-            let ap = shown(alloc, ap)?;
-            let tail = shown(alloc, tail)?;
+            let ap = hex_text(alloc, ap)?;
+            let tail = hex_text(alloc, tail)?;
             Ok(format!(in alloc; "version {version:04x} ap {ap} tail {tail}")?)
         }
         Err(fault) => {
@@ -58,7 +58,7 @@ pub fn joined_request(alloc: Global, text: &str) -> io::Result<String> {
     if ap.is_empty() || ap.len() > 1_000 || tail.len() > 1_000 {
         return Ok(String::from_str(alloc, "no request")?);
     }
-    shown(alloc, &join_request(alloc, &ap, &tail)?)
+    hex_text(alloc, &join_request(alloc, &ap, &tail)?)
 }
 
 /// The request of the earlier protocol with two parts.
@@ -67,7 +67,7 @@ pub fn joined_old_request(alloc: Global, text: &str) -> io::Result<String> {
     if ap.is_empty() || ap.len() > 1_000 || tail.len() > 1_000 {
         return Ok(String::from_str(alloc, "no request")?);
     }
-    shown(alloc, &join_old_request(alloc, &ap, &tail)?)
+    hex_text(alloc, &join_old_request(alloc, &ap, &tail)?)
 }
 
 /// The reply with two parts.
@@ -76,5 +76,5 @@ pub fn joined_reply(alloc: Global, text: &str) -> io::Result<String> {
     if ap.len() > 1_000 || tail.len() > 1_000 {
         return Ok(String::from_str(alloc, "no reply")?);
     }
-    shown(alloc, &join_reply(alloc, &ap, &tail)?)
+    hex_text(alloc, &join_reply(alloc, &ap, &tail)?)
 }

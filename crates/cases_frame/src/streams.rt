@@ -1,6 +1,6 @@
 //! Messages over TCP.
 
-use crate::framing::{bytes, shown};
+use crate::framing::{bytes, hex_text};
 use chpw_frame::{LONGEST_MESSAGE, Received, read_tcp, write_tcp};
 use std::alloc::Global;
 use std::io;
@@ -9,7 +9,7 @@ use support_streams::{Course, Giver, Taker, Way};
 /// The answer to a case of a stream.
 pub fn answer(alloc: Global, kind: &str, text: &str) -> io::Result<String> {
     let (how, hex) = text.split_once(": ").unwrap_or((text, ""));
-    let bytes = stretched(alloc, hex)?;
+    let bytes = bytes_with_zeros(alloc, hex)?;
     let way = Way::of(how);
     match kind {
         "read" => Ok(read(alloc, way, &bytes)?.0),
@@ -17,9 +17,9 @@ pub fn answer(alloc: Global, kind: &str, text: &str) -> io::Result<String> {
             let (shown, calls) = read(alloc, way, &bytes)?;
             Ok(format!(in alloc; "{shown} in {calls} reads")?)
         }
-        "write" => Ok(written(alloc, way, &bytes)?.0),
+        "write" => Ok(write_result(alloc, way, &bytes)?.0),
         "writes" => {
-            let (shown, calls) = written(alloc, way, &bytes)?;
+            let (shown, calls) = write_result(alloc, way, &bytes)?;
             Ok(format!(in alloc; "{shown} in {calls} writes")?)
         }
         "fail" => failing(alloc, way, &bytes),
@@ -28,7 +28,7 @@ pub fn answer(alloc: Global, kind: &str, text: &str) -> io::Result<String> {
 }
 
 /// The bytes of a text in hexadecimal, or of one with this many zeros after it, as in `00 * 4`.
-fn stretched(alloc: Global, text: &str) -> io::Result<Vec<u8>> {
+fn bytes_with_zeros(alloc: Global, text: &str) -> io::Result<Vec<u8>> {
     let (front, count) = text.split_once(" zeros ").unwrap_or((text, "0"));
     let mut bytes = bytes(alloc, front)?;
     for _ in 0..count.parse().unwrap_or(0) {
@@ -70,7 +70,7 @@ fn shown_short(alloc: Global, bytes: &[u8]) -> io::Result<String> {
     if bytes.len() > 100 {
         return Ok(format!(in alloc; "of {} bytes", bytes.len())?);
     }
-    shown(alloc, bytes)
+    hex_text(alloc, bytes)
 }
 
 /// Writes a message: whether that succeeded, and the writer that took it.
@@ -87,7 +87,7 @@ fn write(alloc: Global, way: Way, message: &[u8]) -> (bool, Taker) {
 }
 
 /// What is written of a message, and the count of writes.
-fn written(alloc: Global, way: Way, message: &[u8]) -> io::Result<(String, u32)> {
+fn write_result(alloc: Global, way: Way, message: &[u8]) -> io::Result<(String, u32)> {
     let (done, Taker { taken, course }) = write(alloc, way, message);
     let taken = shown_short(alloc, &taken)?;
     let word = if done { "written" } else { "write fault after" };

@@ -1,7 +1,7 @@
 //! What is imported from keytabs, whole and cut short.
 ghost use Rattle.std.specs.Prelude.{◌≤◌};
 
-use crate::words::{behind, bytes, count, joined, said};
+use crate::words::{behind, bytes, count, join_lines, said};
 use chpw_import::write_keytab;
 use chpw_invocation::{ImportOptions, LONGEST_REALM, USUAL_COUNT};
 use std::alloc::{AllocError, Global};
@@ -29,7 +29,7 @@ fn options(realm: &str, iterations: u32) -> io::Result<ImportOptions<'_>>
 fn brought(alloc: Global, options: ImportOptions<'_>, keytab: &[u8]) -> io::Result<String> {
     let (mut written, mut left) = (Vec::new(alloc), Vec::new(alloc));
     match write_keytab(alloc, options, keytab, &mut written, &mut left) {
-        Ok(()) => Ok(behind(joined(alloc, &written)?, &left)?),
+        Ok(()) => Ok(behind(join_lines(alloc, &written)?, &left)?),
         Err(fault) => said(alloc, fault),
     }
 }
@@ -53,7 +53,7 @@ pub fn cut(alloc: Global, rest: &str) -> io::Result<String> {
         let answer = brought(alloc, options, &file[..length])?;
         census.add(alloc, length, answer.as_str())?;
     }
-    Ok(census.shown(alloc)?)
+    Ok(census.text(alloc)?)
 }
 
 /// For a keytab of this many principals: how many have a stanza, and which are skipped.

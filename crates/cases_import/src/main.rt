@@ -29,7 +29,7 @@ impl Answers for Cases {
             "keytab" => keytabs::whole(alloc, rest),
             "cut" => keytabs::cut(alloc, rest),
             "many" => keytabs::many(alloc, rest),
-            "password" => passwords::written(alloc, rest),
+            "password" => passwords::password_result(alloc, rest),
             _ => Ok(String::from_str(alloc, "no such case")?),
         }
     }

@@ -1,7 +1,7 @@
 //! What is written for passwords.
 ghost use Rattle.std.specs.Prelude.{◌≤◌};
 
-use crate::words::{behind, bytes, count, joined, said};
+use crate::words::{behind, bytes, count, join_lines, said};
 use chpw_import::write_password;
 use chpw_invocation::{KeyOptions, LONGEST_REALM};
 use chpw_rules::Name;
@@ -30,7 +30,7 @@ fn options<'a>(
 }
 
 /// The result of the password in a file.
-pub fn written(alloc: Global, rest: &str) -> io::Result<String> {
+pub fn password_result(alloc: Global, rest: &str) -> io::Result<String> {
     let mut words = rest.split(' ');
     let realm = words.next().unwrap_or("");
     let name = words.next().unwrap_or("");
@@ -43,7 +43,7 @@ pub fn written(alloc: Global, rest: &str) -> io::Result<String> {
     };
     let (mut text, mut notes) = (Vec::new(alloc), Vec::new(alloc));
     match write_password(alloc, options, name, &file, &mut text, &mut notes) {
-        Ok(()) => Ok(behind(joined(alloc, &text)?, &notes)?),
+        Ok(()) => Ok(behind(join_lines(alloc, &text)?, &notes)?),
         Err(fault) => said(alloc, fault),
     }
 }

@@ -31,7 +31,7 @@ pub fn said(alloc: Global, fault: KeysFault<'_>) -> io::Result<String> {
 }
 
 /// The lines of a text with a space between them; `nothing` if there is none.
-pub fn joined(alloc: Global, text: &[u8]) -> Result<String, AllocError> {
+pub fn join_lines(alloc: Global, text: &[u8]) -> Result<String, AllocError> {
     let text = str::from_utf8(text).unwrap_or("no UTF-8");
     let mut all = String::new(alloc);
     for line in text.lines() {

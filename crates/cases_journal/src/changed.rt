@@ -66,7 +66,7 @@ fn show_place(
     written: &Table,
     place: usize,
 ) -> Result<(), Refusal> {
-    match change.made(alloc, journal, place)? {
+    match change.apply(alloc, journal, place)? {
         Some(bytes) => show_compared(alloc, text, written, &bytes),
         None => text.push_str("left out").map_err(Refusal::from),
     }

@@ -26,13 +26,13 @@ pub fn show_appended(
         is_synced: end == "synced",
     };
     let mut sink = FileSink::new(disk);
-    let told = told(&mut sink);
+    let told = append_result(&mut sink);
     let failures = sink.failures();
     drop(sink);
     write!(text, "{told}, failures {failures}").map_err(Refusal::from)
 }
 
-fn told(sink: &mut FileSink<Disk>) -> &'static str {
+fn append_result(sink: &mut FileSink<Disk>) -> &'static str {
     if sink.failures() == u64::MAX {
         return "failed too often";
     }

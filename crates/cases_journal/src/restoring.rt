@@ -67,7 +67,7 @@ pub fn show_failing(
 
 /// Adds which answers came, and at which places.
 pub fn show_census(alloc: Global, text: &mut String, census: &Census) -> Result<(), Refusal> {
-    let shown = census.shown(alloc)?;
+    let shown = census.text(alloc)?;
     text.push_str(shown.as_str()).map_err(Refusal::from)
 }
 

@@ -14,7 +14,7 @@ pub struct Unsynced<'a, R: Files> {
     pub folder: &'static str,
 }
 
-fn unsupported() -> Error {
+fn unsupported_error() -> Error {
     Error::from(ErrorKind::Unsupported)
 }
 
@@ -29,7 +29,7 @@ impl<R: Files<File = File>> Files for Unsynced<'_, R> {
     }
 
     fn open_dir(&self, _path: &str) -> io::Result<R::Dir> {
-        Err(unsupported())
+        Err(unsupported_error())
     }
 
     fn metadata(&self, path: &str) -> io::Result<Metadata> {
@@ -41,26 +41,26 @@ impl<R: Files<File = File>> Files for Unsynced<'_, R> {
     }
 
     fn copy(&self, _from: &str, _to: &str) -> io::Result<u64> {
-        Err(unsupported())
+        Err(unsupported_error())
     }
 
     fn rename(&self, _from: &str, _to: &str) -> io::Result<()> {
-        Err(unsupported())
+        Err(unsupported_error())
     }
 
     fn remove_file(&self, _path: &str) -> io::Result<()> {
-        Err(unsupported())
+        Err(unsupported_error())
     }
 
     fn create_dir(&self, _path: &str) -> io::Result<()> {
-        Err(unsupported())
+        Err(unsupported_error())
     }
 
     fn remove_dir(&self, _path: &str) -> io::Result<()> {
-        Err(unsupported())
+        Err(unsupported_error())
     }
 
     fn remove_dir_all<B: Allocator>(&self, _alloc: B, _path: &str) -> io::Result<()> {
-        Err(unsupported())
+        Err(unsupported_error())
     }
 }

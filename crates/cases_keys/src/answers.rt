@@ -25,15 +25,15 @@ pub fn answer(alloc: Global, line: &str) -> Answer {
         "cts" => enciphered_text(alloc, words),
         "uncts" => deciphered_text(alloc, words),
         "hmac" => hmac(alloc, words),
-        "pbkdf2" => stretched(alloc, words),
-        "nfold" => folded(alloc, words),
+        "pbkdf2" => stretched_bytes(alloc, words),
+        "nfold" => folded_bytes(alloc, words),
         "key" => named_key(alloc, words),
         "show" => shown_key(alloc, words),
-        "derive" => derived(alloc, words),
+        "derive" => derived_key(alloc, words),
         "string-to-key" => password_key(alloc, words),
         "string-to-keys" => password_keys(alloc, words),
-        "seal" => sealed(alloc, words),
-        "unseal" => unsealed(alloc, words),
+        "seal" => sealed_text(alloc, words),
+        "unseal" => unsealed_text(alloc, words),
         _ => Err(Refusal::NoSuchCase),
     }
 }
@@ -96,7 +96,7 @@ fn hmac(alloc: Global, words: &[&str]) -> Answer {
 }
 
 // pbkdf2 PASSWORD SALT COUNT LENGTH
-fn stretched(alloc: Global, words: &[&str]) -> Answer {
+fn stretched_bytes(alloc: Global, words: &[&str]) -> Answer {
     let [password, salt, count, length] = words else {
         return Err(Refusal::WordCount);
     };
@@ -112,7 +112,7 @@ fn stretched(alloc: Global, words: &[&str]) -> Answer {
 }
 
 // nfold TEXT BITS
-fn folded(alloc: Global, words: &[&str]) -> Answer {
+fn folded_bytes(alloc: Global, words: &[&str]) -> Answer {
     let [text, bits] = words else {
         return Err(Refusal::WordCount);
     };
@@ -140,7 +140,7 @@ fn named_key(alloc: Global, words: &[&str]) -> Answer {
         return Err(Refusal::WordCount);
     };
     let key = key(alloc, etype, bytes)?;
-    Ok(format!(in alloc; "{} {}", key.etype().number(), written(alloc, &key)?)?)
+    Ok(format!(in alloc; "{} {}", key.etype().number(), key_text(alloc, &key)?)?)
 }
 
 // show ETYPE BYTES
@@ -153,7 +153,7 @@ fn shown_key(alloc: Global, words: &[&str]) -> Answer {
 }
 
 // derive ETYPE KEY CONSTANT
-fn derived(alloc: Global, words: &[&str]) -> Answer {
+fn derived_key(alloc: Global, words: &[&str]) -> Answer {
     let [etype, bytes_of_key, constant] = words else {
         return Err(Refusal::WordCount);
     };
@@ -162,7 +162,7 @@ fn derived(alloc: Global, words: &[&str]) -> Answer {
     if constant.is_empty() || constant.len() > BLOCK_LEN {
         return Err(Refusal::BadLength);
     }
-    Ok(written(alloc, &derive_key(&key, &constant))?)
+    Ok(key_text(alloc, &derive_key(&key, &constant))?)
 }
 
 // string-to-key ETYPE PASSWORD SALT COUNT
@@ -177,7 +177,7 @@ fn password_key(alloc: Global, words: &[&str]) -> Answer {
         &bytes(alloc, salt)?,
         count,
     );
-    Ok(written(alloc, &key)?)
+    Ok(key_text(alloc, &key)?)
 }
 
 // string-to-keys PASSWORD SALT COUNT
@@ -187,12 +187,12 @@ fn password_keys(alloc: Global, words: &[&str]) -> Answer {
     };
     let count = positive(count)?;
     let keys = string_to_keys(&bytes(alloc, password)?, &bytes(alloc, salt)?, count);
-    let aes128 = written(alloc, &keys.aes128)?;
-    Ok(format!(in alloc; "{aes128} {}", written(alloc, &keys.aes256)?)?)
+    let aes128 = key_text(alloc, &keys.aes128)?;
+    Ok(format!(in alloc; "{aes128} {}", key_text(alloc, &keys.aes256)?)?)
 }
 
 // seal ETYPE KEY USAGE CONFOUNDER PLAIN
-fn sealed(alloc: Global, words: &[&str]) -> Answer {
+fn sealed_text(alloc: Global, words: &[&str]) -> Answer {
     let [etype, bytes_of_key, usage, confounder, plain] = words else {
         return Err(Refusal::WordCount);
     };
@@ -207,7 +207,7 @@ fn sealed(alloc: Global, words: &[&str]) -> Answer {
 }
 
 // unseal ETYPE KEY USAGE TEXT
-fn unsealed(alloc: Global, words: &[&str]) -> Answer {
+fn unsealed_text(alloc: Global, words: &[&str]) -> Answer {
     let [etype, bytes_of_key, usage, text] = words else {
         return Err(Refusal::WordCount);
     };
@@ -226,6 +226,6 @@ fn positive(word: &str) -> Result<u32, Refusal>
     }
 }
 
-fn written(alloc: Global, key: &Key) -> Result<String, AllocError> {
+fn key_text(alloc: Global, key: &Key) -> Result<String, AllocError> {
     hex::encode(alloc, key.bytes())
 }

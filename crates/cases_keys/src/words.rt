@@ -26,7 +26,7 @@ pub fn number(word: &str) -> Result<u32, Refusal> {
 
 /// The encryption type of a number.
 pub fn etype(word: &str) -> Result<Etype, Refusal> {
-    match signed(word)? {
+    match signed_number(word)? {
         AES128_CTS_HMAC_SHA1_96 => Ok(Etype::Aes128),
         AES256_CTS_HMAC_SHA1_96 => Ok(Etype::Aes256),
         _ => Err(Refusal::BadNumber),
@@ -35,7 +35,7 @@ pub fn etype(word: &str) -> Result<Etype, Refusal> {
 
 /// The key of an encryption type's number and bytes.
 pub fn key(alloc: Global, etype: &str, word: &str) -> Result<Key, Refusal> {
-    let etype = signed(etype)?;
+    let etype = signed_number(etype)?;
     Ok(key_of(etype, &bytes(alloc, word)?)?)
 }
 
@@ -44,6 +44,6 @@ pub fn cipher(alloc: Global, word: &str) -> Result<Aes, Refusal> {
     Aes::new(&bytes(alloc, word)?).ok_or(Refusal::BadLength)
 }
 
-fn signed(word: &str) -> Result<i32, Refusal> {
+fn signed_number(word: &str) -> Result<i32, Refusal> {
     word.parse().map_err(|_| Refusal::BadNumber)
 }

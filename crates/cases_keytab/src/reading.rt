@@ -41,5 +41,5 @@ pub fn cut(alloc: Global, hex: &str) -> io::Result<String> {
         };
         census.add(alloc, length, answer.as_str())?;
     }
-    Ok(census.shown(alloc)?)
+    Ok(census.text(alloc)?)
 }

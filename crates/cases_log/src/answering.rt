@@ -4,7 +4,7 @@ ghost use Rattle.std.specs.Prelude.{◌≡◌, ◌<◌, true};
 ghost use Rattle.chpw_table.specs.Times.{IsMoment};
 
 use crate::events;
-use crate::making::opened;
+use crate::making::opened_request;
 use crate::words::{error_of, maybe_number, number, octets, text_of, verdict_of};
 use chpw_log::{Asked, Held, Line, LineLimit, MessageEvent, write_held, write_line};
 use chpw_table::{LAST_SECOND, Moment};
@@ -24,9 +24,9 @@ struct Place {
 pub fn answer(alloc: Global, case: &str) -> Result<String, Fault> {
     let words: Vec<&str> = case.split(' ').collect(alloc)?;
     match words.as_slice() {
-        ["held", rest @ ..] => return held(alloc, rest),
-        ["limit", rest @ ..] => return limited(alloc, rest),
-        ["event", rest @ ..] => return events::happened(alloc, rest),
+        ["held", rest @ ..] => return held_line(alloc, rest),
+        ["limit", rest @ ..] => return limited_lines(alloc, rest),
+        ["event", rest @ ..] => return events::event_line(alloc, rest),
         _ => {}
     }
     let [kind, seconds, micros, worker, peer, rest @ ..] = words.as_slice() else {
@@ -41,48 +41,48 @@ pub fn answer(alloc: Global, case: &str) -> Result<String, Fault> {
         peer: octets(alloc, peer)?,
     };
     match *kind {
-        "decided" => decided(alloc, place, rest),
-        "full" => full(alloc, place, rest),
-        "unopened" => unopened(alloc, place, rest),
+        "decided" => decided_line(alloc, place, rest),
+        "full" => full_line(alloc, place, rest),
+        "unopened" => unopened_line(alloc, place, rest),
         _ => Err(Fault::NoSuchCase),
     }
 }
 
 // CLIENT TARGET VERDICT KVNO
-fn decided(alloc: Global, place: Place, words: &[&str]) -> Result<String, Fault> {
+fn decided_line(alloc: Global, place: Place, words: &[&str]) -> Result<String, Fault> {
     let [client, target, verdict, kvno] = words else {
         return Err(Fault::NoSuchCase);
     };
-    let opened = opened(alloc, client, target)?;
+    let opened = opened_request(alloc, client, target)?;
     let news = MessageEvent::Decided {
         asked: Asked::of(&opened),
         verdict: verdict_of(verdict)?,
         kvno: maybe_number(kvno)?,
     };
-    shown(alloc, place, news)
+    message_line(alloc, place, news)
 }
 
 // CLIENT TARGET CODE ERROR TEXT
-fn full(alloc: Global, place: Place, words: &[&str]) -> Result<String, Fault> {
+fn full_line(alloc: Global, place: Place, words: &[&str]) -> Result<String, Fault> {
     let [client, target, code, error, text] = words else {
         return Err(Fault::NoSuchCase);
     };
-    let opened = opened(alloc, client, target)?;
+    let opened = opened_request(alloc, client, target)?;
     let refusal = refusal(code, error, text)?;
     let news = MessageEvent::Full {
         asked: Asked::of(&opened),
         refusal: &refusal,
     };
-    shown(alloc, place, news)
+    message_line(alloc, place, news)
 }
 
 // CODE ERROR TEXT
-fn unopened(alloc: Global, place: Place, words: &[&str]) -> Result<String, Fault> {
+fn unopened_line(alloc: Global, place: Place, words: &[&str]) -> Result<String, Fault> {
     let [code, error, text] = words else {
         return Err(Fault::NoSuchCase);
     };
     let refusal = refusal(code, error, text)?;
-    shown(alloc, place, MessageEvent::Unopened { refusal: &refusal })
+    message_line(alloc, place, MessageEvent::Unopened { refusal: &refusal })
 }
 
 fn refusal(code: &str, error: &str, text: &str) -> Result<Refusal, Fault> {
@@ -98,7 +98,7 @@ fn refusal(code: &str, error: &str, text: &str) -> Result<Refusal, Fault> {
 }
 
 // SECONDS MICROS LOOPBACK OTHER
-fn held(alloc: Global, words: &[&str]) -> Result<String, Fault> {
+fn held_line(alloc: Global, words: &[&str]) -> Result<String, Fault> {
     let [seconds, micros, loopback, other] = words else {
         return Err(Fault::NoSuchCase);
     };
@@ -120,7 +120,7 @@ fn held(alloc: Global, words: &[&str]) -> Result<String, Fault> {
 
 // TIME@PEER ..: for each `+` if it has its line and otherwise `-`, after the summary before it; finally the last
 // summary.
-fn limited(alloc: Global, words: &[&str]) -> Result<String, Fault> {
+fn limited_lines(alloc: Global, words: &[&str]) -> Result<String, Fault> {
     let mut limit = LineLimit::new();
     let mut text = String::new(alloc);
     for word in words {
@@ -156,7 +156,7 @@ pub(crate) fn is_moment(moment: Moment) -> bool
 }
 
 // The line, whose last byte must be a newline.
-fn shown(alloc: Global, place: Place, news: MessageEvent<'_>) -> Result<String, Fault> {
+fn message_line(alloc: Global, place: Place, news: MessageEvent<'_>) -> Result<String, Fault> {
     let Place {
         moment,
         worker,

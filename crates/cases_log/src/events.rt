@@ -12,7 +12,7 @@ use std::alloc::Global;
 use support_cases::Fault;
 
 /// SECONDS MICROS KIND ..
-pub fn happened(alloc: Global, words: &[&str]) -> Result<String, Fault> {
+pub fn event_line(alloc: Global, words: &[&str]) -> Result<String, Fault> {
     let [seconds, micros, kind, values @ ..] = words else {
         return Err(Fault::NoSuchCase);
     };
@@ -25,16 +25,16 @@ fn event(kind: &str, values: &[&str]) -> Result<ServiceEvent, Fault>
     ensures told { IfOk result IsQuietTold }
 {
     match kind {
-        "started" => started(values),
+        "started" => started_event(values),
         "journal-failed" => Ok(ServiceEvent::JournalFailed),
         "log-reopened" => Ok(ServiceEvent::LogReopened),
-        "raised" => raised(values),
-        "reloaded" => reloaded(values),
-        _ => counted(kind, values),
+        "raised" => raised_event(values),
+        "reloaded" => reloaded_event(values),
+        _ => counted_event(kind, values),
     }
 }
 
-fn started(values: &[&str]) -> Result<ServiceEvent, Fault>
+fn started_event(values: &[&str]) -> Result<ServiceEvent, Fault>
     ensures told { IfOk result IsQuietTold }
 {
     let [principals, iterations, quiet] = values else {
@@ -48,7 +48,7 @@ fn started(values: &[&str]) -> Result<ServiceEvent, Fault>
     })
 }
 
-fn raised(values: &[&str]) -> Result<ServiceEvent, Fault>
+fn raised_event(values: &[&str]) -> Result<ServiceEvent, Fault>
     ensures told { IfOk result IsQuietTold }
 {
     let [iterations] = values else {
@@ -59,7 +59,7 @@ fn raised(values: &[&str]) -> Result<ServiceEvent, Fault>
     })
 }
 
-fn reloaded(values: &[&str]) -> Result<ServiceEvent, Fault>
+fn reloaded_event(values: &[&str]) -> Result<ServiceEvent, Fault>
     ensures told { IfOk result IsQuietTold }
 {
     let [principals, iterations] = values else {
@@ -72,7 +72,7 @@ fn reloaded(values: &[&str]) -> Result<ServiceEvent, Fault>
 }
 
 // `rolled-over` and `ended`
-fn counted(kind: &str, values: &[&str]) -> Result<ServiceEvent, Fault>
+fn counted_event(kind: &str, values: &[&str]) -> Result<ServiceEvent, Fault>
     ensures told { IfOk result IsQuietTold }
 {
     let [entries, changes] = values else {

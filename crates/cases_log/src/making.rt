@@ -7,7 +7,7 @@ use std::alloc::Global;
 use support_cases::Fault;
 
 /// A request of this client for this target.
-pub fn opened(alloc: Global, client: &str, target: &str) -> Result<Opened, Fault> {
+pub fn opened_request(alloc: Global, client: &str, target: &str) -> Result<Opened, Fault> {
     let Target { realm, name } = principal(alloc, client)?;
     Ok(Opened {
         crealm: realm,

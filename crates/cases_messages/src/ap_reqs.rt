@@ -21,12 +21,12 @@ pub fn answer(alloc: Global, changes: &str) -> Result<String, Refusal> {
 
 fn case_answer(alloc: Global, case: &mut Case, changes: &str) -> Result<String, Refusal> {
     change_case(alloc, case, changes)?;
-    let text = made(alloc, case, changes)?;
-    told(alloc, open_ap(alloc, REALM, &case.held, &text, case.peer))
+    let text = changed_ap_req(alloc, case, changes)?;
+    opening_text(alloc, open_ap(alloc, REALM, &case.held, &text, case.peer))
 }
 
 /// The AP-REQ of these records, with what is changed in the message and in its text.
-fn made(alloc: Global, case: &Case, changes: &str) -> Result<Vec<u8>, Refusal> {
+fn changed_ap_req(alloc: Global, case: &Case, changes: &str) -> Result<Vec<u8>, Refusal> {
     let mut message = start_message(alloc, case)?;
     let text = changed_text(alloc, case, &mut message, changes);
     drop(message);
@@ -48,14 +48,14 @@ fn changed_text(
     for change in changes.split(',') {
         change_message(alloc, case, message, change.trim())?;
     }
-    let mut text = written(alloc, message)?;
+    let mut text = message_bytes(alloc, message)?;
     if changes.contains("text 6f") {
         change_first(&mut text, 0x6f);
     }
     Ok(text)
 }
 
-fn written(alloc: Global, message: &ApReq) -> Result<Vec<u8>, Refusal> {
+fn message_bytes(alloc: Global, message: &ApReq) -> Result<Vec<u8>, Refusal> {
     if !fits(message) {
         return Err(Refusal::NoMessage);
     }
@@ -131,9 +131,12 @@ fn shown_key(key: &Key) -> u8 {
 }
 
 /// What an AP-REQ opens to, as text.
-fn told(alloc: Global, opened: Result<ApOpened, OpenError<ApFault>>) -> Result<String, Refusal> {
+fn opening_text(
+    alloc: Global,
+    opened: Result<ApOpened, OpenError<ApFault>>,
+) -> Result<String, Refusal> {
     match opened {
-        Ok(opened) => Ok(shown(alloc, &opened)?),
+        Ok(opened) => Ok(opened_text(alloc, &opened)?),
         Err(OpenError::Fault(fault)) => Ok(shown_fault(alloc, fault)?),
         Err(OpenError::Memory) => Err(Refusal::Memory),
     }
@@ -145,7 +148,7 @@ fn shown_fault(alloc: Global, fault: ApFault) -> Result<String, AllocError> {
     format!(in alloc; "{fault:?} {code}/{error} {text}")
 }
 
-fn shown(alloc: Global, opened: &ApOpened) -> Result<String, AllocError> {
+fn opened_text(alloc: Global, opened: &ApOpened) -> Result<String, AllocError> {
     let mut shown = String::new(alloc);
     show_client(&mut shown, opened)?;
     show_times(&mut shown, opened)?;

@@ -14,7 +14,7 @@ use std::alloc::{AllocError, Global};
 use support_messages::{CTIME, CUSEC, REALM, bytes, client, private_part};
 
 /// What the AP-REQ before it opened to.
-fn opened(alloc: Global) -> Result<ApOpened, AllocError> {
+fn opened_ap_req(alloc: Global) -> Result<ApOpened, AllocError> {
     Ok(ApOpened {
         crealm: bytes(alloc, REALM)?,
         cname: client(alloc, b"alice")?,
@@ -35,12 +35,12 @@ pub fn answer(alloc: Global, changes: &str) -> Result<String, Refusal> {
     let opened = changed_opened(alloc, changes)?;
     let private = open_priv(alloc, &opened, &text);
     drop(opened);
-    told(alloc, private)
+    opening_text(alloc, private)
 }
 
 /// What the AP-REQ before it opened to, with what is changed in it.
 fn changed_opened(alloc: Global, changes: &str) -> Result<ApOpened, AllocError> {
-    let mut opened = opened(alloc)?;
+    let mut opened = opened_ap_req(alloc)?;
     if changes.contains("authenticator seq-number absent") {
         opened.seq_number = None;
     }
@@ -63,12 +63,16 @@ fn made_changed(
     for change in changes.split(',') {
         change_part(part, change.trim())?;
     }
-    made(alloc, part, changes)
+    changed_priv(alloc, part, changes)
 }
 
 /// The KRB-PRIV of this part, with what is changed in the message and in its text.
-pub fn made(alloc: Global, part: &EncKrbPrivPart, changes: &str) -> Result<Vec<u8>, Refusal> {
-    let mut text = written(alloc, &changed_message(alloc, part, changes)?)?;
+pub fn changed_priv(
+    alloc: Global,
+    part: &EncKrbPrivPart,
+    changes: &str,
+) -> Result<Vec<u8>, Refusal> {
+    let mut text = message_bytes(alloc, &changed_message(alloc, part, changes)?)?;
     if changes.contains("text 76") {
         change_first(&mut text, 0x76);
     }
@@ -95,7 +99,7 @@ fn changed_message(
     Ok(message)
 }
 
-fn written(alloc: Global, message: &KrbPriv) -> Result<Vec<u8>, Refusal> {
+fn message_bytes(alloc: Global, message: &KrbPriv) -> Result<Vec<u8>, Refusal> {
     if !fits(message) {
         return Err(Refusal::NoMessage);
     }
@@ -145,15 +149,18 @@ fn sealed_part(alloc: Global, part: &EncKrbPrivPart, how: &str) -> Result<Encryp
 }
 
 /// What a KRB-PRIV opens to, as text.
-fn told(alloc: Global, opened: Result<Private, OpenError<PrivFault>>) -> Result<String, Refusal> {
+fn opening_text(
+    alloc: Global,
+    opened: Result<Private, OpenError<PrivFault>>,
+) -> Result<String, Refusal> {
     match opened {
-        Ok(private) => Ok(shown(alloc, &private)?),
+        Ok(private) => Ok(private_text(alloc, &private)?),
         Err(OpenError::Fault(fault)) => Ok(format!(in alloc; "{fault:?}")?),
         Err(OpenError::Memory) => Err(Refusal::Memory),
     }
 }
 
-fn shown(alloc: Global, private: &Private) -> Result<String, AllocError> {
+fn private_text(alloc: Global, private: &Private) -> Result<String, AllocError> {
     let user = text_of(private.user_bytes.as_slice());
     match private.stamp {
         Some(stamp) => format!(in alloc; "opened {user} at {stamp}"),

@@ -29,7 +29,7 @@ pub fn answer(alloc: Global, changes: &str) -> Result<String, Refusal> {
     let case = changed_case(changes);
     let head = made_ap_rep(alloc, changes)?;
     let tail = made_tail(alloc, case.said, changes)?;
-    told(
+    reading_text(
         alloc,
         read_reply(
             alloc,
@@ -66,7 +66,7 @@ fn changed_case(changes: &str) -> Case<'static> {
 /// The KRB-PRIV with these bytes.
 fn made_tail(alloc: Global, said: &[u8], changes: &str) -> Result<Vec<u8>, Refusal> {
     let part = private_part(alloc, said)?;
-    let made = privates::made(alloc, &part, changes);
+    let made = privates::changed_priv(alloc, &part, changes);
     drop(part);
     let mut tail = made?;
     if changes.contains("text 74") {
@@ -121,7 +121,7 @@ fn change_ap_rep(alloc: Global, message: &mut ApRep, change: &str) -> Result<(),
 /// The answer to a KRB-ERROR with these changes.
 pub fn error_answer(alloc: Global, changes: &str) -> Result<String, Refusal> {
     let text = made_error(alloc, changes)?;
-    told(
+    reading_text(
         alloc,
         read_reply(alloc, &SESSION, &SUBKEY, CTIME, CUSEC, &[], &text),
     )
@@ -178,15 +178,18 @@ fn written_error(alloc: Global, message: &KrbError) -> Result<Vec<u8>, Refusal> 
 }
 
 /// What a reply says, as text.
-fn told(alloc: Global, reply: Result<Reply, OpenError<ReplyFault>>) -> Result<String, Refusal> {
+fn reading_text(
+    alloc: Global,
+    reply: Result<Reply, OpenError<ReplyFault>>,
+) -> Result<String, Refusal> {
     match reply {
-        Ok(reply) => Ok(shown(alloc, &reply)?),
+        Ok(reply) => Ok(reply_text(alloc, &reply)?),
         Err(OpenError::Fault(fault)) => Ok(format!(in alloc; "{fault:?}")?),
         Err(OpenError::Memory) => Err(Refusal::Memory),
     }
 }
 
-fn shown(alloc: Global, reply: &Reply) -> Result<String, AllocError> {
+fn reply_text(alloc: Global, reply: &Reply) -> Result<String, AllocError> {
     let (code, text) = (reply.code, text_of(reply.text.as_slice()));
     match reply.error {
         Some(error) => format!(in alloc; "code {code} error {error} {text}"),

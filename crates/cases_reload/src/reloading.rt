@@ -32,7 +32,7 @@ fn reload(
     journal: &[u8],
     end: usize,
 ) -> Result<(), Fault> {
-    let closed = closed(alloc, old, journal)?;
+    let closed = closed_table(alloc, old, journal)?;
     let file = config_of(alloc, new)?;
     let Some(front) = journal.get(..end) else {
         return Err(Fault::NoSuchCase);
@@ -50,7 +50,7 @@ fn reload(
 }
 
 // The table with which a desk was closed: that of a configuration with a journal, quiet until the second 300.
-fn closed(alloc: Global, words: &str, mut journal: &[u8]) -> Result<Table, Fault> {
+fn closed_table(alloc: Global, words: &str, mut journal: &[u8]) -> Result<Table, Fault> {
     let config = config_of(alloc, words)?;
     let table = Table::start(alloc, config, 300)?;
     match restore(alloc, table, &mut journal) {

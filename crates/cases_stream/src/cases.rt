@@ -2,12 +2,12 @@
 
 use crate::gated::gated;
 use crate::messages::{Message, no_case, read_message};
-use crate::repeating::repeated;
-use crate::serving::{How, served};
+use crate::repeating::result_repeated;
+use crate::serving::{How, served_text};
 use crate::setting::Setting;
-use crate::varied::{Variation, varied, varied_stream};
+use crate::varied::{Variation, varied_message, varied_stream};
 use crate::wanting::wanting;
-use crate::writing::{broken, replied, written};
+use crate::writing::{broken, replies_text, written_text};
 use crate::{deciding, words};
 use std::alloc::{AllocError, Global};
 use std::io;
@@ -61,7 +61,7 @@ impl Cases {
         };
         self.setting.rfc3244_only = text == "of RFC 3244 alone";
         let (old, new) = text.split_once(" -> ").unwrap_or(("", ""));
-        self.setting.config = replaced(alloc, self.base.as_str(), old, new)?;
+        self.setting.config = replace_part(alloc, self.base.as_str(), old, new)?;
         Ok(())
     }
 
@@ -77,9 +77,9 @@ impl Cases {
         };
         let (kind, how) = head.split_once(' ').unwrap_or((head, ""));
         match kind {
-            "written" => written(alloc, &self.setting, How::of(how), text),
-            "repeated" => repeated(alloc, &self.setting, how, text),
-            _ => self.of_messages(alloc, head, &self.named(alloc, text)?),
+            "written" => written_text(alloc, &self.setting, How::of(how), text),
+            "repeated" => result_repeated(alloc, &self.setting, how, text),
+            _ => self.of_messages(alloc, head, &self.messages_named(alloc, text)?),
         }
     }
 
@@ -88,11 +88,11 @@ impl Cases {
         let setting = &self.setting;
         let (change, how) = head.split_once(", ").unwrap_or((head, ""));
         if let Some(change) = Change::of(change) {
-            return varied(alloc, setting, change, How::of(how), messages);
+            return varied_message(alloc, setting, change, How::of(how), messages);
         }
         let (kind, how) = head.split_once(' ').unwrap_or((head, ""));
         match kind {
-            "answered" => deciding::answered(alloc, setting, how, messages),
+            "answered" => deciding::answers_text(alloc, setting, how, messages),
             "looks" => deciding::looked_up(alloc, setting, messages),
             "alone" => deciding::alone(alloc, setting, messages),
             "wanting" => wanting(alloc, setting, how, messages),
@@ -101,7 +101,7 @@ impl Cases {
     }
 
     /// The messages with these names.
-    fn named(&self, alloc: Global, text: &str) -> io::Result<Vec<&Message>> {
+    fn messages_named(&self, alloc: Global, text: &str) -> io::Result<Vec<&Message>> {
         let mut messages = Vec::new(alloc);
         for name in text.split(' ') {
             let Some(found) = self.messages.iter().find(|m| m.name.as_str() == name) else {
@@ -114,7 +114,7 @@ impl Cases {
 }
 
 /// A text with a part replaced by another; unchanged if the part is not in it.
-fn replaced(alloc: Global, text: &str, old: &str, new: &str) -> Result<String, AllocError> {
+fn replace_part(alloc: Global, text: &str, old: &str, new: &str) -> Result<String, AllocError> {
     if old.is_empty() {
         return String::from_str(alloc, text);
     }
@@ -130,8 +130,8 @@ fn of_peers(
     messages: &[&Message],
 ) -> io::Result<String> {
     match kind {
-        "served" => served(alloc, setting, how, messages),
-        "replied" => replied(alloc, setting, how, messages),
+        "served" => served_text(alloc, setting, how, messages),
+        "replied" => replies_text(alloc, setting, how, messages),
         "gated" => gated(alloc, setting, how, messages),
         "broken" => broken(alloc, setting, how, messages),
         "ending" => varied_stream(alloc, setting, Variation::Ending, how, messages),

@@ -34,7 +34,7 @@ fn mood_of(who: &str) -> Mood {
 }
 
 /// The replies to these messages, and how the decider was asked.
-pub fn answered(
+pub fn answers_text(
     alloc: Global,
     setting: &Setting,
     who: &str,
@@ -171,8 +171,8 @@ fn counts_and_verdict(
     world: &mut World<MemorySink>,
     message: &Message,
 ) -> io::Result<(Counts, &'static str)> {
-    let (opened, password) = opened(alloc, &world.service, message)?;
-    let (opened, counts) = needed(world.alone.decide(now(), opened))?;
+    let (opened, password) = open_request(alloc, &world.service, message)?;
+    let (opened, counts) = needed_keys(world.alone.decide(now(), opened))?;
     let decided = world.alone.decide_deriving(now(), opened, &password);
     Ok((counts, verdict_text(decided)))
 }
@@ -198,7 +198,7 @@ fn show_with_keys(
     message: &Message,
     counts: &Counts,
 ) -> io::Result<()> {
-    let opened = completed(alloc, &world.service, message, counts)?;
+    let opened = complete_request(alloc, &world.service, message, counts)?;
     let verdict = verdict_text(world.alone.decide(now(), opened));
     text.push_str("; with keys ")?;
     show_verdict(alloc, text, verdict, &world.alone)
@@ -216,7 +216,11 @@ fn show_verdict(
 }
 
 /// A message's request, with no keys derived, and its password.
-fn opened(alloc: Global, service: &Service, message: &Message) -> io::Result<(Opened, Vec<u8>)> {
+fn open_request(
+    alloc: Global,
+    service: &Service,
+    message: &Message,
+) -> io::Result<(Opened, Vec<u8>)> {
     match service.open(alloc, PEER, &message.bytes)? {
         OpenResult::Refused(_) => Err(no_case()),
         OpenResult::Opened(incoming) => Ok((incoming.opened, incoming.password.into_vec())),
@@ -224,13 +228,13 @@ fn opened(alloc: Global, service: &Service, message: &Message) -> io::Result<(Op
 }
 
 /// A message's request with the password's keys under these counts, and its password.
-fn completed(
+fn complete_request(
     alloc: Global,
     service: &Service,
     message: &Message,
     counts: &Counts,
 ) -> io::Result<Opened> {
-    let (mut opened, password) = opened(alloc, service, message)?;
+    let (mut opened, password) = open_request(alloc, service, message)?;
     complete(&mut opened, &password, counts)?;
     Ok(opened)
 }
@@ -245,7 +249,7 @@ fn complete(opened: &mut Opened, password: &[u8], counts: &Counts) -> io::Result
 }
 
 /// The keys that a decision asks for.
-fn needed(decided: Result<Verdict, Refused>) -> io::Result<(Opened, Counts)> {
+fn needed_keys(decided: Result<Verdict, Refused>) -> io::Result<(Opened, Counts)> {
     match decided {
         Ok(_) => Err(no_case()),
         Err(refused) => {

@@ -8,16 +8,21 @@ use std::alloc::Global;
 use std::io;
 
 /// The result of these bytes, repeated as often as `how` says at its beginning, before it says how they are served.
-pub fn repeated(alloc: Global, setting: &Setting, how: &str, text: &str) -> io::Result<String> {
+pub fn result_repeated(
+    alloc: Global,
+    setting: &Setting,
+    how: &str,
+    text: &str,
+) -> io::Result<String> {
     let Some((times, how)) = how.split_once(' ') else {
         return Err(no_case());
     };
     let stream = copies(alloc, text, times.parse().unwrap_or(0))?;
     let (outcome, holding) = serve_anew(alloc, setting, How::of(how), &stream)?;
-    shown(alloc, &outcome, holding)
+    outcome_text(alloc, &outcome, holding)
 }
 
-fn shown(alloc: Global, outcome: &Outcome, holding: Holding) -> io::Result<String> {
+fn outcome_text(alloc: Global, outcome: &Outcome, holding: Holding) -> io::Result<String> {
     let Some((reply, times)) = only_reply(&outcome.written) else {
         return Err(no_case());
     };

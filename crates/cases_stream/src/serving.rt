@@ -176,7 +176,7 @@ pub fn with_holding(
 }
 
 /// Each reply, how the stream ended, and what the table then holds.
-pub fn served(
+pub fn served_text(
     alloc: Global,
     setting: &Setting,
     how: How,

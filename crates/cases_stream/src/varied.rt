@@ -10,7 +10,7 @@ use std::ops::Range;
 use support_cases::{Census, Change};
 
 /// The results of a message with this change at each of its places.
-pub fn varied(
+pub fn varied_message(
     alloc: Global,
     setting: &Setting,
     change: Change,
@@ -22,14 +22,14 @@ pub fn varied(
     };
     let mut census = Census::new(alloc);
     for place in 0..message.bytes.len() {
-        let answer = changed(alloc, setting, change, how, message, place)?;
+        let answer = result_at(alloc, setting, change, how, message, place)?;
         census.add(alloc, place, answer.as_str())?;
     }
-    Ok(census.shown(alloc)?)
+    Ok(census.text(alloc)?)
 }
 
 /// The result of a message with this change at a place.
-fn changed(
+fn result_at(
     alloc: Global,
     setting: &Setting,
     change: Change,
@@ -37,14 +37,14 @@ fn changed(
     message: &Message,
     place: usize,
 ) -> io::Result<String> {
-    match change.made(alloc, &message.bytes, place)? {
-        Some(bytes) => sent(alloc, setting, how, message, &bytes),
+    match change.apply(alloc, &message.bytes, place)? {
+        Some(bytes) => result_of_bytes(alloc, setting, how, message, &bytes),
         None => Ok(String::from_str(alloc, "left out")?),
     }
 }
 
 /// The result of these bytes in place of a message.
-fn sent(
+fn result_of_bytes(
     alloc: Global,
     setting: &Setting,
     how: How,
@@ -115,5 +115,5 @@ pub fn varied_stream(
         let answer = served_as(alloc, setting, how, messages, stream)?;
         census.add(alloc, place, answer.as_str())?;
     }
-    Ok(census.shown(alloc)?)
+    Ok(census.text(alloc)?)
 }

@@ -20,8 +20,8 @@ pub fn wanting(
 ) -> io::Result<String> {
     let stream = stream_of(alloc, messages)?;
     let (outcome, holding) = match what {
-        "to decide" => undecided(alloc, setting, &stream)?,
-        "to reply" => unanswered(alloc, setting, &stream)?,
+        "to decide" => serve_undecided(alloc, setting, &stream)?,
+        "to reply" => serve_unanswered(alloc, setting, &stream)?,
         _ => return Err(no_case()),
     };
     let mut shown = shown_replies(alloc, messages, &outcome.written)?;
@@ -31,7 +31,11 @@ pub fn wanting(
 }
 
 /// Served by a decider that has no memory.
-fn undecided(alloc: Global, setting: &Setting, stream: &[u8]) -> io::Result<(Outcome, Holding)> {
+fn serve_undecided(
+    alloc: Global,
+    setting: &Setting,
+    stream: &[u8],
+) -> io::Result<(Outcome, Holding)> {
     let World { service, alone } = setting.start(alloc)?;
     let mut decider = Watched::of(alloc, alone, Mood::NoMemory);
     let how = How::of("at 1000100");
@@ -42,7 +46,11 @@ fn undecided(alloc: Global, setting: &Setting, stream: &[u8]) -> io::Result<(Out
 }
 
 /// Served where no reply to an opened request can be made.
-fn unanswered(alloc: Global, setting: &Setting, stream: &[u8]) -> io::Result<(Outcome, Holding)> {
+fn serve_unanswered(
+    alloc: Global,
+    setting: &Setting,
+    stream: &[u8],
+) -> io::Result<(Outcome, Holding)> {
     let World { service, mut alone } = setting.start(alloc)?;
     let messages = Sparing { messages: &service };
     let how = How::of("at 1000100");

@@ -8,21 +8,21 @@ use std::alloc::Global;
 use std::io;
 
 /// What is written when these bytes are read, how the stream ends, and what the table then holds.
-pub fn written(alloc: Global, setting: &Setting, how: How, text: &str) -> io::Result<String> {
-    shown(alloc, setting, how, &bytes_of(alloc, text)?)
+pub fn written_text(alloc: Global, setting: &Setting, how: How, text: &str) -> io::Result<String> {
+    stream_text(alloc, setting, how, &bytes_of(alloc, text)?)
 }
 
 /// Likewise, for the stream of these messages.
-pub fn replied(
+pub fn replies_text(
     alloc: Global,
     setting: &Setting,
     how: How,
     messages: &[&Message],
 ) -> io::Result<String> {
-    shown(alloc, setting, how, &stream_of(alloc, messages)?)
+    stream_text(alloc, setting, how, &stream_of(alloc, messages)?)
 }
 
-fn shown(alloc: Global, setting: &Setting, how: How, stream: &[u8]) -> io::Result<String> {
+fn stream_text(alloc: Global, setting: &Setting, how: How, stream: &[u8]) -> io::Result<String> {
     let (outcome, holding) = serve_anew(alloc, setting, how, stream)?;
     let written = encode(alloc, &outcome.written)?;
     let ended = ended_text(outcome.ended);

@@ -164,7 +164,7 @@ fn print_prefixes<W: Write>(
 ) -> Result<()> {
     let mut census = Census::new(alloc);
     add_prefixes(alloc, &mut census, config, journal)?;
-    writeln!(out, "{}", census.shown(alloc)?)
+    writeln!(out, "{}", census.text(alloc)?)
 }
 
 fn add_prefixes(alloc: Global, census: &mut Census, config: &str, journal: &[u8]) -> Result<()> {

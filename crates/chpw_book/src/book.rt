@@ -151,7 +151,7 @@ impl<D: DeskName, S: JournalSink> Book<D, S> {
         ensures told { IsPrefix pass.old.place.told
             (accepted (opening_state D.root) self.old.kept.history) }
     {
-        self.shelf.has(pass.told());
+        self.shelf.has(pass.known_front());
         let verdict = self.recorded.decide(&mut self.shelf, pass, now, opened)?;
         tell(rt, &mut self.shelf, pass, verdict);
         Ok(verdict)
@@ -222,7 +222,7 @@ impl<D: DeskName, S: JournalSink> Book<D, S> {
         ensures told { IsPrefix pass.old.place.told
             (accepted (opening_state D.root) self.old.kept.history) }
     {
-        self.shelf.has(pass.told());
+        self.shelf.has(pass.known_front());
         let verdict = self.recorded.raise(&mut self.shelf, pass, now, count)?;
         tell_raise(rt, &mut self.shelf, pass, verdict);
         Ok(verdict)

@@ -182,7 +182,7 @@ fn make_room<D: DeskName>(
 {
     entries.reserve(1)?;
     receipts.reserve(1)?;
-    let copy = prepared.opened().clone()?;
+    let copy = prepared.request().clone()?;
     if let Some(row) = prepared.change() {
         shelf.prepare(row.name, row.kvno, table.count())?;
     }

@@ -19,7 +19,7 @@ pub(crate) fn rows_of(alloc: Global, table: &Table) -> Result<Rows, AllocError>
     let policy = table.policy();
     let rows = all_rows(alloc, table)?;
     let kept = policy.depth.max(1);
-    Ok(Rows::of(rows, kept, table.count(), table.seen()))
+    Ok(Rows::of(rows, kept, table.count(), table.changes_accepted()))
 }
 
 fn all_rows(alloc: Global, table: &Table) -> Result<Vec<Row>, AllocError>

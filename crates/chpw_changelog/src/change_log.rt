@@ -10,7 +10,7 @@ use crate::change::NumberedChange;
 use crate::entry::LogPrefix;
 use crate::front::Front;
 use crate::log_name::LogName;
-use crate::steps::{Head, check_pen, make_pen, spent};
+use crate::steps::{Head, check_pen, make_pen, spend_pen};
 use logbook::Pen;
 use std::marker::{Model, PhantomData};
 use std::mem;
@@ -79,7 +79,7 @@ impl<D: LogName> ChangeLog<D> {
     {
         let fresh = make_pen(&self.head, &self.seen);
         let pen = mem::replace(&mut self.pen, fresh);
-        spent::<D>(&self.head, &mut self.seen, pen, &self.pen, change);
+        spend_pen::<D>(&self.head, &mut self.seen, pen, &self.pen, change);
         self.len += 1;
         self.last = change;
     }

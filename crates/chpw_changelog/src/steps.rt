@@ -50,7 +50,7 @@ pub(crate) fn start_log(head: &Head, seen: &mut LogPrefix, table: &Table) -> Pen
 }
 
 // The change is written with this pen, which is spent then.
-pub(crate) fn spent<D: LogName>(
+pub(crate) fn spend_pen<D: LogName>(
     head: &Head,
     seen: &mut LogPrefix,
     mut pen: Pen,

@@ -105,7 +105,7 @@ impl Connection {
     ghost use Rattle.chpw_connections.specs.Room.{gives_way as gives_way_of, is_among as is_among_of};
 
     /// A connection that was accepted at this moment.
-    pub fn accepted(alloc: Global, number: u32, peer: [u8; 4], now: u64) -> Connection
+    pub fn new(alloc: Global, number: u32, peer: [u8; 4], now: u64) -> Connection
         ensures stage { stage result ≡ reading [] }
         ensures number { result.number ≡ number }
         ensures peer { result.peer ≡ peer }
@@ -124,7 +124,7 @@ impl Connection {
 
     /// How many bytes of its message are still to come, as far as is known: until its length is complete, those of the
     /// length.
-    pub fn wanted(&self) -> usize
+    pub fn bytes_to_read(&self) -> usize
         ensures value { result ≡ wanted_by (stage self.now) }
     {
         match &self.phase {
@@ -134,7 +134,7 @@ impl Connection {
     }
 
     /// How many bytes it holds, of its message or its reply, or has room for, of a message that it reads.
-    pub fn held(&self) -> usize
+    pub fn bytes_held(&self) -> usize
         ensures value { result ≡ held_by self.now.phase }
     {
         match &self.phase {
@@ -163,7 +163,7 @@ impl Connection {
     pub fn growth(&self) -> usize
         ensures value { result ≡ growth_by self.now.phase }
     {
-        self.size().saturating_sub(self.held())
+        self.size().saturating_sub(self.bytes_held())
     }
 
     /// Bytes came, of which those count that are wanted. If the message is complete then, it is queued; the answer says
@@ -336,7 +336,7 @@ impl Connection {
     }
 
     /// What is left to write.
-    pub fn unwritten(&self) -> &[u8]
+    pub fn pending_output(&self) -> &[u8]
         ensures value { result.now ≡ left_of (stage self.now) }
     {
         match &self.phase {
@@ -429,7 +429,7 @@ impl Connection {
     pub fn gives_way(&self, who: EvictionRule) -> bool
         ensures value { result ≡ gives_way_of who self.now }
     {
-        self.waits_for_client() && self.held() > 0 && self.growth() == 0 && self.is_among(who)
+        self.waits_for_client() && self.bytes_held() > 0 && self.growth() == 0 && self.is_among(who)
     }
 
     // Whether its message or its reply is large enough, and has been under way for long enough.

@@ -62,7 +62,7 @@ impl Connections {
     }
 
     /// How many connections were accepted.
-    pub fn accepted(&self) -> u32
+    pub fn accepted_count(&self) -> u32
         ensures value { result ≡ accepted_by self.now }
         ensures counted { result ≡ removed_by self.now + slab_len (slots_of self.now) }
     {
@@ -71,7 +71,7 @@ impl Connections {
 
     /// How many ended with a message that had waited too long for its worker, found in `take` or in `pass`; at most
     /// 4,294,967,295.
-    pub fn expired(&self) -> u32
+    pub fn expired_count(&self) -> u32
         ensures value { result ≡ expired_by self.now }
     {
         self.expired
@@ -114,17 +114,17 @@ impl Connections {
         if self.is_full() || self.accepted == u32::MAX {
             return None;
         }
-        let connection = Connection::accepted(self.alloc, self.accepted, peer, now);
+        let connection = Connection::new(self.alloc, self.accepted, peer, now);
         let slot = self.slots.accept(connection);
         self.accepted += 1;
         Some(slot)
     }
 
     /// How many bytes may be read of a connection now; none of one whose message waits or is answered.
-    pub fn wanted(&self, slot: usize) -> usize
+    pub fn bytes_to_read(&self, slot: usize) -> usize
         ensures value { result ≡ wanted_at (get (slots_of self.now) slot) }
     {
-        self.slots.wanted(slot)
+        self.slots.bytes_to_read(slot)
     }
 
     /// These bytes of a connection's message came, of which those count that are wanted. If the message is complete
@@ -160,7 +160,7 @@ impl Connections {
         if !self.is_reading(slot) {
             return None;
         }
-        let wanted = at_most(bytes, self.slots.wanted(slot));
+        let wanted = at_most(bytes, self.slots.bytes_to_read(slot));
         self.receive_wanted(slot, wanted, now)
     }
 
@@ -241,10 +241,10 @@ impl Connections {
     }
 
     /// What is left to write of a connection's reply.
-    pub fn unwritten(&self, slot: usize) -> &[u8]
+    pub fn pending_output(&self, slot: usize) -> &[u8]
         ensures value { result.now ≡ left_at (get (slots_of self.now) slot) }
     {
-        self.slots.unwritten(slot)
+        self.slots.pending_output(slot)
     }
 
     /// `count` bytes of a connection's reply were written.

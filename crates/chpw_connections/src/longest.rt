@@ -52,7 +52,7 @@ impl Slots {
     pub fn staying_besides(&self, slot: usize, who: EvictionRule) -> usize
         ensures value { result ≡ staying_besides_of who self.now.connections slot }
     {
-        self.left_by_all(who) + self.given(slot, who)
+        self.left_by_all(who) + self.bytes_freed(slot, who)
     }
 
     // How many bytes would be held if all that give way had ended.
@@ -62,17 +62,17 @@ impl Slots {
     {
         let mut left = self.held;
         for slot in 0..self.connections.capacity() {
-            left -= self.given(slot, who);
+            left -= self.bytes_freed(slot, who);
         }
         left
     }
 
     // How many bytes the end of the connection in a slot would free, if it gives way.
-    fn given(&self, slot: usize, who: EvictionRule) -> usize
+    fn bytes_freed(&self, slot: usize, who: EvictionRule) -> usize
         ensures value { result ≡ given_at who (get self.now.connections slot) }
     {
         match self.connections.get(slot) {
-            Some(connection) if connection.gives_way(who) => connection.held(),
+            Some(connection) if connection.gives_way(who) => connection.bytes_held(),
             _ => 0,
         }
     }

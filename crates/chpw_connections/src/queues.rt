@@ -44,7 +44,7 @@ impl Connections {
     /// named it. Each is given once for each time, in the order of their coming, if there was memory to note it. What
     /// `accept`, `receive`, `take`, `answer`, `defer` and `wrote` do to a connection that doesn't end is not noted.
     /// Meanwhile the slot may be free, or another connection's: `todo` says what is to be done.
-    pub fn changed(&mut self) -> Option<usize>
+    pub fn take_changed(&mut self) -> Option<usize>
         ensures first { IfSome result (λ slot. changed_of self.old ≡ slot ∷ changed_of self.new) }
         ensures none { IfNone result (changed_of self.old ≡ []) }
         ensures slots { slots_of self.new ≡ slots_of self.old }

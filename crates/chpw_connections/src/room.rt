@@ -24,7 +24,7 @@ pub(crate) struct EvictionRule {
 
 impl Connections {
     /// How many bytes of messages and replies they hold together: never more than allowed.
-    pub fn held(&self) -> usize
+    pub fn bytes_held(&self) -> usize
         ensures value { result ≡ held_in (slots_of self.now) }
         ensures bounded { result ≤ (bounds_of self.now).bytes }
     {

@@ -78,7 +78,7 @@ impl Slots {
         ensures absent { IfNone result (self.new ≡ self.old) }
     {
         let connection = self.connections.try_remove(slot)?;
-        self.held -= connection.held();
+        self.held -= connection.bytes_held();
         Some(connection)
     }
 
@@ -92,7 +92,7 @@ impl Slots {
         ensures capacity { self.new.connections.capacity ≡ self.old.connections.capacity }
         ensures held { self.new.held ≡ self.old.held + held_by connection.phase }
     {
-        self.held += connection.held();
+        self.held += connection.bytes_held();
         self.connections.insert_reserved(connection);
     }
 
@@ -271,12 +271,12 @@ impl Slots {
     }
 
     /// How many bytes may be read in a slot.
-    pub fn wanted(&self, slot: usize) -> usize
+    pub fn bytes_to_read(&self, slot: usize) -> usize
         ensures value { result ≡ wanted_at (get self.now.connections slot) }
     {
         match self.connections.get(slot) {
             None => 0,
-            Some(connection) => connection.wanted(),
+            Some(connection) => connection.bytes_to_read(),
         }
     }
 
@@ -291,12 +291,12 @@ impl Slots {
     }
 
     /// What is left to write in a slot.
-    pub fn unwritten(&self, slot: usize) -> &[u8]
+    pub fn pending_output(&self, slot: usize) -> &[u8]
         ensures value { result.now ≡ left_at (get self.now.connections slot) }
     {
         match self.connections.get(slot) {
             None => &[],
-            Some(connection) => connection.unwritten(),
+            Some(connection) => connection.pending_output(),
         }
     }
 }

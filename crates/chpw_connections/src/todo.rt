@@ -31,7 +31,7 @@ impl Connections {
             return Todo::Wait;
         };
         match &connection.phase {
-            Phase::Reading(_) => Todo::Read(connection.wanted()),
+            Phase::Reading(_) => Todo::Read(connection.bytes_to_read()),
             Phase::Writing(_) => Todo::Write,
             Phase::Lingering => Todo::Linger,
             Phase::Ended => Todo::Close,

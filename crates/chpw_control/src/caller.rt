@@ -90,7 +90,7 @@ impl Caller {
     ghost use Rattle.chpw_control.specs.Callers.{asking, after, closed, expired, taken, told, wrote, failed, left_of, waiting_in, over, Hears, is_over};
 
     /// A caller that was accepted at this moment.
-    pub fn accepted(alloc: Global) -> Caller
+    pub fn new(alloc: Global) -> Caller
         ensures value { result ≡ asking at_start }
     {
         Caller {
@@ -107,7 +107,7 @@ impl Caller {
                 self.phase = match dialog.hear(alloc, bytes) {
                     None => Phase::Asking(dialog),
                     Some(Ok(command)) => Phase::Waiting(command),
-                    Some(Err(fault)) => refused(fault),
+                    Some(Err(fault)) => phase_after_fault(fault),
                 };
             }
             other => self.phase = other,
@@ -120,7 +120,7 @@ impl Caller {
     {
         if let Phase::Asking(dialog) = &mut self.phase {
             if let Some(fault) = dialog.end() {
-                self.phase = refused(fault);
+                self.phase = phase_after_fault(fault);
             }
         }
     }
@@ -131,7 +131,7 @@ impl Caller {
     {
         if let Phase::Asking(dialog) = &mut self.phase {
             if let Some(fault) = dialog.expire() {
-                self.phase = refused(fault);
+                self.phase = phase_after_fault(fault);
             }
         }
     }
@@ -184,7 +184,7 @@ impl Caller {
     }
 
     /// What is left to write of its answer.
-    pub fn unwritten(&self) -> &[u8]
+    pub fn pending_output(&self) -> &[u8]
         ensures value { result.now ≡ left_of self.now }
     {
         match &self.phase {
@@ -224,7 +224,7 @@ impl Caller {
 }
 
 // It gets the reason why there is no command.
-fn refused(fault: ControlFault) -> Phase
+fn phase_after_fault(fault: ControlFault) -> Phase
     ensures value { result ≡ refused_with fault }
 {
     Phase::Answered(Answer {

@@ -60,7 +60,7 @@ impl Callers {
             return None;
         }
         let seat = Seat {
-            caller: Caller::accepted(alloc),
+            caller: Caller::new(alloc),
             since: now,
             number: self.accepted,
         };
@@ -276,12 +276,12 @@ impl Callers {
     }
 
     /// What is left to write to a caller.
-    pub fn unwritten(&self, slot: usize) -> &[u8]
+    pub fn pending_output(&self, slot: usize) -> &[u8]
         ensures value { result.now ≡ left_at (get self.now.seats slot) }
     {
         match self.seats.get(slot) {
             None => &[],
-            Some(seat) => seat.caller.unwritten(),
+            Some(seat) => seat.caller.pending_output(),
         }
     }
 

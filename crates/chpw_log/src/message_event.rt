@@ -87,7 +87,7 @@ impl<'a> Asked<'a> {
 
 impl<'a> MessageEvent<'a> {
     /// The fields for it.
-    pub(crate) fn told(&self) -> LogFields<'a>
+    pub(crate) fn fields(&self) -> LogFields<'a>
         ensures value { said result ≡ outcome_of self.now }
     {
         match *self {

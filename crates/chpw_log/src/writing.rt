@@ -22,7 +22,7 @@ pub fn write_line(alloc: Global, line: &Line<'_>) -> Result<Vec<u8>, AllocError>
 {
     let mut text = Vec::new(alloc);
     put_front(&mut text, line)?;
-    put_told(&mut text, &line.news.told())?;
+    put_told(&mut text, &line.news.fields())?;
     text.push(b'\n')?;
     Ok(text)
 }

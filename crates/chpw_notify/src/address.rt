@@ -33,14 +33,14 @@ pub(crate) fn address_of(name: &[u8]) -> Option<Address>
         return None;
     }
     match *first {
-        PATH => Some(filled(2, name)),
-        ABSTRACT => Some(filled(3, rest)),
+        PATH => Some(address_with(2, name)),
+        ABSTRACT => Some(address_with(3, rest)),
         _ => None,
     }
 }
 
 // The address with this text from this byte on, after the family: with the zero after it, or before it.
-fn filled(at: usize, text: &[u8]) -> Address
+fn address_with(at: usize, text: &[u8]) -> Address
     requires at { at ≤ 3 }
     requires fits { length text.now ≤ 107 }
     ensures value { (result.raw, result.length) ≡ specs_of.filled at text.now }

@@ -25,7 +25,7 @@ impl Accepting {
     ghost use Rattle.chpw_pool.specs.Accepting.{reported, resumed, after_fault, is_waiting, has_failed};
 
     /// After the listener was reported.
-    pub fn reported(self) -> Accepting
+    pub fn after_report(self) -> Accepting
         ensures value { result ≡ reported self }
     {
         match self {
@@ -35,7 +35,7 @@ impl Accepting {
     }
 
     /// After time has passed up to this moment.
-    pub fn resumed(self, now: u64) -> Accepting
+    pub fn after_time(self, now: u64) -> Accepting
         ensures value { result ≡ resumed now self }
     {
         match self {

@@ -162,7 +162,13 @@ impl<
     fn stop(&mut self) {
         self.is_stopping = true;
         self.engine.control.lock(self.rt).is_stopping = true;
-        self.connections = self.engine.hub.lock(self.rt).state.connections.accepted();
+        self.connections = self
+            .engine
+            .hub
+            .lock(self.rt)
+            .state
+            .connections
+            .accepted_count();
         self.drop_pending();
     }
 

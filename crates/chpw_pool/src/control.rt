@@ -209,7 +209,7 @@ fn tell<W: Write>(callers: &mut Callers, slot: usize, writer: &mut W)
     ensures out { left_at (get (seats_of callers.old) slot) ≡ [] → Happens (seats_of callers.old) (seats_of callers.new) slot (wrote 0) }
     ensures ordering { ordering_of callers.new ≡ ordering_of callers.old }
 {
-    let left = callers.unwritten(slot);
+    let left = callers.pending_output(slot);
     if left.is_empty() {
         callers.wrote(slot, 0);
         return;

@@ -24,7 +24,13 @@ impl<
     /// connections are to be accepted.
     pub fn take_datagrams(&mut self) {
         for _ in 0..DATAGRAMS_AT_ONCE {
-            let accepted = self.engine.hub.lock(self.rt).state.connections.accepted();
+            let accepted = self
+                .engine
+                .hub
+                .lock(self.rt)
+                .state
+                .connections
+                .accepted_count();
             if !self.can_take_datagram(accepted) {
                 return;
             }

@@ -275,15 +275,15 @@ impl<G> Engine<G> {
     }
 
     /// How many messages waited too long for their worker and were dropped.
-    pub fn expired<R: Wait>(&self, rt: &R) -> u32 {
-        self.hub.lock(rt).state.connections.expired()
+    pub fn expired_count<R: Wait>(&self, rt: &R) -> u32 {
+        self.hub.lock(rt).state.connections.expired_count()
     }
 
     /// What the reactor did, after it has ended, if it was to serve this many connections.
     pub fn outcome<R: Wait>(&self, rt: &R, wanted: u32) -> Pool
         ensures ends { Ends wanted result }
     {
-        outcome_of(self.hub.lock(rt).state.connections.accepted(), wanted)
+        outcome_of(self.hub.lock(rt).state.connections.accepted_count(), wanted)
     }
 }
 

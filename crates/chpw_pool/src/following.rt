@@ -93,7 +93,7 @@ impl<
             };
             match stream.read(&mut buffer) {
                 Ok(0) => self.lose(),
-                Ok(count) => self.heard(&buffer[..count]),
+                Ok(count) => self.hear_bytes(&buffer[..count]),
                 Err(error) => match error.kind() {
                     ErrorKind::WouldBlock => return,
                     ErrorKind::Interrupted => {}
@@ -104,9 +104,14 @@ impl<
     }
 
     // The follower sent these bytes. One that sends anything but what it was asked is disconnected.
-    fn heard(&mut self, bytes: &[u8]) {
+    fn hear_bytes(&mut self, bytes: &[u8]) {
         let now = milliseconds(self.rt);
-        let heard = self.engine.hub.lock(self.rt).state.heard(bytes, now);
+        let heard = self
+            .engine
+            .hub
+            .lock(self.rt)
+            .state
+            .hear_unless_former(bytes, now);
         match heard {
             Ok(None) => {}
             Ok(Some(_)) => self.link.follower.confirmed(),

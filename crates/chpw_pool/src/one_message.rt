@@ -80,7 +80,9 @@ impl State {
             (slots_of self.old.connections) (slots_of self.new.connections) slot message.now) }
         ensures bounds { bounds_of self.new.connections ≡ bounds_of self.old.connections }
     {
-        if self.connections.wanted(slot) == 0 || !self.connections.has_room_to_read(slot, now) {
+        if self.connections.bytes_to_read(slot) == 0
+            || !self.connections.has_room_to_read(slot, now)
+        {
             return None;
         }
         self.connections.receive(slot, message, now)
@@ -103,7 +105,7 @@ impl State {
             (wrote (length (left_at (get (slots_of self.old.connections) slot)))) }
         ensures bounds { bounds_of self.new.connections ≡ bounds_of self.old.connections }
     {
-        let count = self.connections.unwritten(slot).len();
+        let count = self.connections.pending_output(slot).len();
         self.connections.wrote(slot, count, now);
         Progress::Some
     }

@@ -143,7 +143,7 @@ impl<
     // How long to wait for the next event.
     fn patience(&self) -> u64 {
         let hub = self.engine.hub.lock(self.rt);
-        let accepted = hub.state.connections.accepted();
+        let accepted = hub.state.connections.accepted_count();
         let may_come = self.can_accept(accepted) || self.can_take_datagram(accepted);
         let patience = hub.state.patience(may_come, self.accepting);
         MutexGuard::unlock(hub);
@@ -171,7 +171,7 @@ impl<
 
     fn look_at(&mut self, event: &Event) {
         match EventSource::of(event.token(), self.clients) {
-            EventSource::Listener => self.accepting = self.accepting.reported(),
+            EventSource::Listener => self.accepting = self.accepting.after_report(),
             EventSource::Follower => self.link.is_reported = true,
             EventSource::Datagrams => self.has_datagrams = true,
             EventSource::Control => self.port.is_due = true,
@@ -187,7 +187,13 @@ impl<
     // Handles the connections that ended, and those for which more is to be done.
     fn look_at_changed(&mut self) {
         for _ in 0..self.clients {
-            let changed = self.engine.hub.lock(self.rt).state.connections.changed();
+            let changed = self
+                .engine
+                .hub
+                .lock(self.rt)
+                .state
+                .connections
+                .take_changed();
             match changed {
                 None => return,
                 Some(slot) => self.drive(slot),
@@ -203,7 +209,7 @@ impl<
         }
         self.looked = now;
         self.port.is_due = true;
-        self.accepting = self.accepting.resumed(now);
+        self.accepting = self.accepting.after_time(now);
         self.release_overdue();
         let had = self.pass(now);
         self.look_round(registry, had.is_any());
@@ -272,7 +278,13 @@ impl<
     // Accepts the connections that have come.
     fn accept(&mut self) {
         for _ in 0..ACCEPTS {
-            let accepted = self.engine.hub.lock(self.rt).state.connections.accepted();
+            let accepted = self
+                .engine
+                .hub
+                .lock(self.rt)
+                .state
+                .connections
+                .accepted_count();
             if self.pending.is_none() && self.can_accept(accepted) {
                 self.pending = self.next();
             }

@@ -200,7 +200,11 @@ impl State {
     }
 
     /// As `hear`, unless the connection concerns a former journal: that is ignored.
-    pub fn heard(&mut self, bytes: &[u8], now: u64) -> Result<Option<u64>, ProtocolFault>
+    pub fn hear_unless_former(
+        &mut self,
+        bytes: &[u8],
+        now: u64,
+    ) -> Result<Option<u64>, ProtocolFault>
         ensures former { self.old.is_of_former ≡ true → (result ≡ Ok None) × (self.new ≡ self.old) }
         ensures asking { self.old.is_of_former ≡ false → OnOk result (after_bytes self.old.asking bytes.now ≡ Some self.new.asking) }
         ensures confirmed { self.old.is_of_former ≡ false → IfOk result (λ mark. mark ≡ confirmed_by self.old.asking.asked bytes.now) }
@@ -293,7 +297,7 @@ impl State {
             (I.remaining reader.old) (I.remaining reader.new) }
         ensures bounds { bounds_of self.new.connections ≡ bounds_of self.old.connections }
     {
-        let most = buffer.len().min(self.connections.wanted(slot));
+        let most = buffer.len().min(self.connections.bytes_to_read(slot));
         if most == 0 || !self.may_read(slot, now) {
             return Progress::None;
         }
@@ -348,7 +352,7 @@ impl State {
             (W.contents writer.old) (W.contents writer.new) }
         ensures bounds { bounds_of self.new.connections ≡ bounds_of self.old.connections }
     {
-        let left = self.connections.unwritten(slot);
+        let left = self.connections.pending_output(slot);
         if left.is_empty() {
             self.connections.wrote(slot, 0, now);
             return Progress::Some;
@@ -433,7 +437,7 @@ impl State {
     pub fn is_finished(&self, wanted: u32, accepting: Accepting) -> bool
         ensures value { result ≡ is_finished wanted accepting self.now }
     {
-        let has_all = self.connections.accepted() >= wanted || accepting.has_failed();
+        let has_all = self.connections.accepted_count() >= wanted || accepting.has_failed();
         self.is_deserted || (has_all && self.connections.is_empty())
     }
 

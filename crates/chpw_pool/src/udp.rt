@@ -120,7 +120,7 @@ impl Datagrams {
         ensures blocked { result ≡ progress.None → (self.new ≡ self.old) × (slots_of state.new.connections ≡ slots_of state.old.connections) }
         ensures bounds { bounds_of state.new.connections ≡ bounds_of state.old.connections }
     {
-        let reply = state.connections.unwritten(slot);
+        let reply = state.connections.pending_output(slot);
         match self.send(datagram.sender, reply) {
             Ok(_) => {
                 self.keep(datagram, reply, now);

@@ -38,7 +38,7 @@ pub fn write_report<W: Write>(
 {
     let mut place = 0u32;
     while let Some(name) = table.name_at(place) {
-        let text = told(alloc, form, realm, table, name)?;
+        let text = principal_text(alloc, form, realm, table, name)?;
         put(writer, &text)?;
         // No memory holds more names than that.
         let Some(next) = place.checked_add(1) else {
@@ -51,7 +51,7 @@ pub fn write_report<W: Write>(
 }
 
 // The text for the principal of this name.
-fn told(
+fn principal_text(
     alloc: Global,
     form: Form,
     realm: &[u8],

@@ -14,8 +14,8 @@ pub(crate) fn prepare_refusal(
     fault: &PrepareFault<'_>,
 ) -> Result<Vec<u8>, AllocError> {
     match fault {
-        PrepareFault::Start(fault) => refused(alloc, fault.to_string(alloc)?.as_str()),
-        PrepareFault::Config(words) => refused(alloc, words.as_str()),
+        PrepareFault::Start(fault) => refusal(alloc, fault.to_string(alloc)?.as_str()),
+        PrepareFault::Config(words) => refusal(alloc, words.as_str()),
         PrepareFault::Reload(fault) => reload_refusal(alloc, fault),
     }
 }
@@ -24,30 +24,30 @@ pub(crate) fn prepare_refusal(
 pub(crate) fn reload_refusal(alloc: Global, fault: &ReloadFault) -> Result<Vec<u8>, AllocError> {
     let mut words = Vec::new(alloc);
     put_fault(&mut words, fault)?;
-    refused(alloc, str::from_utf8(&words).unwrap_or(""))
+    refusal(alloc, str::from_utf8(&words).unwrap_or(""))
 }
 
 /// The answer when the log was reopened.
-pub(crate) fn reopened(
+pub(crate) fn reopen_answer(
     alloc: Global,
     opened: Result<(), ServeFault<'_>>,
 ) -> Result<Vec<u8>, AllocError> {
     match opened {
-        Ok(()) => done(alloc),
-        Err(fault) => refused(alloc, fault.to_string(alloc)?.as_str()),
+        Ok(()) => ok_answer(alloc),
+        Err(fault) => refusal(alloc, fault.to_string(alloc)?.as_str()),
     }
 }
 
 /// The answer when an order was carried out.
-pub(crate) fn done(alloc: Global) -> Result<Vec<u8>, AllocError> {
+pub(crate) fn ok_answer(alloc: Global) -> Result<Vec<u8>, AllocError> {
     let mut text = Vec::new(alloc);
     put_ok(&mut text)?;
     Ok(text)
 }
 
 /// The answer when a file can't be written.
-pub(crate) fn unwritten(alloc: Global, path: &str) -> Result<Vec<u8>, AllocError> {
-    refused(
+pub(crate) fn write_refusal(alloc: Global, path: &str) -> Result<Vec<u8>, AllocError> {
+    refusal(
         alloc,
         ServeFault::CannotWrite(path).to_string(alloc)?.as_str(),
     )
@@ -59,20 +59,20 @@ pub(crate) fn compact_refusal(
     fault: &CompactFault<'_>,
 ) -> Result<Vec<u8>, AllocError> {
     match fault {
-        CompactFault::Unread(fault) => refused(alloc, fault.to_string(alloc)?.as_str()),
-        CompactFault::NoCopy(copy) => unwritten(alloc, copy.as_str()),
+        CompactFault::Unread(fault) => refusal(alloc, fault.to_string(alloc)?.as_str()),
+        CompactFault::NoCopy(copy) => write_refusal(alloc, copy.as_str()),
     }
 }
 
 /// The answer when it is refused, for this reason.
-pub(crate) fn refused(alloc: Global, words: &str) -> Result<Vec<u8>, AllocError> {
+pub(crate) fn refusal(alloc: Global, words: &str) -> Result<Vec<u8>, AllocError> {
     let mut text = Vec::new(alloc);
     put_error(&mut text, words)?;
     Ok(text)
 }
 
 /// An answer; if there is no memory for it, it is cut off, which means failure.
-pub(crate) fn told(alloc: Global, answer: Result<Vec<u8>, AllocError>) -> Vec<u8> {
+pub(crate) fn answer_or_empty(alloc: Global, answer: Result<Vec<u8>, AllocError>) -> Vec<u8> {
     match answer {
         Ok(text) => text,
         Err(_) => Vec::new(alloc),

@@ -7,7 +7,7 @@ ghost use Rattle.chpw_reload.specs.Compacting.{GoesWith};
 ghost use Rattle.chpw_service.specs.Following.{reopened};
 ghost use Rattle.chpw_service.specs.declared.fault.ServeFault.TheVariants.{Memory};
 
-use crate::answers::{done, refused, told, unwritten};
+use crate::answers::{answer_or_empty, ok_answer, refusal, write_refusal};
 use crate::fault::ServeFault;
 use crate::files::{read_regular, settings};
 use crate::histories::{Opening, ServiceContext, next_opening};
@@ -59,7 +59,7 @@ pub(crate) fn begin_compaction<'a, R: Files<File = File> + AllocGlobal>(
         Ok(base) => base,
         Err(fault) => return Err(CompactFault::Unread(fault)),
     };
-    let text = match copied(rt, options) {
+    let text = match held_configuration(rt, options) {
         Ok(text) => text,
         Err(fault) => return Err(CompactFault::Unread(fault)),
     };
@@ -73,7 +73,7 @@ pub(crate) fn begin_compaction<'a, R: Files<File = File> + AllocGlobal>(
 }
 
 // The configuration that is held, as text.
-fn copied<'a, R: Files<File = File> + AllocGlobal>(
+fn held_configuration<'a, R: Files<File = File> + AllocGlobal>(
     rt: &R,
     options: &ServeOptions<'a>,
 ) -> Result<Vec<u8>, ServeFault<'a>> {
@@ -124,7 +124,8 @@ pub(crate) fn compact<
         let _ = fs::remove_file(rt, compaction.copy.as_str());
     }
     let answer = answer_of(rt.alloc(), hall.options.journal, replaced);
-    hall.engine.answer_order(rt, told(rt.alloc(), answer));
+    hall.engine
+        .answer_order(rt, answer_or_empty(rt.alloc(), answer));
     next_opening(table, sink, hall.workers)
 }
 
@@ -196,13 +197,13 @@ fn answer_of(
     replaced: Result<(), NotReplaced>,
 ) -> Result<Vec<u8>, AllocError> {
     match replaced {
-        Ok(()) => done(alloc),
-        Err(NotReplaced::Failed) => refused(alloc, "journal failed"),
+        Ok(()) => ok_answer(alloc),
+        Err(NotReplaced::Failed) => refusal(alloc, "journal failed"),
         Err(NotReplaced::Changed) => {
-            refused(alloc, "the configuration has changed: reload it first")
+            refusal(alloc, "the configuration has changed: reload it first")
         }
-        Err(NotReplaced::Waited) => refused(alloc, "replies wait for the follower"),
-        Err(NotReplaced::Unwritten | NotReplaced::Unsafe) => unwritten(alloc, journal),
-        Err(NotReplaced::Memory) => refused(alloc, "memory"),
+        Err(NotReplaced::Waited) => refusal(alloc, "replies wait for the follower"),
+        Err(NotReplaced::Unwritten | NotReplaced::Unsafe) => write_refusal(alloc, journal),
+        Err(NotReplaced::Memory) => refusal(alloc, "memory"),
     }
 }

@@ -39,7 +39,7 @@ impl Facts {
     }
 
     /// A request was decided with this verdict.
-    pub fn decided(&mut self, verdict: Verdict)
+    pub fn count_decision(&mut self, verdict: Verdict)
         ensures value { self.new ≡ behind_decision self.old verdict }
     {
         let change = u64::from(verdict == Verdict::Done);
@@ -50,7 +50,7 @@ impl Facts {
     }
 
     /// A raise was decided, after which new keys are made under this count.
-    pub fn raised(&mut self, iterations: u64)
+    pub fn count_raise(&mut self, iterations: u64)
         ensures value { self.new ≡ behind_raise self.old iterations }
     {
         self.iterations = iterations;

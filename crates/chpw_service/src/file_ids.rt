@@ -52,7 +52,7 @@ pub(crate) fn keep_apart<'a, R: Files>(
             _ => None,
         },
     };
-    refused(options, first_clash(&places))
+    clash_result(options, first_clash(&places))
 }
 
 // The first clash of these places: the log's before the journal's.
@@ -99,7 +99,7 @@ fn is_one_name(one: Option<&str>, other: Option<&str>) -> bool
 }
 
 // The fault for a clash.
-fn refused<'a>(options: &ServeOptions<'a>, clash: Option<Clash>) -> Result<(), ServeFault<'a>>
+fn clash_result<'a>(options: &ServeOptions<'a>, clash: Option<Clash>) -> Result<(), ServeFault<'a>>
     ensures none { OnOk result (clash ≡ None) }
     ensures fault { IfErr result (IsOfClash options.now) }
 {

@@ -204,7 +204,11 @@ fn serve_desk<
     let served = serve_shift(rt, time, hall, rules, &desk, &mut passes);
     let Left { tally, table, sink } = close_desk(rt, desk, passes)?;
     let over = hall.engine.is_over(rt);
-    report_expired(hall.log, hall.engine.expired(rt), &mut reported.expired);
+    report_expired(
+        hall.log,
+        hall.engine.expired_count(rt),
+        &mut reported.expired,
+    );
     let last = over || served.is_err();
     tell_tally(rt, hall.log, tally, last, &mut reported.is_lost)?;
     match served {
@@ -340,7 +344,7 @@ pub(crate) fn next_opening<'a>(
     ensures workers { IfOk result (λ next. workers_of next.unnamed ≡ workers) }
     ensures fault { IfErr result (λ fault. fault ≡ Memory) }
 {
-    match table.reopened() {
+    match table.for_next_history() {
         Err(_) => Err(ServeFault::Memory),
         Ok(table) => Ok(Opening {
             unnamed: UnnamedDesk::of(table, workers),

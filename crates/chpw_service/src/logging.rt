@@ -141,12 +141,12 @@ impl<R: Wait + Eprint> Log<'_, R> {
     {
         match told {
             RaiseReport::Raised(iterations) => {
-                self.facts.lock(self.rt).raised(u64::from(iterations));
+                self.facts.lock(self.rt).count_raise(u64::from(iterations));
                 self.put_event(now, &ServiceEvent::Raised { iterations });
             }
             RaiseReport::NotHigher | RaiseReport::Broken => {
                 let iterations = self.facts().iterations;
-                self.facts.lock(self.rt).raised(iterations);
+                self.facts.lock(self.rt).count_raise(iterations);
             }
             RaiseReport::Full => {}
         }
@@ -381,7 +381,7 @@ impl<R: Wait + Eprint> Lines for LogLines<'_, R> {
 
     fn put(&mut self, line: &Line<'_>) {
         if let MessageEvent::Decided { verdict, .. } = line.news {
-            self.log.facts.lock(self.log.rt).decided(verdict);
+            self.log.facts.lock(self.log.rt).count_decision(verdict);
         }
         self.log.put(line);
     }

@@ -1,6 +1,6 @@
 //! Orders of callers at the control socket.
 
-use crate::answers::{compact_refusal, prepare_refusal, refused, reopened, told};
+use crate::answers::{answer_or_empty, compact_refusal, prepare_refusal, refusal, reopen_answer};
 use crate::checked_reload::CheckedReload;
 use crate::compacting::{Compaction, begin_compaction};
 use crate::fault::ServeFault;
@@ -94,15 +94,15 @@ impl<R: Files<File = File> + Net + Wait + Clock + Eprint + AllocGlobal, T: Clock
             },
             Command::ReopenLog => {
                 let now = MachineClock::new(self.time).now();
-                reopened(alloc, self.hall.log.reopen(options, now))
+                reopen_answer(alloc, self.hall.log.reopen(options, now))
             }
             Command::Compact(copy) => match begin_compaction(self.rt, options, copy) {
                 Ok(compaction) => return Carried::AfterClose(AfterClose::Compact(compaction)),
                 Err(fault) => compact_refusal(alloc, &fault),
             },
-            Command::Status | Command::Stop => refused(alloc, "not an order"),
+            Command::Status | Command::Stop => refusal(alloc, "not an order"),
         };
-        Carried::Answered(told(alloc, answer))
+        Carried::Answered(answer_or_empty(alloc, answer))
     }
 }
 

@@ -101,11 +101,11 @@ fn raise<D: DeskName, R: Wait, C: Clock>(
     ensures raised { IsRaise C.gives (opening_state D.root) clock.old clock.new pass.old pass.new count result }
 {
     let now = clock.now();
-    told(count, desk.raise(rt, pass, now, count))
+    report_of(count, desk.raise(rt, pass, now, count))
 }
 
 // The result for this answer; none if memory was refused.
-fn told(count: u32, raised: Result<RaiseVerdict, RaiseFault>) -> Option<RaiseReport>
+fn report_of(count: u32, raised: Result<RaiseVerdict, RaiseFault>) -> Option<RaiseReport>
     ensures value { result ≡ told_as count raised }
 {
     match raised {

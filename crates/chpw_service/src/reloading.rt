@@ -4,7 +4,7 @@ ghost use Rattle.chpw_book.specs.Starting.{table_of, workers_of};
 ghost use Rattle.chpw_reload.specs.ReloadRuns.{GoesOn};
 ghost use Rattle.chpw_service.specs.declared.fault.ServeFault.TheVariants.{Memory};
 
-use crate::answers::{reload_refusal, told};
+use crate::answers::{answer_or_empty, reload_refusal};
 use crate::checked_reload::CheckedReload;
 use crate::fault::ServeFault;
 use crate::histories::{Opening, ServiceContext, next_opening};
@@ -61,7 +61,8 @@ pub(crate) fn reload<'a, 'l, R: Wait + Clock + Eprint + AllocGlobal, T: Clock>(
             hall.log
                 .tell_rollover(MachineClock::new(time).now(), &closed);
             let answer = reload_refusal(rt.alloc(), &fault);
-            hall.engine.answer_order(rt, told(rt.alloc(), answer));
+            hall.engine
+                .answer_order(rt, answer_or_empty(rt.alloc(), answer));
             next_opening(closed, sink, hall.workers)
         }
     }
@@ -96,7 +97,8 @@ fn tell_reloaded<'l, R: Wait + Eprint + AllocGlobal, T: Clock>(
         hall.log.tell(Notice::Lacked(lacked.len() as u64));
     }
     let answer = reload_answer(rt.alloc(), lacked);
-    hall.engine.answer_order(rt, told(rt.alloc(), answer));
+    hall.engine
+        .answer_order(rt, answer_or_empty(rt.alloc(), answer));
 }
 
 // The answer: a line for each principal that the configuration lacks.

@@ -153,12 +153,12 @@ fn end<'a>(pool: Pool) -> Result<(), ServeFault<'a>>
 {
     match pool.fault {
         None => Ok(()),
-        Some(fault) => Err(told(fault)),
+        Some(fault) => Err(serve_fault_of(fault)),
     }
 }
 
 /// The fault of a pool that ended early, as a fault of the service.
-pub(crate) fn told<'a>(fault: PoolFault) -> ServeFault<'a>
+pub(crate) fn serve_fault_of<'a>(fault: PoolFault) -> ServeFault<'a>
     ensures value { result ≡ told_as fault }
     ensures late { IsLate result }
 {

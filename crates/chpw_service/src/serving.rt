@@ -19,7 +19,7 @@ use crate::notices::Notice;
 use crate::observers::{Logging, log_observers};
 use crate::raising::raise_where_asked;
 use crate::rules::{Rules, rules_of};
-use crate::running::{serve_from, told};
+use crate::running::{serve_fault_of, serve_from};
 use crate::service_manager::{notify_ready, notify_stopping};
 use crate::shared_files::refuse_shared;
 use crate::starting::open_table;
@@ -327,7 +327,7 @@ fn engine_of<'a, 'l, R: Net + Wait + Eprint>(
             observers,
             datagrams,
         ) {
-            Err(fault) => Err(told(fault)),
+            Err(fault) => Err(serve_fault_of(fault)),
             Ok(engine) => Ok(engine),
         },
     }

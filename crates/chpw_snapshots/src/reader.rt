@@ -61,7 +61,7 @@ impl<D: LogName> SnapshotReader<D> {
                 let version = reading.get();
                 let found = version.rows.lookup(name);
                 let begins = self.told.begins(&version.seen, version.last, version.len);
-                let shown = version.shown();
+                let shown = version.shown_prefix();
                 self.reader = Some(reading.leave());
                 if !begins {
                     return Err(NotEntered);
@@ -103,7 +103,7 @@ impl<D: LogName> SnapshotReader<D> {
         };
         match reader.enter_as::<Enters>() {
             Ok(reading) => {
-                let shown = reading.get().shown();
+                let shown = reading.get().shown_prefix();
                 self.reader = Some(reading.leave());
                 Some(shown)
             }
@@ -163,7 +163,7 @@ impl<D: LogName> SnapshotReader<D> {
     }
 
     /// The longest front that it has learnt.
-    pub fn told(&self) -> &Front<D>
+    pub fn known_front(&self) -> &Front<D>
         ensures value { result.now ≡ self.now.told }
     {
         &self.told

@@ -146,7 +146,7 @@ fn lookup_of(row: &Row, policy: u32, seen: u32) -> Lookup
 {
     Lookup {
         kvno: row.kvno,
-        held: row.counts.copied(),
+        held: row.counts.clone(),
         policy,
         seen,
     }

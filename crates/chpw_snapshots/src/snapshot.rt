@@ -37,7 +37,7 @@ pub struct Operation {
 
 impl Snapshot {
     /// The list that it shows.
-    pub(crate) fn shown(&self) -> ShownPrefix
+    pub(crate) fn shown_prefix(&self) -> ShownPrefix
         ensures value { (root : _) → list_of root result ≡ list_shown root self.now }
         ensures parts { (result.len ≡ self.now.len) × (result.seen ≡ self.now.seen) }
     {

@@ -90,7 +90,7 @@ impl<D: LogName> SnapshotWriter<D> {
         match writer.factory().reader() {
             Ok(mut reader) => {
                 reader.learn::<Learns>(writer.tell::<HandsOn>());
-                let shown = writer.published().shown();
+                let shown = writer.published().shown_prefix();
                 put_back(&mut self.writer, writer);
                 Ok(SnapshotReader::over(reader, shown, self.keeper.front()))
             }

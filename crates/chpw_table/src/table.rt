@@ -159,7 +159,7 @@ impl Table {
     }
 
     /// How many changes it has accepted, of all principals, raises among them.
-    pub fn seen(&self) -> u32
+    pub fn changes_accepted(&self) -> u32
         ensures value { result ≡ self.now.seen }
         ensures few { result ≤ entry_counts.high }
     {
@@ -188,7 +188,7 @@ impl Table {
     {
         match self.principal_at(place) {
             None => None,
-            Some(principal) => Some((&principal.name, self.shown(principal.keys.as_slice()))),
+            Some(principal) => Some((&principal.name, self.lookup_from(principal.keys.as_slice()))),
         }
     }
 
@@ -289,12 +289,12 @@ impl Table {
     {
         match self.keys_of(name) {
             None => None,
-            Some(keys) => Some(self.shown(keys)),
+            Some(keys) => Some(self.lookup_from(keys)),
         }
     }
 
     // What is shown of a name with these keys.
-    fn shown(&self, keys: &[KeyRow]) -> Lookup
+    fn lookup_from(&self, keys: &[KeyRow]) -> Lookup
         requires few { length keys.now ≤ 17 }
         ensures value { result ≡ lookup_with self.now keys.now }
         ensures positive { All (λ k. 1 ≤ k.count) keys.now

@@ -79,7 +79,7 @@ fn opened_of(part: EncTicketPart, session: Key, a: Authenticator, subkey: Key) -
 
 /// What ticket and authenticator together say to a service whose peer has this IPv4 address, high byte first. Refused
 /// as `ClientMismatch`, `WrongAddress`, `NoSubkey`, in this order.
-pub fn accepted(
+pub fn accept_authenticator(
     peer: [u8; 4],
     part: EncTicketPart,
     session: Key,

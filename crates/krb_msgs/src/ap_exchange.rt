@@ -3,7 +3,7 @@
 ghost use Rattle.krb_msgs.specs.Answers.{Answers};
 ghost use Rattle.krb_msgs.specs.ApExchange.{OpensAp};
 
-use crate::accepting::accepted;
+use crate::accepting::accept_authenticator;
 use crate::authenticators::open_authenticator;
 use crate::fault::{ApFault, OpenError};
 use crate::presenting::read_request;
@@ -53,5 +53,5 @@ pub fn open_ap(
     let (request, key) = read_request(alloc, realm, keys, ap_req)?;
     let (part, session) = open_ticket(alloc, &key, request.ticket)?;
     let authenticator = open_authenticator(alloc, &session, request.authenticator)?;
-    accepted(peer, part, session, authenticator)
+    accept_authenticator(peer, part, session, authenticator)
 }

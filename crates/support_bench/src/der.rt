@@ -15,7 +15,11 @@ fn bytes<const TAG: u8>(alloc: Global, text: &[u8]) -> Result<Bytes<TAG>, AllocE
     Ok(Bytes::of(Vec::from_slice(alloc, text)?))
 }
 
-fn sealed(alloc: Global, kvno: Option<u32>, cipher: &[u8]) -> Result<EncryptedData, AllocError> {
+fn encrypted_data(
+    alloc: Global,
+    kvno: Option<u32>,
+    cipher: &[u8],
+) -> Result<EncryptedData, AllocError> {
     Ok(EncryptedData {
         etype: AES256,
         kvno,
@@ -40,12 +44,12 @@ fn ticket(alloc: Global) -> Result<Ticket, AllocError> {
         tkt_vno: PVNO,
         realm,
         sname,
-        enc_part: sealed(alloc, Some(3), &[0x5a; 330])?,
+        enc_part: encrypted_data(alloc, Some(3), &[0x5a; 330])?,
     })
 }
 
 fn request(alloc: Global) -> Result<ApReq, AllocError> {
-    let authenticator = sealed(alloc, None, &[0xa5; 240])?;
+    let authenticator = encrypted_data(alloc, None, &[0xa5; 240])?;
     Ok(ApReq {
         pvno: PVNO,
         msg_type: KRB_AP_REQ,

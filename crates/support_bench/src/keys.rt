@@ -34,7 +34,7 @@ pub fn measure(rt: &(impl Print + AllocGlobal), what: &str, count: u32) -> io::R
     requires { 1 ≤ count }
 {
     match what {
-        "pbkdf2" => print_hex(rt, &stretched(count)),
+        "pbkdf2" => print_hex(rt, &stretch_block(count)),
         "sha1" => print_hex(rt, &digest(count)),
         "both" => print_keys(rt, &last_keys(count)),
         "each" => print_keys(rt, &last_keys_each(count)),
@@ -60,7 +60,7 @@ fn print_keys(rt: &impl Print, keys: &BothKeys) -> io::Result<()> {
 }
 
 /// One block of PBKDF2.
-fn stretched(iterations: u32) -> [u8; HMAC_LEN]
+fn stretch_block(iterations: u32) -> [u8; HMAC_LEN]
     requires { 1 ≤ iterations }
 {
     let mut block = [0; HMAC_LEN];

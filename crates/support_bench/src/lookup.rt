@@ -134,7 +134,7 @@ where
         name: client(alloc, wanted.principals / 2)?,
         times: wanted.times(),
     };
-    let [alone, four, beside] = looked(rt, alloc, desk, passes, hold, &sought)?;
+    let [alone, four, beside] = look_in_three_ways(rt, alloc, desk, passes, hold, &sought)?;
     Ok([
         wanted.figure(alone),
         wanted.figure(four),
@@ -143,7 +143,7 @@ where
 }
 
 // The lookups of the three.
-fn looked<D, S, R>(
+fn look_in_three_ways<D, S, R>(
     rt: &R,
     alloc: Global,
     desk: &Desk<D, S>,

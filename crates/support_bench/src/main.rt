@@ -101,8 +101,8 @@ where
     match task.part.as_str() {
         "keys" => keys::measure(rt, what, count.max(1)),
         "der" => der::measure(rt, what, count),
-        "open" => opened(rt, count),
-        "stream" => streamed(rt, what, count),
+        "open" => measure_open(rt, count),
+        "stream" => measure_stream(rt, what, count),
         "lookup" => lookup::measure(rt, what, u16::try_from(count).map_err(|_| no_such())?),
         "serve" => {
             let port = what.parse().map_err(|_| no_such())?;
@@ -113,12 +113,16 @@ where
     }
 }
 
-fn opened<R: Input + Print + AllocGlobal>(rt: &R, count: u32) -> io::Result<()> {
+fn measure_open<R: Input + Print + AllocGlobal>(rt: &R, count: u32) -> io::Result<()> {
     let given = read_stdin(rt, 2)?;
     open::measure(rt, &given.messages, count)
 }
 
-fn streamed<R: Input + Print + AllocGlobal>(rt: &R, what: &str, count: u32) -> io::Result<()> {
+fn measure_stream<R: Input + Print + AllocGlobal>(
+    rt: &R,
+    what: &str,
+    count: u32,
+) -> io::Result<()> {
     let given = read_stdin(rt, count)?;
     stream::measure(rt, what, given.config.as_str(), &given.messages)
 }

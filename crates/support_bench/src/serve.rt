@@ -55,7 +55,7 @@ where
     thread::for_each_mut(rt, clients, 16, &|_, client| client.ask_all(alloc));
     let took = start.elapsed(rt)?;
     for (number, client) in clients.iter().enumerate() {
-        println!(rt; "c{number} changed {}", client.changed(alloc))?;
+        println!(rt; "c{number} changed {}", client.changed_count(alloc))?;
     }
     println!(rt; "micros {}", took.as_micros())
 }

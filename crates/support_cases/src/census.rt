@@ -44,13 +44,13 @@ impl Census {
     }
 
     /// Each answer after its count and its places, as in `3 at 0 4-5: ANSWER`, in the order in which they first came.
-    pub fn shown(&self, alloc: Global) -> Result<String, AllocError> {
+    pub fn text(&self, alloc: Global) -> Result<String, AllocError> {
         let mut text = String::new(alloc);
         for kind in &self.kinds {
             if !text.is_empty() {
                 text.push_str(" | ")?;
             }
-            text.push_str(kind.shown(alloc)?.as_str())?;
+            text.push_str(kind.text(alloc)?.as_str())?;
         }
         Ok(text)
     }
@@ -83,10 +83,10 @@ impl Kind {
         )
     }
 
-    fn shown(&self, alloc: Global) -> Result<String, AllocError> {
+    fn text(&self, alloc: Global) -> Result<String, AllocError> {
         let mut text = format!(in alloc; "{} at", self.count)?;
         for run in &self.runs {
-            text.push_str(run.shown(alloc)?.as_str())?;
+            text.push_str(run.text(alloc)?.as_str())?;
         }
         text.push_str(": ")?;
         text.push_str(self.answer.as_str())?;
@@ -95,7 +95,7 @@ impl Kind {
 }
 
 impl Run {
-    fn shown(self, alloc: Global) -> Result<String, AllocError> {
+    fn text(self, alloc: Global) -> Result<String, AllocError> {
         if self.first == self.last {
             format!(in alloc; " {}", self.first)
         } else {

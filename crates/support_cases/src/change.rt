@@ -35,7 +35,7 @@ impl Change {
 
     /// The bytes with the change at this place. `None` where there is no such place, where the byte there stays as it
     /// is, and where fewer than two are left for their length.
-    pub fn made(
+    pub fn apply(
         self,
         alloc: Global,
         bytes: &[u8],

@@ -19,12 +19,12 @@ const SPELLINGS: [(&str, &[&str]); 8] = [
 #[test]
 fn spells_names(rt: HostRuntime) {
     for (text, components) in SPELLINGS {
-        let name = parsed(&rt, rt.alloc(), text);
+        let name = parse_name(&rt, rt.alloc(), text);
         assert!(rt; is_spelled(name.as_ref(), components), "{text}");
     }
 }
 
-fn parsed(rt: &impl Abort, alloc: Global, text: &str) -> Option<Name> {
+fn parse_name(rt: &impl Abort, alloc: Global, text: &str) -> Option<Name> {
     Name::parse(alloc, text).ok().expect(rt, "memory")
 }
 
@@ -49,12 +49,12 @@ fn has_components(parts: &[Items<u8>], components: &[&str]) -> bool {
     shown.next().is_none()
 }
 
-fn named(rt: &impl Abort, alloc: Global, text: &str) -> Name {
-    parsed(rt, alloc, text).expect(rt, "a name")
+fn name_of(rt: &impl Abort, alloc: Global, text: &str) -> Name {
+    parse_name(rt, alloc, text).expect(rt, "a name")
 }
 
 // A name of one component with a slash within.
-fn joined(rt: &impl Abort, alloc: Global) -> Name {
+fn name_with_slash(rt: &impl Abort, alloc: Global) -> Name {
     let part = Items::of(b"ali/ce".to_vec(alloc).ok().expect(rt, "memory"));
     let parts = vec![in alloc; part].ok().expect(rt, "memory");
     Name {
@@ -65,15 +65,18 @@ fn joined(rt: &impl Abort, alloc: Global) -> Name {
 #[test]
 fn compares_component_by_component(rt: HostRuntime) {
     let alloc = rt.alloc();
-    let parted = named(&rt, alloc, "ali/ce");
+    let parted = name_of(&rt, alloc, "ali/ce");
     let copy = parted.clone().ok().expect(&rt, "memory");
-    assert!(rt; parted.is_same(&copy) && !parted.is_same(&joined(&rt, alloc)));
-    let (alice, admin) = (named(&rt, alloc, "alice"), named(&rt, alloc, "alice/admin"));
+    assert!(rt; parted.is_same(&copy) && !parted.is_same(&name_with_slash(&rt, alloc)));
+    let (alice, admin) = (
+        name_of(&rt, alloc, "alice"),
+        name_of(&rt, alloc, "alice/admin"),
+    );
     assert!(rt; !alice.is_same(&admin));
     for (length, fits) in [(128, true), (129, false)] {
         let text = "x".repeat(alloc, length).ok().expect(&rt, "memory");
         assert!(rt;
-            parsed(&rt, alloc, text.as_str()).is_some() == fits,
+            parse_name(&rt, alloc, text.as_str()).is_some() == fits,
             "{length}"
         );
     }
@@ -126,8 +129,8 @@ fn reads_each_value(rt: HostRuntime) {
     let config = config.ok().expect(&rt, "a configuration");
     has_numbers(&rt, &config);
     has_service_key(&rt, &config);
-    let root = named(&rt, rt.alloc(), "root");
-    let bob = named(&rt, rt.alloc(), "bob/work");
+    let root = name_of(&rt, rt.alloc(), "root");
+    let bob = name_of(&rt, rt.alloc(), "bob/work");
     assert!(rt; config.rules.allows(&root, &bob) && !config.rules.allows(&bob, &root));
     has_principal(&rt, &config, &bob);
 }

@@ -1,7 +1,7 @@
 //! One request of two workers, the close, and receipts that differ.
 ghost use Rattle.chpw_book.specs.Starting.{IsNamed};
 
-use crate::desks::{change, closed, started, table, verdict};
+use crate::desks::{change, close_desk, start_desk, table, verdict};
 use chpw_book::{CloseFault, CloseRefused, Desk, DeskName, Pass, UnnamedDesk, agree};
 use chpw_table::{Entry, Event, Opened, Receipt, Verdict};
 use std::alloc::Global;
@@ -29,7 +29,7 @@ fn two_at<D: DeskName + Send + Sync, R: Threads + Wait + Abort + Sync>(
 )
     requires name { IsNamed unnamed D.name D.parts D.book D.root D.workers }
 {
-    let (desk, mut passes) = started::<D, R>(rt, alloc, unnamed);
+    let (desk, mut passes) = start_desk::<D, R>(rt, alloc, unnamed);
     let mut second = passes.pop().expect(rt, "a pass");
     let mut first = passes.pop().expect(rt, "a pass");
     let shared = &desk;
@@ -40,9 +40,9 @@ fn two_at<D: DeskName + Send + Sync, R: Threads + Wait + Abort + Sync>(
     );
     assert!(rt; is_one_change(a, b) && !first.was_full() && !second.was_full());
     passes.push(second).ok().expect(rt, "a place");
-    let (desk, mut passes) = refused(rt, desk, passes);
+    let (desk, mut passes) = expect_close_refused(rt, desk, passes);
     passes.push(first).ok().expect(rt, "a place");
-    let closed = closed(rt, desk, passes).expect(rt, "all agree");
+    let closed = close_desk(rt, desk, passes).expect(rt, "all agree");
     assert!(rt; closed.history.len() == 2 && !closed.table.is_full());
 }
 
@@ -53,7 +53,7 @@ fn is_one_change(a: Option<Verdict>, b: Option<Verdict>) -> bool {
 }
 
 // A desk without a worker's pass stays open, and is returned.
-fn refused<D: DeskName, R: Wait + Abort>(
+fn expect_close_refused<D: DeskName, R: Wait + Abort>(
     rt: &R,
     desk: Desk<D, Tally>,
     passes: Vec<Pass<D>>,

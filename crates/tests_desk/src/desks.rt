@@ -39,7 +39,7 @@ pub fn change(rt: &impl Abort, alloc: Global, number: u8, cusec: u32) -> Opened 
 }
 
 /// The desk, and the passes of its workers.
-pub fn started<D: DeskName, R: Wait + Abort>(
+pub fn start_desk<D: DeskName, R: Wait + Abort>(
     rt: &R,
     alloc: Global,
     unnamed: UnnamedDesk,
@@ -64,7 +64,7 @@ pub fn is_full(answer: &Result<Verdict, Refused>) -> bool {
 }
 
 /// What a desk leaves that can be closed; one that can't be is abandoned.
-pub fn closed<D: DeskName, R: Wait>(
+pub fn close_desk<D: DeskName, R: Wait>(
     rt: &R,
     desk: Desk<D, Tally>,
     passes: Vec<Pass<D>>,
@@ -85,7 +85,7 @@ pub fn closed<D: DeskName, R: Wait>(
 }
 
 /// Alice's newest version, and how many changes the lookup saw.
-pub fn shown<D: DeskName, R: Abort>(
+pub fn shown_of_alice<D: DeskName, R: Abort>(
     rt: &R,
     alloc: Global,
     desk: &Desk<D, Tally>,

@@ -1,7 +1,7 @@
 //! Keys that are asked for, and a history that is full.
 ghost use Rattle.chpw_book.specs.Starting.{IsNamed};
 
-use crate::desks::{change, closed, is_full, name, shown, started, table, verdict};
+use crate::desks::{change, close_desk, is_full, name, shown_of_alice, start_desk, table, verdict};
 use chpw_book::{AtDesk, Desk, DeskName, Pass, UnnamedDesk};
 use chpw_decider::Decider;
 use chpw_rules::Items;
@@ -28,10 +28,10 @@ fn ask_and_complete<D: DeskName, R: Wait + Abort>(
 )
     requires name { IsNamed unnamed D.name D.parts D.book D.root D.workers }
 {
-    let (desk, mut passes) = started::<D, R>(rt, alloc, unnamed);
+    let (desk, mut passes) = start_desk::<D, R>(rt, alloc, unnamed);
     let mut pass = passes.pop().expect(rt, "a pass");
     let answer = desk.decide(rt, &mut pass, NOW, opened);
-    let opened = completed(rt, answer.err().expect(rt, "keys are missing"));
+    let opened = complete_request(rt, answer.err().expect(rt, "keys are missing"));
     assert!(rt; pass.receipts().is_empty());
     assert!(rt; verdict(desk.decide(rt, &mut pass, NOW, opened)) == Some(Verdict::Done));
     assert!(rt; pass.receipts().len() == 1 && !pass.was_full());
@@ -39,7 +39,7 @@ fn ask_and_complete<D: DeskName, R: Wait + Abort>(
 }
 
 // The request with the keys that were asked for.
-fn completed(rt: &impl Abort, refused: Refused) -> Opened {
+fn complete_request(rt: &impl Abort, refused: Refused) -> Opened {
     let Refused { fault, mut opened } = refused;
     match &fault {
         DecideFault::NeedKeys(counts) => complete(rt, &mut opened, counts),
@@ -77,7 +77,7 @@ fn keys_that_are_looked_for(rt: HostRuntime) {
 fn look_for_keys<D: DeskName, R: Wait + Abort>(rt: &R, alloc: Global, unnamed: UnnamedDesk)
     requires name { IsNamed unnamed D.name D.parts D.book D.root D.workers }
 {
-    let (desk, _passes) = started::<D, R>(rt, alloc, unnamed);
+    let (desk, _passes) = start_desk::<D, R>(rt, alloc, unnamed);
     for (length, another, starts, ends, refused, lacking) in ASKS {
         let mut opened = asking(rt, alloc, length, another);
         opened.starts = starts;
@@ -138,13 +138,13 @@ fn derive_and_fill<D: DeskName, R: Wait + Abort>(
 )
     requires name { IsNamed unnamed D.name D.parts D.book D.root D.workers }
 {
-    let (desk, mut passes) = started::<D, R>(rt, alloc, unnamed);
+    let (desk, mut passes) = start_desk::<D, R>(rt, alloc, unnamed);
     let mut pass = passes.pop().expect(rt, "a pass");
     derive(rt, &desk, &mut pass, first);
     fill(rt, &desk, &mut pass, second);
-    assert!(rt; shown(rt, alloc, &desk, &mut pass) == (2, 1));
+    assert!(rt; shown_of_alice(rt, alloc, &desk, &mut pass) == (2, 1));
     passes.push(pass).ok().expect(rt, "a place");
-    let closed = closed(rt, desk, passes).expect(rt, "all agree");
+    let closed = close_desk(rt, desk, passes).expect(rt, "all agree");
     assert!(rt; closed.history.len() == 1 && closed.table.is_full());
 }
 

@@ -1,7 +1,7 @@
 //! The iteration count raised at a desk.
 ghost use Rattle.chpw_book.specs.Starting.{IsNamed};
 
-use crate::desks::{alice, change, closed, started, table, verdict};
+use crate::desks::{alice, change, close_desk, start_desk, table, verdict};
 use chpw_book::{Desk, DeskName, Pass, RaiseFault, UnnamedDesk};
 use chpw_table::{Entry, Event, Opened, RaiseVerdict, Verdict};
 use std::alloc::Global;
@@ -27,7 +27,7 @@ fn raised_at<D: DeskName, R: Wait + Abort>(
 )
     requires name { IsNamed unnamed D.name D.parts D.book D.root D.workers }
 {
-    let (desk, mut passes) = started::<D, R>(rt, alloc, unnamed);
+    let (desk, mut passes) = start_desk::<D, R>(rt, alloc, unnamed);
     let mut second = passes.pop().expect(rt, "a pass");
     let mut first = passes.pop().expect(rt, "a pass");
     raise(rt, &desk, &mut first);
@@ -38,7 +38,7 @@ fn raised_at<D: DeskName, R: Wait + Abort>(
     assert!(rt; keys.policy == 8 && keys.held.as_slice() == [8, 4].as_slice());
     passes.push(first).ok().expect(rt, "a place");
     passes.push(second).ok().expect(rt, "a place");
-    let closed = closed(rt, desk, passes).expect(rt, "all agree");
+    let closed = close_desk(rt, desk, passes).expect(rt, "all agree");
     assert!(rt; closed.table.is_full());
     is_history(rt, closed.history.as_slice());
 }

@@ -1,7 +1,7 @@
 //! Workers side by side, and desks side by side.
 ghost use Rattle.chpw_book.specs.Starting.{IsNamed};
 
-use crate::desks::{change, closed, shown, started, table, verdict};
+use crate::desks::{change, close_desk, shown_of_alice, start_desk, table, verdict};
 use chpw_book::{Desk, DeskName, Pass, UnnamedDesk};
 use chpw_table::{Entry, Event, Opened, RaiseVerdict, Verdict};
 use std::alloc::Global;
@@ -27,7 +27,7 @@ fn all_at<D: DeskName + Send + Sync, R: Threads + Wait + Abort + Sync>(
 )
     requires name { IsNamed unnamed D.name D.parts D.book D.root D.workers }
 {
-    let (desk, mut passes) = started::<D, R>(rt, alloc, unnamed);
+    let (desk, mut passes) = start_desk::<D, R>(rt, alloc, unnamed);
     let shared = &desk;
     thread::for_each_mut(
         rt,
@@ -37,7 +37,7 @@ fn all_at<D: DeskName + Send + Sync, R: Threads + Wait + Abort + Sync>(
             change_own(rt, alloc, shared, pass);
         },
     );
-    let closed = closed(rt, desk, passes).expect(rt, "all agree");
+    let closed = close_desk(rt, desk, passes).expect(rt, "all agree");
     assert!(rt; closed.history.len() == 48 && !closed.table.is_full());
     are_three_each(rt, closed.history.as_slice());
     // From 4; the last worker raises it to 20.
@@ -130,19 +130,19 @@ fn changed_at<D: DeskName, R: Wait + Abort>(
 )
     requires name { IsNamed unnamed D.name D.parts D.book D.root D.workers }
 {
-    let (desk, mut passes) = started::<D, R>(rt, alloc, unnamed);
+    let (desk, mut passes) = start_desk::<D, R>(rt, alloc, unnamed);
     let mut pass = passes.pop().expect(rt, "a pass");
     let done = desk.decide_deriving(rt, &mut pass, NOW, opened, PASSWORD);
     assert!(rt; verdict(done) == Some(Verdict::Done));
-    assert!(rt; shown(rt, alloc, &desk, &mut pass) == (2, 1));
+    assert!(rt; shown_of_alice(rt, alloc, &desk, &mut pass) == (2, 1));
     desk.abandon(rt);
 }
 
 fn unchanged_at<D: DeskName, R: Wait + Abort>(rt: &R, alloc: Global, unnamed: UnnamedDesk)
     requires name { IsNamed unnamed D.name D.parts D.book D.root D.workers }
 {
-    let (desk, mut passes) = started::<D, R>(rt, alloc, unnamed);
+    let (desk, mut passes) = start_desk::<D, R>(rt, alloc, unnamed);
     let mut pass = passes.pop().expect(rt, "a pass");
-    assert!(rt; shown(rt, alloc, &desk, &mut pass) == (1, 0));
+    assert!(rt; shown_of_alice(rt, alloc, &desk, &mut pass) == (1, 0));
     desk.abandon(rt);
 }

@@ -1,7 +1,7 @@
 //! What lookups show beside the lock.
 ghost use Rattle.chpw_book.specs.Starting.{IsNamed};
 
-use crate::desks::{change, closed, name, shown, started, table, verdict};
+use crate::desks::{change, close_desk, name, shown_of_alice, start_desk, table, verdict};
 use chpw_book::{AtDesk, Desk, DeskName, Pass, UnnamedDesk};
 use chpw_decider::Decider;
 use chpw_table::{Lookup, Opened, Verdict};
@@ -34,17 +34,17 @@ fn three_at<D: DeskName, R: Wait + Abort>(
 )
     requires name { IsNamed unnamed D.name D.parts D.book D.root D.workers }
 {
-    let (desk, mut passes) = started::<D, R>(rt, alloc, unnamed);
+    let (desk, mut passes) = start_desk::<D, R>(rt, alloc, unnamed);
     let mut third = passes.pop().expect(rt, "a pass");
     let mut second = passes.pop().expect(rt, "a pass");
     let mut first = passes.pop().expect(rt, "a pass");
     assert!(rt; first.front().is_none() && second.front().is_none() && third.front().is_none());
-    assert!(rt; shown(rt, alloc, &desk, &mut third) == (1, 0));
+    assert!(rt; shown_of_alice(rt, alloc, &desk, &mut third) == (1, 0));
     let done = desk.decide_deriving(rt, &mut first, NOW, opened, PASSWORD);
     assert!(rt; verdict(done) == Some(Verdict::Done));
     learn(rt, alloc, &desk, &first, &mut second);
     learn(rt, alloc, &desk, &first, &mut third);
-    assert!(rt; shown(rt, alloc, &desk, &mut first) == (2, 1));
+    assert!(rt; shown_of_alice(rt, alloc, &desk, &mut first) == (2, 1));
     desk.abandon(rt);
 }
 
@@ -59,7 +59,7 @@ fn learn<D: DeskName, R: Abort>(
     let front = first.front().expect(rt, "a front");
     assert!(rt; front.len() == 1);
     pass.learn(front);
-    assert!(rt; shown(rt, alloc, desk, pass) == (2, 1));
+    assert!(rt; shown_of_alice(rt, alloc, desk, pass) == (2, 1));
     assert!(rt; pass.front().is_none());
 }
 
@@ -80,7 +80,7 @@ fn worker_at<D: DeskName, R: Wait + Abort>(
 )
     requires name { IsNamed unnamed D.name D.parts D.book D.root D.workers }
 {
-    let (desk, mut passes) = started::<D, R>(rt, alloc, unnamed);
+    let (desk, mut passes) = start_desk::<D, R>(rt, alloc, unnamed);
     let mut pass = passes.pop().expect(rt, "a pass");
     let mut worker = AtDesk {
         rt,
@@ -120,7 +120,7 @@ fn all_at<D: DeskName + Send + Sync, R: Threads + Wait + Abort + Sync>(
 )
     requires name { IsNamed unnamed D.name D.parts D.book D.root D.workers }
 {
-    let (desk, mut passes) = started::<D, R>(rt, alloc, unnamed);
+    let (desk, mut passes) = start_desk::<D, R>(rt, alloc, unnamed);
     let shared = &desk;
     thread::for_each_mut(
         rt,
@@ -134,7 +134,7 @@ fn all_at<D: DeskName + Send + Sync, R: Threads + Wait + Abort + Sync>(
             }
         },
     );
-    let closed = closed(rt, desk, passes).expect(rt, "all agree");
+    let closed = close_desk(rt, desk, passes).expect(rt, "all agree");
     assert!(rt; closed.history.len() == CHANGES as usize);
 }
 
@@ -151,7 +151,7 @@ fn change_often<D: DeskName, R: Wait + Abort>(
         let opened = change(rt, alloc, 0, number);
         let done = verdict(desk.decide_deriving(rt, pass, NOW, opened, &password));
         assert!(rt; done == Some(Verdict::Done));
-        assert!(rt; shown(rt, alloc, desk, pass) == (number + 2, number + 1));
+        assert!(rt; shown_of_alice(rt, alloc, desk, pass) == (number + 2, number + 1));
     }
 }
 
@@ -164,7 +164,7 @@ fn look_often<D: DeskName, R: Wait + Abort>(
 ) {
     let mut seen = 0;
     for _ in 0..LOOKS {
-        let (kvno, changes) = shown(rt, alloc, desk, pass);
+        let (kvno, changes) = shown_of_alice(rt, alloc, desk, pass);
         assert!(rt; changes >= seen && changes <= CHANGES && kvno == changes + 1);
         seen = changes;
     }

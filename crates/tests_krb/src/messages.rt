@@ -8,7 +8,7 @@ use krb_protocol::{KRB_AP_REP, KRB_AP_REQ, KRB_PRIV, PVNO};
 use std::alloc::{AllocError, Global};
 use support_messages::{AES256, REALM, bytes, client, host_address, service_name, ticket_part};
 
-pub fn sealed(alloc: Global, kvno: Option<u32>) -> Result<EncryptedData, AllocError> {
+pub fn encrypted_data(alloc: Global, kvno: Option<u32>) -> Result<EncryptedData, AllocError> {
     Ok(EncryptedData {
         etype: AES256,
         kvno,
@@ -37,7 +37,7 @@ pub fn ticket(alloc: Global) -> Result<Ticket, AllocError> {
         tkt_vno: PVNO,
         realm: bytes(alloc, REALM)?,
         sname: service_name(alloc, b"changepw")?,
-        enc_part: sealed(alloc, Some(3))?,
+        enc_part: encrypted_data(alloc, Some(3))?,
     })
 }
 
@@ -59,7 +59,7 @@ pub fn request(alloc: Global) -> Result<ApReq, AllocError> {
         msg_type: KRB_AP_REQ,
         ap_options: KerberosFlags(0x2000_0000),
         ticket: ticket(alloc)?,
-        authenticator: sealed(alloc, None)?,
+        authenticator: encrypted_data(alloc, None)?,
     })
 }
 
@@ -67,7 +67,7 @@ pub fn reply(alloc: Global) -> Result<ApRep, AllocError> {
     Ok(ApRep {
         pvno: PVNO,
         msg_type: KRB_AP_REP,
-        enc_part: sealed(alloc, None)?,
+        enc_part: encrypted_data(alloc, None)?,
     })
 }
 
@@ -75,7 +75,7 @@ pub fn private(alloc: Global) -> Result<KrbPriv, AllocError> {
     Ok(KrbPriv {
         pvno: PVNO,
         msg_type: KRB_PRIV,
-        enc_part: sealed(alloc, None)?,
+        enc_part: encrypted_data(alloc, None)?,
     })
 }
 

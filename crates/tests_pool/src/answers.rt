@@ -3,7 +3,7 @@ ghost use Rattle.std.specs.Prelude.{◌≡◌};
 ghost use Rattle.chpw_book.specs.Starting.{IsNamed, workers_of};
 
 use crate::gates::Together;
-use crate::realm::{CHANGED, name_of, opening, request, told};
+use crate::realm::{CHANGED, name_of, opening, reply_line, request};
 use chpw_book::{AtDesk, CloseRefused, Closed, Desk, DeskName, Pass, UnnamedDesk};
 use chpw_client::Sent;
 use chpw_decider::Decider;
@@ -27,7 +27,7 @@ const WORDS: [u32; 9] = [1, 2, 3, 4, 5, 6, 7, 8, 9];
 pub const ROOM: usize = 1000;
 
 // What a client of this machine prints for a worker's answer to its request.
-pub fn answered<D: DeskName, G: Gate + Observer, R: Wait + Abort>(
+pub fn printed_answer<D: DeskName, G: Gate + Observer, R: Wait + Abort>(
     rt: &R,
     alloc: Global,
     service: &Service,
@@ -37,11 +37,11 @@ pub fn answered<D: DeskName, G: Gate + Observer, R: Wait + Abort>(
     sent: &Sent,
 ) -> Vec<u8> {
     let mut place = AtDesk { rt, desk, pass };
-    answered_at(rt, alloc, service, &mut place, gate, sent)
+    printed_answer_at(rt, alloc, service, &mut place, gate, sent)
 }
 
 // Likewise, for a worker at any decider.
-pub fn answered_at<P: Decider, G: Gate + Observer, R: Abort>(
+pub fn printed_answer_at<P: Decider, G: Gate + Observer, R: Abort>(
     rt: &R,
     alloc: Global,
     service: &Service,
@@ -60,11 +60,11 @@ pub fn answered_at<P: Decider, G: Gate + Observer, R: Abort>(
         NOW,
     );
     let reply = reply.ok().expect(rt, "a reply");
-    told(rt, alloc, sent, &reply)
+    reply_line(rt, alloc, sent, &reply)
 }
 
 /// A desk with a journal in memory, and its passes.
-pub fn started<D: DeskName, R: Wait + Abort>(
+pub fn start_desk<D: DeskName, R: Wait + Abort>(
     rt: &R,
     alloc: Global,
     unnamed: UnnamedDesk,
@@ -78,7 +78,7 @@ pub fn started<D: DeskName, R: Wait + Abort>(
 }
 
 /// A desk whose journal fails at an append after this many of its bytes.
-pub fn started_failing<D: DeskName, R: Wait + Abort>(
+pub fn start_failing_desk<D: DeskName, R: Wait + Abort>(
     rt: &R,
     alloc: Global,
     unnamed: UnnamedDesk,
@@ -95,7 +95,7 @@ pub fn started_failing<D: DeskName, R: Wait + Abort>(
 }
 
 // The history of a desk that can be closed, and its journal.
-pub fn closed<D: DeskName, R: Wait>(
+pub fn close_desk<D: DeskName, R: Wait>(
     rt: &R,
     desk: Desk<D, MemorySink>,
     passes: Vec<Pass<D>>,
@@ -129,7 +129,7 @@ pub fn expect_closed<D: DeskName, R: Wait + Abort>(
     entries: usize,
     bytes: usize,
 ) {
-    let (history, journal) = closed(rt, desk, passes).expect(rt, "all agree");
+    let (history, journal) = close_desk(rt, desk, passes).expect(rt, "all agree");
     expect_kept(rt, &history, &journal, entries, bytes);
 }
 
@@ -161,7 +161,7 @@ fn two_at<D: DeskName + Send + Sync, R: Threads + Wait + Abort + Sync>(
     requires name { IsNamed unnamed D.name D.parts D.book D.root D.workers }
     requires workers { workers_of unnamed ≡ 2 }
 {
-    let (desk, mut passes) = started::<D, R>(rt, alloc, unnamed);
+    let (desk, mut passes) = start_desk::<D, R>(rt, alloc, unnamed);
     ask_both(rt, alloc, service, &desk, &mut passes, sent);
     expect_closed(rt, desk, passes, 2, 66);
 }
@@ -199,11 +199,11 @@ fn both_answers<D: DeskName + Send + Sync, R: Threads + Wait + Abort + Sync>(
         rt,
         || {
             let mut gate = Together { rt, barrier };
-            answered(rt, alloc, service, desk, first, &mut gate, sent)
+            printed_answer(rt, alloc, service, desk, first, &mut gate, sent)
         },
         || {
             let mut gate = Together { rt, barrier };
-            answered(rt, alloc, service, desk, second, &mut gate, sent)
+            printed_answer(rt, alloc, service, desk, second, &mut gate, sent)
         },
     )
 }
@@ -285,7 +285,7 @@ fn break_second<D: DeskName, R: Wait + Abort>(
 )
     requires name { IsNamed unnamed D.name D.parts D.book D.root D.workers }
 {
-    let (desk, mut passes) = started_failing::<D, R>(rt, alloc, unnamed, 2, 0);
+    let (desk, mut passes) = start_failing_desk::<D, R>(rt, alloc, unnamed, 2, 0);
     expect_broken(rt, alloc, service, &desk, &mut passes, requests);
     expect_closed(rt, desk, passes, 2, 66);
 }
@@ -316,7 +316,7 @@ pub fn expect_answer<D: DeskName, R: Wait + Abort>(
     sent: &Sent,
     line: &[u8],
 ) {
-    let told = answered(rt, alloc, service, desk, pass, &mut NoGate, sent);
+    let told = printed_answer(rt, alloc, service, desk, pass, &mut NoGate, sent);
     assert!(rt; told.as_slice() == line);
 }
 
@@ -345,7 +345,7 @@ fn fill<D: DeskName, R: Wait + Abort>(
     requires name { IsNamed unnamed D.name D.parts D.book D.root D.workers }
     requires workers { workers_of unnamed ≡ 1 }
 {
-    let (desk, mut passes) = started::<D, R>(rt, alloc, unnamed);
+    let (desk, mut passes) = start_desk::<D, R>(rt, alloc, unnamed);
     expect_full(rt, alloc, service, &desk, &mut passes, requests);
     expect_closed(rt, desk, passes, 1, 66);
 }

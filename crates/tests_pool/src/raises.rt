@@ -3,8 +3,8 @@ ghost use Rattle.std.specs.Prelude.{◌≡◌};
 ghost use Rattle.chpw_book.specs.Starting.{IsNamed, workers_of};
 
 use crate::answers::{
-    BROKEN, NOW, answered, answered_at, closed, expect_answer, expect_closed, started,
-    started_failing,
+    BROKEN, NOW, close_desk, expect_answer, expect_closed, printed_answer, printed_answer_at,
+    start_desk, start_failing_desk,
 };
 use crate::overtaken::Overtaken;
 use crate::realm::{CHANGED, name_of, opening, request};
@@ -80,10 +80,10 @@ fn raised_at<D: DeskName, R: Wait + Abort>(
     requires name { IsNamed unnamed D.name D.parts D.book D.root D.workers }
     requires workers { workers_of unnamed ≡ 2 }
 {
-    let (desk, mut passes) = started::<D, R>(rt, alloc, unnamed);
+    let (desk, mut passes) = start_desk::<D, R>(rt, alloc, unnamed);
     change_raised(rt, alloc, service, &desk, &mut passes, sent);
     expect_changed(rt, alloc, &desk, &mut passes, HIGHER, 2);
-    let (history, journal) = closed(rt, desk, passes).expect(rt, "all agree");
+    let (history, journal) = close_desk(rt, desk, passes).expect(rt, "all agree");
     expect_both(rt, alloc, &history, &journal);
 }
 
@@ -104,7 +104,7 @@ fn change_raised<D: DeskName, R: Wait + Abort>(
         desk,
         pass: second,
     };
-    let said = answered(rt, alloc, service, desk, first, &mut gate, sent);
+    let said = printed_answer(rt, alloc, service, desk, first, &mut gate, sent);
     assert!(rt; said.as_slice() == CHANGED);
 }
 
@@ -136,7 +136,7 @@ fn expect_unchanged<R: Abort>(rt: &R, shown: &Lookup) {
 
 fn expect_both<R: Abort>(rt: &R, alloc: Global, history: &[Entry], journal: &MemorySink) {
     assert!(rt; has_both(history));
-    let restored = restored(rt, alloc, journal.bytes());
+    let restored = restore_journal(rt, alloc, journal.bytes());
     expect_restored(rt, &restored, 2, 73, false);
     assert!(rt; restored.table.count() == HIGHER);
 }
@@ -163,7 +163,7 @@ fn has_both(history: &[Entry]) -> bool {
     }
 }
 
-fn restored<R: Abort>(rt: &R, alloc: Global, mut journal: &[u8]) -> Restored {
+fn restore_journal<R: Abort>(rt: &R, alloc: Global, mut journal: &[u8]) -> Restored {
     let (_, table) = opening(rt, alloc, 100);
     restore(alloc, table, &mut journal)
         .ok()
@@ -263,7 +263,7 @@ fn overtaken_at<D: DeskName, R: Wait + Abort>(
     requires name { IsNamed unnamed D.name D.parts D.book D.root D.workers }
     requires workers { workers_of unnamed ≡ 2 }
 {
-    let (desk, mut passes) = started::<D, R>(rt, alloc, unnamed);
+    let (desk, mut passes) = start_desk::<D, R>(rt, alloc, unnamed);
     change_overtaken(rt, alloc, service, &desk, &mut passes, sent, tried);
     expect_changed(rt, alloc, &desk, &mut passes, tried.count, tried.entries);
     expect_closed(rt, desk, passes, tried.entries as usize, tried.journal);
@@ -293,7 +293,7 @@ fn change_overtaken<D: DeskName, R: Wait + Abort>(
         decisions: 0,
         derivations: 0,
     };
-    let said = answered_at(rt, alloc, service, &mut overtaken, &mut NoGate, sent);
+    let said = printed_answer_at(rt, alloc, service, &mut overtaken, &mut NoGate, sent);
     assert!(rt; said.as_slice() == CHANGED);
     assert!(rt; overtaken.decisions == tried.decisions);
     assert!(rt; overtaken.derivations == tried.derivations);
@@ -326,9 +326,9 @@ fn broken_at<D: DeskName, R: Wait + Abort>(
 )
     requires name { IsNamed unnamed D.name D.parts D.book D.root D.workers }
 {
-    let (desk, mut passes) = started_failing::<D, R>(rt, alloc, unnamed, 1, taken);
+    let (desk, mut passes) = start_failing_desk::<D, R>(rt, alloc, unnamed, 1, taken);
     raise_in_vain(rt, alloc, service, &desk, &mut passes, sent);
-    let (history, journal) = closed(rt, desk, passes).expect(rt, "all agree");
+    let (history, journal) = close_desk(rt, desk, passes).expect(rt, "all agree");
     expect_torn(rt, alloc, &history, &journal, taken);
 }
 
@@ -370,7 +370,7 @@ fn expect_torn<R: Abort>(
     taken: usize,
 ) {
     assert!(rt; history.len() == 3);
-    let restored = restored(rt, alloc, journal.bytes());
+    let restored = restore_journal(rt, alloc, journal.bytes());
     expect_restored(rt, &restored, 0, 0, taken > 0);
     assert!(rt; restored.table.count() == 4);
 }

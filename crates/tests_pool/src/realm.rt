@@ -44,10 +44,10 @@ pub fn request<R: Abort>(rt: &R, alloc: Global, client: &str, now: Moment, passw
     let client = name_of(rt, alloc, client);
     let config = config(alloc, Vec::new(alloc), 4, 1);
     let config = config.ok().expect(rt, "a configuration");
-    made(rt, alloc, &config, &client, now, password.as_bytes())
+    request_with(rt, alloc, &config, &client, now, password.as_bytes())
 }
 
-fn made<R: Abort>(
+fn request_with<R: Abort>(
     rt: &R,
     alloc: Global,
     config: &Config,
@@ -69,7 +69,7 @@ fn made<R: Abort>(
 }
 
 /// What the client prints for the reply to its request.
-pub fn told<R: Abort>(rt: &R, alloc: Global, sent: &Sent, reply: &[u8]) -> Vec<u8> {
+pub fn reply_line<R: Abort>(rt: &R, alloc: Global, sent: &Sent, reply: &[u8]) -> Vec<u8> {
     let line = client_line(alloc, sent, reply).ok().expect(rt, "memory");
     let (line, _) = line.expect(rt, "a reply to the request");
     line

@@ -2,7 +2,7 @@
 ghost use Rattle.std.specs.Prelude.{◌≡◌, ◌<◌};
 ghost use Rattle.chpw_book.specs.Starting.{IsNamed, workers_of};
 
-use crate::answers::{NOW, REPLAYED, answered, expect_closed, started};
+use crate::answers::{NOW, REPLAYED, expect_closed, printed_answer, start_desk};
 use crate::gates::Together;
 use crate::realm::{CHANGED, opening, request};
 use chpw_book::{Desk, DeskName, Pass, UnnamedDesk};
@@ -35,7 +35,7 @@ fn all_at<D: DeskName + Send + Sync, R: Threads + Wait + Abort + Sync>(
     requires name { IsNamed unnamed D.name D.parts D.book D.root D.workers }
     requires workers { workers_of unnamed ≡ 16 }
 {
-    let (desk, mut passes) = started::<D, R>(rt, alloc, unnamed);
+    let (desk, mut passes) = start_desk::<D, R>(rt, alloc, unnamed);
     let told = Told::new();
     ask_all(rt, alloc, service, &desk, &mut passes, &told, sent);
     assert!(rt; told.counts() == (1, 15));
@@ -60,7 +60,7 @@ fn ask_all<D: DeskName + Send + Sync, R: Threads + Wait + Abort + Sync>(
         16,
         &|_, pass| {
             let mut gate = Together { rt, barrier };
-            told.note(&answered(rt, alloc, service, desk, pass, &mut gate, sent));
+            told.note(&printed_answer(rt, alloc, service, desk, pass, &mut gate, sent));
         },
     );
 }

@@ -229,7 +229,7 @@ pub fn words(rt: &impl Abort, alloc: Global, line: &str) -> Vec<String> {
 }
 
 // What a command line asks for, in words; otherwise what is on standard error.
-fn asked(rt: &impl Abort, alloc: Global, line: &str) -> String {
+fn invocation_text(rt: &impl Abort, alloc: Global, line: &str) -> String {
     let line = format!(in alloc; "chpw_server {line}").ok();
     let words = words(rt, alloc, line.expect(rt, "memory").trim_end());
     let mut text = String::new(alloc);
@@ -300,7 +300,7 @@ fn show(text: &mut String, asked: Invocation<'_>) -> Result<(), AllocError> {
 #[test]
 fn command_lines(rt: HostRuntime) {
     for (line, wanted) in LINES {
-        let asked = asked(&rt, rt.alloc(), line);
+        let asked = invocation_text(&rt, rt.alloc(), line);
         let asked = asked.as_str();
         let is_whole = wanted.contains(' ') || wanted == line;
         assert!(rt; asked == wanted || (!is_whole && asked.contains(wanted)));

@@ -12,7 +12,7 @@ impl Table {
     /// The table as a further history opens with it: all that it holds stays, its used ids, its clock and the count of
     /// new keys too, and its events and changes are counted from 0 again. Refused if more than 2^31 ids are held, as
     /// the memory that they would take is.
-    pub fn reopened(self) -> Result<Table, AllocError>
+    pub fn for_next_history(self) -> Result<Table, AllocError>
         ensures value { IfOk result (λ t. t ≡ record self { events = 0; seen = 0 }) }
         ensures refused { OnErr result (2 ^ 31 < length self.state.used) }
     {

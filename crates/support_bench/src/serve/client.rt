@@ -44,7 +44,7 @@ impl Client {
     }
 
     /// How many replies say that the password is changed.
-    pub fn changed(&self, alloc: Global) -> usize {
+    pub fn changed_count(&self, alloc: Global) -> usize {
         let answered = self.requests.iter().zip(&self.replies);
         answered
             .filter(|(request, reply)| is_changed(alloc, request, reply))

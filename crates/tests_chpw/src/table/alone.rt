@@ -1,4 +1,4 @@
-use super::realm::{change, named, table};
+use super::realm::{change, name_of, table};
 use chpw_decider::{Alone, Decider};
 use chpw_table::{DecideFault, Moment, Opened, Verdict};
 use std::alloc::Global;
@@ -25,7 +25,7 @@ fn is_changed(alone: &mut Alone<Tally>, opened: Opened, password: &[u8]) -> bool
 }
 
 fn kvno(rt: &impl Abort, alloc: Global, alone: &mut Alone<Tally>) -> u32 {
-    let alice = named(rt, alloc, "alice");
+    let alice = name_of(rt, alloc, "alice");
     let shown = alone.lookup(&alice).expect(rt, "a principal");
     shown.kvno
 }

@@ -1,4 +1,4 @@
-use super::realm::{change, named, table};
+use super::realm::{change, name_of, table};
 use chpw_rules::Name;
 use chpw_table::{DecideFault, Moment, Opened, Refused, Table, Verdict};
 use krb_keys::Key;
@@ -60,7 +60,7 @@ fn shown_of_a_name(rt: HostRuntime) {
     let opened = whole(&rt, rt.alloc(), 1);
     let verdict = verdict(&rt, &mut table, &mut Tally::failing_at(0), opened);
     assert!(rt; verdict == Verdict::Done);
-    is_shown(&rt, &table, &named(&rt, rt.alloc(), "alice"));
+    is_shown(&rt, &table, &name_of(&rt, rt.alloc(), "alice"));
 }
 
 // Alice's second key, after one change.

@@ -17,7 +17,7 @@ const AES256_1: &[u8] =
 
 const AES128_1200: &[u8] = b"\x4c\x01\xcd\x46\xd6\x32\xd0\x1e\x6d\xbe\x23\x0a\x01\xed\x64\x2a";
 
-fn counted(count: u32) -> Counts
+fn one_count(count: u32) -> Counts
     ensures value { result ≡ count ∷ [] }
 {
     let mut counts = Counts::new();
@@ -41,11 +41,11 @@ fn are_published(derived: &[(u32, Key, Key)]) -> bool {
 
 #[test]
 fn published_keys(rt: HostRuntime) {
-    let digest = Digest::derive(rt.alloc(), PASSWORD, SALT, &counted(1));
+    let digest = Digest::derive(rt.alloc(), PASSWORD, SALT, &one_count(1));
     let mut digest = digest.ok().expect(&rt, "memory");
-    assert!(rt; digest.add(PASSWORD, SALT, &counted(1200)).is_ok());
+    assert!(rt; digest.add(PASSWORD, SALT, &one_count(1200)).is_ok());
     // Keys that are present are not derived again.
-    assert!(rt; digest.add(PASSWORD, SALT, &counted(1)).is_ok());
+    assert!(rt; digest.add(PASSWORD, SALT, &one_count(1)).is_ok());
     assert!(rt; digest.length == 8 && digest.classes == 1);
     assert!(rt; are_published(digest.derived.as_slice()));
 }
@@ -54,7 +54,7 @@ const A: Key = Key::Aes128([1; 16]);
 
 const B: Key = Key::Aes256([2; 32]);
 
-fn listed(rt: &impl Abort, alloc: Global, rows: &[(u32, Key, Key)]) -> Vec<(u32, Key, Key)> {
+fn list_of(rt: &impl Abort, alloc: Global, rows: &[(u32, Key, Key)]) -> Vec<(u32, Key, Key)> {
     Vec::from_slice(alloc, rows).ok().expect(rt, "memory")
 }
 
@@ -76,8 +76,8 @@ fn refused_derivations(rt: HostRuntime) {
         (&[(5, A, A)], false),
     ];
     for (rows, fit) in cases {
-        assert!(rt; Digest::of(8, 3, listed(&rt, alloc, rows)).is_some() == fit);
-        assert!(rt; Derived::of(listed(&rt, alloc, rows)).is_some() == fit);
+        assert!(rt; Digest::of(8, 3, list_of(&rt, alloc, rows)).is_some() == fit);
+        assert!(rt; Derived::of(list_of(&rt, alloc, rows)).is_some() == fit);
     }
-    assert!(rt; copied_count(&rt, listed(&rt, alloc, cases[0].0)) == 2);
+    assert!(rt; copied_count(&rt, list_of(&rt, alloc, cases[0].0)) == 2);
 }

@@ -1,4 +1,4 @@
-use super::realm::{named, table};
+use super::realm::{name_of, table};
 use chpw_rules::Items;
 use chpw_table::{Body, LAST_SECOND, Moment, Opened, Table, Verdict};
 use std::alloc::Global;
@@ -6,12 +6,12 @@ use std::process::Abort;
 use support_realm::Tally;
 
 // A request whose KRB-PRIV held no new password: its id is used, and nothing else changes.
-fn asked(rt: &impl Abort, alloc: Global, id: (&str, &str, i64, u32)) -> Opened {
+fn bad_data_request(rt: &impl Abort, alloc: Global, id: (&str, &str, i64, u32)) -> Opened {
     let (realm, client, ctime, cusec) = id;
     let realm = Vec::from_slice(alloc, realm.as_bytes());
     Opened {
         crealm: Items::of(realm.ok().expect(rt, "memory")),
-        client: named(rt, alloc, client),
+        client: name_of(rt, alloc, client),
         initial: true,
         invalid: false,
         starts: 0,
@@ -65,7 +65,7 @@ fn each_holds(rt: &impl Abort, alloc: Global, asks: &[(i64, i64, Verdict, u32)])
     let mut table = table(rt, alloc, 20);
     assert!(rt; table.ids_held() == 0);
     for (seconds, ctime, expected, held) in asks {
-        let opened = asked(rt, alloc, ("EXAMPLE.COM", "alice", *ctime, 0));
+        let opened = bad_data_request(rt, alloc, ("EXAMPLE.COM", "alice", *ctime, 0));
         assert!(rt; verdict(rt, &mut table, *seconds, opened) == *expected);
         assert!(rt; table.ids_held() == *held);
     }
@@ -99,7 +99,7 @@ fn told_apart_by_each_part(rt: HostRuntime) {
 // Each of the five has this verdict.
 fn each_answers(rt: &impl Abort, alloc: Global, table: &mut Table, expected: Verdict) {
     for id in IDS {
-        let opened = asked(rt, alloc, id);
+        let opened = bad_data_request(rt, alloc, id);
         assert!(rt; verdict(rt, table, 1000, opened) == expected);
     }
 }
@@ -119,7 +119,7 @@ fn as_many_as_a_list_keeps(rt: HostRuntime) {
         } else {
             Verdict::BadBody
         };
-        let opened = asked(&rt, rt.alloc(), ("EXAMPLE.COM", "alice", ctime, number));
+        let opened = bad_data_request(&rt, rt.alloc(), ("EXAMPLE.COM", "alice", ctime, number));
         assert!(rt; verdict(&rt, &mut table, seconds, opened) == expected);
         if !is_far {
             assert!(rt; list.push(ctime).is_ok());

@@ -1,4 +1,4 @@
-use super::realm::named;
+use super::realm::name_of;
 use chpw_rules::Name;
 use chpw_table::Table;
 use std::alloc::Global;
@@ -8,7 +8,7 @@ use std::process::Abort;
 fn realm(rt: &impl Abort, alloc: Global, texts: &[&str]) -> Table {
     let mut names = Vec::new(alloc);
     for text in texts {
-        assert!(rt; names.push(named(rt, alloc, text)).is_ok());
+        assert!(rt; names.push(name_of(rt, alloc, text)).is_ok());
     }
     let table = support_realm::table(alloc, names, 4, 10);
     table.ok().expect(rt, "a table")
@@ -18,10 +18,10 @@ fn realm(rt: &impl Abort, alloc: Global, texts: &[&str]) -> Table {
 fn are_numbered(rt: &impl Abort, alloc: Global, table: &Table, texts: &[&str]) {
     let mut number = 0u32;
     for text in texts {
-        is_numbered(rt, table, &named(rt, alloc, text), number);
+        is_numbered(rt, table, &name_of(rt, alloc, text), number);
         number = number.wrapping_add(1);
     }
-    let zoe = named(rt, alloc, "zoe");
+    let zoe = name_of(rt, alloc, "zoe");
     assert!(rt; table.number_of(&zoe).is_none() && table.name_at(number).is_none());
     assert!(rt; table.lookup(&zoe).is_none());
 }

@@ -1,11 +1,11 @@
-use super::realm::named;
+use super::realm::name_of;
 use chpw_table::{KeyRow, Verdict, record_bytes};
 use krb_protocol::codes::{KRB_AP_ERR_REPEAT, KRB5_KPASSWD_AUTHERROR};
 use std::process::Abort;
 
 #[test]
 fn record_of_a_change(rt: HostRuntime) {
-    let alice = named(&rt, rt.alloc(), "alice");
+    let alice = name_of(&rt, rt.alloc(), "alice");
     assert!(rt; alice.fits());
     let key = KeyRow {
         kvno: 2,

@@ -18,9 +18,9 @@ put_together c =
     let behind : Outcome → List ℕ = λ x. 32 ∷ join_with_byte 32 (outcome_fields x) in
     let pushed : c.push.new.self.items ≡ c.put_told.new.text.items ++ 10 ∷ [] = search rules in
     let told = c.in_ok-put_told.ensures.value in
-    let same = ap behind c.told.ensures.value in
+    let same = ap behind c.fields.ensures.value in
     let front : c.put_front.new.text.items ≡ [] ++ a ++ codes " worker " ++ b ++ codes " peer " ++ d = search rules in
-    let whole = told ∙ (ap (λ (xs : List ℕ). xs ++ behind (said c.told.result)) front
+    let whole = told ∙ (ap (λ (xs : List ℕ). xs ++ behind (said c.fields.result)) front
     ∙ (ap (λ (xs : List ℕ). [] ++ a ++ codes " worker " ++ b ++ codes " peer " ++ d ++ xs) same
     ∙ front_joined a b d o)) in
     pushed ∙ ap (λ (xs : List ℕ). xs ++ 10 ∷ []) whole
@@ -32,6 +32,6 @@ pub returns-clause-record : goal.returns-clause-record
 returns-clause-record c =
     let l = c.args.line.now in
     let front = c.in_ok-put_front.ensures in
-    let told = subst (λ (o : Outcome). are_fields (outcome_fields o) ≡ true) c.told.ensures.value c.in_ok-put_told.ensures.fields in
+    let told = subst (λ (o : Outcome). are_fields (outcome_fields o) ≡ true) c.fields.ensures.value c.in_ok-put_told.ensures.fields in
     let all : are_fields (fields_of l) ≡ true = rw (front.moment, front.worker, front.peer) told in
     subst IsRecord (sym (put_together c)) (fields_record (fields_of l) all)

@@ -8,7 +8,7 @@ overflow_sub-left c =
     omega (
       arith,
       c.loop-slot.invariant,
-      c.given-left.ensures.value,
+      c.bytes_freed-left.ensures.value,
       c.args.self.now.held_is,
       given_next c.args.who slots c.loop-slot.slot,
       given_below_le c.args.who slots (c.loop-slot.slot + 1),
@@ -27,7 +27,7 @@ loop-slot-preserved c =
     omega (
       arith,
       c.loop-slot.invariant,
-      c.given-left.ensures.value,
+      c.bytes_freed-left.ensures.value,
       c.args.self.now.held_is,
       given_next c.args.who slots c.loop-slot.slot,
       given_below_le c.args.who slots (c.loop-slot.slot + 1),

@@ -8,7 +8,7 @@ overflow_add-result c =
       arith,
       c.left_by_all.ensures.value,
       c.left_by_all.ensures.fits,
-      c.given.ensures.value,
+      c.bytes_freed.ensures.value,
       given_here_le c.args.who c.args.self.now.connections c.args.slot,
     )
 
@@ -18,7 +18,7 @@ returns c =
       arith,
       c.left_by_all.ensures.value,
       c.args.self.now.held_is,
-      c.given.ensures.value,
+      c.bytes_freed.ensures.value,
       given_here_le c.args.who c.args.self.now.connections c.args.slot,
       given_in_le c.args.who c.args.self.now.connections,
     )

@@ -29,18 +29,19 @@ invariant_of-self-in-Ok g c =
     let w = view c.in-Ok.reading.place in
     let x : Snapshot = c.in-Ok.reading.part.value in
     let shows : ShowsList b r w.front x = renamed (log_of v) b v.root r w.front x old.1 old.2 looked.2 in
-    let shown_is : list_of r c.shown-shown.result ≡ list_shown r x =
-    c.shown-shown.ensures.value r ∙ ap (λ (z : Snapshot). list_shown r z) c.get-version.ensures in
+    let shown_is : list_of r c.shown_prefix-shown.result ≡ list_shown r x =
+    c.shown_prefix-shown.ensures.value r ∙ ap (λ (z : Snapshot). list_shown r z) c.get-version.ensures in
     let left = c.leave.ensures.1 in
-    let list : w.front ≡ list_of r c.shown-shown.result = shown_list b r w.front x shows ∙ sym shown_is in
-    let whole : IsPrefix (list_of r c.shown-shown.result) (view c.leave.result.place).front =
-    ([], append-nil (list_of r c.shown-shown.result) ∙ (sym list ∙ sym (ap (λ z. z.front) left))) in (
+    let list : w.front ≡ list_of r c.shown_prefix-shown.result = shown_list b r w.front x shows ∙ sym shown_is in
+    let whole : IsPrefix (list_of r c.shown_prefix-shown.result) (view c.leave.result.place).front =
+    ([], append-nil (list_of r c.shown_prefix-shown.result) ∙ (sym list ∙ sym (ap (λ z. z.front) left))) in (
       (ap (λ z. z.known) left ∙ looked.0.0, ap log_of left ∙ (looked.0.1 ∙ old.1), ap (λ z. z.root) left ∙ (looked.0.2 ∙ old.2)),
       whole,
       c.self.invariant.2,
       (
-        ap (λ m. m.book) (c.shown-shown.ensures.parts.1 ∙ ap (λ (z : Snapshot). z.seen) c.get-version.ensures) ∙ shows.seen_book,
-        c.shown-shown.ensures.parts.0 ∙ (ap (λ (z : Snapshot). z.len) c.get-version.ensures ∙ (shows.len_is ∙ ap (λ (l : List Accepted). length l) list)),
+        ap (λ m. m.book) (c.shown_prefix-shown.ensures.parts.1 ∙ ap (λ (z : Snapshot). z.seen) c.get-version.ensures) ∙ shows.seen_book,
+        c.shown_prefix-shown.ensures.parts.0
+            ∙ (ap (λ (z : Snapshot). z.len) c.get-version.ensures ∙ (shows.len_is ∙ ap (λ (l : List Accepted). length l) list)),
       ),
     )
 
@@ -57,26 +58,26 @@ returns-else-not-begins-clause-found g c =
     let w = view c.in-Ok.reading.place in
     let x : Snapshot = c.in-Ok.reading.part.value in
     let shows : ShowsList b r w.front x = renamed (log_of v) b v.root r w.front x old.1 old.2 looked.2 in
-    let shown_is : list_of r c.shown-shown.result ≡ list_shown r x =
-    c.shown-shown.ensures.value r ∙ ap (λ (z : Snapshot). list_shown r z) c.get-version.ensures in
-    let list : w.front ≡ list_of r c.shown-shown.result = shown_list b r w.front x shows ∙ sym shown_is in
+    let shown_is : list_of r c.shown_prefix-shown.result ≡ list_shown r x =
+    c.shown_prefix-shown.ensures.value r ∙ ap (λ (z : Snapshot). list_shown r z) c.get-version.ensures in
+    let list : w.front ≡ list_of r c.shown_prefix-shown.result = shown_list b r w.front x shows ∙ sym shown_is in
     let before : IsPrefix (list_of r c.self.inside.shown) v.front =
     subst (λ o. IsPrefix (list_of r c.self.inside.shown) (front_by o (λ q. view q.place))) is c.self.invariant.1 in
-    let later : IsPrefix (list_of r c.self.inside.shown) (list_of r c.shown-shown.result) =
+    let later : IsPrefix (list_of r c.self.inside.shown) (list_of r c.shown_prefix-shown.result) =
     subst (λ (l : List Accepted). IsPrefix (list_of r c.self.inside.shown) l) list
     (prefix_trans (list_of r c.self.inside.shown) v.front w.front before looked.1) in
     let begins : IsPrefix c.args.self.now.told (list_shown r x) = begins_shown b r w.front c.args.self.now.told x shows (search rules) (search rules) in
     let read = c.lookup-found.ensures.value ∙ ap (λ (z : Snapshot). option_map (lookup_with z.rows.policy z.rows.seen)
     (shown_in z.rows.rows name)) c.get-version.ensures in
-    let found : c.lookup-found.result ≡ lookup_after (opening_table r) (list_of r c.shown-shown.result) name =
+    let found : c.lookup-found.result ≡ lookup_after (opening_table r) (list_of r c.shown_prefix-shown.result) name =
     read ∙ shown_by b r w.front x name shows ∙ ap (λ (l : List Accepted). lookup_after (opening_table r) l name) (sym shown_is) in
-    let rise : AreNextVersions (opening_state r) [] (list_of r c.shown-shown.result) =
+    let rise : AreNextVersions (opening_state r) [] (list_of r c.shown_prefix-shown.result) =
     subst (λ (l : List Accepted). AreNextVersions (opening_state r) [] l) list shows.rise in
     record {
-      later = subst (λ (l : List Accepted). IsPrefix l (list_of r c.shown-shown.result)) (ap (λ (k : Known). k.seen) c.self.view_is) later;
+      later = subst (λ (l : List Accepted). IsPrefix l (list_of r c.shown_prefix-shown.result)) (ap (λ (k : Known). k.seen) c.self.view_is) later;
       after = subst (λ (l : List Accepted). IsPrefix c.args.self.now.told l) (sym shown_is) begins;
       shown = found;
-      rises = lookup_rises (opening_table r) (list_of r c.shown-shown.result) name c.lookup-found.result rise found;
+      rises = lookup_rises (opening_table r) (list_of r c.shown_prefix-shown.result) name c.lookup-found.result rise found;
       positive = c.lookup-found.ensures.positive (subst (λ (z : Snapshot). IsPositive z.rows) (sym c.get-version.ensures) shows.positive);
       told = (search rules, search rules);
     }

@@ -24,11 +24,12 @@ returns-in-Ok-clause-later g c =
     let w = view c.in-Ok.reading.place in
     let x : Snapshot = c.in-Ok.reading.part.value in
     let shows : ShowsList b r w.front x = renamed (log_of v) b v.root r w.front x old.1 old.2 looked.2 in
-    let shown_is : list_of r c.shown-shown.result ≡ list_shown r x = c.shown-shown.ensures.value r ∙ ap (λ (z : Snapshot). list_shown r z) c.get.ensures in
-    let list : w.front ≡ list_of r c.shown-shown.result = shown_list b r w.front x shows ∙ sym shown_is in
+    let shown_is : list_of r c.shown_prefix-shown.result ≡ list_shown r x =
+    c.shown_prefix-shown.ensures.value r ∙ ap (λ (z : Snapshot). list_shown r z) c.get.ensures in
+    let list : w.front ≡ list_of r c.shown_prefix-shown.result = shown_list b r w.front x shows ∙ sym shown_is in
     let before : IsPrefix (list_of r c.self.inside.shown) v.front =
     subst (λ o. IsPrefix (list_of r c.self.inside.shown) (front_by o (λ q. view q.place))) is c.self.invariant.1 in
-    let later : IsPrefix (list_of r c.self.inside.shown) (list_of r c.shown-shown.result) =
+    let later : IsPrefix (list_of r c.self.inside.shown) (list_of r c.shown_prefix-shown.result) =
     subst (λ (l : List Accepted). IsPrefix (list_of r c.self.inside.shown) l) list
     (prefix_trans (list_of r c.self.inside.shown) v.front w.front before looked.1) in
-    subst (λ (l : List Accepted). IsPrefix l (list_of r c.shown-shown.result)) (ap (λ (k : Known). k.seen) c.self.view_is) later
+    subst (λ (l : List Accepted). IsPrefix l (list_of r c.shown_prefix-shown.result)) (ap (λ (k : Known). k.seen) c.self.view_is) later

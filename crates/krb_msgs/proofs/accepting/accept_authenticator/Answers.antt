@@ -1,7 +1,7 @@
 use Rattle.std.proofs.Common.{rules, ◌≡◌, ap, refl, sym, ◌∙◌, true, Ok}
 use Rattle.krb_msgs.specs.Checks.{met, unmet, of_one, of_none}
 use Rattle.krb_msgs.specs.Accepted.{Accepts, IsSameClient, MayComeFrom}
-use Rattle.krb_msgs.proofs.accepting.accepted.Goals as goal
+use Rattle.krb_msgs.proofs.accepting.accept_authenticator.Goals as goal
 
 pub returns-then-not-is_same_client : goal.returns-then-not-is_same_client
 unfolding Accepts

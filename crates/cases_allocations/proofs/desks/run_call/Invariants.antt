@@ -1,5 +1,5 @@
 use Rattle.chpw_book.specs.Starting.{ledger_name, ledger_parts, list_book, list_root, workers_of}
-use Rattle.cases_allocations.proofs.pools.told_at.Given as goal
+use Rattle.cases_allocations.proofs.desks.run_call.Given as goal
 
 abbrev pub ghosts-at-D-DeskName : goal.ghosts-at-D-DeskName
 ghosts-at-D-DeskName g a = record { workers = workers_of a.unnamed }

@@ -1,6 +1,6 @@
 use Rattle.std.proofs.Common.{sym, ◌∙◌, ap}
 use Rattle.chpw_changelog.proofs.StepLemmas.{appends}
-use Rattle.chpw_changelog.proofs.steps.spent.Goals as goal
+use Rattle.chpw_changelog.proofs.steps.spend_pen.Goals as goal
 
 pub compare_exchange-requires : goal.compare_exchange-requires
 compare_exchange-requires g c =

@@ -3,7 +3,7 @@ use Rattle.std.specs.Prelude.{All}
 use Rattle.std.proofs.lemmas.List.Elements.{All-map}
 use Rattle.chpw_record.specs.declared.key.KeyRow.{KeyRow}
 use Rattle.chpw_table.proofs.PositiveLemmas.{in_range_at_least}
-use Rattle.chpw_table.proofs.table.Table.shown.Goals as goal
+use Rattle.chpw_table.proofs.table.Table.lookup_from.Goals as goal
 
 pub returns-clause-positive : goal.returns-clause-positive
 returns-clause-positive c held = (
