@@ -29,7 +29,6 @@ use crate::raising::RaiseFault;
 use crate::recorded::RecordedTable;
 use crate::rows::rows_of;
 use crate::unnamed::{StartFault, UnnamedDesk};
-use chpw_decider::JournaledTable;
 use chpw_snapshots::SnapshotWriter;
 use chpw_table::{
     Counts, DecideFault, Entry, JournalSink, Moment, Opened, RaiseVerdict, Refused, Verdict,
@@ -101,7 +100,7 @@ impl<D: DeskName, S: JournalSink> Book<D, S> {
                 return Err(fault);
             }
         };
-        match RecordedTable::start(alloc, totals, JournaledTable::of(table, sink), workers) {
+        match RecordedTable::start(alloc, totals, table, sink, workers) {
             Ok(recorded) => Ok((Book { recorded, shelf }, passes)),
             Err(_) => {
                 shelf.end(rt);
