@@ -19,7 +19,7 @@ use Rattle.chpw_book.specs.Publishing.{IsPublished, with_waiting}
 use Rattle.chpw_book.specs.Wholeness.{NewestIsWhole}
 use Rattle.chpw_decider.proofs.KeepingLemmas.{still_room}
 use Rattle.chpw_book.proofs.GrowsLemmas.{kept_step}
-use Rattle.chpw_book.proofs.PublishLemmas.{shelves_next}
+use Rattle.chpw_book.proofs.PublishLemmas.{pending_next}
 use Rattle.chpw_book.proofs.recorded.RecordedTable.decide.Goals as goal
 
 pub make_room-requires-clause-kept : goal.make_room-requires-clause-kept
@@ -155,7 +155,7 @@ returns-clause-recorded g c =
       };
       place = refl;
       saw = saw;
-      shelves = shelves_next b.table.state
+      pending = pending_next b.table.state
           b.table.state.broken t.state.broken made.io_failed c.args.opened prepared.row made.verdict
           c.args.shelf.now c.make_room.new.shelf published.free c.finish-verdict.ensures.row steps.broken waits;
       linearized = (kept, later);

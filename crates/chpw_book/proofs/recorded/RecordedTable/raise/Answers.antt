@@ -16,7 +16,7 @@ use Rattle.chpw_book.specs.Publishing.{IsPublished, with_waiting}
 use Rattle.chpw_decider.proofs.KeepingLemmas.{still_room}
 use Rattle.chpw_book.proofs.CallLemmas.{err_of}
 use Rattle.chpw_book.proofs.GrowsLemmas.{kept_event}
-use Rattle.chpw_book.proofs.RaiseLemmas.{raise_shelves}
+use Rattle.chpw_book.proofs.RaiseLemmas.{raise_pending}
 use Rattle.chpw_book.proofs.recorded.RecordedTable.raise.Goals as goal
 
 pub make_room-requires : goal.make_room-requires
@@ -145,7 +145,7 @@ returns-clause-recorded g c =
       };
       place = refl;
       saw = saw;
-      shelves = raise_shelves b.table c.args.count made.verdict
+      pending = raise_pending b.table c.args.count made.verdict
           made.io_failed t.state.broken c.args.shelf.now c.make_room.new.shelf c.in-Ok.ensures.room published.free
           (c.in-Ok.ensures.legal b.table.state (agrees_itself b.table.state)).verdict_is c.in-Ok.ensures.broken waits;
       linearized = (kept, later);
