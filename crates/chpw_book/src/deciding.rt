@@ -31,12 +31,11 @@ use chpw_table::{
 use std::alloc::AllocError;
 
 impl<D: DeskName, S: JournalSink> RecordedTable<D, S> {
-    /// One event: an entry of the pass's worker at the end, and its receipt in the pass. The change
-    /// that it makes waits on the shelf; putting it there is the last growth before the journal is
-    /// appended to.
+    /// Decides a request: an entry of the pass's worker at the end of the history, and its receipt in the pass. Its
+    /// change waits on the shelf to be published; putting it there is the last growth before the journal is appended to.
     ///
-    /// `now` has seconds from 0 to `chpw_table::LAST_SECOND`. Refused as `Table::decide` refuses, with nothing changed:
-    /// `Full`, `NeedKeys`, `Memory`.
+    /// `now` has seconds from 0 to `chpw_table::LAST_SECOND`. The refusals are those of `Table::decide`, `Full`,
+    /// `NeedKeys` and `Memory`, and after one nothing has changed.
     pub(crate) fn decide(
         &mut self,
         shelf: &mut SnapshotWriter<D>,
