@@ -28,7 +28,7 @@ use Rattle.chpw_book.proofs.KeptLemmas.{kept_list}
 use Rattle.chpw_book.specs.Passes.{PassView}
 use Rattle.chpw_book.specs.Recorded.{RecordedView}
 use Rattle.chpw_book.specs.Calls.{Adds}
-use Rattle.chpw_book.specs.Publishing.{IsPublished, Shelves, IsRecorded, with_waiting, joined, published, told_list}
+use Rattle.chpw_book.specs.Publishing.{IsPublished, LeavesPending, IsRecorded, with_waiting, joined, published, told_list}
 use Rattle.chpw_book.proofs.GrowsLemmas.{one_longer}
 
 -- ---- the change that a row makes
@@ -72,7 +72,7 @@ told_more opening before e mine more begins saw is done =
     (omega (arith, long, one, a), omega (arith, long, one, b))
 
 published_at : (opening : State) (before : List Entry) (e : Entry) (b : State) (broken : Bool) (event : Event) (s t : Shelved)
-    → IsPublished opening before b.broken s → Agrees b (outcome opening before) → e.event ≡ event → Shelves b broken event s t
+    → IsPublished opening before b.broken s → Agrees b (outcome opening before) → e.event ≡ event → LeavesPending b broken event s t
     → (done : Bool) → is_accepted event ≡ done → IsPublished opening (before ++ e ∷ []) broken (published done t)
 published_at opening before e b broken event s t p a is h done accepts =
     let list : s.list ++ (if is_accepted event then change_by b event ∷ [] else []) ≡ accepted opening (before ++ e ∷ []) =
@@ -95,13 +95,13 @@ pub published_next : (opening : State) (workers : ℕ) (b later : RecordedView) 
 published_next opening workers b later mine mid s t now event p h =
     subst (λ (es : List Entry). IsPublished opening es later.table.state.broken (published (is_accepted event) t)) (sym h.grows.history)
     (published_at opening b.history h.entry b.table.state later.table.state.broken event s t p h.linearized.0.agrees
-    (ap (λ (e : Entry). e.event) h.enters.entry_is) h.shelves (is_accepted event) refl)
+    (ap (λ (e : Entry). e.event) h.enters.entry_is) h.pending (is_accepted event) refl)
 
 -- it has room for one more
 pub list_room : (opening : State) (workers : ℕ) (b later : RecordedView) (mine mid : PassView) (s t : Shelved) (now : Moment) (event : Event)
     → IsPublished opening b.history b.table.state.broken s → IsRecorded opening workers b later mine mid s t now event → length t.list + 1 < 2 ^ 31
 list_room opening workers b later mine mid s t now event p h =
-    let long : length t.list ≡ length (accepted opening b.history) = ap (λ (xs : List Accepted). length xs) (h.shelves.list ∙ p.list) in
+    let long : length t.list ≡ length (accepted opening b.history) = ap (λ (xs : List Accepted). length xs) (h.pending.list ∙ p.list) in
     let counted = changes_counted opening b.history in
     let some = count_by-le-length (λ (e : Entry). is_accepted e.event) b.history in
     let grown : length later.history ≡ length b.history + 1 = ap (λ (es : List Entry). length es) h.grows.history ∙ one_longer b.history h.entry in
@@ -140,10 +140,10 @@ adds_next opening workers b later mine mid more s t u now event p h q begins is 
 
 -- ---- the shelf after a decision
 
-shelves_at : (before : State) (was now : Bool) (o : Opened) (row v : Verdict) (s t : Shelved) → (was ≡ false → s.waiting ≡ None)
+pending_at : (before : State) (was now : Bool) (o : Opened) (row v : Verdict) (s t : Shelved) → (was ≡ false → s.waiting ≡ None)
     → (d io : Bool) → is_done row ≡ d → v ≡ (if d && io then Broken else row)
-    → now ≡ (was || io) → t ≡ with_waiting d (change_by before (Ask o Done)) s → Shelves before now (Ask o v) s t
-shelves_at before was now o row v s t free true io is vi ni ti = record {
+    → now ≡ (was || io) → t ≡ with_waiting d (change_by before (Ask o Done)) s → LeavesPending before now (Ask o v) s t
+pending_at before was now o row v s t free true io is vi ni ti = record {
   list = ap (λ (x : Shelved). x.list) ti;
   waits = λ h. ap (λ (x : Shelved). x.waiting) ti;
   free = λ h b. absurd (at was io vi ni h b);
@@ -153,7 +153,7 @@ shelves_at before was now o row v s t free true io is vi ni ti = record {
     at true io vi ni h b = let x : now ≡ true = ni in cc
     at false true vi ni h b = let x : now ≡ true = ni in cc
     at false false vi ni h b = let x : is_done v ≡ true = ap is_done vi ∙ is in cc
-shelves_at before was now o row v s t free false io is vi ni ti = record {
+pending_at before was now o row v s t free false io is vi ni ti = record {
   list = ap (λ (x : Shelved). x.list) ti;
   waits = λ h. absurd (let x : is_done v ≡ false = ap is_done vi ∙ is in cc);
   free = λ h b. ap (λ (x : Shelved). x.waiting) ti ∙ free (at was ni b);
@@ -163,7 +163,7 @@ shelves_at before was now o row v s t free false io is vi ni ti = record {
     at true ni b = absurd (let x : now ≡ true = ni in cc)
     at false ni b = refl
 
-pub shelves_next : (before : State) (was now io : Bool) (o : Opened) (row v : Verdict) (s t : Shelved) → (was ≡ false → s.waiting ≡ None)
+pub pending_next : (before : State) (was now io : Bool) (o : Opened) (row v : Verdict) (s t : Shelved) → (was ≡ false → s.waiting ≡ None)
     → v ≡ (if is_done row && io then Broken else row) → now ≡ (was || io)
-    → t ≡ with_waiting (is_done row) (change_by before (Ask o Done)) s → Shelves before now (Ask o v) s t
-shelves_next before was now io o row v s t free vi ni ti = shelves_at before was now o row v s t free (is_done row) io refl vi ni ti
+    → t ≡ with_waiting (is_done row) (change_by before (Ask o Done)) s → LeavesPending before now (Ask o v) s t
+pending_next before was now io o row v s t free vi ni ti = pending_at before was now o row v s t free (is_done row) io refl vi ni ti

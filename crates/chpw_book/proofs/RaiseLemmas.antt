@@ -10,7 +10,7 @@ use Rattle.chpw_table.specs.State.{State, new_count}
 use Rattle.chpw_table.specs.Raising.{raise_verdict, is_raised, would_raise}
 use Rattle.chpw_table.specs.Agreement.{Held}
 use Rattle.chpw_snapshots.specs.Known.{Shelved}
-use Rattle.chpw_book.specs.Publishing.{Shelves, with_waiting}
+use Rattle.chpw_book.specs.Publishing.{LeavesPending, with_waiting}
 
 both_true : (a b : Bool) → (a && b) ≡ true → (a ≡ true) × (b ≡ true)
 both_true true b h = (refl, h)
@@ -52,7 +52,7 @@ was_whole false io now ni b = refl
 raised_at : (before : State) (count : ℕ) (v : RaiseVerdict) (s t : Shelved) (now low was io : Bool) → (was ≡ false → s.waiting ≡ None)
     → v ≡ (if low then raise.NotHigher else if was || io then raise.Broken else raise.Raised)
     → now ≡ (was || io) → t ≡ with_waiting (not low && not was) (Count count) s
-    → Shelves before now (Raise count v) s t
+    → LeavesPending before now (Raise count v) s t
 raised_at before count v s t now true was io free vi ni ti = record {
   list = ap (λ (x : Shelved). x.list) ti;
   waits = λ h. absurd (let x : is_raised v ≡ false = ap is_raised vi in cc);
@@ -74,10 +74,10 @@ raised_at before count v s t now false false false free vi ni ti = record {
   free = λ h b. absurd (let x : is_raised v ≡ true = ap is_raised vi in cc);
 }
 
-pub raise_shelves : (b : Held) (count : ℕ) (v : RaiseVerdict) (io now : Bool) (s t : Shelved)
+pub raise_pending : (b : Held) (count : ℕ) (v : RaiseVerdict) (io now : Bool) (s t : Shelved)
     → b.events < b.max_entries → (b.state.broken ≡ false → s.waiting ≡ None)
     → v ≡ raise_verdict b.state count io → now ≡ (b.state.broken || io)
-    → t ≡ with_waiting (would_raise b count) (Count count) s → Shelves b.state now (Raise count v) s t
-raise_shelves b count v io now s t room free vi ni ti =
+    → t ≡ with_waiting (would_raise b count) (Count count) s → LeavesPending b.state now (Raise count v) s t
+raise_pending b count v io now s t room free vi ni ti =
     raised_at b.state count v s t now (nat_le count (new_count b.state)) b.state.broken io free vi ni
     (ti ∙ ap (λ (w : Bool). with_waiting w (Count count) s) (would_at b count room))

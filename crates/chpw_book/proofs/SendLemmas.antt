@@ -5,9 +5,9 @@ use Rattle.std.proofs.Crossing
 use Rattle.std.proofs.sync.Mutex.TheSendSync as mutex
 use Rattle.std.specs.declared.sync.ledger.Ledger
 use Rattle.chpw_table.specs.declared.sink.JournalSink
+use Rattle.chpw_table.proofs.SendLemmas.{table_send}
 use Rattle.chpw_table.proofs.standing.StandingRules.TheSendSync as standing
 use Rattle.chpw_changelog.specs.declared.log_name.LogName
-use Rattle.chpw_decider.proofs.SendLemmas.{journaled_send}
 use Rattle.chpw_snapshots.proofs.writer.SnapshotWriter.TheSendSync as shelf
 use Rattle.chpw_book.specs.declared.naming.DeskName
 use Rattle.chpw_book.specs.contracts.recorded.RecordedTable as RecordedTable
@@ -16,8 +16,8 @@ use Rattle.chpw_book.specs.contracts.desk.Desk as Desk
 use Rattle.chpw_book.proofs.history.History.TheSendSync as history
 
 module _ (D S : RattleType) (g : DeskName.Ghosts D.Denot) (g' : Ledger.Ghosts D.Denot) (g'' : LogName.Ghosts D.Denot) (h : JournalSink.Ghosts S.Denot) where
-  recorded_send : IsSend D → IsSend S → IsSend (RecordedTable.the_row D S h g g' g'')
-  recorded_send d s = search (journaled_send, history.the_field_send, sendable) depth 40
+  recorded_send : IsSend D → IsSend S → IsSend (RecordedTable.the_row D S g g' g'' h)
+  recorded_send d s = search (table_send, history.the_field_send, sendable) depth 40
 
   book_send : IsSend D → IsSync D → IsSend S → IsSend (Book.the_row D S g g' g'' h)
   book_send d y s = search (recorded_send, shelf.the_send, sendable) depth 40

@@ -44,7 +44,7 @@ with_waiting made c s = if made then record s { waiting = Some c } else s
 
 -- an event leaves the published list, and its change is prepared if it was accepted; otherwise none is, unless the
 -- journal broke
-pub record Shelves (before : State) (broken : Bool) (event : Event) (s t : Shelved) : Type 0 where
+pub record LeavesPending (before : State) (broken : Bool) (event : Event) (s t : Shelved) : Type 0 where
   pub list : t.list ≡ s.list
   pub waits : is_accepted event ≡ true → t.waiting ≡ Some (change_by before event)
   pub free : is_accepted event ≡ false → broken ≡ false → t.waiting ≡ None
@@ -57,7 +57,7 @@ pub record IsRecorded (opening : State) (workers : ℕ)
   pub grows : Grows before later mine.worker entry
   pub place : more.place ≡ mine.place
   pub saw : IsPrefix mine.place.seen s.list
-  pub shelves : Shelves before.table.state later.table.state.broken event s t
+  pub pending : LeavesPending before.table.state later.table.state.broken event s t
   pub linearized : IsLinearized opening workers before × IsLinearized opening workers later
   pub few : length later.history < 2 ^ 31
 

@@ -29,7 +29,6 @@ use crate::raising::RaiseFault;
 use crate::recorded::RecordedTable;
 use crate::rows::rows_of;
 use crate::unnamed::{StartFault, UnnamedDesk};
-use chpw_decider::JournaledTable;
 use chpw_snapshots::SnapshotWriter;
 use chpw_table::{
     Counts, DecideFault, Entry, JournalSink, Moment, Opened, RaiseVerdict, Refused, Verdict,
@@ -39,10 +38,10 @@ use std::marker::Model;
 use std::sync::Wait;
 use std::sync::ledger::Share;
 
-/// The table with its history, and the shelf whose versions lookups show beside the lock.
+/// The table with its history, and the writer of the versions that lookups show beside the lock.
 ///
-/// Its invariant is that the published list is the history's accepted changes, and that the history has all that
-/// `Replays` says. A book is taken apart when its desk is closed or abandoned.
+/// Its invariant is `IsPublished`: the published list is the history's accepted changes. That of the type inside it,
+/// `RecordedTable`, is `IsLinearized`. A book is taken apart when its desk is closed or abandoned.
 pub struct Book<D: DeskName, S: JournalSink> {
     pub(crate) recorded: RecordedTable<D, S>,
     pub(crate) shelf: SnapshotWriter<D>,
@@ -63,8 +62,8 @@ impl<D: DeskName, S: JournalSink> Model for Book<D, S> {
 impl<D: DeskName, S: JournalSink> Book<D, S> {
     /// A book with an empty history, and a pass for each of the workers, in order. None has seen or learnt a change.
     ///
-    /// Two faults: `NoPlaces` if `SnapshotWriter::place` gives no place to a worker, and `Memory` if a growth is refused: of the
-    /// rows, the shelf, the passes or the counts, in this order. After a fault all that was given to it is gone.
+    /// Two faults: `NoPlaces` if `SnapshotWriter::place` gives no place to a worker, and `Memory` if a growth is refused:
+    /// of the rows, the shelf, the passes or the counts, in this order. After a fault all that was given to it is gone.
     pub(crate) fn start<R: Wait>(
         rt: &R,
         alloc: Global,
@@ -101,7 +100,7 @@ impl<D: DeskName, S: JournalSink> Book<D, S> {
                 return Err(fault);
             }
         };
-        match RecordedTable::start(alloc, totals, JournaledTable::of(table, sink), workers) {
+        match RecordedTable::start(alloc, totals, table, sink, workers) {
             Ok(recorded) => Ok((Book { recorded, shelf }, passes)),
             Err(_) => {
                 shelf.end(rt);
@@ -119,8 +118,8 @@ impl<D: DeskName, S: JournalSink> Book<D, S> {
         self.recorded.history()
     }
 
-    /// The counts under which `decide` would look at keys that the digest lacks, if the history were not full: each at
-    /// least 1, ascending, each once; none if it would look at no keys.
+    /// The iteration counts under which `decide` would compare keys and for which the digest has none, if the history
+    /// weren't full: each at least 1, ascending, each once; none if it would compare no keys.
     #[tactic(auto, using(crate::proofs::CallLemmas::lacks_after))]
     pub fn missing(&self, now: Moment, opened: &Opened) -> Counts
         ensures value { result ≡ missing self.now.kept.table.state now opened.now }
@@ -130,11 +129,12 @@ impl<D: DeskName, S: JournalSink> Book<D, S> {
         self.recorded.missing(now, opened)
     }
 
-    /// One event: an entry of the pass's worker at the end, and its receipt in the pass. If it was accepted, its change
-    /// is then published, and the pass learns it; this waits for lookups that still read what it changes.
+    /// Decides a request: an entry of the pass's worker at the end of the history, and its receipt in the pass. If it is
+    /// accepted, its change is published, and the pass learns the new list of accepted changes; this waits for lookups
+    /// that still read what it changes.
     ///
-    /// `now` has seconds from 0 to `chpw_table::LAST_SECOND`. Refused as `Table::decide` refuses, with nothing changed:
-    /// `Full`, `NeedKeys`, `Memory`.
+    /// `now` has seconds from 0 to `chpw_table::LAST_SECOND`. The refusals are those of `Table::decide`, `Full`,
+    /// `NeedKeys` and `Memory`, and after one nothing has changed.
     pub fn decide<R: Wait>(
         &mut self,
         rt: &R,
@@ -157,8 +157,9 @@ impl<D: DeskName, S: JournalSink> Book<D, S> {
         Ok(verdict)
     }
 
-    /// One event with the digest completed for this password where keys are missing, so that none are asked for; `salt`
-    /// is that of `Opened::salt`. The request that a refusal returns may have more of them.
+    /// Decides a request like `decide`, and derives the keys that the digest lacks from this password, so that none are
+    /// asked for: it is refused as `Full` or `Memory`. `salt` is that of `Opened::salt`. The request that a refusal
+    /// returns may have more keys than it came with.
     pub fn decide_deriving<R: Wait>(
         &mut self,
         rt: &R,
@@ -200,9 +201,9 @@ impl<D: DeskName, S: JournalSink> Book<D, S> {
         }
     }
 
-    /// Raises the iteration count of new keys to this one, 1 to 16,777,216: an entry of the pass's worker at the end,
-    /// and its receipt in the pass. If the count is raised, lookups then show it, and the pass learns it; this waits
-    /// for lookups that still read what it changes.
+    /// Raises the iteration count of new keys to this one, 1 to 16,777,216: an entry of the pass's worker at the end of
+    /// the history, and its receipt in the pass. If the count is raised, lookups show it, and the pass learns the new
+    /// list of accepted changes; this waits for lookups that still read what it changes.
     ///
     /// `now` has seconds from 0 to `chpw_table::LAST_SECOND`. Two faults, after which nothing has changed: `Full`
     /// exactly if the table is full, and `Memory` if it has room and a growth is refused.
@@ -309,7 +310,7 @@ fn tell<D: DeskName, R: Wait>(
     }
 }
 
-// After this verdict on a raise: the prepared change is published, and the pass learns it.
+// After this verdict on a raise: the prepared change is published if the count was raised, and the pass learns the list.
 fn tell_raise<D: DeskName, R: Wait>(
     rt: &R,
     shelf: &mut SnapshotWriter<D>,

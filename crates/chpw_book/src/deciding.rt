@@ -22,7 +22,6 @@ ghost use Rattle.chpw_book.specs.Wholeness.{FirstIsWhole, NewestIsWhole};
 use crate::naming::DeskName;
 use crate::pass::Pass;
 use crate::recorded::RecordedTable;
-use chpw_decider::JournaledTable;
 use chpw_rules::Name;
 use chpw_snapshots::SnapshotWriter;
 use chpw_table::{
@@ -32,12 +31,11 @@ use chpw_table::{
 use std::alloc::AllocError;
 
 impl<D: DeskName, S: JournalSink> RecordedTable<D, S> {
-    /// One event: an entry of the pass's worker at the end, and its receipt in the pass. The change
-    /// that it makes waits on the shelf; putting it there is the last growth before the journal is
-    /// appended to.
+    /// Decides a request: an entry of the pass's worker at the end of the history, and its receipt in the pass. Its
+    /// change waits on the shelf to be published; putting it there is the last growth before the journal is appended to.
     ///
-    /// `now` has seconds from 0 to `chpw_table::LAST_SECOND`. Refused as `Table::decide` refuses, with nothing changed:
-    /// `Full`, `NeedKeys`, `Memory`.
+    /// `now` has seconds from 0 to `chpw_table::LAST_SECOND`. The refusals are those of `Table::decide`, `Full`,
+    /// `NeedKeys` and `Memory`, and after one nothing has changed.
     pub(crate) fn decide(
         &mut self,
         shelf: &mut SnapshotWriter<D>,
@@ -55,12 +53,12 @@ impl<D: DeskName, S: JournalSink> RecordedTable<D, S> {
             ((self.new ≡ self.old) × (pass.new ≡ pass.old) × (shelf.new ≡ shelf.old)) }
         ensures linearized { IsLinearized (opening_state D.root) D.workers self.old }
     {
-        let prepared = prepare(&mut self.journaled, shelf, pass, now, opened)?;
+        let prepared = prepare(&mut self.table, shelf, pass, now, opened)?;
         let Ok(copy) = make_room(
             &mut self.history.entries,
             &mut pass.calls.receipts,
             shelf,
-            self.journaled.table(),
+            &self.table,
             &prepared,
         ) else {
             return Err(given_up(prepared));
@@ -69,8 +67,8 @@ impl<D: DeskName, S: JournalSink> RecordedTable<D, S> {
             verdict,
             io_failed,
             opened,
-        } = self.journaled.finish(prepared);
-        read_newest(self.journaled.table(), &opened, verdict);
+        } = self.table.finish(prepared, &mut self.sink);
+        read_newest(&self.table, &opened, verdict);
         let event = Event::Ask { opened, verdict };
         let copy = Event::Ask {
             opened: copy,
@@ -84,23 +82,22 @@ impl<D: DeskName, S: JournalSink> RecordedTable<D, S> {
 
 // Prepares a step for a pass whose lookups showed only what the shelf published; otherwise refused for want of memory,
 // since the pass's reader can't enter.
-fn prepare<D: DeskName, S: JournalSink>(
-    journaled: &mut JournaledTable<S>,
+fn prepare<D: DeskName>(
+    table: &mut Table,
     shelf: &SnapshotWriter<D>,
     pass: &mut Pass<D>,
     now: Moment,
     opened: Opened,
 ) -> Result<Prepared, Refused>
     requires moment { IsMoment now }
-    ensures ready { IfOk result (λ p. IsReady journaled.old.table p) }
+    ensures ready { IfOk result (λ p. IsReady table.old p) }
     ensures parts { IfOk result (λ p. (p.moment ≡ now) × (p.opened ≡ opened)) }
     ensures saw { OnOk result (IsPrefix pass.old.place.seen shelf.now.list) }
-    ensures refused { IfErr result (λ r. IsRefused journaled.old.table now opened r) }
-    ensures unchanged { (journaled.new.table ≡ journaled.old.table)
-        × (journaled.new.sink ≡ journaled.old.sink) }
+    ensures refused { IfErr result (λ r. IsRefused table.old now opened r) }
+    ensures unchanged { table.new ≡ table.old }
     ensures same { pass.new ≡ pass.old }
 {
-    let prepared = journaled.prepare(now, opened)?;
+    let prepared = table.prepare(now, opened)?;
     if pass.was_shown(shelf) {
         Ok(prepared)
     } else {

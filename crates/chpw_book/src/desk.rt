@@ -72,9 +72,9 @@ impl<D: DeskName, S: JournalSink> Desk<D, S> {
         self.standing.refuse(now, opened)
     }
 
-    /// The counts under which `decide` would now look at keys that the digest lacks, if the history were not full: each
-    /// at least 1; none if it would look at no keys. It takes no lock if the request is refused anyway, and otherwise
-    /// does.
+    /// The iteration counts under which `decide` would now compare keys and for which the digest has none, if the
+    /// history weren't full: each at least 1; none if it would compare no keys. It takes the lock unless
+    /// `refuses_anyway`.
     #[tactic(auto, using(crate::proofs::CallLemmas::lacks_none))]
     pub fn missing<R: Wait>(&self, rt: &R, now: Moment, opened: &Opened) -> Counts
         ensures after { LacksAfter (opening_state D.root) now opened.now result }
@@ -89,11 +89,11 @@ impl<D: DeskName, S: JournalSink> Desk<D, S> {
         counts
     }
 
-    /// One event under the lock; its receipt joins the pass. If the request was accepted, its change is published
-    /// before the lock is released, and the pass learns it.
+    /// Decides a request under the lock; its receipt joins the pass. If it is accepted, its change is published before
+    /// the lock is released, and the pass learns the new list of accepted changes.
     ///
-    /// `now` has seconds from 0 to `chpw_table::LAST_SECOND`. Refused as `Table::decide` refuses, and
-    /// then the pass is as before, but that it notes `Full`.
+    /// `now` has seconds from 0 to `chpw_table::LAST_SECOND`. The refusals are those of `Table::decide`; after one the
+    /// pass is as before, except that it notes `Full`.
     #[tactic(auto, using(crate::proofs::CallLemmas::notes_of_ask))]
     pub fn decide<R: Wait>(
         &self,
@@ -115,8 +115,8 @@ impl<D: DeskName, S: JournalSink> Desk<D, S> {
         note_full(pass, decided)
     }
 
-    /// One event with the digest completed for this password under the lock, where keys are missing, so that none are
-    /// asked for. The request that a refusal returns may have more of them.
+    /// Decides a request like `decide`, and derives under the lock the keys that the digest lacks, from this password, so
+    /// that none are asked for. The request that a refusal returns may have more keys than it came with.
     #[tactic(auto, using(crate::proofs::CallLemmas::notes_of_deriving))]
     pub fn decide_deriving<R: Wait>(
         &self,
@@ -146,10 +146,11 @@ impl<D: DeskName, S: JournalSink> Desk<D, S> {
     }
 
     /// Raises the iteration count of new keys to this one, 1 to 16,777,216, under the lock; the receipt joins the pass.
-    /// If the count is raised, lookups show it before the lock is released, and the pass learns it.
+    /// If the count is raised, lookups show it before the lock is released, and the pass learns the new list of accepted
+    /// changes.
     ///
-    /// `now` has seconds from 0 to `chpw_table::LAST_SECOND`. After a fault the pass is as before, but
-    /// that it notes `Full`.
+    /// `now` has seconds from 0 to `chpw_table::LAST_SECOND`. After a fault the pass is as before, except that it notes
+    /// `Full`.
     #[tactic(auto, using(crate::proofs::CallLemmas::notes_of_raise))]
     pub fn raise<R: Wait>(
         &self,
@@ -213,7 +214,7 @@ fn note_full<D: DeskName>(
     decided
 }
 
-// The pass notes that the history was full, for a raise.
+// The pass notes that the history was full at a raise.
 fn raise_noted<D: DeskName>(
     pass: &mut Pass<D>,
     raised: Result<RaiseVerdict, RaiseFault>,

@@ -64,15 +64,15 @@ impl<D: DeskName, S: JournalSink> RecordedTable<D, S> {
             ((self.new ≡ self.old) × (pass.new ≡ pass.old) × (shelf.new ≡ shelf.old)) }
         ensures linearized { IsLinearized (opening_state D.root) D.workers self.old }
     {
-        has_room(self.journaled.table(), shelf, pass)?;
+        has_room(&self.table, shelf, pass)?;
         make_room(
             &mut self.history.entries,
             &mut pass.calls.receipts,
             shelf,
-            self.journaled.table(),
+            &self.table,
             count,
         )?;
-        let Ok(raise) = self.journaled.raise(now, count) else {
+        let Ok(raise) = self.table.raise(now, count, &mut self.sink) else {
             unreachable!()
         };
         let verdict = raise.verdict;

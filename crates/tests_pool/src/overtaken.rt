@@ -56,6 +56,7 @@ impl<D: DeskName, R: Wait + Abort> Decider for Overtaken<'_, D, R> {
     ghost use Rattle.std.specs.Prelude.{◌≡◌, refl, true};
     ghost use Rattle.std.proofs.Common.{◌∙◌};
     ghost use Rattle.chpw_changelog.specs.Pens.{opening_state};
+    ghost use Rattle.chpw_book.specs.Passes.{GoesOn};
     ghost use Rattle.chpw_book.specs.Publishing.{IsKvnoTold};
 
     ghost gathered = { λ a. a.place.pass.now.receipts };
@@ -63,8 +64,7 @@ impl<D: DeskName, R: Wait + Abort> Decider for Overtaken<'_, D, R> {
     ghost may_be_full = { λ a rs. a.place.pass.now.was_full ≡ true };
 
     ghost follows = { λ a b. (b.place.pass.ghost_name ≡ a.place.pass.ghost_name)
-        × (b.place.pass.now.worker ≡ a.place.pass.now.worker)
-        × (a.place.pass.now.was_full ≡ true → b.place.pass.now.was_full ≡ true) };
+        × GoesOn a.place.pass.now b.place.pass.now };
 
     ghost made = { λ a kvno. IsKvnoTold (opening_state D.root) a.place.pass.now.place.own kvno };
 
@@ -99,9 +99,9 @@ impl<D: DeskName, R: Wait + Abort> Decider for Overtaken<'_, D, R> {
         self.place.made_kvno()
     }
 
-    ghost stays = { λ a. (refl, refl, λ h. h) };
+    ghost stays = { λ a. (refl, (refl, λ h. h)) };
 
-    ghost goes_on = { λ a b c h g. (g.0 ∙ h.0, g.1 ∙ h.1, λ k. g.2 (h.2 k)) };
+    ghost goes_on = { λ a b c h g. (g.0 ∙ h.0, (g.1.0 ∙ h.1.0, λ k. g.1.1 (h.1.1 k))) };
 
-    ghost still_full = { λ a b rs h g. h.2 g };
+    ghost still_full = { λ a b rs h g. h.1.1 g };
 }

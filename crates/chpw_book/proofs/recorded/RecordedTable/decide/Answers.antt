@@ -17,23 +17,24 @@ use Rattle.chpw_book.specs.Receipts.{next_entry, receipt_of}
 use Rattle.chpw_book.specs.Recorded.{RecordedView, IsLinearized}
 use Rattle.chpw_book.specs.Publishing.{IsPublished, with_waiting}
 use Rattle.chpw_book.specs.Wholeness.{NewestIsWhole}
+use Rattle.chpw_decider.proofs.KeepingLemmas.{still_room}
 use Rattle.chpw_book.proofs.GrowsLemmas.{kept_step}
-use Rattle.chpw_book.proofs.PublishLemmas.{shelves_next}
+use Rattle.chpw_book.proofs.PublishLemmas.{pending_next}
 use Rattle.chpw_book.proofs.recorded.RecordedTable.decide.Goals as goal
 
 pub make_room-requires-clause-kept : goal.make_room-requires-clause-kept
 make_room-requires-clause-kept g c =
     let kept = c.self.invariant.0 in
-    let same = c.table.ensures.value ∙ c.prepare.ensures.unchanged.0 in
+    let same = c.prepare.ensures.unchanged in
     let opening : State = opening_state g.D.LogName.root in
     let b : RecordedView =
     record {
-      table = c.self.inside.journaled.table;
+      table = c.self.inside.table;
       history = c.self.inside.history.entries.items;
       counts = c.self.inside.history.counts.items;
       changes = c.self.inside.history.changes;
       total = c.self.inside.history.totals.total;
-      told = g.S.JournalSink.told c.self.inside.journaled.sink;
+      told = g.S.JournalSink.told c.self.inside.sink;
     } in
     let published : IsPublished opening b.history b.table.state.broken c.args.shelf.now =
     subst (λ (x : RecordedView). IsPublished opening x.history x.table.state.broken c.args.shelf.now)
@@ -47,9 +48,9 @@ make_room-requires-clause-kept g c =
 pub add-requires-clause-few : goal.add-requires-clause-few
 add-requires-clause-few g c =
     let room = c.self.invariant.0.room in
-    let same = ap (λ (t : Held). t.events) c.prepare.ensures.unchanged.0 in
+    let same = ap (λ (t : Held). t.events) c.prepare.ensures.unchanged in
     let next = c.finish-verdict.ensures.steps.events in
-    let few : c.finish-verdict.new.self.table.events ≤ 1048576 = c.finish-verdict.ensures.steps.few in
+    let few : c.finish-verdict.new.self.events ≤ 1048576 = c.finish-verdict.ensures.steps.few in
     rw (c.in-Ok.ensures.same.0) (omega (arith, room, same, next, few))
 
 pub add-requires-clause-worker : goal.add-requires-clause-worker
@@ -75,31 +76,32 @@ invariant_of-self-2 g c =
     let opening : State = opening_state g.D.LogName.root in
     let b : RecordedView =
     record {
-      table = c.self.inside.journaled.table;
+      table = c.self.inside.table;
       history = c.self.inside.history.entries.items;
       counts = c.self.inside.history.counts.items;
       changes = c.self.inside.history.changes;
       total = c.self.inside.history.totals.total;
-      told = g.S.JournalSink.told c.self.inside.journaled.sink;
+      told = g.S.JournalSink.told c.self.inside.sink;
     } in
     let kept : IsLinearized opening g.D.DeskName.workers b = c.self.invariant.0 in
     let made = c.finish-verdict.result in
     let w = c.pass.inside.calls.worker in
     let below : w < length b.counts = let all = kept.all in let mine = c.pass.invariant.2 in omega (arith, all, mine) in
-    let steps : Steps b.table c.finish-verdict.new.self.table c.args.now c.args.opened made =
-    rw (← c.prepare.ensures.unchanged.0, ← c.in_ok-prepared.ensures.parts.0, ← c.in_ok-prepared.ensures.parts.1) c.finish-verdict.ensures.steps in
+    let steps : Steps b.table c.finish-verdict.new.self c.args.now c.args.opened made =
+    rw (← c.prepare.ensures.unchanged, ← c.in_ok-prepared.ensures.parts.0, ← c.in_ok-prepared.ensures.parts.1) c.finish-verdict.ensures.steps in
     let writes : Writes g.S.JournalSink.failed g.S.JournalSink.told
-    b.table.state c.self.inside.journaled.sink c.finish-verdict.new.self.sink c.args.opened made =
-    rw (← c.prepare.ensures.unchanged.0, ← c.prepare.ensures.unchanged.1, ← c.in_ok-prepared.ensures.parts.1) c.finish-verdict.ensures.writes in
+    b.table.state c.self.inside.sink c.finish-verdict.new.sink c.args.opened made =
+    rw (← c.prepare.ensures.unchanged, ← c.in_ok-prepared.ensures.parts.1) c.finish-verdict.ensures.writes in
     let pushed : c.add.new.self.entries.items ≡ b.history ++ next_entry b.history w c.args.now made.io_failed (Ask c.args.opened made.verdict) ∷ [] =
     rw (← c.in-Ok.ensures.same.0, ← steps.opened) c.add.ensures.entry in
-    let newest : is_done made.verdict ≡ true → NewestIsWhole (keys_held c.finish-verdict.new.self.table.state (target_of c.args.opened).name) =
-    rw (← c.table-2.ensures.value, ← steps.opened) c.read_newest.ensures.whole in (
-      kept_step opening g.D.DeskName.workers b w c.args.now c.args.opened made c.finish-verdict.new.self.table
+    let newest : is_done made.verdict ≡ true → NewestIsWhole (keys_held c.finish-verdict.new.self.state (target_of c.args.opened).name) =
+    rw (← steps.opened) c.read_newest.ensures.whole in (
+      kept_step opening g.D.DeskName.workers b w c.args.now c.args.opened made c.finish-verdict.new.self
           c.add.new.self.entries.items c.add.new.self.counts.items c.add.new.self.changes c.add.new.self.totals.total
-          (g.S.JournalSink.told c.finish-verdict.new.self.sink) kept steps writes.tells newest
+          (g.S.JournalSink.told c.finish-verdict.new.sink) kept steps writes.tells newest
           below pushed c.add.ensures.counts c.add.ensures.changes c.add.ensures.total,
       c.self.invariant.1,
+      still_room b.table.state.broken c.finish-verdict.new.self.state.broken made.io_failed _ _ c.self.invariant.2 steps.broken writes.io,
     )
 
 pub returns-clause-recorded : goal.returns-clause-recorded
@@ -108,18 +110,18 @@ returns-clause-recorded g c =
     let opening : State = opening_state g.D.LogName.root in
     let b : RecordedView =
     record {
-      table = c.self.inside.journaled.table;
+      table = c.self.inside.table;
       history = c.self.inside.history.entries.items;
       counts = c.self.inside.history.counts.items;
       changes = c.self.inside.history.changes;
       total = c.self.inside.history.totals.total;
-      told = g.S.JournalSink.told c.self.inside.journaled.sink;
+      told = g.S.JournalSink.told c.self.inside.sink;
     } in
     let made = c.finish-verdict.result in
-    let t : Held = c.finish-verdict.new.self.table in
+    let t : Held = c.finish-verdict.new.self in
     let w = c.pass.inside.calls.worker in
     let e : Entry = next_entry b.history w c.args.now made.io_failed (Ask c.args.opened made.verdict) in
-    let same = c.prepare.ensures.unchanged.0 in
+    let same = c.prepare.ensures.unchanged in
     let steps : Steps b.table t c.args.now c.args.opened made =
     rw (← same, ← c.in_ok-prepared.ensures.parts.0, ← c.in_ok-prepared.ensures.parts.1) c.finish-verdict.ensures.steps in
     let pushed : c.add.new.self.entries.items ≡ b.history ++ e ∷ [] = rw (← c.in-Ok.ensures.same.0, ← steps.opened) c.add.ensures.entry in
@@ -133,7 +135,7 @@ returns-clause-recorded g c =
     let number : slice_index b.counts w + 1 ≡ e.number = ap (λ (n : ℕ). n + 1) (kept.counted.counts_are w below) in
     let prepared = c.in_ok-prepared.prepared in
     let waits : c.make_room.new.shelf ≡ with_waiting (is_done prepared.row) (change_by b.table.state (Ask c.args.opened Done)) c.args.shelf.now =
-    rw (← same, ← c.table.ensures.value, ← c.in_ok-prepared.ensures.parts.1) c.in-Ok.ensures.ok in
+    rw (← same, ← c.in_ok-prepared.ensures.parts.1) c.in-Ok.ensures.ok in
     let published : IsPublished opening b.history b.table.state.broken c.args.shelf.now =
     subst (λ (x : RecordedView). IsPublished opening x.history x.table.state.broken c.args.shelf.now)
     (sym c.self.view_is) c.requires.published in
@@ -153,7 +155,7 @@ returns-clause-recorded g c =
       };
       place = refl;
       saw = saw;
-      shelves = shelves_next b.table.state
+      pending = pending_next b.table.state
           b.table.state.broken t.state.broken made.io_failed c.args.opened prepared.row made.verdict
           c.args.shelf.now c.make_room.new.shelf published.free c.finish-verdict.ensures.row steps.broken waits;
       linearized = (kept, later);

@@ -6,49 +6,44 @@ use Rattle.chpw_table.specs.declared.history.Entry.{Entry}
 use Rattle.chpw_table.specs.State.{State}
 use Rattle.chpw_table.specs.History.{outcome}
 use Rattle.chpw_table.specs.Raising.{would_raise}
-use Rattle.chpw_table.specs.Agreement.{Held, Agrees}
+use Rattle.chpw_table.specs.Agreement.{Held}
 use Rattle.chpw_table.proofs.AgreementLemmas.{agrees_itself}
 use Rattle.chpw_changelog.specs.Pens.{opening_state}
 use Rattle.chpw_book.specs.Passes.{PassView}
 use Rattle.chpw_book.specs.Receipts.{next_entry, receipt_of}
 use Rattle.chpw_book.specs.Recorded.{RecordedView, IsLinearized}
 use Rattle.chpw_book.specs.Publishing.{IsPublished, with_waiting}
+use Rattle.chpw_decider.proofs.KeepingLemmas.{still_room}
 use Rattle.chpw_book.proofs.CallLemmas.{err_of}
 use Rattle.chpw_book.proofs.GrowsLemmas.{kept_event}
-use Rattle.chpw_book.proofs.RaiseLemmas.{raise_shelves}
+use Rattle.chpw_book.proofs.RaiseLemmas.{raise_pending}
 use Rattle.chpw_book.proofs.recorded.RecordedTable.raise.Goals as goal
 
 pub make_room-requires : goal.make_room-requires
 make_room-requires g c =
     let kept = c.self.invariant.0 in
-    let same = c.table-2.ensures.value in
     let opening : State = opening_state g.D.LogName.root in
     let b : RecordedView =
     record {
-      table = c.self.inside.journaled.table;
+      table = c.self.inside.table;
       history = c.self.inside.history.entries.items;
       counts = c.self.inside.history.counts.items;
       changes = c.self.inside.history.changes;
       total = c.self.inside.history.totals.total;
-      told = g.S.JournalSink.told c.self.inside.journaled.sink;
+      told = g.S.JournalSink.told c.self.inside.sink;
     } in
     let published : IsPublished opening b.history b.table.state.broken c.args.shelf.now =
     subst (λ (x : RecordedView). IsPublished opening x.history x.table.state.broken c.args.shelf.now)
     (sym c.self.view_is) c.requires.published in
     record {
-      room = subst (λ (t : Held). t.events < t.max_entries) (c.table.ensures.value ∙ sym same) c.in_ok-has_room.ensures.room;
-      kept = (
-        b.history,
-        kept.legal,
-        subst (λ (t : Held). Agrees t.state (outcome opening b.history)) (sym same) kept.agrees,
-        subst (λ (t : Held). IsPublished opening b.history t.state.broken c.args.shelf.now) (sym same) published,
-      );
+      room = c.in_ok-has_room.ensures.room;
+      kept = (b.history, kept.legal, kept.agrees, published);
     }
 
 -- there was room
 pub unreachable-requires : goal.unreachable-requires
 unreachable-requires g c =
-    let room : c.self.inside.journaled.table.events < c.self.inside.journaled.table.max_entries = rw (← c.table.ensures.value) c.in_ok-has_room.ensures.room in
+    let room : c.self.inside.table.events < c.self.inside.table.max_entries = c.in_ok-has_room.ensures.room in
     let full = err_of c.raise.result _ c.in_default.not-Ok c.raise.ensures.full in
     omega (arith, room, full)
 
@@ -56,7 +51,7 @@ pub add-requires-clause-few : goal.add-requires-clause-few
 add-requires-clause-few g c =
     let room = c.self.invariant.0.room in
     let next = c.in-Ok.ensures.counts.0 in
-    let few : c.raise.new.self.table.events ≤ 1048576 = c.in-Ok.ensures.few in
+    let few : c.raise.new.self.events ≤ 1048576 = c.in-Ok.ensures.few in
     rw (c.make_room.ensures.same.0) (omega (arith, room, next, few))
 
 pub add-requires-clause-worker : goal.add-requires-clause-worker
@@ -77,12 +72,12 @@ invariant_of-self-2 g c =
     let opening : State = opening_state g.D.LogName.root in
     let b : RecordedView =
     record {
-      table = c.self.inside.journaled.table;
+      table = c.self.inside.table;
       history = c.self.inside.history.entries.items;
       counts = c.self.inside.history.counts.items;
       changes = c.self.inside.history.changes;
       total = c.self.inside.history.totals.total;
-      told = g.S.JournalSink.told c.self.inside.journaled.sink;
+      told = g.S.JournalSink.told c.self.inside.sink;
     } in
     let kept : IsLinearized opening g.D.DeskName.workers b = c.self.invariant.0 in
     let s : State = outcome opening b.history in
@@ -93,12 +88,13 @@ invariant_of-self-2 g c =
     ≡ b.history ++ next_entry b.history w c.args.now made.io_failed (Raise c.args.count made.verdict) ∷ [] =
     rw (← c.make_room.ensures.same.0) c.add.ensures.entry in (
       kept_event opening g.D.DeskName.workers b w c.args.now made.io_failed (Raise c.args.count made.verdict)
-          c.raise.new.self.table c.add.new.self.entries.items c.add.new.self.counts.items
-          c.add.new.self.changes c.add.new.self.totals.total (g.S.JournalSink.told c.raise.new.self.sink) kept
+          c.raise.new.self c.add.new.self.entries.items c.add.new.self.counts.items
+          c.add.new.self.changes c.add.new.self.totals.total (g.S.JournalSink.told c.raise.new.sink) kept
           (c.in-Ok.ensures.legal s kept.agrees) (c.in-Ok.ensures.step s kept.agrees)
           (λ h. c.requires.count) c.in-Ok.ensures.told c.in-Ok.ensures.counts.0 below
           pushed c.add.ensures.counts c.add.ensures.changes c.add.ensures.total,
       c.self.invariant.1,
+      still_room b.table.state.broken c.raise.new.self.state.broken made.io_failed _ _ c.self.invariant.2 c.in-Ok.ensures.broken c.in-Ok.ensures.io,
     )
 
 pub returns-clause-recorded : goal.returns-clause-recorded
@@ -107,15 +103,15 @@ returns-clause-recorded g c =
     let opening : State = opening_state g.D.LogName.root in
     let b : RecordedView =
     record {
-      table = c.self.inside.journaled.table;
+      table = c.self.inside.table;
       history = c.self.inside.history.entries.items;
       counts = c.self.inside.history.counts.items;
       changes = c.self.inside.history.changes;
       total = c.self.inside.history.totals.total;
-      told = g.S.JournalSink.told c.self.inside.journaled.sink;
+      told = g.S.JournalSink.told c.self.inside.sink;
     } in
     let made = c.in-Ok.raise in
-    let t : Held = c.raise.new.self.table in
+    let t : Held = c.raise.new.self in
     let w = c.pass.inside.calls.worker in
     let e : Entry = next_entry b.history w c.args.now made.io_failed (Raise c.args.count made.verdict) in
     let pushed : c.add.new.self.entries.items ≡ b.history ++ e ∷ [] = rw (← c.make_room.ensures.same.0) c.add.ensures.entry in
@@ -129,7 +125,7 @@ returns-clause-recorded g c =
     let number : slice_index b.counts w + 1 ≡ e.number = ap (λ (n : ℕ). n + 1) (kept.counted.counts_are w below) in
     let waits : c.make_room.new.shelf
     ≡ with_waiting (would_raise b.table c.args.count) (Count c.args.count) c.args.shelf.now =
-    rw (← c.table-2.ensures.value) c.in_ok-make_room.ensures.ok in
+    c.in_ok-make_room.ensures.ok in
     let published : IsPublished opening b.history b.table.state.broken c.args.shelf.now =
     subst (λ (x : RecordedView). IsPublished opening x.history x.table.state.broken c.args.shelf.now)
     (sym c.self.view_is) c.requires.published in
@@ -149,7 +145,7 @@ returns-clause-recorded g c =
       };
       place = refl;
       saw = saw;
-      shelves = raise_shelves b.table c.args.count made.verdict
+      pending = raise_pending b.table c.args.count made.verdict
           made.io_failed t.state.broken c.args.shelf.now c.make_room.new.shelf c.in-Ok.ensures.room published.free
           (c.in-Ok.ensures.legal b.table.state (agrees_itself b.table.state)).verdict_is c.in-Ok.ensures.broken waits;
       linearized = (kept, later);

@@ -10,16 +10,16 @@ use Rattle.chpw_table.proofs.AgreementLemmas.{agrees_itself}
 use Rattle.chpw_table.proofs.DecideLemmas.{refused_for_all}
 use Rattle.chpw_decider.specs.Keeping.{Kept, IsKept, basis_after}
 use Rattle.chpw_decider.specs.Entered.{receipt_after}
-use Rattle.chpw_decider.proofs.KeepingLemmas.{kept_next, may_be_full, basis_next, basis_few}
+use Rattle.chpw_decider.proofs.KeepingLemmas.{kept_next, may_be_full, basis_next, basis_few, still_room}
 use Rattle.chpw_decider.proofs.alone.AloneDecider.decide.Goals as goal
 
 pub returns-in_err-prepared-clause-fault : goal.returns-in_err-prepared-clause-fault
 returns-in_err-prepared-clause-fault g c =
     let k : Kept = record {
       opening = c.self.inside.opening.value;
-      table = c.self.inside.journaled.table;
+      table = c.self.inside.table;
       receipts = c.self.inside.receipts.items;
-      told = g.S.JournalSink.told c.self.inside.journaled.sink;
+      told = g.S.JournalSink.told c.self.inside.sink;
     } in
     let first = c.in_err-prepared.ensures.refused.first k.table.state (agrees_itself k.table.state) in
     let may = may_be_full k _ c.in_err-prepared.field-0.0.fault c.self.invariant.0 first in
@@ -27,7 +27,7 @@ returns-in_err-prepared-clause-fault g c =
 
 pub returns-then-is_err-clause-first : goal.returns-then-is_err-clause-first
 returns-then-is_err-clause-first g c =
-    let table : Held = c.self.inside.journaled.table in
+    let table : Held = c.self.inside.table in
     let ready = c.in_ok-prepared.ensures.ready in
     let parts = c.in_ok-prepared.ensures.parts in
     let derived : missing table.state c.args.now c.args.opened ≡ [] = rw (← parts.0, ← parts.1) ready.derived in
@@ -37,35 +37,37 @@ returns-then-is_err-clause-first g c =
 pub note-requires-clause-fewer : goal.note-requires-clause-fewer
 note-requires-clause-fewer g c =
     let few = basis_few c.self.inside.receipts.items in
-    let same = ap (λ (t : Held). t.events) c.prepare.ensures.unchanged.0 in
+    let same = ap (λ (t : Held). t.events) c.prepare.ensures.unchanged in
     omega (arith, c.self.invariant.1, few, c.self.invariant.0.events, c.finish-outcome.ensures.steps.events, c.finish-outcome.ensures.steps.few, same)
 
 pub invariant_of-self-2 : goal.invariant_of-self-2
 invariant_of-self-2 g c =
     let before : List Receipt = c.self.inside.receipts.items in
-    let table : Held = c.self.inside.journaled.table in
+    let table : Held = c.self.inside.table in
     let outcome = c.finish-outcome.result in
-    let later = c.finish-outcome.new.self in
+    let later : Held = c.finish-outcome.new.self in
+    let sink = c.finish-outcome.new.sink in
     let k : Kept = record {
       opening = c.self.inside.opening.value;
       table = table;
       receipts = before;
-      told = g.S.JournalSink.told c.self.inside.journaled.sink;
+      told = g.S.JournalSink.told c.self.inside.sink;
     } in
     let pushed : c.note.new.receipts.items ≡ before ++ receipt_after before c.args.now outcome ∷ [] =
     c.note.ensures.receipt ∙ ap (λ (rs : List Receipt). rs ++ receipt_after rs c.args.now outcome ∷ []) c.reserve.ensures.items in
-    let steps : Steps table later.table c.args.now c.args.opened outcome =
-    rw (← c.prepare.ensures.unchanged.0, ← c.in_ok-prepared.ensures.parts.0, ← c.in_ok-prepared.ensures.parts.1) c.finish-outcome.ensures.steps in
-    let writes : Writes g.S.JournalSink.failed g.S.JournalSink.told table.state c.self.inside.journaled.sink later.sink c.args.opened outcome =
-    rw (← c.prepare.ensures.unchanged.0, ← c.prepare.ensures.unchanged.1, ← c.in_ok-prepared.ensures.parts.1) c.finish-outcome.ensures.writes in
-    let kept = kept_next g.S.JournalSink.failed g.S.JournalSink.told k later.table c.self.inside.journaled.sink
-    later.sink c.args.now c.args.opened outcome c.self.invariant.0 refl steps writes in (
+    let steps : Steps table later c.args.now c.args.opened outcome =
+    rw (← c.prepare.ensures.unchanged, ← c.in_ok-prepared.ensures.parts.0, ← c.in_ok-prepared.ensures.parts.1) c.finish-outcome.ensures.steps in
+    let writes : Writes g.S.JournalSink.failed g.S.JournalSink.told table.state c.self.inside.sink sink c.args.opened outcome =
+    rw (← c.prepare.ensures.unchanged, ← c.in_ok-prepared.ensures.parts.1) c.finish-outcome.ensures.writes in
+    let kept = kept_next g.S.JournalSink.failed g.S.JournalSink.told k later c.self.inside.sink
+    sink c.args.now c.args.opened outcome c.self.invariant.0 refl steps writes in (
       subst (λ (rs : List Receipt). IsKept (record {
         opening = c.self.inside.opening.value;
-        table = later.table;
+        table = later;
         receipts = rs;
-        told = g.S.JournalSink.told later.sink;
+        told = g.S.JournalSink.told sink;
       })) (sym pushed) kept,
       c.note.ensures.changes ∙ (ap (λ (n : ℕ). if is_done outcome.verdict then n + 1 else n) c.self.invariant.1
           ∙ (sym (basis_next before c.args.now outcome) ∙ ap (basis_after 0) (sym pushed))),
+      still_room table.state.broken later.state.broken outcome.io_failed _ _ c.self.invariant.2 steps.broken writes.io,
     )
