@@ -30,7 +30,16 @@ pub(crate) fn refuse_shared<'a, R: Files>(
     if !options.strict_modes {
         return Ok(());
     }
-    let shared = SharedFiles {
+    let shared = shared_files(rt, options);
+    match first_shared(options, shared) {
+        Some(file) => Err(ServeFault::Shared(file)),
+        None => Ok(()),
+    }
+}
+
+// Which files of this start others than their owners may read or write.
+fn shared_files<R: Files>(rt: &R, options: &ServeOptions<'_>) -> SharedFiles {
+    SharedFiles {
         config: is_shared(rt, options.config),
         seed: is_shared(rt, options.seed),
         log: match options.log {
@@ -38,10 +47,6 @@ pub(crate) fn refuse_shared<'a, R: Files>(
             None => false,
         },
         journal: is_shared(rt, options.journal),
-    };
-    match first_shared(options, shared) {
-        Some(file) => Err(ServeFault::Shared(file)),
-        None => Ok(()),
     }
 }
 
