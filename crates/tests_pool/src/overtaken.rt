@@ -56,7 +56,7 @@ impl<D: DeskName, R: Wait + Abort> Decider for Overtaken<'_, D, R> {
     ghost use Rattle.std.specs.Prelude.{◌≡◌, refl, true};
     ghost use Rattle.std.proofs.Common.{◌∙◌};
     ghost use Rattle.chpw_changelog.specs.Pens.{opening_state};
-    ghost use Rattle.chpw_book.specs.Passes.{GoesOn};
+    ghost use Rattle.chpw_book.specs.Passes.{IsLaterPass};
     ghost use Rattle.chpw_book.specs.Publishing.{IsKvnoTold};
 
     ghost gathered = { λ a. a.place.pass.now.receipts };
@@ -64,7 +64,7 @@ impl<D: DeskName, R: Wait + Abort> Decider for Overtaken<'_, D, R> {
     ghost may_be_full = { λ a rs. a.place.pass.now.was_full ≡ true };
 
     ghost follows = { λ a b. (b.place.pass.ghost_name ≡ a.place.pass.ghost_name)
-        × GoesOn a.place.pass.now b.place.pass.now };
+        × IsLaterPass a.place.pass.now b.place.pass.now };
 
     ghost made = { λ a kvno. IsKvnoTold (opening_state D.root) a.place.pass.now.place.own kvno };
 
