@@ -95,8 +95,8 @@ class View:
         promised = {it for found in self.near for kind in kinds for it in found.owned.get(kind, {}).get(name, ())}
         if owner is not None:
             own = self.own.owned.get(owner, {}).get(name)
-            given = () if own is not None else set().union(*(it.owned[owner].get(name, ()) for it in self.near))
-            return promised | set(own or given) | self.own.types.get(owner, set())
+            given = own or set().union(*(it.owned[owner].get(name, ()) for it in self.near))
+            return promised | given | self.own.types.get(owner, set())
         if name in self.own.functions:
             return promised | self.own.functions[name]
         return set().union(promised, *(it.functions.get(name, ()) for it in self.near), self.of_type(name))
