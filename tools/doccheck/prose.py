@@ -1,6 +1,7 @@
-"""Sentences that name code: `call` (`clause`, `clause`) has these clauses, and each identifier stands somewhere.
+"""Sentences that name code.
 
-An identifier is a span in backquotes with an underscore or a capital amid its letters. The crates that a line names are
+`call` (`clause`, `clause`) has these clauses; [crate `File`, `File.name`] has these files of definitions, with these names; and
+each identifier stands somewhere. An identifier is a span in backquotes with an underscore or a capital amid its letters. The crates that a line names are
 looked at first, then all. In the README of a crate of cases a call has parts of a program in parentheses.
 """
 
@@ -8,10 +9,12 @@ import functools
 import re
 
 from .names import FOREIGN_OWNERS
+from .sources import crate
 from .tables import MADE, PLACEHOLDERS, TICKED, owner_and_name, rows, view
 
 SPAN = r"`[^`]+`"
 PAIR = re.compile(rf"`([\w:]+)` \(({SPAN}(?:(?:, | and |, and ){SPAN})*)\)")
+BRACKETS = re.compile(r"\[(\w+ `[A-Z][^]]*)\](?!\()")
 CLAUSE = re.compile(r"[a-z][a-z0-9_]*")
 IDENTIFIER = re.compile(r"[A-Za-z]\w*_\w+|[A-Z][a-z0-9]+(?:[A-Z][a-z0-9]*)+")
 WORD = re.compile(r"[A-Za-z_]\w*")
@@ -29,6 +32,7 @@ def check(tree, faults):
         own = [folder] if folder in tree.crates else []
         for number, line in document.prose():
             place = f"{document.name}:{number}"
+            check_brackets(tree, faults, place, line)
             if number not in tables and not folder.startswith("cases_"):
                 check_pairs(tree, faults, place, line, own)
             for span in TICKED.findall(line):
@@ -50,6 +54,19 @@ def check_pairs(tree, faults, place, line, own):
         known = set().union(*(it.clauses_of(call) | it.of_type(call) for it in views))
         for clause in clauses:
             faults.check(clause in known, place, f"no clause {clause} of {call}")
+
+
+def check_brackets(tree, faults, place, line):
+    for text in BRACKETS.findall(line):
+        for part in text.split(";"):
+            name = part.split()[0]
+            if not faults.check(name in tree.crates, place, f"no crate {name}"):
+                continue
+            for span in TICKED.findall(part):
+                file, _, word = span.partition(".")
+                known = crate(name).specs.get(file)
+                holds = known is not None and (not word or word in known)
+                faults.check(holds, place, f"no {span} in the definitions of {name}")
 
 
 @functools.lru_cache(None)
