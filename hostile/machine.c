@@ -3,6 +3,7 @@
 
    SLOW     a sync of a file takes so many milliseconds longer
    FOLDERS  of the syncs of folders the one of this number, from 1, fails
+   SYNCED   this file gets a line for each sync of a folder, with its path
    CLOCK    the clock of the day stands still at the second that this file has in decimal digits
    TICK     it takes so many milliseconds to look at that clock
    HELD     while this file is there, the first to look at that clock puts .held behind the file's name, and waits until
@@ -51,9 +52,29 @@ static int is_lost(int file)
            atomic_fetch_add(&folders, 1) + 1 == strtol(number, NULL, 10);
 }
 
+/* notes which folder is synced */
+static void note_folder(int file)
+{
+    const char *notes = getenv("SYNCED");
+    char link[64], path[4096];
+    struct stat found;
+    if (notes == NULL || fstat(file, &found) != 0 || !S_ISDIR(found.st_mode))
+        return;
+    snprintf(link, sizeof link, "/proc/self/fd/%d", file);
+    ssize_t length = readlink(link, path, sizeof path - 1);
+    int opened = open(notes, O_WRONLY | O_APPEND | O_CREAT | O_CLOEXEC, 0600);
+    if (length > 0 && opened >= 0) {
+        path[length] = '\n';
+        syscall(SYS_write, opened, path, length + 1);
+    }
+    if (opened >= 0)
+        syscall(SYS_close, opened);
+}
+
 int fsync(int file)
 {
     wait_for(getenv("SLOW"));
+    note_folder(file);
     if (is_lost(file)) {
         errno = EIO;
         return -1;

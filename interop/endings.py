@@ -125,6 +125,38 @@ def command_lines(program):
         program.tell(f"{words[0]}, {old} now '{new}'", text, *words)
 
 
+# What the program says where clap finds no fault, and where it gives an answer of its own to one.
+REFUSALS = [
+    ("client --old --target bob --password P", "the argument '--old' cannot be used with '--target <NAME>'"),
+    ("client --password P --password-file F", "the argument '--password <TEXT>' cannot be used with '--password-file <FILE>'"),
+    ("client", "either '--password <TEXT>' or '--password-file <FILE>' is required"),
+    ("table --as words", "a value for '--as <FORM>' is one of: lines, configuration, keys"),
+    ("import --realm=", "a value for '--realm <REALM>' has 1 to 255 bytes"),
+    (f"import --realm={'R' * 256}", "a value for '--realm <REALM>' has 1 to 255 bytes"),
+    (f"key --realm={'R' * 256}", "a value for '--realm <REALM>' has 1 to 255 bytes"),
+    ("control start", "a value for '<COMMAND>' is one of: status, reload, reopen-log, stop, compact"),
+    ("control compact", "the command 'compact' requires a '<FILE>'"),
+    ("control status file", "only the command 'compact' takes a '<FILE>'"),
+]
+REQUIRED = {
+    "client": "--config c --seed s --port 1 --client alice",
+    "table": "--config c --journal j",
+    "import": "--keytab k",
+    "key": "--name alice --password-file p",
+    "control": "--socket s",
+}
+
+
+def refusals(program):
+    """The first line of a refusal says what is wrong."""
+    for line, wanted in REFUSALS:
+        command, *words = line.split()
+        done = subprocess.run([program.program, command, *REQUIRED[command].split(), *words], capture_output=True,
+                              text=True, timeout=60)
+        first = done.stderr.splitlines()[0] if done.stderr else ""
+        program.report.tell(f"refused: {line[:40]}", (done.stdout, first, done.returncode), ("", f"error: {wanted}", 2))
+
+
 def drill(program):
     shown = ("alice 1:4096:a1", "", 0)
     program.tell("drill: a script", shown, "drill", script=SCRIPT + "show alice\n")
@@ -486,6 +518,7 @@ def closed_under_a_notice(program):
 
 CASES = [
     command_lines,
+    refusals,
     drill,
     check,
     keys_brought_in,

@@ -4,8 +4,10 @@
 It needs no packages: the service's own client makes the changes.
 """
 
+import os
 import pathlib
 import resource
+import shutil
 import socket
 import subprocess
 import sys
@@ -20,19 +22,24 @@ from server import Server, private
 NAME = "user0"
 # of a change of user0
 RECORD = 66
+# a user without rights of its own, and a port that needs one
+NOBODY = 65_534
+PRIVILEGED = 1_023
+FIRST_FREE = pathlib.Path("/proc/sys/net/ipv4/ip_unprivileged_port_start")
 
 
-def said(server):
+def said(server, **options):
     """Standard error and status of a `serve` that ends at once."""
-    done = subprocess.run(server.command(1), capture_output=True, text=True, timeout=30)
+    done = subprocess.run(server.command(1), capture_output=True, text=True, timeout=30, **options)
     return f"{done.stderr.strip()} (status {done.returncode})"
+
+
+def wrong(*lines):
+    return "\n".join(lines) + " (status 1)"
 
 
 def at_start(report, server):
     """Each fault is added to those before it and hides them: it is looked for earlier."""
-
-    def wrong(*lines):
-        return "\n".join(lines) + " (status 1)"
 
     with socket.create_server(("127.0.0.1", server.port)):
         report.tell("a port in use", said(server), wrong("cannot listen", f"port {server.port}: in use"))
@@ -50,6 +57,28 @@ def at_start(report, server):
         server.configuration.unlink()
         missing = wrong(f"cannot read {server.configuration}", f"{server.configuration}: no such file")
         report.tell("no configuration", said(server), missing)
+
+
+def forbidden(report, server):
+    """What is said to a user who has no right to a file or to the port; root has all, so another one asks."""
+    folder = server.journal.parent
+    server.program = shutil.copy(server.program, folder / "program")
+    private(server.journal)
+    user = {}
+    if os.geteuid() == 0:
+        user = {"user": NOBODY, "group": NOBODY, "extra_groups": []}
+        for path in (folder, *folder.iterdir()):
+            os.chown(path, NOBODY, NOBODY)
+    for path in (server.configuration, server.seed, server.journal):
+        path.chmod(0)
+        why = wrong(f"cannot read {path}", f"{path}: permission denied")
+        report.tell(f"no right to read: {path.name}", said(server, **user), why)
+        path.chmod(0o600)
+    # a machine may let everybody listen at any port
+    if int(FIRST_FREE.read_text()) > PRIVILEGED:
+        server.port = PRIVILEGED
+        why = wrong("cannot listen", f"port {PRIVILEGED}: ports below 1024 require a privilege")
+        report.tell("a port below 1024", said(server, **user), why)
 
 
 def change(server, number):
@@ -115,7 +144,7 @@ def main():
     parser.add_program()
     arguments = parser.parse_args()
     report = Report()
-    for cases in (full_disk, at_start, raising):
+    for cases in (full_disk, at_start, forbidden, raising):
         with tempfile.TemporaryDirectory(prefix="chpw-faults-") as folder:
             server = Server(arguments.server, pathlib.Path(folder), workers=1)
             write_configuration(server.configuration, [NAME])
