@@ -1,13 +1,14 @@
 //! The sockets of the connections.
-ghost use Rattle.std.specs.Prelude.{◌≡◌, ℕ, ◌<◌, IfErr, IfSome, IfNone, false, length, slice_get};
+ghost use Rattle.std.specs.Prelude.{◌≡◌, ℕ, ◌<◌, ◌≤◌, IfOk, IfErr, IfSome, IfNone, false, length, slice_get};
 ghost use Rattle.slab.specs.Slab.{get};
 ghost use Rattle.chpw_connections.specs.Held.{slots_of, bounds_of, accepted_by};
 ghost use Rattle.chpw_connections.specs.Queues.{workers_of};
 ghost use Rattle.chpw_connections.specs.Todos.{todo_in};
+ghost use Rattle.chpw_connections.specs.declared.todo.Todo.TheVariants as todo;
 ghost use Rattle.chpw_pool.specs.Datagrams.{DropsDatagram};
-ghost use Rattle.chpw_pool.specs.Deciding.{Queues, IsQueued, IsPlaced, is_decided, is_at, is_under_way};
+ghost use Rattle.chpw_pool.specs.Deciding.{AreElsewhere, IsFree, IsFresh, Queues, IsQueued, IsPlaced, is_decided, is_at, is_under_way};
 ghost use Rattle.chpw_pool.specs.Pools.{IsUnmade};
-ghost use Rattle.chpw_pool.specs.Steps.{Steps, Drains};
+ghost use Rattle.chpw_pool.specs.Steps.{IsCalled, Steps, Drains};
 ghost use Rattle.chpw_pool.specs.declared.state.Progress.TheVariants as progress;
 
 use crate::pool::PoolFault;
@@ -135,7 +136,11 @@ impl Sockets {
     }
 
     /// Stores the socket of a connection that was just accepted, and makes it non-blocking; whether it is watched.
-    pub fn put(&mut self, slot: usize, stream: net::TcpStream) -> bool {
+    pub fn put(&mut self, slot: usize, stream: net::TcpStream) -> bool
+        ensures placed { slot < length self.old.by_slot.items → IsFresh self.new.by_slot.items slot }
+        ensures past { length self.old.by_slot.items ≤ slot → result ≡ false }
+        ensures others { AreElsewhere self.old.by_slot.items self.new.by_slot.items slot }
+    {
         let is_set = stream.set_nonblocking(true).is_ok();
         let _ = stream.set_nodelay(true);
         let mut stream = TcpStream::from_std(stream);
@@ -172,6 +177,9 @@ impl Sockets {
         ensures steps { Steps (bounds_of state.old.connections) now
             (todo_in (get (slots_of state.old.connections) slot))
             (slots_of state.old.connections) (slots_of state.new.connections) slot }
+        ensures others { AreElsewhere self.old.by_slot.items self.new.by_slot.items slot }
+        ensures closed { todo_in (get (slots_of state.old.connections) slot) ≡ todo.Close → IsFree self.new.by_slot.items slot }
+        ensures queued { IsCalled (workers_of state.old.connections) (get (slots_of state.new.connections) slot) result }
         ensures bounds { bounds_of state.new.connections ≡ bounds_of state.old.connections }
     {
         let Sockets {
@@ -225,6 +233,8 @@ impl Sockets {
         ensures idle { result ≡ progress.None → state.new ≡ state.old }
         ensures bounds { bounds_of state.new.connections ≡ bounds_of state.old.connections }
         ensures dropped { result ≡ progress.Some → DropsDatagram (slots_of state.old.connections) (slots_of state.new.connections) }
+        ensures kept { result ≡ progress.Some → self.new.by_slot ≡ self.old.by_slot }
+        ensures idle_places { result ≡ progress.None → self.new.by_slot ≡ self.old.by_slot }
     {
         let Sockets {
             by_slot,
@@ -262,6 +272,7 @@ fn decide(
     ensures some { (result ≡ progress.None) → ⊥ }
     ensures bounds { bounds_of state.new.connections ≡ bounds_of state.old.connections }
     ensures dropped { result ≡ progress.Some → DropsDatagram (slots_of state.old.connections) (slots_of state.new.connections) }
+    ensures kept { result ≡ progress.Some → by_slot.new ≡ by_slot.old }
 {
     let is_decided = datagrams.is_to_be_decided(sender, message, now)
         && !is_under_way(by_slot, sender, message);
@@ -303,6 +314,7 @@ fn queue(
     ensures some { (result ≡ progress.None) → ⊥ }
     ensures bounds { bounds_of state.new.connections ≡ bounds_of state.old.connections }
     ensures dropped { result ≡ progress.Some → DropsDatagram (slots_of state.old.connections) (slots_of state.new.connections) }
+    ensures kept { result ≡ progress.Some → by_slot.new ≡ by_slot.old }
 {
     let Ok(copy) = Vec::from_slice(alloc, message) else {
         return Progress::Some;
@@ -327,7 +339,9 @@ fn put_datagram(by_slot: &mut [Option<Transport>], slot: usize, sender: Sender, 
     }
 }
 
-fn no_sockets(alloc: Global, count: usize) -> Result<Vec<Option<Transport>>, AllocError> {
+fn no_sockets(alloc: Global, count: usize) -> Result<Vec<Option<Transport>>, AllocError>
+    ensures count { IfOk result (λ places. length places.items ≡ count) }
+{
     let mut sockets = Vec::with_capacity(alloc, count)?;
     for _ in 0..count {
         sockets.push(None)?;

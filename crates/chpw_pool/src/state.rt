@@ -1,12 +1,12 @@
 //! The connections, as reactor and workers see them under their lock.
 
-ghost use Rattle.std.specs.Prelude.{◌≡◌, ◌≢◌, ◌<◌, ◌⊎◌, ◌||◌, ◌&&◌, not, ℕ, [], ◌∷◌, length, IfOk, IfSome, IfNone, OnOk, OnErr, is_some, Some, None, true, false, if◌then◌else◌, nat_lt, Ok};
+ghost use Rattle.std.specs.Prelude.{◌≡◌, ◌≢◌, ◌<◌, ◌⊎◌, ◌||◌, ◌&&◌, not, ℕ, [], ◌∷◌, length, IfOk, IfSome, IfNone, OnOk, OnErr, is_none, is_some, Some, None, true, false, if◌then◌else◌, nat_lt, Ok};
 ghost use Rattle.std.specs.Io as io;
 ghost use Rattle.slab.specs.Slab.{get, slab_len};
-ghost use Rattle.chpw_connections.specs.Held.{slots_of, bounds_of};
+ghost use Rattle.chpw_connections.specs.Held.{accepted_by, slots_of, bounds_of};
 ghost use Rattle.chpw_connections.specs.Queues.{queue_of, workers_of, DropsLate};
 ghost use Rattle.chpw_connections.specs.Todos.{todo_in};
-ghost use Rattle.chpw_connections.specs.Sets.{Happens, queued_at, is_late_in, wanted_at};
+ghost use Rattle.chpw_connections.specs.Sets.{Happens, IsLongest, IsNew, NobodyWaits, Passes, queued_at, is_late_in, wanted_at};
 ghost use Rattle.chpw_connections.specs.Stages.{came, taken, failed};
 ghost use Rattle.chpw_connections.specs.Room.{HappensWithRoom, for_message, is_large_in, has_room_to_read};
 ghost use Rattle.chpw_connections.specs.Counting.{count_in};
@@ -136,6 +136,44 @@ impl State {
             && not (nat_lt 0 (length (queue_of self.now.connections worker))))) }
     {
         !self.is_stopped && !self.is_over && !self.connections.has_message(worker)
+    }
+
+    /// Accepts a connection from this peer, if there is room for one more: its slot. Otherwise a client waits for room.
+    pub fn accept(&mut self, peer: [u8; 4], now: u64) -> Option<usize>
+        ensures accepted { IfSome result (λ slot. IsNew peer now (accepted_by self.old.connections)
+            (slots_of self.old.connections) (slots_of self.new.connections) slot) }
+        ensures noted { self.new.has_newcomer ≡ is_none result }
+        ensures unchanged { IfNone result (self.new.connections ≡ self.old.connections) }
+    {
+        let slot = self.connections.accept(peer, now);
+        self.has_newcomer = slot.is_none();
+        slot
+    }
+
+    /// If there are as many connections as allowed, ends the one that has waited longest for its client; whether one
+    /// ended.
+    pub fn make_room(&mut self) -> bool
+        ensures needed { nat_lt (slab_len (slots_of self.old.connections)) (bounds_of self.old.connections).connections ≡ true
+            → (result ≡ false) × (self.new ≡ self.old) }
+        ensures ended { result ≡ true → (slot : ℕ) × IsLongest (slots_of self.old.connections) slot
+            × Happens 0 (slots_of self.old.connections) (slots_of self.new.connections) slot failed }
+        ensures nobody { nat_lt (slab_len (slots_of self.old.connections)) (bounds_of self.old.connections).connections ≡ false
+            → result ≡ false → NobodyWaits (slots_of self.old.connections) }
+    {
+        self.connections.is_full() && self.connections.make_room()
+    }
+
+    /// Time passes for all connections, and a round begins: the shortage of room in the last one.
+    pub fn pass(&mut self, now: u64) -> Shortage
+        ensures passed { (slot : ℕ) → Passes (bounds_of self.old.connections) now
+            (get (slots_of self.old.connections) slot) (get (slots_of self.new.connections) slot) }
+        ensures had { result ≡ self.old.shortage }
+        ensures begun { self.new.shortage ≡ record { of_large = false; of_small = false } }
+    {
+        self.connections.pass(now);
+        let had = self.shortage;
+        self.shortage = Shortage::default();
+        had
     }
 
     /// The next message for a worker; none if it is to take none, or the next one waited too long.
