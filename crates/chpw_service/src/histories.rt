@@ -1,5 +1,5 @@
 //! One history after the other.
-ghost use Rattle.std.specs.Prelude.{◌≡◌, ◌≤◌, ◌<◌, ◌-◌, ◌^◌, IfOk, IfErr, OnOk, OnErr, false, true, length};
+ghost use Rattle.std.specs.Prelude.{◌≡◌, ◌≤◌, ◌<◌, ◌-◌, ◌^◌, max, IfOk, IfErr, OnOk, OnErr, false, true, length};
 ghost use Rattle.chpw_changelog.specs.Pens.{opening_state, opening_table};
 ghost use Rattle.chpw_book.specs.Starting.{IsNamed, table_of, workers_of};
 ghost use Rattle.chpw_pool.specs.Engines.{workers_at};
@@ -290,7 +290,9 @@ pub(crate) fn start_desk<D: DeskName, R: Wait + AllocGlobal>(
 }
 
 // Reports how many more messages had waited too long for their worker.
-fn report_expired<R: Wait + Eprint>(log: &Log<'_, R>, expired: u32, reported: &mut u32) {
+fn report_expired<R: Wait + Eprint>(log: &Log<'_, R>, expired: u32, reported: &mut u32)
+    ensures reported { reported.new ≡ max reported.old expired }
+{
     let more = take_unreported(expired, reported);
     if more > 0 {
         log.tell(Notice::Expired(more));
