@@ -62,7 +62,7 @@ impl Hub {
         ensures idle { result ≡ progress.None → self.new.state ≡ self.old.state }
         ensures bounds { bounds_of self.new.state.connections ≡ bounds_of self.old.state.connections }
         ensures dropped { result ≡ progress.Some → DropsDatagram (slots_of self.old.state.connections) (slots_of self.new.state.connections) }
-        ensures kept { result ≡ progress.Some → self.new.sockets.by_slot ≡ self.old.sockets.by_slot }
+        ensures kept { result ≡ progress.Some → self.new.sockets.by_slot.items ≡ self.old.sockets.by_slot.items }
     {
         self.sockets.take_datagram(&mut self.state, now)
     }

@@ -56,6 +56,7 @@ impl Socket {
     // Shuts the writing side, and discards what still comes.
     fn linger(&mut self, state: &mut State, slot: usize, buffer: &mut [u8]) -> Progress
         ensures drained { Drains (slots_of state.old.connections) (slots_of state.new.connections) slot }
+        ensures queued { IsCalled (workers_of state.old.connections) (get (slots_of state.new.connections) slot) result }
         ensures bounds { bounds_of state.new.connections ≡ bounds_of state.old.connections }
     {
         self.shut();
@@ -149,16 +150,7 @@ impl Sockets {
             .registry
             .register(&mut stream, Token(slot), both)
             .is_ok();
-        match self.by_slot.get_mut(slot) {
-            None => false,
-            Some(place) => {
-                *place = Some(Transport::Stream(Socket {
-                    stream,
-                    is_shut: false,
-                }));
-                is_set && is_watched
-            }
-        }
+        put_stream(&mut self.by_slot, slot, stream) && is_set && is_watched
     }
 
     /// Whether the socket of a connection has failed.
@@ -173,6 +165,7 @@ impl Sockets {
     }
 
     /// Does what is to be done for a connection, in one call of its socket.
+    #[tactic(auto, using(crate::proofs::PlaceLemmas::elsewhere, crate::proofs::PlaceLemmas::freed))]
     pub fn step(&mut self, state: &mut State, slot: usize, now: u64) -> Progress
         ensures steps { Steps (bounds_of state.old.connections) now
             (todo_in (get (slots_of state.old.connections) slot))
@@ -233,8 +226,8 @@ impl Sockets {
         ensures idle { result ≡ progress.None → state.new ≡ state.old }
         ensures bounds { bounds_of state.new.connections ≡ bounds_of state.old.connections }
         ensures dropped { result ≡ progress.Some → DropsDatagram (slots_of state.old.connections) (slots_of state.new.connections) }
-        ensures kept { result ≡ progress.Some → self.new.by_slot ≡ self.old.by_slot }
-        ensures idle_places { result ≡ progress.None → self.new.by_slot ≡ self.old.by_slot }
+        ensures kept { result ≡ progress.Some → self.new.by_slot.items ≡ self.old.by_slot.items }
+        ensures idle_places { result ≡ progress.None → self.new.by_slot.items ≡ self.old.by_slot.items }
     {
         let Sockets {
             by_slot,
@@ -325,6 +318,24 @@ fn queue(
             put_datagram(by_slot, slot, sender, copy);
             Progress::Queued(worker)
         }
+    }
+}
+
+// Stores the socket of a connection, if there is such a slot; whether there is.
+#[tactic(auto, using(crate::proofs::PlaceLemmas::elsewhere))]
+fn put_stream(by_slot: &mut [Option<Transport>], slot: usize, stream: TcpStream) -> bool
+    ensures placed { slot < length by_slot.old → IsFresh by_slot.new slot }
+    ensures past { length by_slot.old ≤ slot → result ≡ false }
+    ensures others { AreElsewhere by_slot.old by_slot.new slot }
+{
+    if slot < by_slot.len() {
+        by_slot[slot] = Some(Transport::Stream(Socket {
+            stream,
+            is_shut: false,
+        }));
+        true
+    } else {
+        false
     }
 }
 

@@ -402,6 +402,7 @@ impl State {
             (W.contents writer.old) (W.contents writer.new)
             ⊎ GivesNone (slots_of self.old.connections) (slots_of self.new.connections) slot
             (W.contents writer.old) (W.contents writer.new) }
+        ensures queued { IsCalled (workers_of self.old.connections) (get (slots_of self.new.connections) slot) result }
         ensures bounds { bounds_of self.new.connections ≡ bounds_of self.old.connections }
     {
         let left = self.connections.pending_output(slot);
@@ -424,6 +425,7 @@ impl State {
 
     /// Reads and discards what a client still sends after its last reply.
     pub fn drain<I: Read>(&mut self, slot: usize, reader: &mut I, buffer: &mut [u8]) -> Progress
+        ensures queued { IsCalled (workers_of self.old.connections) (get (slots_of self.new.connections) slot) result }
         ensures drained { LetsGo (slots_of self.old.connections) (slots_of self.new.connections)
             (I.remaining reader.old) (I.remaining reader.new)
             ⊎ TakesNone (slots_of self.old.connections) (slots_of self.new.connections) slot
@@ -450,7 +452,7 @@ impl State {
         ensures happens { Happens 0 (slots_of self.old.connections) (slots_of self.new.connections) slot failed
             ⊎ (slots_of self.new.connections ≡ slots_of self.old.connections) }
         ensures blocked_alone { result ≡ progress.None → slots_of self.new.connections ≡ slots_of self.old.connections }
-        ensures uncalled { (worker : ℕ) → result ≢ progress.Queued worker }
+        ensures queued { IsCalled (workers_of self.old.connections) (get (slots_of self.new.connections) slot) result }
         ensures shortage { self.new.shortage ≡ self.old.shortage }
         ensures bounds { bounds_of self.new.connections ≡ bounds_of self.old.connections }
     {
