@@ -1,5 +1,5 @@
 -- What stands at the places of a list behind a write at one of them.
-use Rattle.std.proofs.Common.{◌≡◌, ℕ, zero, suc, ◌<◌, List, [], ◌∷◌, length, set, slice_get, refl, ap, subst, arith, true, Option, Some, None, ⊥}
+use Rattle.std.proofs.Common.{◌≡◌, ℕ, zero, suc, ◌<◌, ◌≤◌, List, [], ◌∷◌, length, set, slice_get, refl, ap, subst, arith, true, Option, Some, None, ⊥}
 use Rattle.slab.specs.Slab.{Slab}
 use Rattle.chpw_connections.specs.declared.limits.ConnectionLimits.{ConnectionLimits}
 use Rattle.chpw_connections.specs.declared.connection.Connection.{Connection}
@@ -27,6 +27,11 @@ pub freed : {X : Type 0} → (xs : List (Option X)) (i : ℕ) (x : X) → slice_
 freed [] i x is = cc
 freed (x ∷ xs) zero y is = cc
 freed (x ∷ xs) (suc i) y is = freed xs i y is
+
+pub free_past : {X : Type 0} → (xs : List (Option X)) (i : ℕ) (x : X) → length xs ≤ i → slice_get xs i ≡ Some (Some x) → ⊥
+free_past [] i x past is = cc
+free_past (y ∷ xs) zero x past is = absurd (omega (arith, past))
+free_past (y ∷ xs) (suc i) x past is = free_past xs i x (omega (arith, past)) is
 
 abbrev worker_of : Progress → ℕ
 worker_of (progress.Queued worker) = worker

@@ -165,7 +165,7 @@ impl Sockets {
     }
 
     /// Does what is to be done for a connection, in one call of its socket.
-    #[tactic(auto, using(crate::proofs::PlaceLemmas::elsewhere, crate::proofs::PlaceLemmas::freed))]
+    #[tactic(auto, using(crate::proofs::PlaceLemmas::elsewhere))]
     pub fn step(&mut self, state: &mut State, slot: usize, now: u64) -> Progress
         ensures steps { Steps (bounds_of state.old.connections) now
             (todo_in (get (slots_of state.old.connections) slot))
@@ -175,42 +175,47 @@ impl Sockets {
         ensures queued { IsCalled (workers_of state.old.connections) (get (slots_of state.new.connections) slot) result }
         ensures bounds { bounds_of state.new.connections ≡ bounds_of state.old.connections }
     {
+        let todo = state.todo(slot);
+        if todo == Todo::Close {
+            self.close(slot);
+            let _ = state.connections.remove(slot);
+            return Progress::None;
+        }
+        if slot >= self.by_slot.len() {
+            return Progress::None;
+        }
         let Sockets {
             by_slot,
             buffer,
             datagrams,
             ..
         } = self;
-        match state.todo(slot) {
-            Todo::Read(_) => match by_slot.get_mut(slot) {
-                Some(Some(Transport::Stream(socket))) => {
-                    state.read(slot, &mut socket.stream, buffer, now)
-                }
-                Some(Some(Transport::Datagram(_))) => state.end_input(slot),
-                _ => Progress::None,
-            },
-            Todo::Write => match (by_slot.get_mut(slot), datagrams) {
-                (Some(Some(Transport::Stream(socket))), _) => {
-                    state.write(slot, &mut socket.stream, now)
-                }
-                (Some(Some(Transport::Datagram(datagram))), Some(datagrams)) => {
-                    datagrams.reply(state, slot, datagram, now)
-                }
-                _ => Progress::None,
-            },
-            Todo::Linger => match by_slot.get_mut(slot) {
-                Some(Some(Transport::Stream(socket))) => socket.linger(state, slot, buffer),
-                Some(Some(Transport::Datagram(_))) => state.end_input(slot),
-                _ => Progress::None,
-            },
-            Todo::Close => {
-                if let Some(place) = by_slot.get_mut(slot) {
-                    *place = None;
-                }
-                let _ = state.connections.remove(slot);
-                Progress::None
+        match (todo, &mut by_slot[slot], datagrams) {
+            (Todo::Read(_), Some(Transport::Stream(socket)), _) => {
+                state.read(slot, &mut socket.stream, buffer, now)
             }
-            Todo::Wait => Progress::None,
+            (Todo::Write, Some(Transport::Stream(socket)), _) => {
+                state.write(slot, &mut socket.stream, now)
+            }
+            (Todo::Linger, Some(Transport::Stream(socket)), _) => {
+                socket.linger(state, slot, buffer)
+            }
+            (Todo::Write, Some(Transport::Datagram(datagram)), Some(datagrams)) => {
+                datagrams.reply(state, slot, datagram, now)
+            }
+            (Todo::Read(_) | Todo::Linger, Some(Transport::Datagram(_)), _) => state.end_input(slot),
+            _ => Progress::None,
+        }
+    }
+
+    // Drops the socket of a connection.
+    #[tactic(auto, using(crate::proofs::PlaceLemmas::elsewhere, crate::proofs::PlaceLemmas::freed, crate::proofs::PlaceLemmas::free_past))]
+    fn close(&mut self, slot: usize)
+        ensures closed { IsFree self.new.by_slot.items slot }
+        ensures others { AreElsewhere self.old.by_slot.items self.new.by_slot.items slot }
+    {
+        if slot < self.by_slot.len() {
+            self.by_slot[slot] = None;
         }
     }
 
