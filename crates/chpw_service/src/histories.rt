@@ -220,7 +220,7 @@ fn serve_desk<
 fn after_close<'a, 'l, R: Wait + Print + Eprint + AllocGlobal>(
     rt: &R,
     hall: &ServiceContext<'l, R>,
-    left: Left,
+    left: Left<FileSink<File>>,
     served: Result<Option<AfterClose>, NotStarted>,
     reported: &mut Reported,
 ) -> Result<Served, ServeFault<'a>>
