@@ -65,7 +65,7 @@ impl<'a> Region<'a> {
     /// Takes an element with this tag, and returns the region of its contents.
     #[tactic(auto, unfolding(crate::specs::Reading::element_at, crate::specs::Reading::tag_at))]
     pub fn element(&mut self, tag: u8) -> Result<Region<'a>, ReadError>
-        ensures { Gives (λ x. record { content = x; after = self.new }) result
+        ensures read { Gives (λ x. record { content = x; after = self.new }) result
             (element_at tag self.old) }
         ensures no_memory { IfErr result (λ e. e ≢ ReadError.Memory) }
     {
@@ -108,7 +108,7 @@ impl<'a> Region<'a> {
 
     /// Nothing may be left.
     pub fn finish(self) -> Result<(), ReadError>
-        ensures { Gives (λ x. x) result (ended self.entry) }
+        ensures read { Gives (λ x. x) result (ended self.entry) }
         ensures no_memory { IfErr result (λ e. e ≢ ReadError.Memory) }
     {
         if !self.left.is_empty() {

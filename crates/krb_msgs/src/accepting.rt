@@ -85,7 +85,7 @@ pub fn accept_authenticator(
     session: Key,
     authenticator: Authenticator,
 ) -> Result<ApOpened, OpenError<ApFault>>
-    ensures { Answers (Accepts peer part session authenticator) result }
+    ensures value { Answers (Accepts peer part session authenticator) result }
     ensures no_memory { IfErr result (λ e. e ≢ OpenError.Memory) }
 {
     if !is_same_client(&part, &authenticator) {
