@@ -169,6 +169,7 @@ impl Change {
         ensures value { IfOk result (λ found. MatchOption found
             ((c : _) → ChangeFits c → body.now ≢ key_text kind c.name c.key)
             (λ c. ChangeFits c × (body.now ≡ key_text kind c.name c.key))) }
+        ensures small { length body.now < 57 → IsOk result }
     {
         if body.len() < VERSION_LENGTH {
             return Ok(None);
