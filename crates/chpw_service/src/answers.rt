@@ -35,8 +35,8 @@ pub(crate) fn reopen_answer(
     alloc: Global,
     opened: Result<(), ServeFault<'_>>,
 ) -> Result<Vec<u8>, AllocError>
-    ensures done { OnOk opened (IfOk result (λ text. text.items ≡ lines_text (ok_line ∷ []))) }
-    ensures refused { IfErr opened (λ fault. IfOk result (λ text. text.items ≡ lines_text (error_line (line_of fault) ∷ []))) }
+    ensures done { OnOk opened.entry (IfOk result (λ text. text.items ≡ lines_text (ok_line ∷ []))) }
+    ensures refused { IfErr opened.entry (λ fault. IfOk result (λ text. text.items ≡ lines_text (error_line (line_of fault) ∷ []))) }
 {
     match opened {
         Ok(()) => ok_answer(alloc),

@@ -1,6 +1,6 @@
 //! The follower of a service: where it is, and the reports of changes that it hasn't confirmed.
 ghost use Rattle.std.specs.Prelude.{◌≡◌, ◌||◌, false, is_some, None, if◌then◌else◌, IfOk, IfErr};
-ghost use Rattle.chpw_control.specs.declared.status.FollowerState.TheVariants.{Absent, Confirmed, Unconfirmed};
+ghost use Rattle.chpw_control.specs.declared.status.FollowerState.TheVariants as follower;
 ghost use Rattle.chpw_control.specs.Statuses.{IsTold};
 ghost use Rattle.chpw_service.specs.Faults.{IsOfJournal};
 
@@ -112,7 +112,7 @@ impl<'l, R, T: Clock> SocketFollower<'l, R, T> {
         terms: FollowerTerms<'l>,
         control: ControlTerms,
     ) -> SocketFollower<'l, R, T>
-        ensures terms { result.terms ≡ terms }
+        ensures terms { result.terms ≡ terms.entry }
         ensures told { result.is_told ≡ false }
         ensures listener { result.listener ≡ control.listener }
         ensures since { result.since ≡ control.since }
@@ -222,7 +222,7 @@ impl<R: Net<Listener = TcpListener, Stream = TcpStream> + Wait + Eprint, T: Cloc
 }
 
 fn follower_state(has_follower: bool, is_behind: bool) -> FollowerState
-    ensures value { result ≡ (if has_follower then (if is_behind then Unconfirmed else Confirmed) else Absent) }
+    ensures value { result ≡ (if has_follower then (if is_behind then follower.Unconfirmed else follower.Confirmed) else follower.Absent) }
 {
     if !has_follower {
         FollowerState::Absent

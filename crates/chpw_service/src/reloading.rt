@@ -30,6 +30,7 @@ use std::time::Clock;
 /// What the next desk opens with when the configuration was reloaded: what the closed table becomes with it and the
 /// rest of the journal, by the new rules; or the closed table, by the present rules, if the reload is refused. The
 /// caller at the control socket is answered.
+#[tactic(auto, using(crate::proofs::ServiceRunLemmas::takes_new))]
 pub(crate) fn reload<'a, 'l, R: Wait + Clock + Eprint + AllocGlobal, T: Clock>(
     rt: &R,
     time: &T,

@@ -1,5 +1,5 @@
 //! The service's threads: the reactor, and the one that serves at the desks.
-ghost use Rattle.std.specs.Prelude.{◌≡◌, IfErr, IfSome, None, OnOk, OnErr, ⊥, length};
+ghost use Rattle.std.specs.Prelude.{◌≡◌, IfErr, IfSome, None, OnOk, OnErr, length};
 ghost use Rattle.chpw_service.specs.Faults.{IsLate, told_as};
 
 use crate::fault::{LateFault, ServeFault};
