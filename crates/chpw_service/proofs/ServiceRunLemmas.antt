@@ -18,7 +18,7 @@ use Rattle.chpw_reload.proofs.RunLemmas.{runs_begin, runs_go_on}
 -- a reload comes with its rules
 pub takes_new : (anew : PendingReload) (closed : Held) (old : Rules) (r : Reloaded)
     → ((bytes : Option (List ℕ)) × IsReloaded anew.renewed bytes closed r) → TakesRules anew closed old anew.rules r.table
-takes_new anew closed old r reloaded = inl (refl, reloaded.0, r, reloaded.1, refl)
+takes_new anew closed old r reloaded = inl (refl, (reloaded.0, (r, (reloaded.1, refl))))
 
 pub reload_goes_on : (file : Config) (journal rest : Option (List ℕ)) (renewal : PreparedReload) (closed : Held) (next : Reloaded) →
     IsPrepared file journal renewal → IsReloaded renewal rest closed next → GoesOn closed.state next.table.state
