@@ -1,8 +1,9 @@
 """Sentences that name code.
 
-`call` (`clause`, `clause`) has these clauses; [crate `File`, `File.name`] has these files of definitions, with these names; and
-each identifier stands somewhere. An identifier is a span in backquotes with an underscore or a capital amid its letters. The crates that a line names are
-looked at first, then all. In the README of a crate of cases a call has parts of a program in parentheses.
+`call` (`clause`, `clause`) has these clauses; [crate `File`, `File.name`] has these files of definitions, with these names;
+and each identifier stands in some source. An identifier is a span in backquotes with an underscore or a capital amid its
+letters. The crates that a line names are looked at first, then all. In the README of a crate of cases a call has parts of a
+program in parentheses.
 """
 
 import functools
