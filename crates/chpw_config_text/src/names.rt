@@ -1,5 +1,5 @@
 //! The texts of a configuration.
-ghost use Rattle.std.specs.Prelude.{◌≡◌, IfOk, string_bytes};
+ghost use Rattle.std.specs.Prelude.{◌≡◌, ◌≢◌, IfOk, IfErr, string_bytes};
 ghost use Rattle.std.specs.Str.{is_utf8};
 ghost use Rattle.chpw_config_text.specs.Tables.{target_text, text_of};
 ghost use Rattle.chpw_config_text.specs.Writable.{JustWritable, is_writable_name, is_writable_part, is_writable_target};
@@ -12,6 +12,7 @@ use std::alloc::Global;
 pub fn text(bytes: &[u8]) -> Result<&str, WriteFault>
     ensures value { IfOk result (λ text. text.now ≡ bytes.now) }
     ensures just { JustWritable result (is_utf8 bytes.now) }
+    ensures no_memory { IfErr result (λ e. e ≢ WriteFault.Memory) }
 {
     match str::from_utf8(bytes) {
         Ok(text) => Ok(text),
@@ -23,6 +24,7 @@ pub fn text(bytes: &[u8]) -> Result<&str, WriteFault>
 fn part_text(part: &[u8]) -> Result<&str, WriteFault>
     ensures value { IfOk result (λ text. text.now ≡ part.now) }
     ensures just { JustWritable result (is_writable_part part.now) }
+    ensures no_memory { IfErr result (λ e. e ≢ WriteFault.Memory) }
 {
     let text = text(part)?;
     if part.contains(&b'/') {

@@ -19,6 +19,10 @@ ordering_of c = c.ordering
 abbrev pub accepted_of : Callers → ℕ
 accepted_of c = c.accepted
 
+-- how many were accepted, and for how many there is room, stays
+abbrev pub AreKept : Callers → Callers → Type 0
+AreKept old new = (new.accepted ≡ old.accepted) × (new.seats.capacity ≡ old.seats.capacity)
+
 -- what is carried out beside the reactor, one at a time
 abbrev pub is_order : Command → Bool
 is_order Status = false

@@ -1,10 +1,10 @@
 //! All callers at the control socket.
-ghost use Rattle.std.specs.Prelude.{◌≡◌, ◌≢◌, ◌<◌, ◌≤◌, ◌+◌, ℕ, IfOk, IfSome, IfNone, OnSome, Some};
+ghost use Rattle.std.specs.Prelude.{◌≡◌, ◌≢◌, ◌<◌, ◌≤◌, ◌+◌, ◌-◌, ◌^◌, ℕ, IfOk, IfSome, IfNone, OnSome, Some, min};
 ghost use Rattle.std.specs.Prelude.{None, length, option_copied, is_some, true, false, ◌==◌, nat_le};
 ghost use Rattle.slab.specs.Slab.{get, slab_len, HasRoomFor, Updates};
 ghost use Rattle.chpw_control.specs.Dialogs.{at_start};
 ghost use Rattle.chpw_control.specs.Callers.{asking, closed, expired, failed, told, taken, wrote};
-ghost use Rattle.chpw_control.specs.Seats.{Happens, HappensToHear, IsNew, IsFirst, NobodyWaits, waiting_at};
+ghost use Rattle.chpw_control.specs.Seats.{AreKept, Happens, HappensToHear, IsNew, IsFirst, NobodyWaits, waiting_at};
 ghost use Rattle.chpw_control.specs.Seats.{number_in, left_at, is_late, is_order, is_over_at, waiting_of, earlier};
 
 use crate::caller::Caller;
@@ -53,8 +53,10 @@ impl Callers {
     /// Accepts a caller, if there is room for one more: its slot.
     pub fn accept(&mut self, alloc: Global, now: u64) -> Option<usize>
         ensures accepted { IfSome result (λ slot. IsNew now self.old.accepted self.old.seats self.new.seats slot (asking at_start)) }
+        ensures number { OnSome result (self.new.accepted ≡ min (self.old.accepted + 1) (2 ^ 64 - 1)) }
         ensures full { IfNone result ((slab_len self.old.seats ≡ self.old.seats.capacity) × (self.new ≡ self.old)) }
         ensures ordering { self.new.ordering ≡ self.old.ordering }
+        ensures capacity { self.new.seats.capacity ≡ self.old.seats.capacity }
     {
         if self.is_full() {
             return None;
@@ -91,6 +93,7 @@ impl Callers {
         ensures room { OnSome result (HasRoomFor self.new.seats 1) }
         ensures absent { IfNone result (self.new ≡ self.old) }
         ensures ordering { self.new.ordering ≡ self.old.ordering }
+        ensures kept { AreKept self.old self.new }
     {
         self.seats.try_remove(slot)
     }
@@ -99,6 +102,7 @@ impl Callers {
     pub fn hear(&mut self, alloc: Global, slot: usize, bytes: &[u8])
         ensures heard { HappensToHear self.old.seats self.new.seats slot bytes.now }
         ensures ordering { self.new.ordering ≡ self.old.ordering }
+        ensures kept { AreKept self.old self.new }
     {
         if let Some(mut seat) = self.take_out(slot) {
             seat.caller.hear(alloc, bytes);
@@ -110,6 +114,7 @@ impl Callers {
     pub fn close(&mut self, slot: usize)
         ensures happens { Happens self.old.seats self.new.seats slot closed }
         ensures ordering { self.new.ordering ≡ self.old.ordering }
+        ensures kept { AreKept self.old self.new }
     {
         if let Some(mut seat) = self.take_out(slot) {
             seat.caller.close();
@@ -121,6 +126,7 @@ impl Callers {
     pub fn fail(&mut self, slot: usize)
         ensures happens { Happens self.old.seats self.new.seats slot failed }
         ensures ordering { self.new.ordering ≡ self.old.ordering }
+        ensures kept { AreKept self.old self.new }
     {
         if let Some(mut seat) = self.take_out(slot) {
             seat.caller.fail();
@@ -133,6 +139,7 @@ impl Callers {
         ensures late { is_late now (get self.old.seats slot) ≡ true → Happens self.old.seats self.new.seats slot expired }
         ensures others { is_late now (get self.old.seats slot) ≡ false → self.new ≡ self.old }
         ensures ordering { self.new.ordering ≡ self.old.ordering }
+        ensures kept { AreKept self.old self.new }
     {
         if self.is_late(slot, now) {
             self.expire(slot);
@@ -151,6 +158,7 @@ impl Callers {
     fn expire(&mut self, slot: usize)
         ensures happens { Happens self.old.seats self.new.seats slot expired }
         ensures ordering { self.new.ordering ≡ self.old.ordering }
+        ensures kept { AreKept self.old self.new }
     {
         if let Some(mut seat) = self.take_out(slot) {
             seat.caller.expire();
@@ -167,6 +175,7 @@ impl Callers {
         ensures taken { IfSome result (λ r. Happens self.old.seats self.new.seats r.0 taken) }
         ensures none { IfNone result (NobodyWaits self.old.seats false × (self.new ≡ self.old)) }
         ensures ordering { self.new.ordering ≡ self.old.ordering }
+        ensures kept { AreKept self.old self.new }
     {
         let slot = self.first_waiting(false)?;
         let command = self.take(slot)?;
@@ -183,6 +192,7 @@ impl Callers {
         ensures idle { OnSome result ((self.old.ordering ≡ None) × (self.new.ordering ≢ None)) }
         ensures none { IfNone result (self.new ≡ self.old) }
         ensures all { IfNone result (IfNone self.old.ordering (NobodyWaits self.old.seats true)) }
+        ensures kept { AreKept self.old self.new }
     {
         if self.ordering.is_some() {
             return None;
@@ -212,6 +222,7 @@ impl Callers {
         ensures command { result ≡ waiting_of (get self.old.seats slot) }
         ensures taken { Happens self.old.seats self.new.seats slot taken }
         ensures ordering { self.new.ordering ≡ self.old.ordering }
+        ensures kept { AreKept self.old self.new }
     {
         let mut seat = self.take_out(slot)?;
         let command = seat.caller.take();
@@ -257,6 +268,7 @@ impl Callers {
     pub fn answer(&mut self, slot: usize, answer: Vec<u8>)
         ensures happens { Happens self.old.seats self.new.seats slot (told answer.items) }
         ensures ordering { self.new.ordering ≡ self.old.ordering }
+        ensures kept { AreKept self.old self.new }
     {
         if let Some(mut seat) = self.take_out(slot) {
             seat.caller.answer(answer);
@@ -269,6 +281,7 @@ impl Callers {
         ensures happens { IfSome self.old.ordering (λ slot. Happens self.old.seats self.new.seats slot (told answer.items)) }
         ensures over { self.new.ordering ≡ None }
         ensures none { IfNone self.old.ordering (self.new ≡ self.old) }
+        ensures kept { AreKept self.old self.new }
     {
         if let Some(slot) = self.ordering.take() {
             self.answer(slot, answer);
@@ -289,6 +302,7 @@ impl Callers {
     pub fn wrote(&mut self, slot: usize, count: usize)
         ensures happens { Happens self.old.seats self.new.seats slot (wrote count) }
         ensures ordering { self.new.ordering ≡ self.old.ordering }
+        ensures kept { AreKept self.old self.new }
     {
         if let Some(mut seat) = self.take_out(slot) {
             seat.caller.wrote(count);
@@ -312,6 +326,7 @@ impl Callers {
         ensures value { result ≡ is_over_at (get self.old.seats slot) }
         ensures not { result ≡ false → self.new ≡ self.old }
         ensures ordering { self.new.ordering ≡ self.old.ordering }
+        ensures kept { AreKept self.old self.new }
     {
         if !self.is_over(slot) {
             return false;

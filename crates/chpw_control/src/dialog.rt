@@ -46,6 +46,7 @@ impl Dialog {
         ensures value { ToldUnlessMemory result (told_by self.old bytes.now) }
         ensures behind { IfNone result (self.new ≡ after_bytes self.old bytes.now) }
         ensures over { OnSome result (self.new ≡ None) }
+        ensures once { self.old ≡ None → result ≡ None }
     {
         let heard = self.heard.take()?;
         match piece_of(heard.len(), bytes) {

@@ -1,5 +1,5 @@
 -- What stands at the places of a list behind a write at one of them.
-use Rattle.std.proofs.Common.{◌≡◌, ℕ, zero, suc, ◌<◌, List, [], ◌∷◌, length, set, slice_get, refl, ap, subst, arith, true, Option, Some}
+use Rattle.std.proofs.Common.{◌≡◌, ℕ, zero, suc, ◌<◌, ◌≤◌, List, [], ◌∷◌, length, set, slice_get, refl, ap, subst, arith, true, Option, Some, None}
 use Rattle.slab.specs.Slab.{Slab}
 use Rattle.chpw_connections.specs.declared.limits.ConnectionLimits.{ConnectionLimits}
 use Rattle.chpw_connections.specs.declared.connection.Connection.{Connection}
@@ -22,6 +22,16 @@ elsewhere (x ∷ xs) zero zero y differs = absurd (differs refl)
 elsewhere (x ∷ xs) zero (suc j) y differs = refl
 elsewhere (x ∷ xs) (suc i) zero y differs = refl
 elsewhere (x ∷ xs) (suc i) (suc j) y differs = elsewhere xs i j y (λ same. differs (ap suc same))
+
+pub freed : {X : Type 0} → (xs : List (Option X)) (i : ℕ) (x : X) → slice_get (set xs i None) i ≡ Some (Some x) → ⊥
+freed [] i x is = cc
+freed (x ∷ xs) zero y is = cc
+freed (x ∷ xs) (suc i) y is = freed xs i y is
+
+pub free_past : {X : Type 0} → (xs : List (Option X)) (i : ℕ) (x : X) → length xs ≤ i → slice_get xs i ≡ Some (Some x) → ⊥
+free_past [] i x past is = cc
+free_past (y ∷ xs) zero x past is = absurd (omega (arith, past))
+free_past (y ∷ xs) (suc i) x past is = free_past xs i x (omega (arith, past)) is
 
 abbrev worker_of : Progress → ℕ
 worker_of (progress.Queued worker) = worker

@@ -27,6 +27,10 @@ abbrev pub after_fault : Bool → Bool → ℕ → Accepting
 after_fault would_wait may_pass now =
     if would_wait then Waiting else if may_pass then Paused (min (now + 100) (2 ^ 64 - 1)) else Failed
 
+abbrev pub is_ready : Accepting → Bool
+is_ready Ready = true
+is_ready a = false
+
 abbrev pub is_waiting : Accepting → Bool
 is_waiting Waiting = true
 is_waiting a = false

@@ -9,6 +9,7 @@ use Rattle.chpw_datagrams.specs.Answers.{Answer, reply_for, after_keep}
 use Rattle.chpw_datagrams.specs.Senders.{is_answered, is_same_sender}
 use Rattle.chpw_datagrams.specs.declared.sender.Sender.{Sender}
 use Rattle.chpw_pool.specs.Datagrams.{TakesDatagram}
+use Rattle.chpw_pool.specs.declared.sockets.Socket.{Socket}
 use Rattle.chpw_pool.specs.declared.sockets.Transport.{Transport}
 use Rattle.chpw_pool.specs.declared.sockets.Transport.TheVariants as place
 use Rattle.chpw_pool.specs.declared.udp.Datagram.{Datagram}
@@ -39,6 +40,18 @@ is_decided d places sender message now = is_unanswered d sender message now && n
 abbrev pub IsPlaced : List (Option Transport) → ℕ → Sender → List ℕ → Type 0
 IsPlaced places slot sender message =
     (d : Datagram) × (slice_get places slot ≡ Some (Some (place.Datagram d))) × (d.sender ≡ sender) × (d.message.items ≡ message)
+
+-- at this place is no connection
+abbrev pub IsFree : List (Option Transport) → ℕ → Type 0
+IsFree places slot = (t : Transport) → slice_get places slot ≡ Some (Some t) → ⊥
+
+-- at this place is a stream whose writing side isn't shut
+abbrev pub IsFresh : List (Option Transport) → ℕ → Type 0
+IsFresh places slot = (s : Socket) × (slice_get places slot ≡ Some (Some (place.Stream s))) × (s.is_shut ≡ false)
+
+-- the other places stay
+abbrev pub AreElsewhere : List (Option Transport) → List (Option Transport) → ℕ → Type 0
+AreElsewhere before after slot = (other : ℕ) → (other ≡ slot → ⊥) → slice_get after other ≡ slice_get before other
 
 -- a datagram waits for this worker as a connection whose place it has; the other places stay
 pub record IsQueued (sender : Sender) (message : List ℕ) (before after : List (Option Transport)) (b : ConnectionLimits) (now number : ℕ)

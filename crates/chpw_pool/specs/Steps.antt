@@ -1,16 +1,21 @@
 -- What a read or a write at its socket does to a connection, about the bytes that a reader has left and those that a
 -- writer holds, if they are known.
-use Rattle.std.specs.Prelude.{◌≡◌, ℕ, ◌≤◌, List, length, take, Option, Some, None, Bool, true, ◌&&◌, MatchBool, if◌then◌else◌, ◌⊎◌}
+use Rattle.std.specs.Prelude.{◌≡◌, ℕ, ◌≤◌, List, length, take, Option, Some, None, Bool, true, not, ◌&&◌, MatchBool, if◌then◌else◌, ◌⊎◌}
 use Rattle.std.specs.Io.KnownBytes.{Appends, Consumes, Keeps}
 use Rattle.slab.specs.Slab.{Slab, get, Updates}
 use Rattle.chpw_connections.specs.Stages.{Event, came, replied, deferred, unanswered, wrote, closed, failed}
 use Rattle.chpw_connections.specs.Sets.{Happens, wanted_at, left_at, is_answering_in}
-use Rattle.chpw_connections.specs.Room.{HappensWithRoom, has_room_besides, for_message, for_reply}
+use Rattle.chpw_connections.specs.Room.{HappensWithRoom, has_room_besides, has_room_to_read, is_large_in, for_message, for_reply}
 use Rattle.chpw_connections.specs.declared.limits.ConnectionLimits.{ConnectionLimits}
 use Rattle.chpw_connections.specs.declared.connection.Connection.{Connection}
 use Rattle.chpw_connections.specs.Todos.{todo_in}
 use Rattle.chpw_connections.specs.declared.todo.Todo.{Todo}
 use Rattle.chpw_connections.specs.declared.todo.Todo.TheVariants as todo
+use Rattle.chpw_connections.specs.Held.{bounds_of, slots_of}
+use Rattle.chpw_connections.specs.Waiting.{waits_for}
+use Rattle.chpw_pool.specs.declared.state.Progress.{Progress}
+use Rattle.chpw_pool.specs.declared.state.Progress.TheVariants as progress
+use Rattle.chpw_pool.specs.declared.state.State.{State}
 use Rattle.chpw_pool.specs.declared.state.Shortage.{Shortage}
 use Rattle.chpw_pool.specs.declared.worker.Reply.{Reply}
 
@@ -96,3 +101,14 @@ is_short_for large s = if large then s.of_large else s.of_small
 -- from now on there is no room for messages of this kind
 abbrev pub short_of : Bool → Shortage → Shortage
 short_of large s = if large then record s { of_large = true } else record s { of_small = true }
+
+-- the next bytes of a connection's message may be read: there is room for them, and there was for its kind in this round
+abbrev pub may_be_read : ℕ → State → ℕ → Bool
+may_be_read now s slot = not (is_short_for (is_large_in (get (slots_of s.connections) slot)) s.shortage)
+    && has_room_to_read (bounds_of s.connections) now (slots_of s.connections) slot
+
+-- if a worker is to be called, it is the one for which the connection's message waits
+abbrev pub IsCalled : ℕ → Option Connection → Progress → Type 0
+IsCalled workers c (progress.Queued worker) = waits_for workers c ≡ Some worker
+IsCalled workers c progress.Some = Unit {0}
+IsCalled workers c progress.None = Unit {0}

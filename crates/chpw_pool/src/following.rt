@@ -1,4 +1,6 @@
 //! What the reactor does for replies that wait for the follower.
+ghost use Rattle.std.specs.Prelude.{◌≡◌, true};
+ghost use Rattle.std.specs.Io.KnownBytes.{Appends};
 
 use crate::engine::milliseconds;
 use crate::follower::Follower;
@@ -53,9 +55,16 @@ impl<F: Follower + Drop> FollowerLink<F> {
         self.open(registry);
         match &mut self.stream {
             None => false,
-            Some(stream) => matches!(stream.write(line), Ok(count) if count == line.len()),
+            Some(stream) => send_line(stream, line),
         }
     }
+}
+
+// Sends a line; whether all of it was sent.
+fn send_line<W: Write>(stream: &mut W, line: &[u8]) -> bool
+    ensures whole { result ≡ true → Appends (W.contents stream.old) (W.contents stream.new) line.now }
+{
+    matches!(stream.write(line), Ok(count) if count == line.len())
 }
 
 impl<

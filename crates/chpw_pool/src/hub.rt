@@ -1,14 +1,14 @@
 //! The connections with their sockets, which reactor and workers share under one lock.
 ghost use Rattle.slab.specs.Slab.{get};
-ghost use Rattle.std.specs.Prelude.{◌≡◌, ◌⊎◌, ℕ, IfSome};
+ghost use Rattle.std.specs.Prelude.{◌≡◌, ◌<◌, ◌⊎◌, ℕ, IfSome, length};
 ghost use Rattle.chpw_connections.specs.Held.{slots_of, bounds_of, accepted_by};
 ghost use Rattle.chpw_connections.specs.Queues.{workers_of};
 ghost use Rattle.chpw_connections.specs.Todos.{todo_in};
 ghost use Rattle.chpw_connections.specs.Sets.{Happens};
 ghost use Rattle.chpw_connections.specs.Stages.{failed};
-ghost use Rattle.chpw_pool.specs.Steps.{Steps, RunsTo, Answers};
+ghost use Rattle.chpw_pool.specs.Steps.{IsCalled, Steps, RunsTo, Answers};
 ghost use Rattle.chpw_pool.specs.Datagrams.{DropsDatagram};
-ghost use Rattle.chpw_pool.specs.Deciding.{Queues};
+ghost use Rattle.chpw_pool.specs.Deciding.{AreElsewhere, IsFresh, Queues};
 ghost use Rattle.chpw_pool.specs.Following.{awaited};
 ghost use Rattle.chpw_pool.specs.declared.state.Progress.TheVariants as progress;
 
@@ -34,6 +34,8 @@ impl Hub {
         ensures steps { Steps (bounds_of self.old.state.connections) now
             (todo_in (get (slots_of self.old.state.connections) slot))
             (slots_of self.old.state.connections) (slots_of self.new.state.connections) slot }
+        ensures others { AreElsewhere self.old.sockets.by_slot.items self.new.sockets.by_slot.items slot }
+        ensures queued { IsCalled (workers_of self.old.state.connections) (get (slots_of self.new.state.connections) slot) result }
         ensures bounds { bounds_of self.new.state.connections ≡ bounds_of self.old.state.connections }
     {
         self.sockets.step(&mut self.state, slot, now)
@@ -43,6 +45,8 @@ impl Hub {
     pub fn put(&mut self, slot: usize, stream: TcpStream)
         ensures put { Happens 0 (slots_of self.old.state.connections) (slots_of self.new.state.connections) slot failed
             ⊎ (self.new.state ≡ self.old.state) }
+        ensures placed { slot < length self.old.sockets.by_slot.items → IsFresh self.new.sockets.by_slot.items slot }
+        ensures others { AreElsewhere self.old.sockets.by_slot.items self.new.sockets.by_slot.items slot }
     {
         if !self.sockets.put(slot, stream) {
             self.state.connections.fail(slot);
@@ -58,6 +62,7 @@ impl Hub {
         ensures idle { result ≡ progress.None → self.new.state ≡ self.old.state }
         ensures bounds { bounds_of self.new.state.connections ≡ bounds_of self.old.state.connections }
         ensures dropped { result ≡ progress.Some → DropsDatagram (slots_of self.old.state.connections) (slots_of self.new.state.connections) }
+        ensures kept { result ≡ progress.Some → self.new.sockets.by_slot.items ≡ self.old.sockets.by_slot.items }
     {
         self.sockets.take_datagram(&mut self.state, now)
     }

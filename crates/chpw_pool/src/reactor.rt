@@ -1,6 +1,9 @@
 //! The reactor: one thread that has the listener and waits for all sockets, and never for one of them alone. The
 //! sockets are under the lock that it shares with the workers.
 
+ghost use Rattle.std.specs.Prelude.{◌≡◌, ◌&&◌, is_none, nat_lt};
+ghost use Rattle.chpw_pool.specs.Accepting.{is_ready};
+
 use crate::accepting::{Accepting, is_passing};
 use crate::attending::ControlPort;
 use crate::engine::{Engine, milliseconds};
@@ -16,7 +19,6 @@ use mio::event::Event;
 use mio::unix::SourceFd;
 use mio::{Events, Interest, Registry};
 use std::io::ErrorKind;
-use std::mem;
 use std::net::{OpenListener, SocketAddr, TcpStream};
 use std::os::fd::AsRawFd;
 use std::sync::{MutexGuard, Wait};
@@ -151,14 +153,18 @@ impl<
     }
 
     // Whether one more connection may be accepted, after this many.
-    fn can_accept(&self, accepted: u32) -> bool {
+    fn can_accept(&self, accepted: u32) -> bool
+        ensures value { result ≡ (nat_lt accepted self.now.connections && (is_none self.now.pending && is_ready self.now.accepting)) }
+    {
         accepted < self.connections
             && self.pending.is_none()
             && matches!(self.accepting, Accepting::Ready)
     }
 
     /// Whether a datagram may have come, and may count as one more connection, after this many.
-    pub fn can_take_datagram(&self, accepted: u32) -> bool {
+    pub fn can_take_datagram(&self, accepted: u32) -> bool
+        ensures value { result ≡ (self.now.has_datagrams && nat_lt accepted self.now.connections) }
+    {
         self.has_datagrams && accepted < self.connections
     }
 
@@ -217,9 +223,7 @@ impl<
 
     // Time passes for all connections, and a round begins, with the shortage of room in the last one.
     fn pass(&self, now: u64) -> Shortage {
-        let mut hub = self.engine.hub.lock(self.rt);
-        hub.state.connections.pass(now);
-        mem::take(&mut hub.state.shortage)
+        self.engine.hub.lock(self.rt).state.pass(now)
     }
 
     // Handles each connection for which something is to be done although nothing was reported. The next round begins at
@@ -321,14 +325,12 @@ impl<
         let now = milliseconds(self.rt);
         let peer = peer_of(address);
         let mut hub = self.engine.hub.lock(self.rt);
-        match hub.state.connections.accept(peer, now) {
+        match hub.state.accept(peer, now) {
             None => {
-                hub.state.has_newcomer = true;
                 self.pending = Some((stream, address));
                 false
             }
             Some(slot) => {
-                hub.state.has_newcomer = false;
                 hub.put(slot, stream);
                 MutexGuard::unlock(hub);
                 self.drive(slot);
@@ -344,8 +346,6 @@ impl<
     }
 
     fn make_room(&self) -> bool {
-        let mut hub = self.engine.hub.lock(self.rt);
-        let connections = &mut hub.state.connections;
-        connections.is_full() && connections.make_room()
+        self.engine.hub.lock(self.rt).state.make_room()
     }
 }

@@ -1,13 +1,14 @@
 //! The sockets of the connections.
-ghost use Rattle.std.specs.Prelude.{◌≡◌, ℕ, ◌<◌, IfErr, IfSome, IfNone, false, length, slice_get};
+ghost use Rattle.std.specs.Prelude.{◌≡◌, ℕ, ◌<◌, ◌≤◌, IfOk, IfErr, IfSome, IfNone, false, length, slice_get};
 ghost use Rattle.slab.specs.Slab.{get};
 ghost use Rattle.chpw_connections.specs.Held.{slots_of, bounds_of, accepted_by};
 ghost use Rattle.chpw_connections.specs.Queues.{workers_of};
 ghost use Rattle.chpw_connections.specs.Todos.{todo_in};
+ghost use Rattle.chpw_connections.specs.declared.todo.Todo.TheVariants as todo;
 ghost use Rattle.chpw_pool.specs.Datagrams.{DropsDatagram};
-ghost use Rattle.chpw_pool.specs.Deciding.{Queues, IsQueued, IsPlaced, is_decided, is_at, is_under_way};
+ghost use Rattle.chpw_pool.specs.Deciding.{AreElsewhere, IsFree, IsFresh, Queues, IsQueued, IsPlaced, is_decided, is_at, is_under_way};
 ghost use Rattle.chpw_pool.specs.Pools.{IsUnmade};
-ghost use Rattle.chpw_pool.specs.Steps.{Steps, Drains};
+ghost use Rattle.chpw_pool.specs.Steps.{IsCalled, Steps, Drains};
 ghost use Rattle.chpw_pool.specs.declared.state.Progress.TheVariants as progress;
 
 use crate::pool::PoolFault;
@@ -55,6 +56,7 @@ impl Socket {
     // Shuts the writing side, and discards what still comes.
     fn linger(&mut self, state: &mut State, slot: usize, buffer: &mut [u8]) -> Progress
         ensures drained { Drains (slots_of state.old.connections) (slots_of state.new.connections) slot }
+        ensures queued { IsCalled (workers_of state.old.connections) (get (slots_of state.new.connections) slot) result }
         ensures bounds { bounds_of state.new.connections ≡ bounds_of state.old.connections }
     {
         self.shut();
@@ -135,7 +137,11 @@ impl Sockets {
     }
 
     /// Stores the socket of a connection that was just accepted, and makes it non-blocking; whether it is watched.
-    pub fn put(&mut self, slot: usize, stream: net::TcpStream) -> bool {
+    pub fn put(&mut self, slot: usize, stream: net::TcpStream) -> bool
+        ensures placed { slot < length self.old.by_slot.items → IsFresh self.new.by_slot.items slot }
+        ensures past { length self.old.by_slot.items ≤ slot → result ≡ false }
+        ensures others { AreElsewhere self.old.by_slot.items self.new.by_slot.items slot }
+    {
         let is_set = stream.set_nonblocking(true).is_ok();
         let _ = stream.set_nodelay(true);
         let mut stream = TcpStream::from_std(stream);
@@ -144,16 +150,7 @@ impl Sockets {
             .registry
             .register(&mut stream, Token(slot), both)
             .is_ok();
-        match self.by_slot.get_mut(slot) {
-            None => false,
-            Some(place) => {
-                *place = Some(Transport::Stream(Socket {
-                    stream,
-                    is_shut: false,
-                }));
-                is_set && is_watched
-            }
-        }
+        put_stream(&mut self.by_slot, slot, stream) && is_set && is_watched
     }
 
     /// Whether the socket of a connection has failed.
@@ -168,48 +165,57 @@ impl Sockets {
     }
 
     /// Does what is to be done for a connection, in one call of its socket.
+    #[tactic(auto, using(crate::proofs::PlaceLemmas::elsewhere))]
     pub fn step(&mut self, state: &mut State, slot: usize, now: u64) -> Progress
         ensures steps { Steps (bounds_of state.old.connections) now
             (todo_in (get (slots_of state.old.connections) slot))
             (slots_of state.old.connections) (slots_of state.new.connections) slot }
+        ensures others { AreElsewhere self.old.by_slot.items self.new.by_slot.items slot }
+        ensures closed { todo_in (get (slots_of state.old.connections) slot) ≡ todo.Close → IsFree self.new.by_slot.items slot }
+        ensures queued { IsCalled (workers_of state.old.connections) (get (slots_of state.new.connections) slot) result }
         ensures bounds { bounds_of state.new.connections ≡ bounds_of state.old.connections }
     {
+        let todo = state.todo(slot);
+        if todo == Todo::Close {
+            self.close(slot);
+            let _ = state.connections.remove(slot);
+            return Progress::None;
+        }
+        if slot >= self.by_slot.len() {
+            return Progress::None;
+        }
         let Sockets {
             by_slot,
             buffer,
             datagrams,
             ..
         } = self;
-        match state.todo(slot) {
-            Todo::Read(_) => match by_slot.get_mut(slot) {
-                Some(Some(Transport::Stream(socket))) => {
-                    state.read(slot, &mut socket.stream, buffer, now)
-                }
-                Some(Some(Transport::Datagram(_))) => state.end_input(slot),
-                _ => Progress::None,
-            },
-            Todo::Write => match (by_slot.get_mut(slot), datagrams) {
-                (Some(Some(Transport::Stream(socket))), _) => {
-                    state.write(slot, &mut socket.stream, now)
-                }
-                (Some(Some(Transport::Datagram(datagram))), Some(datagrams)) => {
-                    datagrams.reply(state, slot, datagram, now)
-                }
-                _ => Progress::None,
-            },
-            Todo::Linger => match by_slot.get_mut(slot) {
-                Some(Some(Transport::Stream(socket))) => socket.linger(state, slot, buffer),
-                Some(Some(Transport::Datagram(_))) => state.end_input(slot),
-                _ => Progress::None,
-            },
-            Todo::Close => {
-                if let Some(place) = by_slot.get_mut(slot) {
-                    *place = None;
-                }
-                let _ = state.connections.remove(slot);
-                Progress::None
+        match (todo, &mut by_slot[slot], datagrams) {
+            (Todo::Read(_), Some(Transport::Stream(socket)), _) => {
+                state.read(slot, &mut socket.stream, buffer, now)
             }
-            Todo::Wait => Progress::None,
+            (Todo::Write, Some(Transport::Stream(socket)), _) => {
+                state.write(slot, &mut socket.stream, now)
+            }
+            (Todo::Linger, Some(Transport::Stream(socket)), _) => {
+                socket.linger(state, slot, buffer)
+            }
+            (Todo::Write, Some(Transport::Datagram(datagram)), Some(datagrams)) => {
+                datagrams.reply(state, slot, datagram, now)
+            }
+            (Todo::Read(_) | Todo::Linger, Some(Transport::Datagram(_)), _) => state.end_input(slot),
+            _ => Progress::None,
+        }
+    }
+
+    // Drops the socket of a connection.
+    #[tactic(auto, using(crate::proofs::PlaceLemmas::elsewhere, crate::proofs::PlaceLemmas::freed, crate::proofs::PlaceLemmas::free_past))]
+    fn close(&mut self, slot: usize)
+        ensures closed { IsFree self.new.by_slot.items slot }
+        ensures others { AreElsewhere self.old.by_slot.items self.new.by_slot.items slot }
+    {
+        if slot < self.by_slot.len() {
+            self.by_slot[slot] = None;
         }
     }
 
@@ -225,6 +231,8 @@ impl Sockets {
         ensures idle { result ≡ progress.None → state.new ≡ state.old }
         ensures bounds { bounds_of state.new.connections ≡ bounds_of state.old.connections }
         ensures dropped { result ≡ progress.Some → DropsDatagram (slots_of state.old.connections) (slots_of state.new.connections) }
+        ensures kept { result ≡ progress.Some → self.new.by_slot.items ≡ self.old.by_slot.items }
+        ensures idle_places { result ≡ progress.None → self.new.by_slot.items ≡ self.old.by_slot.items }
     {
         let Sockets {
             by_slot,
@@ -262,6 +270,7 @@ fn decide(
     ensures some { (result ≡ progress.None) → ⊥ }
     ensures bounds { bounds_of state.new.connections ≡ bounds_of state.old.connections }
     ensures dropped { result ≡ progress.Some → DropsDatagram (slots_of state.old.connections) (slots_of state.new.connections) }
+    ensures kept { result ≡ progress.Some → by_slot.new ≡ by_slot.old }
 {
     let is_decided = datagrams.is_to_be_decided(sender, message, now)
         && !is_under_way(by_slot, sender, message);
@@ -303,6 +312,7 @@ fn queue(
     ensures some { (result ≡ progress.None) → ⊥ }
     ensures bounds { bounds_of state.new.connections ≡ bounds_of state.old.connections }
     ensures dropped { result ≡ progress.Some → DropsDatagram (slots_of state.old.connections) (slots_of state.new.connections) }
+    ensures kept { result ≡ progress.Some → by_slot.new ≡ by_slot.old }
 {
     let Ok(copy) = Vec::from_slice(alloc, message) else {
         return Progress::Some;
@@ -313,6 +323,24 @@ fn queue(
             put_datagram(by_slot, slot, sender, copy);
             Progress::Queued(worker)
         }
+    }
+}
+
+// Stores the socket of a connection, if there is such a slot; whether there is.
+#[tactic(auto, using(crate::proofs::PlaceLemmas::elsewhere))]
+fn put_stream(by_slot: &mut [Option<Transport>], slot: usize, stream: TcpStream) -> bool
+    ensures placed { slot < length by_slot.old → IsFresh by_slot.new slot }
+    ensures past { length by_slot.old ≤ slot → result ≡ false }
+    ensures others { AreElsewhere by_slot.old by_slot.new slot }
+{
+    if slot < by_slot.len() {
+        by_slot[slot] = Some(Transport::Stream(Socket {
+            stream,
+            is_shut: false,
+        }));
+        true
+    } else {
+        false
     }
 }
 
@@ -327,7 +355,9 @@ fn put_datagram(by_slot: &mut [Option<Transport>], slot: usize, sender: Sender, 
     }
 }
 
-fn no_sockets(alloc: Global, count: usize) -> Result<Vec<Option<Transport>>, AllocError> {
+fn no_sockets(alloc: Global, count: usize) -> Result<Vec<Option<Transport>>, AllocError>
+    ensures count { IfOk result (λ places. length places.items ≡ count) }
+{
     let mut sockets = Vec::with_capacity(alloc, count)?;
     for _ in 0..count {
         sockets.push(None)?;

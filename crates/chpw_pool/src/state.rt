@@ -1,17 +1,19 @@
 //! The connections, as reactor and workers see them under their lock.
 
-ghost use Rattle.std.specs.Prelude.{◌≡◌, ◌⊎◌, ◌||◌, ◌&&◌, not, IfOk, IfSome, OnOk, OnErr, is_some, Some, None, true, false, if◌then◌else◌, nat_lt, Ok};
+ghost use Rattle.std.specs.Prelude.{◌≡◌, ◌≢◌, ◌<◌, ◌⊎◌, ◌||◌, ◌&&◌, not, ℕ, [], ◌∷◌, length, IfOk, IfSome, IfNone, OnOk, OnErr, is_none, is_some, Some, None, true, false, if◌then◌else◌, nat_lt, Ok};
+ghost use Rattle.std.specs.Io as io;
 ghost use Rattle.slab.specs.Slab.{get, slab_len};
-ghost use Rattle.chpw_connections.specs.Held.{slots_of, bounds_of};
+ghost use Rattle.chpw_connections.specs.Held.{accepted_by, slots_of, bounds_of};
+ghost use Rattle.chpw_connections.specs.Queues.{queue_of, workers_of, DropsLate};
 ghost use Rattle.chpw_connections.specs.Todos.{todo_in};
-ghost use Rattle.chpw_connections.specs.Sets.{Happens, queued_at, is_late_in, wanted_at};
+ghost use Rattle.chpw_connections.specs.Sets.{Happens, IsLongest, IsNew, NobodyWaits, Passes, queued_at, is_late_in, wanted_at};
 ghost use Rattle.chpw_connections.specs.Stages.{came, taken, failed};
 ghost use Rattle.chpw_connections.specs.Room.{HappensWithRoom, for_message, is_large_in, has_room_to_read};
 ghost use Rattle.chpw_connections.specs.Counting.{count_in};
 ghost use Rattle.chpw_connections.specs.declared.counting.Counted.TheVariants as counted;
 ghost use Rattle.chpw_follower.specs.Asks.{asked_by, at_start, after_ask, after_bytes, after_loss, confirmed_by};
 ghost use Rattle.chpw_pool.specs.Following.{awaited, asking_after, Releases, ReleasesOne, is_waited_for as is_waited};
-ghost use Rattle.chpw_pool.specs.Steps.{IsAnswered, Takes, TakesNone, LetsGo, Gives, GivesNone, is_short_for, short_of};
+ghost use Rattle.chpw_pool.specs.Steps.{IsAnswered, IsCalled, Takes, TakesNone, LetsGo, Gives, GivesNone, is_short_for, may_be_read, short_of};
 ghost use Rattle.chpw_pool.specs.Controlling.{IsCounted, sum_of};
 ghost use Rattle.chpw_pool.specs.Rounds.{is_done, is_finished, is_looked_at, is_reading, milliseconds_to_wait, wants_reactor};
 ghost use Rattle.chpw_pool.specs.declared.state.Progress.TheVariants as progress;
@@ -130,10 +132,48 @@ impl State {
 
     /// Whether a worker has nothing to do yet.
     pub fn is_idle(&self, worker: usize) -> bool
-        ensures stopped { self.now.is_stopped ≡ true → result ≡ false }
-        ensures over { self.now.is_over ≡ true → result ≡ false }
+        ensures value { result ≡ (not self.now.is_stopped && (not self.now.is_over
+            && not (nat_lt 0 (length (queue_of self.now.connections worker))))) }
     {
         !self.is_stopped && !self.is_over && !self.connections.has_message(worker)
+    }
+
+    /// Accepts a connection from this peer, if there is room for one more: its slot. Otherwise a client waits for room.
+    pub fn accept(&mut self, peer: [u8; 4], now: u64) -> Option<usize>
+        ensures accepted { IfSome result (λ slot. IsNew peer now (accepted_by self.old.connections)
+            (slots_of self.old.connections) (slots_of self.new.connections) slot) }
+        ensures noted { self.new.has_newcomer ≡ is_none result }
+        ensures unchanged { IfNone result (self.new.connections ≡ self.old.connections) }
+    {
+        let slot = self.connections.accept(peer, now);
+        self.has_newcomer = slot.is_none();
+        slot
+    }
+
+    /// If there are as many connections as allowed, ends the one that has waited longest for its client; whether one
+    /// ended.
+    pub fn make_room(&mut self) -> bool
+        ensures needed { nat_lt (slab_len (slots_of self.old.connections)) (bounds_of self.old.connections).connections ≡ true
+            → (result ≡ false) × (self.new ≡ self.old) }
+        ensures ended { result ≡ true → (slot : ℕ) × IsLongest (slots_of self.old.connections) slot
+            × Happens 0 (slots_of self.old.connections) (slots_of self.new.connections) slot failed }
+        ensures nobody { nat_lt (slab_len (slots_of self.old.connections)) (bounds_of self.old.connections).connections ≡ false
+            → result ≡ false → NobodyWaits (slots_of self.old.connections) }
+    {
+        self.connections.is_full() && self.connections.make_room()
+    }
+
+    /// Time passes for all connections, and a round begins: the shortage of room in the last one.
+    pub fn pass(&mut self, now: u64) -> Shortage
+        ensures passed { (slot : ℕ) → Passes (bounds_of self.old.connections) now
+            (get (slots_of self.old.connections) slot) (get (slots_of self.new.connections) slot) }
+        ensures had { result ≡ self.old.shortage }
+        ensures begun { self.new.shortage ≡ record { of_large = false; of_small = false } }
+    {
+        self.connections.pass(now);
+        let had = self.shortage;
+        self.shortage = Shortage::default();
+        had
     }
 
     /// The next message for a worker; none if it is to take none, or the next one waited too long.
@@ -143,6 +183,11 @@ impl State {
         ensures in_time { IfSome result (λ t. is_late_in (bounds_of self.old.connections) now (get (slots_of self.old.connections) t.slot) ≡ false) }
         ensures happens { IfSome result (λ t. Happens 0 (slots_of self.old.connections) (slots_of self.new.connections) t.slot taken) }
         ensures peer { IfSome result (λ t. IfSome (get (slots_of self.old.connections) t.slot) (λ c. t.peer ≡ c.peer)) }
+        ensures first { IfSome result (λ t. queue_of self.old.connections worker ≡ t.slot ∷ queue_of self.new.connections worker) }
+        ensures others { (other : ℕ) → other ≢ worker → queue_of self.new.connections other ≡ queue_of self.old.connections other }
+        ensures none { self.old.is_stopped ≡ false → IfNone result
+            (((queue_of self.old.connections worker ≡ []) × (self.new ≡ self.old))
+            ⊎ DropsLate now self.old.connections self.new.connections worker) }
     {
         if self.is_stopped {
             return None;
@@ -295,6 +340,12 @@ impl State {
             (I.remaining reader.old) (I.remaining reader.new)
             ⊎ TakesNone (slots_of self.old.connections) (slots_of self.new.connections) slot
             (I.remaining reader.old) (I.remaining reader.new) }
+        ensures held_back { 0 < length buffer.old → wanted_at (get (slots_of self.old.connections) slot) ≢ 0
+            → may_be_read now self.old slot ≡ false
+            → (result ≡ progress.None) × (reader.new ≡ reader.old) × (self.new.connections ≡ self.old.connections)
+            × (self.new.shortage ≡ short_of (is_large_in (get (slots_of self.old.connections) slot)) self.old.shortage) }
+        ensures shortage { may_be_read now self.old slot ≡ true → self.new.shortage ≡ self.old.shortage }
+        ensures queued { IsCalled (workers_of self.old.connections) (get (slots_of self.new.connections) slot) result }
         ensures bounds { bounds_of self.new.connections ≡ bounds_of self.old.connections }
     {
         let most = buffer.len().min(self.connections.bytes_to_read(slot));
@@ -314,8 +365,7 @@ impl State {
     // Whether the next bytes of a connection's message may be read; not if there was no room for one of its kind in
     // this round.
     fn may_read(&mut self, slot: usize, now: u64) -> bool
-        ensures value { result ≡ (not (is_short_for (is_large_in (get (slots_of self.old.connections) slot)) self.old.shortage)
-            && has_room_to_read (bounds_of self.old.connections) now (slots_of self.old.connections) slot) }
+        ensures value { result ≡ may_be_read now self.old slot }
         ensures shortage { self.new.shortage ≡ (if result then self.old.shortage
             else short_of (is_large_in (get (slots_of self.old.connections) slot)) self.old.shortage) }
         ensures same { self.new.connections ≡ self.old.connections }
@@ -336,6 +386,8 @@ impl State {
             (slots_of self.old.connections) (slots_of self.new.connections) slot (came bytes.now)
             ⊎ HappensWithRoom (for_message (bounds_of self.old.connections) now (get (slots_of self.old.connections)
             slot)) 0 (slots_of self.old.connections) (slots_of self.new.connections) slot failed }
+        ensures queued { IsCalled (workers_of self.old.connections) (get (slots_of self.new.connections) slot) result }
+        ensures shortage { self.new.shortage ≡ self.old.shortage }
         ensures bounds { bounds_of self.new.connections ≡ bounds_of self.old.connections }
     {
         match self.connections.receive(slot, bytes, now) {
@@ -350,6 +402,7 @@ impl State {
             (W.contents writer.old) (W.contents writer.new)
             ⊎ GivesNone (slots_of self.old.connections) (slots_of self.new.connections) slot
             (W.contents writer.old) (W.contents writer.new) }
+        ensures queued { IsCalled (workers_of self.old.connections) (get (slots_of self.new.connections) slot) result }
         ensures bounds { bounds_of self.new.connections ≡ bounds_of self.old.connections }
     {
         let left = self.connections.pending_output(slot);
@@ -372,6 +425,7 @@ impl State {
 
     /// Reads and discards what a client still sends after its last reply.
     pub fn drain<I: Read>(&mut self, slot: usize, reader: &mut I, buffer: &mut [u8]) -> Progress
+        ensures queued { IsCalled (workers_of self.old.connections) (get (slots_of self.new.connections) slot) result }
         ensures drained { LetsGo (slots_of self.old.connections) (slots_of self.new.connections)
             (I.remaining reader.old) (I.remaining reader.new)
             ⊎ TakesNone (slots_of self.old.connections) (slots_of self.new.connections) slot
@@ -391,9 +445,15 @@ impl State {
     /// A read or a write failed: one that would have blocked is tried again once the socket is reported, one that a
     /// signal interrupted at once; at any other fault the connection ends.
     pub fn stumble(&mut self, slot: usize, kind: ErrorKind) -> Progress
+        ensures blocked { kind ≡ ErrorKind.WouldBlock → (result ≡ progress.None) × (self.new ≡ self.old) }
+        ensures interrupted { kind ≡ ErrorKind.Interrupted → (result ≡ progress.Some) × (self.new ≡ self.old) }
+        ensures fails { kind ≢ ErrorKind.WouldBlock → kind ≢ ErrorKind.Interrupted → (result ≡ progress.Some)
+            × Happens 0 (slots_of self.old.connections) (slots_of self.new.connections) slot failed }
         ensures happens { Happens 0 (slots_of self.old.connections) (slots_of self.new.connections) slot failed
             ⊎ (slots_of self.new.connections ≡ slots_of self.old.connections) }
-        ensures blocked { result ≡ progress.None → slots_of self.new.connections ≡ slots_of self.old.connections }
+        ensures blocked_alone { result ≡ progress.None → slots_of self.new.connections ≡ slots_of self.old.connections }
+        ensures queued { IsCalled (workers_of self.old.connections) (get (slots_of self.new.connections) slot) result }
+        ensures shortage { self.new.shortage ≡ self.old.shortage }
         ensures bounds { bounds_of self.new.connections ≡ bounds_of self.old.connections }
     {
         match kind {

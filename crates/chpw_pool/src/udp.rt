@@ -2,10 +2,11 @@
 ghost use Rattle.std.specs.Prelude.{◌≡◌, IfErr};
 ghost use Rattle.slab.specs.Slab.{get};
 ghost use Rattle.chpw_connections.specs.Held.{slots_of, bounds_of};
+ghost use Rattle.chpw_connections.specs.Queues.{workers_of};
 ghost use Rattle.chpw_connections.specs.Sets.{left_at};
 ghost use Rattle.chpw_pool.specs.Deciding.{is_same_datagram, is_unanswered, KeepsReply};
 ghost use Rattle.chpw_pool.specs.Pools.{IsUnmade};
-ghost use Rattle.chpw_pool.specs.Steps.{Writes};
+ghost use Rattle.chpw_pool.specs.Steps.{IsCalled, Writes};
 ghost use Rattle.chpw_pool.specs.declared.state.Progress.TheVariants as progress;
 
 use crate::one_message::reply_of_datagram;
@@ -118,6 +119,7 @@ impl Datagrams {
         ensures kept { KeepsReply self.old.answered self.new.answered datagram.old.sender datagram.old.message.items
             (left_at (get (slots_of state.old.connections) slot)) now }
         ensures blocked { result ≡ progress.None → (self.new ≡ self.old) × (slots_of state.new.connections ≡ slots_of state.old.connections) }
+        ensures queued { IsCalled (workers_of state.old.connections) (get (slots_of state.new.connections) slot) result }
         ensures bounds { bounds_of state.new.connections ≡ bounds_of state.old.connections }
     {
         let reply = state.connections.pending_output(slot);

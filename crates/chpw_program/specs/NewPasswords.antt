@@ -1,6 +1,9 @@
 -- The new password that `client` sends: a text of the command line, or the one line of a file or of standard input.
-use Rattle.std.specs.Prelude.{◌≡◌, ◌⊎◌, ◌<◌, ◌==◌, ℕ, false, List, [], ◌∷◌, ◌++◌, length}
+use Rattle.std.specs.Prelude.{◌≡◌, ◌⊎◌, ◌<◌, ◌==◌, ℕ, true, false, ⊥, List, [], ◌∷◌, ◌++◌, length}
 use Rattle.std.specs.List.{list_any}
+use Rattle.chpw_commands.specs.declared.drill.DrillFault.TheVariants.{Memory}
+use Rattle.chpw_program.specs.declared.ending.Ending.{Ending}
+use Rattle.chpw_program.specs.declared.ending.Ending.TheVariants.{Early, EmptyPassword, ManyLines}
 use Rattle.chpw_invocation.specs.declared.invocation.PasswordSource.{PasswordSource}
 use Rattle.chpw_invocation.specs.declared.invocation.PasswordSource.TheVariants as source
 
@@ -21,6 +24,15 @@ pub record IsOnlyLine (bytes line : List ℕ) : Type 0 where
   pub without : IsWithoutEnd bytes line
   pub some : 0 < length line
   pub one : list_any (λ b. b == 10) line ≡ false
+
+-- why the bytes of the source with this name aren't such a line: there is nothing in them, or there are several; or
+-- memory ran out
+abbrev pub IsNoLine : List ℕ → List ℕ → Ending → Type 0
+IsNoLine name bytes (EmptyPassword file) = (file.now ≡ name) × IsWithoutEnd bytes []
+IsNoLine name bytes (ManyLines file) = (file.now ≡ name)
+    × ((line : List ℕ) × (IsWithoutEnd bytes line × (list_any (λ b. b == 10) line ≡ true)))
+IsNoLine name bytes (Early fault) = fault ≡ Memory
+IsNoLine name bytes _ = ⊥
 
 abbrev pub IsPassword : PasswordSource → List ℕ → Type 0
 IsPassword (source.Text text) password = password ≡ text.now

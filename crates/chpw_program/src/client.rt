@@ -1,9 +1,12 @@
 //! `client`: one request to a service on this machine, and what its reply says.
-ghost use Rattle.std.specs.Prelude.{◌≡◌, ◌<◌, ◌≤ℤ◌, pos, true, None, Some, IfErr, IfOk, IfSome, option_map};
+ghost use Rattle.std.specs.Prelude.{◌≡◌, ◌<◌, ◌≤ℤ◌, ◌++◌, ◌∷◌, [], ℕ, List, pos, true, None, Some, IfErr, IfOk, IfSome, option_map};
+ghost use Rattle.std.specs.Io.KnownBytes.{Appends};
+ghost use Rattle.chpw_client.specs.Lines.{IsLine};
 ghost use Rattle.chpw_rules.specs.Fitting.{config_fits};
 ghost use Rattle.chpw_rules.specs.Names.{is_name, name_of as name_in};
 ghost use Rattle.chpw_client.specs.Questions.{latest_second};
 ghost use Rattle.chpw_program.specs.Asking.{Asks, HasAsked, IsUnasked, Names, Tells};
+ghost use Rattle.chpw_program.specs.Controlling.{IsAnswered};
 ghost use Rattle.chpw_program.specs.NewPasswords.{IsPassword};
 
 use crate::ending::Ending;
@@ -195,11 +198,24 @@ where
 fn print_reply<'a>(rt: &(impl Print + AllocGlobal), sent: &Sent, reply: &[u8]) -> Ending<'a>
     ensures tells { Tells sent.now reply.now result }
 {
-    match client_line(rt.alloc(), sent, reply) {
+    tell_reply(rt.alloc(), sent, reply, &mut io::writer(rt))
+}
+
+// Writes what a reply says, as a line.
+fn tell_reply<'a, W: Write>(
+    alloc: Global,
+    sent: &Sent,
+    reply: &[u8],
+    out: &mut W,
+) -> Ending<'a>
+    ensures tells { Tells sent.now reply.now result }
+    ensures printed { IsAnswered result → (line : List ℕ) × (status : ℕ) × IsLine sent.now reply.now (Some (line, status))
+        × Appends (W.contents out.old) (W.contents out.new) (line ++ 10 ∷ []) }
+{
+    match client_line(alloc, sent, reply) {
         Err(_) => Ending::Early(DrillFault::Memory),
         Ok(None) => Ending::Unanswered,
         Ok(Some((line, status))) => {
-            let mut out = io::writer(rt);
             if out.write_all(line.as_slice()).is_err() || out.write_all(b"\n").is_err() {
                 Ending::Early(DrillFault::Write)
             } else if status == 0 {

@@ -1,8 +1,9 @@
 //! The new password that `client` sends: a text of the command line, or the one line of a file or of
 //! standard input.
-ghost use Rattle.std.specs.Prelude.{◌≡◌, ◌==◌, ℕ, List, IfErr, IfOk, IfSome};
+ghost use Rattle.std.specs.Prelude.{◌≡◌, ◌≢◌, ◌==◌, ℕ, List, IfErr, IfOk, IfSome};
+ghost use Rattle.std.specs.IoError.{error_kind};
 ghost use Rattle.chpw_program.specs.Asking.{IsUnasked};
-ghost use Rattle.chpw_program.specs.NewPasswords.{IsOnlyLine, IsPassword, IsWithoutEnd, IsWithoutLast};
+ghost use Rattle.chpw_program.specs.NewPasswords.{IsNoLine, IsOnlyLine, IsPassword, IsWithoutEnd, IsWithoutLast};
 
 use crate::ending::Ending;
 use chpw_commands::DrillFault;
@@ -47,6 +48,8 @@ fn line_from<'a, A: Read>(alloc: Global, reader: &mut A) -> Result<Vec<u8>, Endi
 
 fn unread_ending<'a>(name: &'a str, error: &io::Error) -> Ending<'a>
     ensures early { IsUnasked result }
+    ensures memory { error_kind error.now ≡ ErrorKind.OutOfMemory → result ≡ Ending.Early DrillFault.Memory }
+    ensures file { error_kind error.now ≢ ErrorKind.OutOfMemory → result ≡ Ending.Unread name }
 {
     if error.kind() == ErrorKind::OutOfMemory {
         Ending::Early(DrillFault::Memory)
@@ -59,6 +62,7 @@ fn unread_ending<'a>(name: &'a str, error: &io::Error) -> Ending<'a>
 fn only_line<'a>(alloc: Global, name: &'a str, bytes: &[u8]) -> Result<Vec<u8>, Ending<'a>>
     ensures line { IfOk result (λ line. IsOnlyLine bytes.now line.items) }
     ensures early { IfErr result IsUnasked }
+    ensures fault { IfErr result (IsNoLine name.now bytes.now) }
 {
     let line = without_end(bytes);
     if line.is_empty() {
@@ -73,6 +77,7 @@ fn only_line<'a>(alloc: Global, name: &'a str, bytes: &[u8]) -> Result<Vec<u8>, 
 fn copy_of<'a>(alloc: Global, bytes: &[u8]) -> Result<Vec<u8>, Ending<'a>>
     ensures value { IfOk result (λ copy. copy.items ≡ bytes.now) }
     ensures early { IfErr result IsUnasked }
+    ensures fault { IfErr result (λ fault. fault ≡ Ending.Early DrillFault.Memory) }
 {
     match Vec::from_slice(alloc, bytes) {
         Ok(copy) => Ok(copy),

@@ -1,5 +1,5 @@
 //! The journal's records: their kinds, how they are written and how they are read. Numbers stand high byte first.
-ghost use Rattle.std.specs.Prelude.{◌≡◌, ◌≢◌, ◌∷◌, ◌+◌, ◌≤◌, ◌++◌, ℕ, List, IfOk, OnOk, MatchOption, true, length, take, drop};
+ghost use Rattle.std.specs.Prelude.{◌≡◌, ◌≢◌, ◌∷◌, ◌+◌, ◌≤◌, ◌<◌, ◌++◌, ℕ, List, IfOk, IsOk, OnOk, MatchOption, true, length, take, drop};
 ghost use Rattle.std.specs.Int.{from_be_bytes, to_be_bytes, w32};
 ghost use Rattle.std.specs.List.{flat_map};
 ghost use Rattle.chpw_rules.specs.declared.name.Name.{Name};
@@ -145,6 +145,7 @@ impl Record {
         ensures value { IfOk result (λ found. MatchOption found
             ((r : _) → RecordFits r → body.now ≢ body_text r)
             (λ r. RecordFits r × (body.now ≡ body_text r))) }
+        ensures small { length body.now < 57 → IsOk result }
     {
         if body.len() == RAISE_LENGTH {
             return Ok(raise_in(body).map(Record::Raise));
@@ -168,6 +169,7 @@ impl Change {
         ensures value { IfOk result (λ found. MatchOption found
             ((c : _) → ChangeFits c → body.now ≢ key_text kind c.name c.key)
             (λ c. ChangeFits c × (body.now ≡ key_text kind c.name c.key))) }
+        ensures small { length body.now < 57 → IsOk result }
     {
         if body.len() < VERSION_LENGTH {
             return Ok(None);

@@ -1,6 +1,17 @@
--- The table with which the next history opens.
+-- The table with which the next history opens, and the rules by which it is served.
+use Rattle.std.specs.Prelude.{◌≡◌, ◌⊎◌, ℕ, List, Option}
+use Rattle.chpw_reload.specs.Reloading.{IsReloaded}
+use Rattle.chpw_reload.specs.declared.reloading.Reloaded.{Reloaded}
+use Rattle.chpw_service.specs.declared.orders.PendingReload.{PendingReload}
+use Rattle.chpw_service.specs.declared.rules.Rules.{Rules}
 use Rattle.chpw_table.specs.Agreement.{Held}
 
 -- the table with its used ids, its events and changes counted from 0
 abbrev pub reopened : Held → Held
 reopened t = record t { events = 0; seen = 0 }
+
+-- the new configuration's rules, with a reload of the closed table; or the present rules, with the closed table
+abbrev pub TakesRules : PendingReload → Held → Rules → Rules → Held → Type 0
+TakesRules anew closed old new next =
+    ((new ≡ anew.rules) × ((bytes : Option (List ℕ)) × ((r : Reloaded) × (IsReloaded anew.renewed bytes closed r × (next ≡ r.table)))))
+    ⊎ ((new ≡ old) × (next ≡ reopened closed))

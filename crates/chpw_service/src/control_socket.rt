@@ -1,5 +1,5 @@
 //! The service's control socket.
-ghost use Rattle.std.specs.Prelude.{◌≡◌, IfErr};
+ghost use Rattle.std.specs.Prelude.{◌≡◌, ◌≢◌, true, false, IfErr, IfOk, IsSome, None, Ok};
 ghost use Rattle.chpw_service.specs.Faults.{IsOfControl};
 
 use crate::fault::ServeFault;
@@ -21,6 +21,8 @@ pub(crate) fn control_socket<'a, R: Files + Net>(
     rt: &R,
     path: Option<&'a str>,
 ) -> Result<Option<UnixListener>, ServeFault<'a>>
+    ensures none { path.entry ≡ None → result ≡ Ok None }
+    ensures asked { IsSome path.entry → IfOk result (λ socket. IsSome socket) }
     ensures fault { IfErr result (IsOfControl path.entry) }
 {
     let Some(path) = path else {
@@ -58,8 +60,16 @@ fn is_left<R: Files + Net>(rt: &R, path: &str) -> bool {
 fn is_refused<R: Net>(rt: &R, path: &str) -> bool {
     match UnixStream::connect(rt, path) {
         Ok(_) => false,
-        Err(error) => error.kind() == ErrorKind::ConnectionRefused,
+        Err(error) => is_nobody(error.kind()),
     }
+}
+
+// Whether a connection failed since nobody listens.
+fn is_nobody(kind: ErrorKind) -> bool
+    ensures nobody { kind ≡ ErrorKind.ConnectionRefused → result ≡ true }
+    ensures other { kind ≢ ErrorKind.ConnectionRefused → result ≡ false }
+{
+    kind == ErrorKind::ConnectionRefused
 }
 
 /// Removes the socket's file, at the end.

@@ -1,5 +1,7 @@
 //! The files that a service starts from.
-ghost use Rattle.std.specs.Prelude.{◌≡◌, IfOk, IfErr, List, ℕ, Ok, true};
+ghost use Rattle.std.specs.Prelude.{◌≡◌, ◌≢◌, IfOk, IfErr, List, ℕ, Ok, true};
+ghost use Rattle.std.specs.IoError.{error_kind};
+ghost use Rattle.chpw_service.specs.declared.fault.ServeFault.TheVariants.{Memory};
 ghost use Rattle.std.specs.Io.KnownBytes.{Consumes};
 ghost use Rattle.chpw_rules.specs.Fitting.{config_fits};
 ghost use Rattle.chpw_service.specs.Modes.{lets_others};
@@ -136,6 +138,8 @@ fn first_32<R: Read>(reader: &mut R) -> io::Result<[u8; 32]>
 /// The fault of a file that can't be read.
 pub(crate) fn unread_fault(path: &str, error: io::Error) -> ServeFault<'_>
     ensures fault { IsUnread path.now result }
+    ensures memory { error_kind error ≡ ErrorKind.OutOfMemory → result ≡ Memory }
+    ensures other { error_kind error ≢ ErrorKind.OutOfMemory → result ≢ Memory }
 {
     if error.kind() == ErrorKind::OutOfMemory {
         ServeFault::Memory

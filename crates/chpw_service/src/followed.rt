@@ -1,5 +1,6 @@
 //! The follower of a service: where it is, and the reports of changes that it hasn't confirmed.
-ghost use Rattle.std.specs.Prelude.{◌≡◌, IfErr};
+ghost use Rattle.std.specs.Prelude.{◌≡◌, ◌||◌, false, is_some, None, if◌then◌else◌, IfOk, IfErr};
+ghost use Rattle.chpw_control.specs.declared.status.FollowerState.TheVariants as follower;
 ghost use Rattle.chpw_control.specs.Statuses.{IsTold};
 ghost use Rattle.chpw_service.specs.Faults.{IsOfJournal};
 
@@ -38,6 +39,7 @@ pub(crate) fn journal_length<'a>(
     sink: &mut FileSink<File>,
 ) -> Result<JournalLength, ServeFault<'a>>
     ensures failed { ⟦<FileSink<File> as JournalSink>⟧.failed sink.new ≡ ⟦<FileSink<File> as JournalSink>⟧.failed sink.old }
+    ensures follower { IfOk result (λ j. j.has_follower ≡ has_follower) }
     ensures fault { IfErr result (IsOfJournal path.now) }
 {
     match sink.show_end(alloc) {
@@ -55,7 +57,9 @@ impl JournalLength {
 }
 
 impl JournalEnd for JournalLength {
-    fn journal_end(&self) -> Option<u64> {
+    fn journal_end(&self) -> Option<u64>
+        ensures follower { is_some result ≡ self.now.has_follower }
+    {
         self.has_follower.then(|| self.bytes())
     }
 }
@@ -107,7 +111,13 @@ impl<'l, R, T: Clock> SocketFollower<'l, R, T> {
         journal: &'l JournalLength,
         terms: FollowerTerms<'l>,
         control: ControlTerms,
-    ) -> SocketFollower<'l, R, T> {
+    ) -> SocketFollower<'l, R, T>
+        ensures terms { result.terms ≡ terms.entry }
+        ensures told { result.is_told ≡ false }
+        ensures listener { result.listener ≡ control.listener }
+        ensures since { result.since ≡ control.since }
+        ensures workers { result.workers ≡ control.workers }
+    {
         let ControlTerms {
             listener,
             since,
@@ -130,7 +140,9 @@ impl<'l, R, T: Clock> SocketFollower<'l, R, T> {
 
 impl<R: Net<Listener = TcpListener, Stream = TcpStream> + Wait + Eprint, T: Clock> Follower
     for SocketFollower<'_, R, T> {
-    fn wait(&self) -> u64 {
+    fn wait(&self) -> u64
+        ensures value { result ≡ self.now.terms.wait }
+    {
         u64::from(self.terms.wait)
     }
 
@@ -138,15 +150,23 @@ impl<R: Net<Listener = TcpListener, Stream = TcpStream> + Wait + Eprint, T: Cloc
         UnixStream::connect(self.rt, self.terms.socket?).ok()
     }
 
-    fn confirmed(&mut self) {
+    fn confirmed(&mut self)
+        ensures told { self.new.is_told ≡ false }
+        ensures terms { self.new.terms ≡ self.old.terms }
+    {
         self.is_told = false;
     }
 
-    fn is_behind(&self) -> bool {
+    fn is_behind(&self) -> bool
+        ensures value { result ≡ self.now.is_told }
+    {
         self.is_told
     }
 
-    fn unconfirmed(&mut self, change: Unconfirmed) {
+    fn unconfirmed(&mut self, change: Unconfirmed)
+        ensures told { self.new.is_told ≡ (self.old.is_told || is_some self.old.terms.socket) }
+        ensures terms { self.new.terms ≡ self.old.terms }
+    {
         self.log.put_unconfirmed(self.clock.now(), &change);
         if let Some(socket) = self.terms.socket {
             if is_first(&mut self.is_told) {
@@ -158,7 +178,10 @@ impl<R: Net<Listener = TcpListener, Stream = TcpStream> + Wait + Eprint, T: Cloc
 
 impl<R: Net<Listener = TcpListener, Stream = TcpStream> + Wait + Eprint, T: Clock> StatusReporter
     for SocketFollower<'_, R, T> {
-    fn listener(&mut self) -> Option<UnixListener> {
+    fn listener(&mut self) -> Option<UnixListener>
+        ensures given { result ≡ self.old.listener }
+        ensures none { self.new.listener ≡ None }
+    {
         self.listener.take()
     }
 
@@ -198,7 +221,9 @@ impl<R: Net<Listener = TcpListener, Stream = TcpStream> + Wait + Eprint, T: Cloc
     }
 }
 
-fn follower_state(has_follower: bool, is_behind: bool) -> FollowerState {
+fn follower_state(has_follower: bool, is_behind: bool) -> FollowerState
+    ensures value { result ≡ (if has_follower then (if is_behind then follower.Unconfirmed else follower.Confirmed) else follower.Absent) }
+{
     if !has_follower {
         FollowerState::Absent
     } else if is_behind {

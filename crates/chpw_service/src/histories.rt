@@ -1,5 +1,5 @@
 //! One history after the other.
-ghost use Rattle.std.specs.Prelude.{◌≡◌, ◌≤◌, ◌<◌, ◌-◌, ◌^◌, IfOk, IfErr, OnOk, OnErr, false, true, length};
+ghost use Rattle.std.specs.Prelude.{◌≡◌, ◌≤◌, ◌<◌, ◌-◌, ◌^◌, max, IfOk, IfErr, OnOk, OnErr, false, true, length};
 ghost use Rattle.chpw_changelog.specs.Pens.{opening_state, opening_table};
 ghost use Rattle.chpw_book.specs.Starting.{IsNamed, table_of, workers_of};
 ghost use Rattle.chpw_pool.specs.Engines.{workers_at};
@@ -96,12 +96,12 @@ pub fn serve_histories<
     let mut served = serve_desk(rt, time, hall, &rules, first, &mut reported)?;
     for _ in rt.forever() {
         if served.is_over {
-            return Ok(served.table);
+            return Ok(served.into_table());
         }
         let opening = further_opening(rt, time, hall, &mut rules, served)?;
         served = serve_history::<Brand, R, T>(rt, time, hall, &rules, opening, &mut reported)?;
     }
-    Ok(served.table)
+    Ok(served.into_table())
 }
 
 // What the next desk opens with: the closed table, or a reload of it when the configuration was reloaded.
@@ -144,6 +144,16 @@ struct Served {
     is_over: bool,
     ghost room: { table.state.broken ≡ false
         → ⟦<FileSink<File> as JournalSink>⟧.failed sink < 2 ^ 64 - 1 },
+}
+
+impl Served {
+    // The table alone; the journal's file is closed.
+    fn into_table(self) -> Table
+        ensures value { result ≡ self.table }
+    {
+        let Served { table, .. } = self;
+        table
+    }
 }
 
 /// What was reported on standard error so far.
@@ -202,7 +212,22 @@ fn serve_desk<
 {
     let Opened { desk, mut passes } = opened;
     let served = serve_shift(rt, time, hall, rules, &desk, &mut passes);
-    let Left { tally, table, sink } = close_desk(rt, desk, passes)?;
+    let left = close_desk(rt, desk, passes)?;
+    after_close(rt, hall, left, served, reported)
+}
+
+// Reports what was done at a desk that is closed, and passes on what is due then.
+fn after_close<'a, 'l, R: Wait + Print + Eprint + AllocGlobal>(
+    rt: &R,
+    hall: &ServiceContext<'l, R>,
+    left: Left<FileSink<File>>,
+    served: Result<Option<AfterClose>, NotStarted>,
+    reported: &mut Reported,
+) -> Result<Served, ServeFault<'a>>
+    ensures table { IfOk result (λ served. served.table ≡ left.table) }
+    ensures fault { IfErr result IsLate }
+{
+    let Left { tally, table, sink } = left;
     let over = hall.engine.is_over(rt);
     report_expired(
         hall.log,
@@ -290,7 +315,9 @@ pub(crate) fn start_desk<D: DeskName, R: Wait + AllocGlobal>(
 }
 
 // Reports how many more messages had waited too long for their worker.
-fn report_expired<R: Wait + Eprint>(log: &Log<'_, R>, expired: u32, reported: &mut u32) {
+fn report_expired<R: Wait + Eprint>(log: &Log<'_, R>, expired: u32, reported: &mut u32)
+    ensures reported { reported.new ≡ max reported.old expired }
+{
     let more = take_unreported(expired, reported);
     if more > 0 {
         log.tell(Notice::Expired(more));

@@ -1,5 +1,6 @@
 //! What the lines of a log are appended to.
-ghost use Rattle.std.specs.Prelude.{◌≡◌, true, false};
+ghost use Rattle.std.specs.Prelude.{◌≡◌, ◌⊎◌, codes, is_some, not, true, false, None, IfSome, IsSomeAnd};
+ghost use Rattle.std.specs.Str.{bytes_eq};
 ghost use Rattle.std.specs.Io.KnownBytes.{Appends};
 ghost use Rattle.chpw_service.specs.Sheets.{ended, is_begun, is_taken, is_told_at_once};
 
@@ -48,7 +49,9 @@ pub(crate) struct LineOutput {
 }
 
 /// Whether this is the name of standard error.
-pub(crate) fn is_standard_error(path: &str) -> bool {
+pub(crate) fn is_standard_error(path: &str) -> bool
+    ensures value { result ≡ bytes_eq path.now (codes "-") }
+{
     path == STANDARD_ERROR
 }
 
@@ -86,6 +89,9 @@ impl LineOutput {
     /// if the output takes no line within half a second, or took none for the line before.
     pub(crate) fn append<R: Eprint>(&mut self, rt: &R, line: &[u8]) -> bool
         ensures whole { result ≡ true → self.new.torn ≡ false }
+        ensures part { result ≡ false → (self.new.torn ≡ true)
+            ⊎ ((self.new.torn ≡ self.old.torn) × IsSomeAnd self.new.readiness (λ r. r.is_stalled ≡ true)) }
+        ensures waited { result ≡ true → IfSome self.new.readiness (λ r. r.is_stalled ≡ false) }
     {
         if !self.is_ready() {
             return false;
@@ -98,7 +104,12 @@ impl LineOutput {
         whole
     }
 
-    fn is_ready(&mut self) -> bool {
+    fn is_ready(&mut self) -> bool
+        ensures value { IfSome self.new.readiness (λ r. r.is_stalled ≡ not result) }
+        ensures none { self.old.readiness ≡ None → result ≡ true }
+        ensures same { (self.new.torn ≡ self.old.torn) × (self.new.output ≡ self.old.output) }
+        ensures kept { is_some self.new.readiness ≡ is_some self.old.readiness }
+    {
         match &mut self.readiness {
             None => true,
             Some(readiness) => readiness.is_ready(),

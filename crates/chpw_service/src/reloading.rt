@@ -1,5 +1,7 @@
 //! Opening a desk after a reload.
-ghost use Rattle.std.specs.Prelude.{◌≡◌, ◌≤◌, ◌<◌, ◌-◌, ◌^◌, IfOk, IfErr, false};
+ghost use Rattle.std.specs.Prelude.{◌≡◌, ◌≤◌, ◌<◌, ◌-◌, ◌^◌, ℕ, List, Option, IfOk, IfErr, false};
+ghost use Rattle.chpw_reload.specs.Reloading.{IsReloaded};
+ghost use Rattle.chpw_service.specs.Following.{TakesRules};
 ghost use Rattle.chpw_book.specs.Starting.{table_of, workers_of};
 ghost use Rattle.chpw_reload.specs.ReloadRuns.{GoesOn};
 ghost use Rattle.chpw_service.specs.declared.fault.ServeFault.TheVariants.{Memory};
@@ -28,6 +30,7 @@ use std::time::Clock;
 /// What the next desk opens with when the configuration was reloaded: what the closed table becomes with it and the
 /// rest of the journal, by the new rules; or the closed table, by the present rules, if the reload is refused. The
 /// caller at the control socket is answered.
+#[tactic(auto, using(crate::proofs::ServiceRunLemmas::takes_new))]
 pub(crate) fn reload<'a, 'l, R: Wait + Clock + Eprint + AllocGlobal, T: Clock>(
     rt: &R,
     time: &T,
@@ -40,6 +43,7 @@ pub(crate) fn reload<'a, 'l, R: Wait + Clock + Eprint + AllocGlobal, T: Clock>(
     requires room { table.state.broken ≡ false
         → ⟦<FileSink<File> as JournalSink>⟧.failed sink < 2 ^ 64 - 1 }
     ensures goes_on { IfOk result (λ next. GoesOn table.state (table_of next.unnamed).state) }
+    ensures rules { IfOk result (λ next. TakesRules anew table rules.old rules.new (table_of next.unnamed)) }
     ensures workers { IfOk result (λ next. workers_of next.unnamed ≡ hall.now.workers) }
     ensures fault { IfErr result (λ fault. fault ≡ Memory) }
 {
@@ -77,6 +81,7 @@ fn made_anew(
 ) -> Result<Reloaded, Refused>
     ensures goes_on { IfOk result (λ next. GoesOn closed.state next.table.state) }
     ensures broken { IfOk result (λ next. next.table.state.broken ≡ closed.state.broken) }
+    ensures reloaded { IfOk result (λ next. (bytes : Option (List ℕ)) × IsReloaded renewed bytes closed next) }
     ensures unchanged { IfErr result (λ refused. refused.closed ≡ closed) }
 {
     finish(alloc, renewed.into_renewal(), rest, closed)

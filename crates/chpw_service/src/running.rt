@@ -1,5 +1,5 @@
 //! The service's threads: the reactor, and the one that serves at the desks.
-ghost use Rattle.std.specs.Prelude.{◌≡◌, IfErr, IfSome, None, OnOk, length};
+ghost use Rattle.std.specs.Prelude.{◌≡◌, IfErr, IfSome, None, OnOk, OnErr, length};
 ghost use Rattle.chpw_service.specs.Faults.{IsLate, told_as};
 
 use crate::fault::{LateFault, ServeFault};
@@ -147,6 +147,7 @@ fn serve_or_desert<
 // The fault with which a pool ended early.
 fn end<'a>(pool: Pool) -> Result<(), ServeFault<'a>>
     ensures whole { OnOk result (pool.fault ≡ None) }
+    ensures none { pool.fault ≡ None → OnErr result ⊥ }
     ensures fault { IfErr result (λ fault.
         IfSome pool.fault (λ why. fault ≡ told_as why)) }
     ensures late { IfErr result IsLate }

@@ -1,7 +1,7 @@
 //! The service on a port.
 ghost use Rattle.std.specs.Prelude.{◌≡◌, ◌≤◌, IfOk, IfErr, IsSome, None, Ok, OnOk, false, true, length};
 ghost use Rattle.chpw_book.specs.Starting.{IsNamed, workers_of};
-ghost use Rattle.chpw_pool.specs.Engines.{workers_at};
+ghost use Rattle.chpw_pool.specs.Engines.{seed_of, workers_at};
 ghost use Rattle.chpw_service.specs.Faults.{IsLate, IsOfService};
 ghost use Rattle.chpw_changelog.specs.Pens.{opening_state};
 ghost use Rattle.chpw_service.specs.Raised.{IsRaisedWhereAsked};
@@ -212,6 +212,9 @@ fn raise_and_listen<
     clock: &mut C,
 ) -> Result<(TcpListener, ServiceContext<'l, R>), ServeFault<'a>>
     ensures workers { IfOk result (λ r. r.1.workers ≡ start.entry.options.now.workers) }
+    ensures follower { IfOk result (λ r. (r.1.follower.socket ≡ start.entry.options.now.follower)
+        × (r.1.follower.wait ≡ start.entry.options.now.follower_wait)) }
+    ensures seed { IfOk result (λ r. seed_of r.1.engine ≡ start.entry.terms.seed) }
     ensures raised { OnOk result (IsRaisedWhereAsked C.gives (opening_state D.root) clock.old clock.new
         passes.old passes.new start.entry.options.now.raise) }
     ensures passes { length passes.new ≡ length passes.old }
@@ -230,6 +233,9 @@ fn listening<
     R: Net<Listener = TcpListener, Stream = TcpStream> + Wait + Env + Print + Eprint + AllocGlobal,
 >(rt: &R, start: Start<'l, R>) -> Result<(TcpListener, ServiceContext<'l, R>), ServeFault<'a>>
     ensures workers { IfOk result (λ r. r.1.workers ≡ start.entry.options.now.workers) }
+    ensures follower { IfOk result (λ r. (r.1.follower.socket ≡ start.entry.options.now.follower)
+        × (r.1.follower.wait ≡ start.entry.options.now.follower_wait)) }
+    ensures seed { IfOk result (λ r. seed_of r.1.engine ≡ start.entry.terms.seed) }
     ensures fault { IfErr result IsLate }
 {
     let Start {
@@ -315,6 +321,7 @@ fn engine_of<'a, 'l, R: Net + Wait + Eprint>(
 ) -> Result<Engine<Logging<LogLines<'l, R>>>, ServeFault<'a>>
     requires some_workers { 1 ≤ workers }
     ensures workers { IfOk result (λ engine. workers_at engine ≡ workers) }
+    ensures seed { IfOk result (λ engine. seed_of engine ≡ terms.now.seed) }
     ensures fault { IfErr result IsLate }
 {
     match log_observers(alloc, log, workers) {

@@ -1,6 +1,6 @@
 //! A region of a text, which is read from left to right.
 
-ghost use Rattle.std.specs.Prelude.{◌≡◌, ◌+◌, ◌^◌, ◌<◌, ◌-◌, ◌==◌, length, IfOk, if◌then◌else◌, Ok};
+ghost use Rattle.std.specs.Prelude.{◌≡◌, ◌≢◌, ◌+◌, ◌^◌, ◌<◌, ◌-◌, ◌==◌, length, IfOk, IfErr, if◌then◌else◌, Ok};
 ghost use Rattle.krb_codec.specs.Integers.{number};
 ghost use Rattle.krb_codec.specs.Reading.{Gives, length_at, element_at, ended, starts, starts_between, first_of};
 
@@ -65,8 +65,9 @@ impl<'a> Region<'a> {
     /// Takes an element with this tag, and returns the region of its contents.
     #[tactic(auto, unfolding(crate::specs::Reading::element_at, crate::specs::Reading::tag_at))]
     pub fn element(&mut self, tag: u8) -> Result<Region<'a>, ReadError>
-        ensures { Gives (λ x. record { content = x; after = self.new }) result
+        ensures read { Gives (λ x. record { content = x; after = self.new }) result
             (element_at tag self.old) }
+        ensures no_memory { IfErr result (λ e. e ≢ ReadError.Memory) }
     {
         let bytes = match self.left {
             [] => return Err(fault(self.place, FaultKind::Truncated)),
@@ -107,7 +108,8 @@ impl<'a> Region<'a> {
 
     /// Nothing may be left.
     pub fn finish(self) -> Result<(), ReadError>
-        ensures { Gives (λ x. x) result (ended self.entry) }
+        ensures read { Gives (λ x. x) result (ended self.entry) }
+        ensures no_memory { IfErr result (λ e. e ≢ ReadError.Memory) }
     {
         if !self.left.is_empty() {
             return Err(fault(self.place, FaultKind::Trailing));
@@ -128,6 +130,7 @@ pub fn fault(place: usize, kind: FaultKind) -> ReadError
 fn length_of(place: usize, bytes: &[u8]) -> Result<(usize, &[u8]), ReadError>
     ensures given { Gives (λ x. (x.0, x.1.now)) result (length_at place bytes.now) }
     ensures within { IfOk result (λ x. length x.1.now < length bytes.now) }
+    ensures no_memory { IfErr result (λ e. e ≢ ReadError.Memory) }
 {
     match bytes {
         [] => Err(fault(place, FaultKind::Truncated)),

@@ -1,5 +1,5 @@
 //! The fields of an entry: each reader takes its field from the front of the bytes, and returns it with the rest.
-ghost use Rattle.std.specs.Prelude.{map};
+ghost use Rattle.std.specs.Prelude.{◌≢◌, map, IfErr};
 ghost use Rattle.std.specs.Int.{w8, w16, w32};
 ghost use Rattle.krb_keytab.specs.Entries.{number_at, counted_at, components_at};
 ghost use Rattle.krb_keytab.specs.Answers.{FieldGives};
@@ -11,6 +11,7 @@ use std::alloc::Global;
 #[tactic(auto, unfolding(crate::specs::Entries::number_at))]
 pub(crate) fn u8_at(bytes: &[u8]) -> Result<(u8, &[u8]), FieldError>
     ensures value { FieldGives (λ x. (x.0, x.1.now)) result (number_at w8 bytes.now) }
+    ensures no_memory { IfErr result (λ e. e ≢ FieldError.Memory) }
 {
     match bytes {
         [number, rest @ ..] => Ok((*number, rest)),
@@ -22,6 +23,7 @@ pub(crate) fn u8_at(bytes: &[u8]) -> Result<(u8, &[u8]), FieldError>
 #[tactic(auto, unfolding(crate::specs::Entries::number_at))]
 pub(crate) fn u16_at(bytes: &[u8]) -> Result<(u16, &[u8]), FieldError>
     ensures value { FieldGives (λ x. (x.0, x.1.now)) result (number_at w16 bytes.now) }
+    ensures no_memory { IfErr result (λ e. e ≢ FieldError.Memory) }
 {
     if bytes.len() < 2 {
         return Err(FieldError::PastEnd);
@@ -34,6 +36,7 @@ pub(crate) fn u16_at(bytes: &[u8]) -> Result<(u16, &[u8]), FieldError>
 #[tactic(auto, unfolding(crate::specs::Entries::number_at))]
 pub(crate) fn u32_at(bytes: &[u8]) -> Result<(u32, &[u8]), FieldError>
     ensures value { FieldGives (λ x. (x.0, x.1.now)) result (number_at w32 bytes.now) }
+    ensures no_memory { IfErr result (λ e. e ≢ FieldError.Memory) }
 {
     if bytes.len() < 4 {
         return Err(FieldError::PastEnd);

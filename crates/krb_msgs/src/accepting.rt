@@ -1,6 +1,6 @@
 //! Whether ticket and authenticator belong together, and come from the client's address (RFC 4120 section 3.2.3).
 
-ghost use Rattle.std.specs.Prelude.{◌≡◌, ◌↔◌, IsTrue, Some};
+ghost use Rattle.std.specs.Prelude.{◌≡◌, ◌≢◌, ◌↔◌, IfErr, IsTrue, Some};
 ghost use Rattle.std.specs.List.{list_any};
 ghost use Rattle.krb_msgs.specs.Answers.{Answers};
 ghost use Rattle.krb_msgs.specs.Accepted.{Accepts, IsSameClient, IsSubkey, is_ipv4, may_come_from, opened_of, starts_at};
@@ -85,7 +85,8 @@ pub fn accept_authenticator(
     session: Key,
     authenticator: Authenticator,
 ) -> Result<ApOpened, OpenError<ApFault>>
-    ensures { Answers (Accepts peer part session authenticator) result }
+    ensures value { Answers (Accepts peer part session authenticator) result }
+    ensures no_memory { IfErr result (λ e. e ≢ OpenError.Memory) }
 {
     if !is_same_client(&part, &authenticator) {
         return Err(OpenError::Fault(ApFault::ClientMismatch));

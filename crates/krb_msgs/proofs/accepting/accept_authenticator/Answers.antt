@@ -3,27 +3,27 @@ use Rattle.krb_msgs.specs.Checks.{met, unmet, of_one, of_none}
 use Rattle.krb_msgs.specs.Accepted.{Accepts, IsSameClient, MayComeFrom}
 use Rattle.krb_msgs.proofs.accepting.accept_authenticator.Goals as goal
 
-pub returns-then-not-is_same_client : goal.returns-then-not-is_same_client
+pub returns-then-not-is_same_client-clause-value : goal.returns-then-not-is_same_client-clause-value
 unfolding Accepts
-returns-then-not-is_same_client c = unmet (λ h. let yes = c.is_same_client.ensures.1 h in search (rules, yes)) refl
+returns-then-not-is_same_client-clause-value c = unmet (λ h. let yes = c.is_same_client.ensures.1 h in search (rules, yes)) refl
 
-pub returns-then-not-may_come_from : goal.returns-then-not-may_come_from
+pub returns-then-not-may_come_from-clause-value : goal.returns-then-not-may_come_from-clause-value
 unfolding Accepts
-returns-then-not-may_come_from c =
+returns-then-not-may_come_from-clause-value c =
     let same : IsSameClient c.args.part c.args.authenticator = c.is_same_client.ensures.0 (search rules) in
     met same (unmet (λ h. let yes = c.may_come_from.ensures ∙ h in search (rules, yes)) refl)
 
-pub returns-in-None : goal.returns-in-None
+pub returns-in-None-clause-value : goal.returns-in-None-clause-value
 unfolding Accepts
-returns-in-None c =
+returns-in-None-clause-value c =
     let same : IsSameClient c.args.part c.args.authenticator = c.is_same_client.ensures.0 (search rules) in
     let yes : c.may_come_from.result ≡ true = search rules in
     let from : MayComeFrom c.args.peer c.args.part.caddr = sym c.may_come_from.ensures ∙ yes in
     met same (met from (of_none (λ k h. let none = sym c.in-None.is ∙ (c.subkey_in.ensures k).1 h in search (rules, none)) refl))
 
-pub returns-in-Some : goal.returns-in-Some
+pub returns-in-Some-clause-value : goal.returns-in-Some-clause-value
 unfolding Accepts
-returns-in-Some c =
+returns-in-Some-clause-value c =
     let same : IsSameClient c.args.part c.args.authenticator = c.is_same_client.ensures.0 (search rules) in
     let yes : c.may_come_from.result ≡ true = search rules in
     let from : MayComeFrom c.args.peer c.args.part.caddr = sym c.may_come_from.ensures ∙ yes in

@@ -51,5 +51,5 @@ returns c =
       opens =
           says (Accepts c.args.peer part session a) (OpensAp c.args.realm.now c.args.keys.now c.args.ap_req.now c.args.peer)
           (λ answer h. goes_on (r, key) c.in_ok-request.ensures (goes_on (part, session) c.in_ok-part.ensures (goes_on a c.in_ok-authenticator.ensures h)))
-          c.accept_authenticator.result c.accept_authenticator.ensures;
+          c.accept_authenticator.result c.accept_authenticator.ensures.value;
     }
