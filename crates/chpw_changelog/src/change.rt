@@ -23,6 +23,7 @@ pub enum NumberedChange {
 impl NumberedKey {
     fn is_same(self, other: NumberedKey) -> bool
         ensures same { IsTrue result → self ≡ other }
+        ensures other { self ≡ other → IsTrue result }
     {
         self.number == other.number && self.kvno == other.kvno && self.count == other.count
     }
@@ -39,6 +40,7 @@ impl NumberedChange {
     /// Whether both are equal in every part.
     pub(crate) fn is_same(self, other: NumberedChange) -> bool
         ensures same { IsTrue result → self ≡ other }
+        ensures other { self ≡ other → IsTrue result }
     {
         match (self, other) {
             (NumberedChange::Key(key), NumberedChange::Key(other)) => key.is_same(other),

@@ -1,6 +1,6 @@
 -- How deep a tree is whose sides are even.
-use Rattle.std.proofs.Common.{◌≡◌, ◌≤◌, ◌+◌, ◌*◌, ◌^◌, ℕ, ◌∙◌, ap, arith}
-use Rattle.std.proofs.Math.Nat.{mul-le-mul_left, mul_left_comm, mul_right_comm, mul_comm}
+use Rattle.std.proofs.Common.{◌≡◌, ◌≤◌, ◌+◌, ◌*◌, ◌<◌, ◌^◌, ℕ, ◌∙◌, ap, arith, rules}
+use Rattle.std.proofs.Math.Nat.{mul-le-mul_left, mul_left_comm, mul_right_comm, mul_comm, pow-le-pow_right}
 use Rattle.std.proofs.lemmas.Grind.{pow_more}
 
 -- a node over a side of this depth, where the other side is even with it
@@ -16,3 +16,11 @@ one_deeper d side other all deep even is =
     let wide : 3 ^ (d + 1) * (all + 1) ≡ 3 * (three * (all + 1)) =
     ap (λ n. n * (all + 1)) (pow_more 3 d) ∙ (mul_right_comm three 3 (all + 1) ∙ mul_comm (three * (all + 1)) 3) in
     omega (arith, deep, times, left, right, more, wide)
+
+-- what a node over two sides of these depths has room for
+pub one_wider : (d e side other all : ℕ) → e ≤ d → side + 1 ≤ 2 ^ d → other + 1 ≤ 2 ^ e → all ≡ side + other + 1 → all + 1 ≤ 2 ^ (d + 1)
+one_wider d e side other all less wide narrow is =
+    let some : 0 < 2 = search rules in
+    let grown : 2 ^ e ≤ 2 ^ d = pow-le-pow_right some less in
+    let more : 2 ^ (d + 1) ≡ 2 ^ d * 2 = pow_more 2 d in
+    omega (arith, wide, narrow, grown, more, is)

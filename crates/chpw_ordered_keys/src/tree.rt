@@ -115,11 +115,12 @@ impl<K: Drop> KeyTree<K> {
     }
 
     /// How many keys are on the longest way down, which a search compares at most: no more than the logarithm of their
-    /// number plus one to the base 4/3.
+    /// number plus one to the base 4/3, and no less than that to the base 2.
     pub fn depth(&self) -> usize
         requires few { length self.now < 2 ^ 32 }
         ensures deep { 4 ^ result ≤ 3 ^ result * (length self.now + 1) }
         ensures few { result ≤ length self.now }
+        ensures room { length self.now + 1 ≤ 2 ^ result }
     {
         let Some(fork) = &self.root else {
             return 0;

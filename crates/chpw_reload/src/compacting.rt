@@ -1,7 +1,8 @@
 //! When a compact journal may be made.
-ghost use Rattle.std.specs.Prelude.{◌≡◌, IfOk, true};
+ghost use Rattle.std.specs.Prelude.{◌≡◌, IfOk, false, true};
 ghost use Rattle.chpw_reload.specs.Compacting.{GoesWith};
 
+use crate::comparing::kept_by;
 use crate::lacking::missing_names;
 use chpw_table::Table;
 use std::alloc::{AllocError, Global};
@@ -11,9 +12,10 @@ use std::alloc::{AllocError, Global};
 /// isn't greater than the held one. `laws::compacting` and chpw_journal's laws require this.
 pub fn goes_with(alloc: Global, base: &Table, held: &Table) -> Result<bool, AllocError>
     ensures goes { IfOk result (λ goes. goes ≡ true → GoesWith base.now.state held.now.state) }
+    ensures not { IfOk result (λ goes. goes ≡ false → GoesWith base.now.state held.now.state → ⊥) }
 {
     if base.realm() != held.realm()
-        || base.policy().depth != held.policy().depth
+        || kept_by(base) != kept_by(held)
         || base.count() > held.count()
     {
         return Ok(false);

@@ -40,7 +40,8 @@ fn kept_by_both(closed: &Table, renewed: &Table) -> usize
     kept_by(closed).min(kept_by(renewed))
 }
 
-fn kept_by(table: &Table) -> usize
+// How many keys of a name a table keeps.
+pub(crate) fn kept_by(table: &Table) -> usize
     ensures value { result ≡ kept_count table.now.state }
 {
     usize::from(table.policy().depth.max(1))
