@@ -1,6 +1,7 @@
 //! Replacing a journal by another one.
-ghost use Rattle.std.specs.Prelude.{◌≡◌, OnOk};
+ghost use Rattle.std.specs.Prelude.{◌≡◌, IfOk, OnOk};
 ghost use Rattle.std.specs.Io.KnownBytes.{Appends};
+ghost use Rattle.chpw_journal.specs.FileNames.{beside};
 
 use crate::journal_file::is_name_kept;
 use std::alloc::{AllocError, Global};
@@ -28,7 +29,9 @@ pub fn remove_unfinished<R: Files>(rt: &R, alloc: Global, path: &str) -> Result<
 }
 
 // The name under which a replacement is made.
-fn beside(alloc: Global, path: &str) -> Result<String, AllocError> {
+fn beside(alloc: Global, path: &str) -> Result<String, AllocError>
+    ensures value { IfOk result (λ name. string_bytes name ≡ beside path.now) }
+{
     let mut name = String::from_str(alloc, path)?;
     name.push_str(BEHIND_NAME)?;
     Ok(name)
