@@ -22,7 +22,7 @@ use Rattle.chpw_table.specs.Versions.{Shown, change_by, accepted}
 use Rattle.chpw_table.specs.Agreement.{Agrees}
 use Rattle.chpw_table.specs.Preparing.{IsNextRow}
 use Rattle.chpw_table.proofs.DoneLemmas.{done_key_row, done_whole}
-use Rattle.chpw_snapshots.specs.Known.{Known, Shelved}
+use Rattle.chpw_snapshots.specs.Known.{Known, PublishedList}
 use Rattle.chpw_book.proofs.ChangeLemmas.{accepted_on, changes_counted}
 use Rattle.chpw_book.proofs.KeptLemmas.{kept_list}
 use Rattle.chpw_book.specs.Passes.{PassView}
@@ -71,7 +71,7 @@ told_more opening before e mine more begins saw is done =
     let b = shorter mine.seen all saw in
     (omega (arith, long, one, a), omega (arith, long, one, b))
 
-published_at : (opening : State) (before : List Entry) (e : Entry) (b : State) (broken : Bool) (event : Event) (s t : Shelved)
+published_at : (opening : State) (before : List Entry) (e : Entry) (b : State) (broken : Bool) (event : Event) (s t : PublishedList)
     → IsPublished opening before b.broken s → Agrees b (outcome opening before) → e.event ≡ event → LeavesPending b broken event s t
     → (done : Bool) → is_accepted event ≡ done → IsPublished opening (before ++ e ∷ []) broken (published done t)
 published_at opening before e b broken event s t p a is h done accepts =
@@ -89,7 +89,7 @@ published_at opening before e b broken event s t p a is h done accepts =
     at false y list = record { list = h.list ∙ (sym (append-nil s.list) ∙ list); free = h.free y }
 
 -- a decision and its publication keep it the history's
-pub published_next : (opening : State) (workers : ℕ) (b later : RecordedView) (mine mid : PassView) (s t : Shelved) (now : Moment) (event : Event)
+pub published_next : (opening : State) (workers : ℕ) (b later : RecordedView) (mine mid : PassView) (s t : PublishedList) (now : Moment) (event : Event)
     → IsPublished opening b.history b.table.state.broken s → IsRecorded opening workers b later mine mid s t now event
     → IsPublished opening later.history later.table.state.broken (published (is_accepted event) t)
 published_next opening workers b later mine mid s t now event p h =
@@ -98,7 +98,7 @@ published_next opening workers b later mine mid s t now event p h =
     (ap (λ (e : Entry). e.event) h.enters.entry_is) h.pending (is_accepted event) refl)
 
 -- it has room for one more
-pub list_room : (opening : State) (workers : ℕ) (b later : RecordedView) (mine mid : PassView) (s t : Shelved) (now : Moment) (event : Event)
+pub list_room : (opening : State) (workers : ℕ) (b later : RecordedView) (mine mid : PassView) (s t : PublishedList) (now : Moment) (event : Event)
     → IsPublished opening b.history b.table.state.broken s → IsRecorded opening workers b later mine mid s t now event → length t.list + 1 < 2 ^ 31
 list_room opening workers b later mine mid s t now event p h =
     let long : length t.list ≡ length (accepted opening b.history) = ap (λ (xs : List Accepted). length xs) (h.pending.list ∙ p.list) in
@@ -109,7 +109,7 @@ list_room opening workers b later mine mid s t now event p h =
     omega (arith, long, counted, some, grown, few)
 
 -- all that a call does
-pub adds_next : (opening : State) (workers : ℕ) (b later : RecordedView) (mine mid more : PassView) (s t u : Shelved) (now : Moment) (event : Event)
+pub adds_next : (opening : State) (workers : ℕ) (b later : RecordedView) (mine mid more : PassView) (s t u : PublishedList) (now : Moment) (event : Event)
     → IsPublished opening b.history b.table.state.broken s → IsRecorded opening workers b later mine mid s t now event
     → IsPublished opening later.history later.table.state.broken u
     → IsPrefix mine.place.told s.list → more ≡ record mid { place = told_list (is_accepted event) u.list mid.place } → Adds opening b later mine more now event
@@ -138,14 +138,14 @@ adds_next opening workers b later mine mid more s t u now event p h q begins is 
       grows = h.grows;
     }
 
--- ---- the shelf after a decision
+-- ---- the published snapshots after a decision
 
-pending_at : (before : State) (was now : Bool) (o : Opened) (row v : Verdict) (s t : Shelved) → (was ≡ false → s.waiting ≡ None)
+pending_at : (before : State) (was now : Bool) (o : Opened) (row v : Verdict) (s t : PublishedList) → (was ≡ false → s.waiting ≡ None)
     → (d io : Bool) → is_done row ≡ d → v ≡ (if d && io then Broken else row)
     → now ≡ (was || io) → t ≡ with_waiting d (change_by before (Ask o Done)) s → LeavesPending before now (Ask o v) s t
 pending_at before was now o row v s t free true io is vi ni ti = record {
-  list = ap (λ (x : Shelved). x.list) ti;
-  waits = λ h. ap (λ (x : Shelved). x.waiting) ti;
+  list = ap (λ (x : PublishedList). x.list) ti;
+  waits = λ h. ap (λ (x : PublishedList). x.waiting) ti;
   free = λ h b. absurd (at was io vi ni h b);
 }
   where
@@ -154,16 +154,16 @@ pending_at before was now o row v s t free true io is vi ni ti = record {
     at false true vi ni h b = let x : now ≡ true = ni in cc
     at false false vi ni h b = let x : is_done v ≡ true = ap is_done vi ∙ is in cc
 pending_at before was now o row v s t free false io is vi ni ti = record {
-  list = ap (λ (x : Shelved). x.list) ti;
+  list = ap (λ (x : PublishedList). x.list) ti;
   waits = λ h. absurd (let x : is_done v ≡ false = ap is_done vi ∙ is in cc);
-  free = λ h b. ap (λ (x : Shelved). x.waiting) ti ∙ free (at was ni b);
+  free = λ h b. ap (λ (x : PublishedList). x.waiting) ti ∙ free (at was ni b);
 }
   where
     at : (was : Bool) → now ≡ (was || io) → now ≡ false → was ≡ false
     at true ni b = absurd (let x : now ≡ true = ni in cc)
     at false ni b = refl
 
-pub pending_next : (before : State) (was now io : Bool) (o : Opened) (row v : Verdict) (s t : Shelved) → (was ≡ false → s.waiting ≡ None)
+pub pending_next : (before : State) (was now io : Bool) (o : Opened) (row v : Verdict) (s t : PublishedList) → (was ≡ false → s.waiting ≡ None)
     → v ≡ (if is_done row && io then Broken else row) → now ≡ (was || io)
     → t ≡ with_waiting (is_done row) (change_by before (Ask o Done)) s → LeavesPending before now (Ask o v) s t
 pending_next before was now io o row v s t free vi ni ti = pending_at before was now o row v s t free (is_done row) io refl vi ni ti

@@ -1,4 +1,4 @@
--- What a raise puts on the shelf.
+-- What a raise publishes.
 use Rattle.std.proofs.Common.{◌≡◌, ℕ, ◌<◌, Bool, true, false, not, ◌&&◌, ◌||◌, None, refl, ◌∙◌, ap, arith, if◌then◌else◌}
 use Rattle.std.specs.Prelude.{nat_le, nat_lt}
 use Rattle.std.proofs.lemmas.Bool.Decides.{nat_tests}
@@ -9,7 +9,7 @@ use Rattle.chpw_table.specs.declared.history.Event.TheVariants.{Raise}
 use Rattle.chpw_table.specs.State.{State, new_count}
 use Rattle.chpw_table.specs.Raising.{raise_verdict, is_raised, would_raise}
 use Rattle.chpw_table.specs.Agreement.{Held}
-use Rattle.chpw_snapshots.specs.Known.{Shelved}
+use Rattle.chpw_snapshots.specs.Known.{PublishedList}
 use Rattle.chpw_book.specs.Publishing.{LeavesPending, with_waiting}
 
 both_true : (a b : Bool) → (a && b) ≡ true → (a ≡ true) × (b ≡ true)
@@ -38,7 +38,7 @@ turned n count = at (nat_lt n count) (nat_le count n) refl refl
     at true true e f = absurd (let no : ⊥ = grind (arith, nat_tests) in no)
     at false false e f = absurd (let no : ⊥ = grind (arith, nat_tests) in no)
 
--- so with room for an event the tests of the verdict are those of the shelf
+-- so with room for an event the tests of the verdict are those of the snapshots
 pub would_at : (t : Held) (count : ℕ) → t.events < t.max_entries → would_raise t count ≡ (not (nat_le count (new_count t.state)) && not t.state.broken)
 would_at t count room =
     let free : nat_lt t.events t.max_entries ≡ true = grind (arith, nat_tests) in
@@ -49,32 +49,32 @@ was_whole : (was io now : Bool) → now ≡ (was || io) → now ≡ false → wa
 was_whole true io now ni b = absurd (let x : now ≡ true = ni in cc)
 was_whole false io now ni b = refl
 
-raised_at : (before : State) (count : ℕ) (v : RaiseVerdict) (s t : Shelved) (now low was io : Bool) → (was ≡ false → s.waiting ≡ None)
+raised_at : (before : State) (count : ℕ) (v : RaiseVerdict) (s t : PublishedList) (now low was io : Bool) → (was ≡ false → s.waiting ≡ None)
     → v ≡ (if low then raise.NotHigher else if was || io then raise.Broken else raise.Raised)
     → now ≡ (was || io) → t ≡ with_waiting (not low && not was) (Count count) s
     → LeavesPending before now (Raise count v) s t
 raised_at before count v s t now true was io free vi ni ti = record {
-  list = ap (λ (x : Shelved). x.list) ti;
+  list = ap (λ (x : PublishedList). x.list) ti;
   waits = λ h. absurd (let x : is_raised v ≡ false = ap is_raised vi in cc);
-  free = λ h b. ap (λ (x : Shelved). x.waiting) ti ∙ free (was_whole was io now ni b);
+  free = λ h b. ap (λ (x : PublishedList). x.waiting) ti ∙ free (was_whole was io now ni b);
 }
 raised_at before count v s t now false true io free vi ni ti = record {
-  list = ap (λ (x : Shelved). x.list) ti;
+  list = ap (λ (x : PublishedList). x.list) ti;
   waits = λ h. absurd (let x : is_raised v ≡ false = ap is_raised vi in cc);
   free = λ h b. absurd (let x : now ≡ true = ni in cc);
 }
 raised_at before count v s t now false false true free vi ni ti = record {
-  list = ap (λ (x : Shelved). x.list) ti;
+  list = ap (λ (x : PublishedList). x.list) ti;
   waits = λ h. absurd (let x : is_raised v ≡ false = ap is_raised vi in cc);
   free = λ h b. absurd (let x : now ≡ true = ni in cc);
 }
 raised_at before count v s t now false false false free vi ni ti = record {
-  list = ap (λ (x : Shelved). x.list) ti;
-  waits = λ h. ap (λ (x : Shelved). x.waiting) ti;
+  list = ap (λ (x : PublishedList). x.list) ti;
+  waits = λ h. ap (λ (x : PublishedList). x.waiting) ti;
   free = λ h b. absurd (let x : is_raised v ≡ true = ap is_raised vi in cc);
 }
 
-pub raise_pending : (b : Held) (count : ℕ) (v : RaiseVerdict) (io now : Bool) (s t : Shelved)
+pub raise_pending : (b : Held) (count : ℕ) (v : RaiseVerdict) (io now : Bool) (s t : PublishedList)
     → b.events < b.max_entries → (b.state.broken ≡ false → s.waiting ≡ None)
     → v ≡ raise_verdict b.state count io → now ≡ (b.state.broken || io)
     → t ≡ with_waiting (would_raise b count) (Count count) s → LeavesPending b.state now (Raise count v) s t

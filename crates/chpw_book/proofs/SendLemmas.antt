@@ -8,7 +8,7 @@ use Rattle.chpw_table.specs.declared.sink.JournalSink
 use Rattle.chpw_table.proofs.SendLemmas.{table_send}
 use Rattle.chpw_table.proofs.standing.StandingRules.TheSendSync as standing
 use Rattle.chpw_changelog.specs.declared.log_name.LogName
-use Rattle.chpw_snapshots.proofs.writer.SnapshotWriter.TheSendSync as shelf
+use Rattle.chpw_snapshots.proofs.writer.SnapshotWriter.TheSendSync as snapshots
 use Rattle.chpw_book.specs.declared.naming.DeskName
 use Rattle.chpw_book.specs.contracts.recorded.RecordedTable as RecordedTable
 use Rattle.chpw_book.specs.contracts.book.Book as Book
@@ -20,7 +20,7 @@ module _ (D S : RattleType) (g : DeskName.Ghosts D.Denot) (g' : Ledger.Ghosts D.
   recorded_send d s = search (table_send, history.the_field_send, sendable) depth 40
 
   book_send : IsSend D → IsSync D → IsSend S → IsSend (Book.the_row D S g g' g'' h)
-  book_send d y s = search (recorded_send, shelf.the_send, sendable) depth 40
+  book_send d y s = search (recorded_send, snapshots.the_send, sendable) depth 40
 
   pub desk_sync : IsSend D → IsSync D → IsSend S → IsSync (Desk.the_row D S g g' g'' h)
   desk_sync d y s = search (book_send, mutex.the_sync, standing.the_sync, Crossing.crosses, sendable) depth 40

@@ -18,7 +18,7 @@ use Rattle.chpw_changelog.specs.declared.change.NumberedChange.{NumberedChange}
 use Rattle.chpw_changelog.specs.declared.change.NumberedChange.TheVariants.{Key, Count}
 use Rattle.chpw_changelog.specs.Changes.{EndsWith}
 use Rattle.chpw_snapshots.specs.declared.rows.Row.{Row}
-use Rattle.chpw_snapshots.specs.Known.{Known, Shelved}
+use Rattle.chpw_snapshots.specs.Known.{Known, PublishedList}
 use Rattle.chpw_snapshots.specs.Rows.{Rowed}
 use Rattle.chpw_snapshots.specs.Looking.{LooksUp}
 use Rattle.chpw_book.specs.Passes.{PassView}
@@ -34,24 +34,24 @@ abbrev pub new_book : Held → ℕ → Option (List ℕ) → BookView
 new_book t workers told = record { kept = new_recorded t workers told; list = [] }
 
 -- the published list is the history's accepted changes, and, unless the journal is broken, none waits
-pub record IsPublished (opening : State) (history : List Entry) (broken : Bool) (s : Shelved) : Type 0 where
+pub record IsPublished (opening : State) (history : List Entry) (broken : Bool) (s : PublishedList) : Type 0 where
   pub list : s.list ≡ accepted opening history
   pub free : broken ≡ false → s.waiting ≡ None
 
 -- the change is prepared, if one is made
-abbrev pub with_waiting : Bool → Accepted → Shelved → Shelved
+abbrev pub with_waiting : Bool → Accepted → PublishedList → PublishedList
 with_waiting made c s = if made then record s { waiting = Some c } else s
 
 -- an event leaves the published list, and its change is prepared if it was accepted; otherwise none is, unless the
 -- journal broke
-pub record LeavesPending (before : State) (broken : Bool) (event : Event) (s t : Shelved) : Type 0 where
+pub record LeavesPending (before : State) (broken : Bool) (event : Event) (s t : PublishedList) : Type 0 where
   pub list : t.list ≡ s.list
   pub waits : is_accepted event ≡ true → t.waiting ≡ Some (change_by before event)
   pub free : is_accepted event ≡ false → broken ≡ false → t.waiting ≡ None
 
 -- For the proofs: an event's entry is recorded, and its change waits to be published.
 pub record IsRecorded (opening : State) (workers : ℕ)
-    (before later : RecordedView) (mine more : PassView) (s t : Shelved) (now : Moment) (event : Event) : Type 0 where
+    (before later : RecordedView) (mine more : PassView) (s t : PublishedList) (now : Moment) (event : Event) : Type 0 where
   pub entry : Entry
   pub enters : Enters before.history entry mine more now event
   pub grows : Grows before later mine.worker entry
@@ -66,7 +66,7 @@ abbrev pub joined : Option Accepted → List Accepted → List Accepted
 joined None list = list
 joined (Some c) list = list ++ c ∷ []
 
-abbrev pub published : Bool → Shelved → Shelved
+abbrev pub published : Bool → PublishedList → PublishedList
 published done s = if done then record { list = joined s.waiting s.list; waiting = None } else s
 
 -- the pass learns this list after a change of its own

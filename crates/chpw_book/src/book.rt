@@ -44,7 +44,7 @@ use std::sync::ledger::Share;
 /// `RecordedTable`, is `IsLinearized`. A book is taken apart when its desk is closed or abandoned.
 pub struct Book<D: DeskName, S: JournalSink> {
     pub(crate) recorded: RecordedTable<D, S>,
-    pub(crate) shelf: SnapshotWriter<D>,
+    pub(crate) snapshots: SnapshotWriter<D>,
 }
 
 impl<D: DeskName, S: JournalSink> Model for Book<D, S> {
@@ -53,17 +53,17 @@ impl<D: DeskName, S: JournalSink> Model for Book<D, S> {
 
     ghost Value = { BookView };
 
-    ghost view = { λ b. record { kept = b.recorded; list = b.shelf.list } };
+    ghost view = { λ b. record { kept = b.recorded; list = b.snapshots.list } };
 
     ghost invariant = { λ b.
-        IsPublished (opening_state D.root) b.recorded.history b.recorded.table.state.broken b.shelf };
+        IsPublished (opening_state D.root) b.recorded.history b.recorded.table.state.broken b.snapshots };
 }
 
 impl<D: DeskName, S: JournalSink> Book<D, S> {
     /// A book with an empty history, and a pass for each of the workers, in order. None has seen or learnt a change.
     ///
     /// Two faults: `NoPlaces` if `SnapshotWriter::place` gives no place to a worker, and `Memory` if a growth is refused:
-    /// of the rows, the shelf, the passes or the counts, in this order. After a fault all that was given to it is gone.
+    /// of the rows, the snapshots, the passes or the counts, in this order. After a fault all that was given to it is gone.
     pub(crate) fn start<R: Wait>(
         rt: &R,
         alloc: Global,
@@ -91,19 +91,25 @@ impl<D: DeskName, S: JournalSink> Book<D, S> {
         let root = list.root();
         let keeper = list.with_name::<D>();
         let places = usize::from(workers);
-        let mut shelf = SnapshotWriter::start(rt, alloc, keeper, &root, rows, again, places)?;
+        let mut snapshots = SnapshotWriter::start(rt, alloc, keeper, &root, rows, again, places)?;
         let (totals, all): (_, Share<D>) = blank.open::<D>();
-        let passes = match Pass::of_all(alloc, all, &mut shelf, workers) {
+        let passes = match Pass::of_all(alloc, all, &mut snapshots, workers) {
             Ok(passes) => passes,
             Err(fault) => {
-                shelf.end(rt);
+                snapshots.end(rt);
                 return Err(fault);
             }
         };
         match RecordedTable::start(alloc, totals, table, sink, workers) {
-            Ok(recorded) => Ok((Book { recorded, shelf }, passes)),
+            Ok(recorded) => Ok((
+                Book {
+                    recorded,
+                    snapshots,
+                },
+                passes,
+            )),
             Err(_) => {
-                shelf.end(rt);
+                snapshots.end(rt);
                 Err(StartFault::Memory)
             }
         }
@@ -151,9 +157,11 @@ impl<D: DeskName, S: JournalSink> Book<D, S> {
         ensures told { IsPrefix pass.old.place.told
             (accepted (opening_state D.root) self.old.kept.history) }
     {
-        self.shelf.has(pass.known_front());
-        let verdict = self.recorded.decide(&mut self.shelf, pass, now, opened)?;
-        tell(rt, &mut self.shelf, pass, verdict);
+        self.snapshots.has(pass.known_front());
+        let verdict = self
+            .recorded
+            .decide(&mut self.snapshots, pass, now, opened)?;
+        tell(rt, &mut self.snapshots, pass, verdict);
         Ok(verdict)
     }
 
@@ -223,9 +231,9 @@ impl<D: DeskName, S: JournalSink> Book<D, S> {
         ensures told { IsPrefix pass.old.place.told
             (accepted (opening_state D.root) self.old.kept.history) }
     {
-        self.shelf.has(pass.known_front());
-        let verdict = self.recorded.raise(&mut self.shelf, pass, now, count)?;
-        tell_raise(rt, &mut self.shelf, pass, verdict);
+        self.snapshots.has(pass.known_front());
+        let verdict = self.recorded.raise(&mut self.snapshots, pass, now, count)?;
+        tell_raise(rt, &mut self.snapshots, pass, verdict);
         Ok(verdict)
     }
 
@@ -273,8 +281,11 @@ impl<D: DeskName, S: JournalSink> Book<D, S> {
         ensures told { S.told result.sink ≡ self.kept.told }
         ensures linearized { IsLinearized (opening_state D.root) D.workers self.kept }
     {
-        let Book { recorded, shelf } = self;
-        shelf.end(rt);
+        let Book {
+            recorded,
+            snapshots,
+        } = self;
+        snapshots.end(rt);
         recorded.into_closed()
     }
 
@@ -283,8 +294,11 @@ impl<D: DeskName, S: JournalSink> Book<D, S> {
     where
         S: Drop,
     {
-        let Book { recorded, shelf } = self;
-        shelf.end(rt);
+        let Book {
+            recorded,
+            snapshots,
+        } = self;
+        snapshots.end(rt);
         recorded.abandon();
     }
 }
@@ -292,20 +306,20 @@ impl<D: DeskName, S: JournalSink> Book<D, S> {
 // After this verdict: the prepared change is published, and the pass learns it.
 fn tell<D: DeskName, R: Wait>(
     rt: &R,
-    shelf: &mut SnapshotWriter<D>,
+    snapshots: &mut SnapshotWriter<D>,
     pass: &mut Pass<D>,
     verdict: Verdict,
 )
-    requires waits { is_done verdict ≡ true → IsSome shelf.old.waiting }
-    requires room { length shelf.old.list + 1 < 2 ^ 31 }
-    requires told { IsPrefix pass.old.place.told shelf.old.list }
-    ensures shelf { shelf.new ≡ published (is_done verdict) shelf.old }
+    requires waits { is_done verdict ≡ true → IsSome snapshots.old.waiting }
+    requires room { length snapshots.old.list + 1 < 2 ^ 31 }
+    requires told { IsPrefix pass.old.place.told snapshots.old.list }
+    ensures snapshots { snapshots.new ≡ published (is_done verdict) snapshots.old }
     ensures pass { pass.new ≡ record pass.old {
-      place = told_list (is_done verdict) shelf.new.list pass.old.place;
+      place = told_list (is_done verdict) snapshots.new.list pass.old.place;
     } }
 {
     if verdict == Verdict::Done {
-        let front = shelf.publish(rt);
+        let front = snapshots.publish(rt);
         pass.tell(front);
     }
 }
@@ -313,20 +327,20 @@ fn tell<D: DeskName, R: Wait>(
 // After this verdict on a raise: the prepared change is published if the count was raised, and the pass learns the list.
 fn tell_raise<D: DeskName, R: Wait>(
     rt: &R,
-    shelf: &mut SnapshotWriter<D>,
+    snapshots: &mut SnapshotWriter<D>,
     pass: &mut Pass<D>,
     verdict: RaiseVerdict,
 )
-    requires waits { is_raised verdict ≡ true → IsSome shelf.old.waiting }
-    requires room { length shelf.old.list + 1 < 2 ^ 31 }
-    requires told { IsPrefix pass.old.place.told shelf.old.list }
-    ensures shelf { shelf.new ≡ published (is_raised verdict) shelf.old }
+    requires waits { is_raised verdict ≡ true → IsSome snapshots.old.waiting }
+    requires room { length snapshots.old.list + 1 < 2 ^ 31 }
+    requires told { IsPrefix pass.old.place.told snapshots.old.list }
+    ensures snapshots { snapshots.new ≡ published (is_raised verdict) snapshots.old }
     ensures pass { pass.new ≡ record pass.old {
-      place = told_list (is_raised verdict) shelf.new.list pass.old.place;
+      place = told_list (is_raised verdict) snapshots.new.list pass.old.place;
     } }
 {
     if verdict.is_raised() {
-        let front = shelf.publish(rt);
+        let front = snapshots.publish(rt);
         pass.tell(front);
     }
 }

@@ -32,32 +32,32 @@ use std::alloc::AllocError;
 
 impl<D: DeskName, S: JournalSink> RecordedTable<D, S> {
     /// Decides a request: an entry of the pass's worker at the end of the history, and its receipt in the pass. Its
-    /// change waits on the shelf to be published; putting it there is the last growth before the journal is appended to.
+    /// change waits to be published; preparing it is the last growth before the journal is appended to.
     ///
     /// `now` has seconds from 0 to `chpw_table::LAST_SECOND`. The refusals are those of `Table::decide`, `Full`,
     /// `NeedKeys` and `Memory`, and after one nothing has changed.
     pub(crate) fn decide(
         &mut self,
-        shelf: &mut SnapshotWriter<D>,
+        snapshots: &mut SnapshotWriter<D>,
         pass: &mut Pass<D>,
         now: Moment,
         opened: Opened,
     ) -> Result<Verdict, Refused>
         requires moment { IsMoment now }
         requires published { IsPublished (opening_state D.root) self.old.history
-            self.old.table.state.broken shelf.old }
+            self.old.table.state.broken snapshots.old }
         ensures recorded { IfOk result (λ v. IsRecorded (opening_state D.root) D.workers self.old self.new
-            pass.old pass.new shelf.old shelf.new now (Ask opened v)) }
+            pass.old pass.new snapshots.old snapshots.new now (Ask opened v)) }
         ensures refused { IfErr result (λ r. IsRefused self.old.table now opened r) }
         ensures unchanged { OnErr result
-            ((self.new ≡ self.old) × (pass.new ≡ pass.old) × (shelf.new ≡ shelf.old)) }
+            ((self.new ≡ self.old) × (pass.new ≡ pass.old) × (snapshots.new ≡ snapshots.old)) }
         ensures linearized { IsLinearized (opening_state D.root) D.workers self.old }
     {
-        let prepared = prepare(&mut self.table, shelf, pass, now, opened)?;
+        let prepared = prepare(&mut self.table, snapshots, pass, now, opened)?;
         let Ok(copy) = make_room(
             &mut self.history.entries,
             &mut pass.calls.receipts,
-            shelf,
+            snapshots,
             &self.table,
             &prepared,
         ) else {
@@ -80,11 +80,11 @@ impl<D: DeskName, S: JournalSink> RecordedTable<D, S> {
     }
 }
 
-// Prepares a step for a pass whose lookups showed only what the shelf published; otherwise refused for want of memory,
+// Prepares a step for a pass whose lookups showed only what was published; otherwise refused for want of memory,
 // since the pass's reader can't enter.
 fn prepare<D: DeskName>(
     table: &mut Table,
-    shelf: &SnapshotWriter<D>,
+    snapshots: &SnapshotWriter<D>,
     pass: &mut Pass<D>,
     now: Moment,
     opened: Opened,
@@ -92,13 +92,13 @@ fn prepare<D: DeskName>(
     requires moment { IsMoment now }
     ensures ready { IfOk result (λ p. IsReady table.old p) }
     ensures parts { IfOk result (λ p. (p.moment ≡ now) × (p.opened ≡ opened)) }
-    ensures saw { OnOk result (IsPrefix pass.old.place.seen shelf.now.list) }
+    ensures saw { OnOk result (IsPrefix pass.old.place.seen snapshots.now.list) }
     ensures refused { IfErr result (λ r. IsRefused table.old now opened r) }
     ensures unchanged { table.new ≡ table.old }
     ensures same { pass.new ≡ pass.old }
 {
     let prepared = table.prepare(now, opened)?;
-    if pass.was_shown(shelf) {
+    if pass.was_shown(snapshots) {
         Ok(prepared)
     } else {
         Err(given_up(prepared))
@@ -155,33 +155,33 @@ fn target_name(opened: &Opened) -> &Name
     }
 }
 
-// All growths of a prepared step: room in both lists, a copy of the request, and the change on the shelf, which is the
-// last before the journal is appended to.
+// All growths of a prepared step: room in both lists, a copy of the request, and the change that waits to be published,
+// which is the last before the journal is appended to.
 fn make_room<D: DeskName>(
     entries: &mut Vec<Entry>,
     receipts: &mut Vec<Receipt>,
-    shelf: &mut SnapshotWriter<D>,
+    snapshots: &mut SnapshotWriter<D>,
     table: &Table,
     prepared: &Prepared,
 ) -> Result<Opened, AllocError>
     requires ready { IsReady table.now prepared.now }
     requires kept { (es : _) × IsLegal (opening_state D.root) es
         × Agrees table.now.state (outcome (opening_state D.root) es)
-        × IsPublished (opening_state D.root) es table.now.state.broken shelf.old }
+        × IsPublished (opening_state D.root) es table.now.state.broken snapshots.old }
     ensures same { (entries.new.items ≡ entries.old.items)
         × (receipts.new.items ≡ receipts.old.items) }
     ensures room { OnOk result ((vec_len entries.new < vec_capacity entries.new)
         × (vec_len receipts.new < vec_capacity receipts.new)) }
     ensures copy { IfOk result (λ copy. copy ≡ prepared.now.opened) }
-    ensures ok { OnOk result (shelf.new ≡ with_waiting (is_done prepared.now.row)
-        (change_by table.now.state (Ask prepared.now.opened Done)) shelf.old) }
-    ensures err { OnErr result (shelf.new ≡ shelf.old) }
+    ensures ok { OnOk result (snapshots.new ≡ with_waiting (is_done prepared.now.row)
+        (change_by table.now.state (Ask prepared.now.opened Done)) snapshots.old) }
+    ensures err { OnErr result (snapshots.new ≡ snapshots.old) }
 {
     entries.reserve(1)?;
     receipts.reserve(1)?;
     let copy = prepared.request().clone()?;
     if let Some(row) = prepared.change() {
-        shelf.prepare(row.name, row.kvno, table.count())?;
+        snapshots.prepare(row.name, row.kvno, table.count())?;
     }
     Ok(copy)
 }

@@ -42,7 +42,7 @@ impl<D: DeskName, S: JournalSink> Desk<D, S> {
     ///
     /// The sink's known bytes are none; fewer than 2^64 - 1 of its appends have failed, or the table is broken.
     /// `NoPlaces` if a worker gets no place; `Memory` if a growth is refused: of the standing rules, the rows, the
-    /// shelf, the passes or the history. After a fault all that was given to it is gone.
+    /// snapshots, the passes or the history. After a fault all that was given to it is gone.
     pub fn start<R: Wait>(
         rt: &R,
         alloc: Global,

@@ -42,13 +42,13 @@ impl From<AllocError> for RaiseFault {
 
 impl<D: DeskName, S: JournalSink> RecordedTable<D, S> {
     /// One raise: an entry of the pass's worker at the end, and its receipt in the pass. The count that it sets is
-    /// prepared on the shelf, with the last growth before the journal is appended to.
+    /// prepared for publication, with the last growth before the journal is appended to.
     ///
     /// `now` has seconds from 0 to `chpw_table::LAST_SECOND`, and `count` is 1 to 16,777,216. After a fault nothing has
     /// changed: `Full`, `Memory`.
     pub(crate) fn raise(
         &mut self,
-        shelf: &mut SnapshotWriter<D>,
+        snapshots: &mut SnapshotWriter<D>,
         pass: &mut Pass<D>,
         now: Moment,
         count: u32,
@@ -56,19 +56,19 @@ impl<D: DeskName, S: JournalSink> RecordedTable<D, S> {
         requires moment { IsMoment now }
         requires count { is_in iteration_counts count ≡ true }
         requires published { IsPublished (opening_state D.root) self.old.history
-            self.old.table.state.broken shelf.old }
+            self.old.table.state.broken snapshots.old }
         ensures recorded { IfOk result (λ v. IsRecorded (opening_state D.root) D.workers self.old self.new
-            pass.old pass.new shelf.old shelf.new now (Raise count v)) }
+            pass.old pass.new snapshots.old snapshots.new now (Raise count v)) }
         ensures first { IfErr result (λ fault. IsFirstFault self.old.table fault) }
         ensures unchanged { OnErr result
-            ((self.new ≡ self.old) × (pass.new ≡ pass.old) × (shelf.new ≡ shelf.old)) }
+            ((self.new ≡ self.old) × (pass.new ≡ pass.old) × (snapshots.new ≡ snapshots.old)) }
         ensures linearized { IsLinearized (opening_state D.root) D.workers self.old }
     {
-        has_room(&self.table, shelf, pass)?;
+        has_room(&self.table, snapshots, pass)?;
         make_room(
             &mut self.history.entries,
             &mut pass.calls.receipts,
-            shelf,
+            snapshots,
             &self.table,
             count,
         )?;
@@ -84,22 +84,22 @@ impl<D: DeskName, S: JournalSink> RecordedTable<D, S> {
     }
 }
 
-// Whether there is room for one more event, by a pass whose lookups showed only what the shelf published; otherwise
+// Whether there is room for one more event, by a pass whose lookups showed only what was published; otherwise
 // refused for want of memory, since the pass's reader can't enter.
 fn has_room<D: DeskName>(
     table: &Table,
-    shelf: &SnapshotWriter<D>,
+    snapshots: &SnapshotWriter<D>,
     pass: &mut Pass<D>,
 ) -> Result<(), RaiseFault>
     ensures room { OnOk result (table.now.events < table.now.max_entries) }
-    ensures saw { OnOk result (IsPrefix pass.old.place.seen shelf.now.list) }
+    ensures saw { OnOk result (IsPrefix pass.old.place.seen snapshots.now.list) }
     ensures first { IfErr result (λ fault. IsFirstFault table.now fault) }
     ensures same { pass.new ≡ pass.old }
 {
     if table.is_full() {
         return Err(RaiseFault::Full);
     }
-    if pass.was_shown(shelf) {
+    if pass.was_shown(snapshots) {
         Ok(())
     } else {
         Err(RaiseFault::Memory)
@@ -107,31 +107,31 @@ fn has_room<D: DeskName>(
 }
 
 // All growths of a raise for which there is room: room in both lists, and, if it is accepted unless its append fails,
-// the change on the shelf, which is the last before the journal is appended to.
+// the change that waits to be published, which is the last before the journal is appended to.
 fn make_room<D: DeskName>(
     entries: &mut Vec<Entry>,
     receipts: &mut Vec<Receipt>,
-    shelf: &mut SnapshotWriter<D>,
+    snapshots: &mut SnapshotWriter<D>,
     table: &Table,
     count: u32,
 ) -> Result<(), RaiseFault>
     requires room { table.now.events < table.now.max_entries }
     requires kept { (es : _) × IsLegal (opening_state D.root) es
         × Agrees table.now.state (outcome (opening_state D.root) es)
-        × IsPublished (opening_state D.root) es table.now.state.broken shelf.old }
+        × IsPublished (opening_state D.root) es table.now.state.broken snapshots.old }
     ensures same { (entries.new.items ≡ entries.old.items)
         × (receipts.new.items ≡ receipts.old.items) }
     ensures places { OnOk result ((vec_len entries.new < vec_capacity entries.new)
         × (vec_len receipts.new < vec_capacity receipts.new)) }
     ensures ok { OnOk result
-        (shelf.new ≡ with_waiting (would_raise table.now count) (Count count) shelf.old) }
+        (snapshots.new ≡ with_waiting (would_raise table.now count) (Count count) snapshots.old) }
     ensures first { IfErr result (λ fault. IsFirstFault table.now fault) }
-    ensures err { OnErr result (shelf.new ≡ shelf.old) }
+    ensures err { OnErr result (snapshots.new ≡ snapshots.old) }
 {
     entries.reserve(1)?;
     receipts.reserve(1)?;
     if table.would_raise(count) {
-        shelf.prepare_count(count)?;
+        snapshots.prepare_count(count)?;
     }
     Ok(())
 }

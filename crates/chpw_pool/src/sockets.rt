@@ -203,7 +203,9 @@ impl Sockets {
             (Todo::Write, Some(Transport::Datagram(datagram)), Some(datagrams)) => {
                 datagrams.reply(state, slot, datagram, now)
             }
-            (Todo::Read(_) | Todo::Linger, Some(Transport::Datagram(_)), _) => state.end_input(slot),
+            (Todo::Read(_) | Todo::Linger, Some(Transport::Datagram(_)), _) => state.end_input(
+                slot,
+            ),
             _ => Progress::None,
         }
     }

@@ -202,12 +202,7 @@ fn print_reply<'a>(rt: &(impl Print + AllocGlobal), sent: &Sent, reply: &[u8]) -
 }
 
 // Writes what a reply says, as a line.
-fn tell_reply<'a, W: Write>(
-    alloc: Global,
-    sent: &Sent,
-    reply: &[u8],
-    out: &mut W,
-) -> Ending<'a>
+fn tell_reply<'a, W: Write>(alloc: Global, sent: &Sent, reply: &[u8], out: &mut W) -> Ending<'a>
     ensures tells { Tells sent.now reply.now result }
     ensures printed { IsAnswered result → (line : List ℕ) × (status : ℕ) × IsLine sent.now reply.now (Some (line, status))
         × Appends (W.contents out.old) (W.contents out.new) (line ++ 10 ∷ []) }

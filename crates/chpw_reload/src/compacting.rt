@@ -12,7 +12,7 @@ use std::alloc::{AllocError, Global};
 /// isn't greater than the held one. `laws::compacting` and chpw_journal's laws require this.
 pub fn goes_with(alloc: Global, base: &Table, held: &Table) -> Result<bool, AllocError>
     ensures goes { IfOk result (λ goes. goes ≡ true → GoesWith base.now.state held.now.state) }
-    ensures not { IfOk result (λ goes. goes ≡ false → GoesWith base.now.state held.now.state → ⊥) }
+    ensures apart { IfOk result (λ goes. goes ≡ false → GoesWith base.now.state held.now.state → ⊥) }
 {
     if base.realm() != held.realm()
         || kept_by(base) != kept_by(held)

@@ -27,7 +27,7 @@ use Rattle.chpw_snapshots.specs.declared.view.View.{View}
 use Rattle.chpw_snapshots.specs.Rows.{Rowed, names_of_rows, names_of, rows_after, shown_in, IsPositive, ShowsOpening, lookup_with, lookup_after}
 use Rattle.chpw_snapshots.specs.Rising.{IsNextVersion}
 use Rattle.chpw_snapshots.specs.Following.{applied, IsNumberOf, HasNumber, CanBeShown, list_by, list_shown, ShowsList}
-use Rattle.chpw_snapshots.specs.Following.{IsRuled, IsShelved, IsTied, Looked, Published, Settled, unknown, log_of}
+use Rattle.chpw_snapshots.specs.Following.{IsRuled, Publishes, IsTied, Looked, Published, Settled, unknown, log_of}
 use Rattle.chpw_snapshots.proofs.RiseLemmas.{next_on}
 use Rattle.chpw_snapshots.proofs.RowLemmas.{names_changed, changed_shows, changed_positive, shown_more, count_more}
 
@@ -141,7 +141,7 @@ goes_on b r list x o is ob ol can room =
 
 -- the writer, which knows the whole list, makes the change of one operation
 pub published_at : (seat : ℕ) (b : LogbookName) (r : List LogEntry) (v : View) (x : Snapshot)
-    (list : List Accepted) (o : Operation) → IsShelved b r v x list → o.seen.book ≡ b → changes_in r o.seen.log ≡ list
+    (list : List Accepted) (o : Operation) → Publishes b r v x list → o.seen.book ≡ b → changes_in r o.seen.log ≡ list
     → CanBeShown (opening_state r) list o.change → length list + 1 < 2147483648 → TurnsAt IsRuled seat v x (applied x o) Published
 published_at seat b r v x list o sh ob ol can room views (all, is, each) at =
     let mine = each seat v at sh.0.0 in
@@ -169,11 +169,11 @@ published_at seat b r v x list o sh ob ol can room views (all, is, each) at =
       refl,
     )
 
-pub shelved_after : (b : LogbookName) (r : List LogEntry) (v w : View) (x y : Snapshot)
-    (list : List Accepted) (o : Operation) → IsShelved b r v x list → o.seen.book ≡ b → changes_in r o.seen.log ≡ list
+pub published_after : (b : LogbookName) (r : List LogEntry) (v w : View) (x y : Snapshot)
+    (list : List Accepted) (o : Operation) → Publishes b r v x list → o.seen.book ≡ b → changes_in r o.seen.log ≡ list
     → CanBeShown (opening_state r) list o.change → length list + 1 < 2147483648
-    → y ≡ applied x o → Published v x y w → IsShelved b r w y (list ++ named (opening_state r) o.change ∷ [])
-shelved_after b r v w x y list o sh ob ol can room is told =
+    → y ≡ applied x o → Published v x y w → Publishes b r w y (list ++ named (opening_state r) o.change ∷ [])
+published_after b r v w x y list o sh ob ol can room is told =
     let c : Accepted = named (opening_state r) o.change in (
       (ap (λ (z : View). z.known) told ∙ sh.0.0, ap log_of told ∙ sh.0.1, ap (λ (z : View). z.root) told ∙ sh.0.2),
       ap (λ (z : View). z.front) told
@@ -221,9 +221,9 @@ opening_version r rows x n same log seen shows =
       last = λ h. absurd (omega arith);
     }
 
-pub shelved_first : (b : LogbookName) (r : List LogEntry) (v w : View) (x y : Snapshot) → y ≡ x
-    → x.root.book ≡ b → x.root.log ≡ r → ShowsList x.root.book x.root.log [] x → Settled v x y w → IsShelved b r w y []
-shelved_first b r v w x y e eb er is told = (
+pub published_first : (b : LogbookName) (r : List LogEntry) (v w : View) (x y : Snapshot) → y ≡ x
+    → x.root.book ≡ b → x.root.log ≡ r → ShowsList x.root.book x.root.log [] x → Settled v x y w → Publishes b r w y []
+published_first b r v w x y e eb er is told = (
   (told.0.0, told.0.1 ∙ (ap (λ (z : Snapshot). z.root.book) e ∙ eb), told.0.2 ∙ (ap (λ (z : Snapshot). z.root.log) e ∙ er)),
   told.1,
   subst (λ (z : Snapshot). ShowsList b r [] z) (sym e) (renamed x.root.book b x.root.log r [] x eb er is),

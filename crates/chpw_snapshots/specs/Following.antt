@@ -119,8 +119,8 @@ IsWaiting log root list ops (Some c) =
     × CanBeShown (opening_state root) list o.change
 
 -- what the writer holds shows this list, and it knows that
-abbrev pub IsShelved : LogbookName → List LogEntry → View → Snapshot → List Accepted → Type 0
-IsShelved log root v x list = IsOf log root v × (v.front ≡ list) × ShowsList log root list x
+abbrev pub Publishes : LogbookName → List LogEntry → View → Snapshot → List Accepted → Type 0
+Publishes log root v x list = IsOf log root v × (v.front ≡ list) × ShowsList log root list x
 
 -- what a reader that isn't lent out knows
 abbrev pub front_by : {R : Type 0} → Option R → (R → View) → List Accepted

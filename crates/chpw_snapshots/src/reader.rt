@@ -144,7 +144,7 @@ impl<D: LogName> SnapshotReader<D> {
         self.told = self.told.longer(other);
     }
 
-    /// Learns the front that the shelf gave after a change of its own.
+    /// Learns the front that the writer gave after a change of its own.
     pub fn tell(&mut self, front: Front<D>)
         requires longer { IsPrefix self.old.told front }
         ensures value { self.new ≡ record self.old { told = front; own = Some front } }
@@ -153,7 +153,7 @@ impl<D: LogName> SnapshotReader<D> {
         self.told = front;
     }
 
-    /// The front that the shelf gave after the newest change of its own; none before the first.
+    /// The front that the writer gave after the newest change of its own; none before the first.
     pub fn front(&self) -> Option<&Front<D>>
         ensures some { IfSome result (λ f. (self.now.own ≡ Some f.now)
             × IsPrefix f.now self.now.told) }

@@ -33,10 +33,10 @@ impl<D: LogName> Model for SnapshotWriter<D> {
     ghost use Rattle.left_right.specs.Sides.{view as view_of};
     ghost use Rattle.chpw_changelog.specs.Changes.{named};
     ghost use Rattle.chpw_changelog.specs.Pens.{opening_state};
-    ghost use Rattle.chpw_snapshots.specs.Known.{Shelved};
-    ghost use Rattle.chpw_snapshots.specs.Following.{IsShelved, IsWaiting};
+    ghost use Rattle.chpw_snapshots.specs.Known.{PublishedList};
+    ghost use Rattle.chpw_snapshots.specs.Following.{Publishes, IsWaiting};
 
-    ghost Value = { Shelved };
+    ghost Value = { PublishedList };
 
     ghost view = { λ s. record {
       list = s.keeper;
@@ -44,12 +44,12 @@ impl<D: LogName> Model for SnapshotWriter<D> {
     } };
 
     ghost invariant = { λ s. IsSomeAnd s.writer (λ w.
-        IsShelved D.book D.root (view_of w.desk.place) w.desk.shown.value s.keeper
+        Publishes D.book D.root (view_of w.desk.place) w.desk.shown.value s.keeper
         × IsWaiting D.book D.root s.keeper (drop w.behind w.log.items) s.waiting) };
 }
 
 impl<D: LogName> SnapshotWriter<D> {
-    /// A shelf with an empty list and room for this many places, which shows these rows; `again` is a copy of them.
+    /// A writer with an empty list and room for this many places, which shows these rows; `again` is a copy of them.
     /// They show the list's opening: a row for each principal, in its order, with counts of at least 1, and the changes
     /// that its table had accepted before. It may wait, as a publication does.
     pub fn start<R: Wait>(

@@ -13,5 +13,5 @@ pub prepare-requires-clause-next : goal.prepare-requires-clause-next
 prepare-requires-clause-next g c =
     let t = c.args.table.now in
     let k = c.requires.kept in
-    row_next (opening_state g.D.LogName.root) t.state k.0 c.args.shelf.now.list _ _ _ _ _ k.1 k.2 k.3.list
+    row_next (opening_state g.D.LogName.root) t.state k.0 c.args.snapshots.now.list _ _ _ _ _ k.1 k.2 k.3.list
     (c.in-Some.ensures.some t c.requires.ready t.state (agrees_itself t.state)) c.count.ensures.value

@@ -15,4 +15,4 @@ prepare_count-requires-clause-next g c =
     let k = c.requires.kept in
     let would : would_raise c.args.table.now c.args.count ≡ true = sym c.would_raise.ensures.value ∙ c.if-would_raise.true in
     count_next (opening_state g.D.LogName.root) c.args.table.now.state
-    k.0 c.args.shelf.now.list c.args.count k.1 k.2 k.3.list (would_be c.args.table.now c.args.count would).0
+    k.0 c.args.snapshots.now.list c.args.count k.1 k.2 k.3.list (would_be c.args.table.now c.args.count would).0

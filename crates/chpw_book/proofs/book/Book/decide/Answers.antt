@@ -14,7 +14,7 @@ tell-requires-clause-room g c =
 
 pub invariant_of-self-2 : goal.invariant_of-self-2
 invariant_of-self-2 g c =
-    rw c.tell.ensures.shelf (published_next (opening_state g.D.LogName.root)
+    rw c.tell.ensures.snapshots (published_next (opening_state g.D.LogName.root)
     g.D.DeskName.workers c.self.inside.recorded c.decide.new.self _ _ c.has.new.self _ _ _
     (rw c.has.ensures.same c.self.invariant) c.in_ok-verdict.ensures.recorded)
 
@@ -23,7 +23,7 @@ unfolding invariant_of-self-2
 returns-clause-adds g c =
     let begins : IsPrefix c.args.pass.now.place.told c.has.new.self.list = search rules in
     rw (← c.self.view_is) (adds_next (opening_state g.D.LogName.root) g.D.DeskName.workers c.self.inside.recorded
-    c.decide.new.self _ _ c.tell.new.pass c.has.new.self _ c.tell.new.shelf _ _ (rw c.has.ensures.same c.self.invariant)
+    c.decide.new.self _ _ c.tell.new.pass c.has.new.self _ c.tell.new.snapshots _ _ (rw c.has.ensures.same c.self.invariant)
     c.in_ok-verdict.ensures.recorded (invariant_of-self-2 g c) begins c.tell.ensures.pass)
 
 pub returns-in_err-verdict-clause-asks : goal.returns-in_err-verdict-clause-asks

@@ -11,7 +11,7 @@ tell_raise-requires-clause-room g c =
 
 pub invariant_of-self-2 : goal.invariant_of-self-2
 invariant_of-self-2 g c =
-    rw c.tell_raise.ensures.shelf (published_next (opening_state g.D.LogName.root)
+    rw c.tell_raise.ensures.snapshots (published_next (opening_state g.D.LogName.root)
     g.D.DeskName.workers c.self.inside.recorded c.raise.new.self _ _ c.has.new.self _ _ _
     (rw c.has.ensures.same c.self.invariant) c.in_ok-verdict.ensures.recorded)
 
@@ -21,5 +21,5 @@ returns-clause-adds g c =
     let begins : IsPrefix c.args.pass.now.place.told c.has.new.self.list = search rules in
     rw (← c.self.view_is)
     (adds_next (opening_state g.D.LogName.root) g.D.DeskName.workers c.self.inside.recorded c.raise.new.self _
-    _ c.tell_raise.new.pass c.has.new.self _ c.tell_raise.new.shelf _ _ (rw c.has.ensures.same c.self.invariant)
+    _ c.tell_raise.new.pass c.has.new.self _ c.tell_raise.new.snapshots _ _ (rw c.has.ensures.same c.self.invariant)
     c.in_ok-verdict.ensures.recorded (invariant_of-self-2 g c) begins c.tell_raise.ensures.pass)

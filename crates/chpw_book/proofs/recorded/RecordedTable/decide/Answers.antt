@@ -36,13 +36,13 @@ make_room-requires-clause-kept g c =
       total = c.self.inside.history.totals.total;
       told = g.S.JournalSink.told c.self.inside.sink;
     } in
-    let published : IsPublished opening b.history b.table.state.broken c.args.shelf.now =
-    subst (λ (x : RecordedView). IsPublished opening x.history x.table.state.broken c.args.shelf.now)
+    let published : IsPublished opening b.history b.table.state.broken c.args.snapshots.now =
+    subst (λ (x : RecordedView). IsPublished opening x.history x.table.state.broken c.args.snapshots.now)
     (sym c.self.view_is) c.requires.published in (
       b.history,
       kept.legal,
       subst (λ (t : Held). Agrees t.state (outcome opening b.history)) (sym same) kept.agrees,
-      subst (λ (t : Held). IsPublished opening b.history t.state.broken c.args.shelf.now) (sym same) published,
+      subst (λ (t : Held). IsPublished opening b.history t.state.broken c.args.snapshots.now) (sym same) published,
     )
 
 pub add-requires-clause-few : goal.add-requires-clause-few
@@ -134,14 +134,14 @@ returns-clause-recorded g c =
     let below : w < length b.counts = let all = kept.all in let own = c.pass.invariant.2 in omega (arith, all, own) in
     let number : slice_index b.counts w + 1 ≡ e.number = ap (λ (n : ℕ). n + 1) (kept.counted.counts_are w below) in
     let prepared = c.in_ok-prepared.prepared in
-    let waits : c.make_room.new.shelf ≡ with_waiting (is_done prepared.row) (change_by b.table.state (Ask c.args.opened Done)) c.args.shelf.now =
+    let waits : c.make_room.new.snapshots ≡ with_waiting (is_done prepared.row) (change_by b.table.state (Ask c.args.opened Done)) c.args.snapshots.now =
     rw (← same, ← c.in_ok-prepared.ensures.parts.1) c.in-Ok.ensures.ok in
-    let published : IsPublished opening b.history b.table.state.broken c.args.shelf.now =
-    subst (λ (x : RecordedView). IsPublished opening x.history x.table.state.broken c.args.shelf.now)
+    let published : IsPublished opening b.history b.table.state.broken c.args.snapshots.now =
+    subst (λ (x : RecordedView). IsPublished opening x.history x.table.state.broken c.args.snapshots.now)
     (sym c.self.view_is) c.requires.published in
     let pass_is = c.pass.view_is ∙ c.prepare.ensures.same in
-    let saw : IsPrefix c.pass.inside.place.seen c.args.shelf.now.list =
-    subst (λ (p : PassView). IsPrefix p.place.seen c.args.shelf.now.list)
+    let saw : IsPrefix c.pass.inside.place.seen c.args.snapshots.now.list =
+    subst (λ (p : PassView). IsPrefix p.place.seen c.args.snapshots.now.list)
     (sym pass_is) c.in_ok-prepared.ensures.saw in
     rw (← c.self.view_is, ← pass_is) (record {
       entry = e;
@@ -157,7 +157,7 @@ returns-clause-recorded g c =
       saw = saw;
       pending = pending_next b.table.state
           b.table.state.broken t.state.broken made.io_failed c.args.opened prepared.row made.verdict
-          c.args.shelf.now c.make_room.new.shelf published.free c.finish-verdict.ensures.row steps.broken waits;
+          c.args.snapshots.now c.make_room.new.snapshots published.free c.finish-verdict.ensures.row steps.broken waits;
       linearized = (kept, later);
       few = few;
     })

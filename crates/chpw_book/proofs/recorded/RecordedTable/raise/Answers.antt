@@ -32,8 +32,8 @@ make_room-requires g c =
       total = c.self.inside.history.totals.total;
       told = g.S.JournalSink.told c.self.inside.sink;
     } in
-    let published : IsPublished opening b.history b.table.state.broken c.args.shelf.now =
-    subst (λ (x : RecordedView). IsPublished opening x.history x.table.state.broken c.args.shelf.now)
+    let published : IsPublished opening b.history b.table.state.broken c.args.snapshots.now =
+    subst (λ (x : RecordedView). IsPublished opening x.history x.table.state.broken c.args.snapshots.now)
     (sym c.self.view_is) c.requires.published in
     record {
       room = c.in_ok-has_room.ensures.room;
@@ -123,15 +123,15 @@ returns-clause-recorded g c =
     let kept : IsLinearized opening g.D.DeskName.workers b = c.self.invariant.0 in
     let below : w < length b.counts = let all = kept.all in let own = c.pass.invariant.2 in omega (arith, all, own) in
     let number : slice_index b.counts w + 1 ≡ e.number = ap (λ (n : ℕ). n + 1) (kept.counted.counts_are w below) in
-    let waits : c.make_room.new.shelf
-    ≡ with_waiting (would_raise b.table c.args.count) (Count c.args.count) c.args.shelf.now =
+    let waits : c.make_room.new.snapshots
+    ≡ with_waiting (would_raise b.table c.args.count) (Count c.args.count) c.args.snapshots.now =
     c.in_ok-make_room.ensures.ok in
-    let published : IsPublished opening b.history b.table.state.broken c.args.shelf.now =
-    subst (λ (x : RecordedView). IsPublished opening x.history x.table.state.broken c.args.shelf.now)
+    let published : IsPublished opening b.history b.table.state.broken c.args.snapshots.now =
+    subst (λ (x : RecordedView). IsPublished opening x.history x.table.state.broken c.args.snapshots.now)
     (sym c.self.view_is) c.requires.published in
     let pass_is = c.pass.view_is ∙ c.has_room.ensures.same in
-    let saw : IsPrefix c.pass.inside.place.seen c.args.shelf.now.list =
-    subst (λ (p : PassView). IsPrefix p.place.seen c.args.shelf.now.list)
+    let saw : IsPrefix c.pass.inside.place.seen c.args.snapshots.now.list =
+    subst (λ (p : PassView). IsPrefix p.place.seen c.args.snapshots.now.list)
     (sym pass_is) c.in_ok-has_room.ensures.saw in
     rw (← c.self.view_is, ← pass_is) (record {
       entry = e;
@@ -146,7 +146,7 @@ returns-clause-recorded g c =
       place = refl;
       saw = saw;
       pending = raise_pending b.table c.args.count made.verdict
-          made.io_failed t.state.broken c.args.shelf.now c.make_room.new.shelf c.in-Ok.ensures.room published.free
+          made.io_failed t.state.broken c.args.snapshots.now c.make_room.new.snapshots c.in-Ok.ensures.room published.free
           (c.in-Ok.ensures.legal b.table.state (agrees_itself b.table.state)).verdict_is c.in-Ok.ensures.broken waits;
       linearized = (kept, later);
       few = few;

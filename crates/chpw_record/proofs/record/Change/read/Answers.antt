@@ -9,11 +9,11 @@ returns-in-Some-clause-value c =
     let first : get_or c.split_at.result.0.now 0 0 ≡ c.args.kind = search rules in
     let fits : key_fits c.key_in-key.result ≡ true = search rules in
     change_whole c.args.kind c.args.body.now c.split_at.result.0.now c.split_at.result.1.now
-          c.key_in-key.result c.in-Some.name c.if-body-lt-VERSION_LENGTH.false (λ i. omega (arith, c.type_inv.body i))
-          c.split_at.ensures.front c.split_at.ensures.back first c.key_in-key.ensures.value fits n.0 n.1
+    c.key_in-key.result c.in-Some.name c.if-body-lt-VERSION_LENGTH.false (λ i. omega (arith, c.type_inv.body i))
+    c.split_at.ensures.front c.split_at.ensures.back first c.key_in-key.ensures.value fits n.0 n.1
 
 pub returns-in-None-clause-value : goal.returns-in-None-clause-value
 returns-in-None-clause-value c = λ d fits e.
-      change_none c.args.kind c.args.body.now c.split_at.result.0.now c.split_at.result.1.now d
-      c.if-body-lt-VERSION_LENGTH.false c.split_at.ensures.front c.split_at.ensures.back
-      (rw c.in-None.is at c.in_ok-name.ensures.value) fits e
+    change_none c.args.kind c.args.body.now c.split_at.result.0.now c.split_at.result.1.now d
+    c.if-body-lt-VERSION_LENGTH.false c.split_at.ensures.front c.split_at.ensures.back
+    (rw c.in-None.is at c.in_ok-name.ensures.value) fits e

@@ -7,8 +7,8 @@ use Rattle.chpw_table.specs.Versions.{shown}
 use Rattle.chpw_changelog.specs.Pens.{opening_state}
 use Rattle.chpw_snapshots.specs.declared.rows.Row.{Row}
 use Rattle.chpw_snapshots.specs.declared.snapshot.Snapshot.{Snapshot}
-use Rattle.chpw_snapshots.specs.Known.{Shelved}
-use Rattle.chpw_snapshots.specs.Following.{IsShelved, IsWaiting}
+use Rattle.chpw_snapshots.specs.Known.{PublishedList}
+use Rattle.chpw_snapshots.specs.Following.{Publishes, IsWaiting}
 use Rattle.chpw_snapshots.proofs.RowLemmas.{has_number, found_number}
 use Rattle.chpw_snapshots.proofs.MoveLemmas.{of_some}
 use Rattle.chpw_snapshots.proofs.writer.SnapshotWriter.number_of.Goals as goal
@@ -19,12 +19,12 @@ unreachable-requires-in_default-number_of g c =
     let r = g.D.LogName.root in
     let list = c.self.inside.keeper in
     let w = c.in-Some.writer in
-    let inv = of_some c.self.inside.writer w (λ w. IsShelved b r (view w.desk.place) w.desk.shown.value list
+    let inv = of_some c.self.inside.writer w (λ w. Publishes b r (view w.desk.place) w.desk.shown.value list
     × IsWaiting b r list (drop w.behind w.log.items) c.self.inside.waiting) c.in-Some.is c.self.invariant in
     let none : position (λ (x : Row). is_same_name x.name c.args.name.now) w.desk.shown.value.rows.rows ≡ None =
     sym (ap (λ (x : Snapshot). position (λ (q : Row). is_same_name q.name c.args.name.now) x.rows.rows)
     c.published.ensures) ∙ (sym c.number_of.ensures.value ∙ c.in_default-number_of.is) in
-    let same : list ≡ c.args.self.now.list = ap (λ (s : Shelved). s.list) c.self.view_is in
+    let same : list ≡ c.args.self.now.list = ap (λ (s : PublishedList). s.list) c.self.view_is in
     has_number w.desk.shown.value.rows.rows c.args.name.now c.requires.known.0
     (inv.0.2.shows c.args.name.now ∙ (ap (λ (l : List Accepted). shown (opening_state r) l c.args.name.now) same ∙ c.requires.known.1)) none
 
@@ -34,7 +34,7 @@ returns g c =
     let r = g.D.LogName.root in
     let list = c.self.inside.keeper in
     let w = c.in-Some.writer in
-    let inv = of_some c.self.inside.writer w (λ w. IsShelved b r (view w.desk.place) w.desk.shown.value list
+    let inv = of_some c.self.inside.writer w (λ w. Publishes b r (view w.desk.place) w.desk.shown.value list
     × IsWaiting b r list (drop w.behind w.log.items) c.self.inside.waiting) c.in-Some.is c.self.invariant in
     let place : position (λ (x : Row). is_same_name x.name c.args.name.now) w.desk.shown.value.rows.rows ≡ Some c.in-Some-number_of.number =
     sym (ap (λ (x : Snapshot). position (λ (q : Row). is_same_name q.name c.args.name.now) x.rows.rows)

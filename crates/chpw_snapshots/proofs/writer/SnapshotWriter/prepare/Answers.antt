@@ -4,7 +4,7 @@ use Rattle.chpw_table.specs.declared.change.KeyChange.{KeyChange}
 use Rattle.chpw_table.specs.declared.change.Accepted.TheVariants.{Key}
 use Rattle.chpw_changelog.specs.declared.change.NumberedKey.{NumberedKey}
 use Rattle.chpw_changelog.specs.Pens.{opening_state}
-use Rattle.chpw_snapshots.specs.Known.{Shelved}
+use Rattle.chpw_snapshots.specs.Known.{PublishedList}
 use Rattle.chpw_snapshots.specs.Rising.{IsNextVersion}
 use Rattle.chpw_snapshots.proofs.RowLemmas.{named_change}
 use Rattle.chpw_snapshots.proofs.writer.SnapshotWriter.prepare.Goals as goal
@@ -22,6 +22,6 @@ wait-requires-clause-shown g c =
 pub returns-clause-ok : goal.returns-clause-ok
 returns-clause-ok g c =
     let change : NumberedKey = record { number = c.number_of-number.result; kvno = c.args.kvno; count = c.args.count } in
-    let waits : KeyChange → Shelved = λ k. record { list = c.args.self.now.list; waiting = Some (Key k) } in
+    let waits : KeyChange → PublishedList = λ k. record { list = c.args.self.now.list; waiting = Some (Key k) } in
     subst (λ (k : KeyChange). OnOk c.wait.result (c.wait.new.self ≡ waits k)) (named_change
     (opening_state g.D.LogName.root) c.args.name.now change c.number_of-number.ensures.number).1 c.wait.ensures.ok
