@@ -1,5 +1,5 @@
 -- Where no principal of an opening is lacked, each is held.
-use Rattle.std.proofs.Common.{◌≡◌, ◌×◌, List, [], ◌∷◌, Bool, true, false, not, ◌&&◌, Option, Some, None, is_none, refl, sym, ◌∙◌, ap}
+use Rattle.std.proofs.Common.{◌≡◌, List, [], ◌∷◌, Bool, true, false, not, ◌&&◌, Option, Some, None, is_none, refl, sym, ◌∙◌, ap}
 use Rattle.std.specs.Prelude.{IsSome}
 use Rattle.chpw_rules.specs.declared.name.Name.{Name}
 use Rattle.chpw_record.specs.declared.key.KeyRow.{KeyRow}
@@ -33,7 +33,7 @@ both_true true c h = (refl, h)
 both_true false c h = absurd (cc)
 
 some_there : (keys : Option (List KeyRow)) → not (is_none keys) ≡ true → IsSome keys
-some_there (Some keys) h = tt
+some_there (Some keys) h = refl
 some_there None h = absurd (cc)
 
 none_there : (keys : Option (List KeyRow)) → is_none keys ≡ true → IsSome keys → ⊥
