@@ -1,4 +1,4 @@
-use Rattle.std.proofs.Common.{◌≡◌, ℕ, List, [], length, sym, ◌∙◌, ap, rules}
+use Rattle.std.proofs.Common.{◌≡◌, [], length, sym, ◌∙◌, ap, rules}
 use Rattle.std.proofs.lemmas.List.{nil_from_length}
 use Rattle.chpw_table.specs.State.{State}
 use Rattle.chpw_reload.specs.Next.{lacked}
