@@ -1,5 +1,5 @@
 -- Those that were ended to make room are noted.
-use Rattle.std.proofs.Common.{◌≡◌, ◌≢◌, ℕ, List, [], ◌∷◌, ◌++◌, ◌+◌, refl, sym, ◌∙◌, ap, subst, arith, append_assoc}
+use Rattle.std.proofs.Common.{◌≡◌, ◌≢◌, ℕ, List, [], ◌∷◌, ◌++◌, ◌+◌, refl, sym, ◌∙◌, ap, subst, arith}
 use Rattle.std.proofs.Common.{Bool, true, false, not, ◌&&◌, ◌==◌, nat_lt, cond, Option, Some, None}
 use Rattle.std.proofs.Math.Logic.{⊎_elim}
 use Rattle.std.proofs.lemmas.Bool.{cases_eq}
@@ -14,7 +14,7 @@ use Rattle.chpw_connections.specs.Messages.{wanted_after}
 use Rattle.chpw_connections.specs.Holding.{held_by}
 use Rattle.chpw_connections.specs.Sets.{waits, Comes, Happens, is_ended, is_ended_in, is_reading, is_reading_in}
 use Rattle.chpw_connections.specs.Waiting.{times}
-use Rattle.chpw_connections.specs.Room.{is_held_back, is_among, gives_way, gives_way_at, IsLongestBesides, MakesRoom}
+use Rattle.chpw_connections.specs.Room.{is_held_back, is_among, gives_way_at, IsLongestBesides, MakesRoom}
 use Rattle.chpw_connections.specs.Noting.{NotesEach, slot_if, is_gone, is_gone_in, is_with_worker_in, was_put_out, EachPutOut, NotesEnds}
 use Rattle.chpw_connections.specs.declared.connection.Connection.{Connection}
 use Rattle.chpw_connections.specs.declared.room.EvictionRule.{EvictionRule}
@@ -93,13 +93,14 @@ module _ (who : EvictionRule) (old mid new : Slab Connection) (slot other : ℕ)
   not_slot : not (other == slot) ≡ true
   not_slot = grind (arith, nat_tests, apart)
 
-  here : (ends : List ℕ) → EachPutOut who old mid slot ends → times other (ends ++ other ∷ []) ≡ cond (not (other == slot) && was_put_out who (get old other) (get new other)) 1 0
+  here : (ends : List ℕ) → EachPutOut who old mid slot ends
+      → times other (ends ++ other ∷ []) ≡ cond (not (other == slot) && was_put_out who (get old other) (get new other)) 1 0
   here ends each =
       let a : times other ends ≡ 0 = each other ∙ ap (λ (t : Bool). cond (not (other == slot) && t) 1 0) not_before
       ∙ ap (λ (t : Bool). cond t 1 0) (and_false (not (other == slot))) in
       let b : cond (not (other == slot) && was_put_out who (get old other) (get new other)) 1 0 ≡ 1 =
       ap (λ (t : Bool). cond (t && was_put_out who (get old other) (get new other)) 1 0) not_slot ∙ ap (λ (t : Bool). cond t 1 0) is_now in
-      omega (arith, times_push_same other ends)
+      times_push_same other ends ∙ ap (λ (n : ℕ). n + 1) a ∙ sym b
 
   each_next : (ends : List ℕ) → EachPutOut who old mid slot ends → EachPutOut who old new slot (ends ++ other ∷ [])
   each_next ends each k =
@@ -161,6 +162,7 @@ reading_goes_on now more (Some c) (Some d) is comes = by_stage (stage c) is come
     by_test : (bytes : List ℕ) (t : Bool) → is_ended (cond t (queued bytes) (reading bytes)) ≡ false
     by_test bytes true = refl
     by_test bytes false = refl
+
     by_stage : (s : Stage) → is_reading s ≡ true → stage d ≡ after c.answered s (came more) → is_ended (stage d) ≡ false
     by_stage (reading bytes) t e = ap is_ended e ∙ by_test (bytes ++ received bytes more) (wanted_after (bytes ++ received bytes more) == 0)
     by_stage (queued message) t e = absurd cc

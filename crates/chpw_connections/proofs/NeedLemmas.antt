@@ -1,9 +1,8 @@
 -- Nobody is put out beyond need.
-use Rattle.std.proofs.Common.{◌≡◌, ◌≢◌, ℕ, ◌+◌, ◌<◌, ◌≤◌, length, refl, sym, ◌∙◌, ap, subst, arith, Bool}
-use Rattle.std.proofs.Common.{true, false, not, nat_lt, Option, Some, None, inl, inr}
+use Rattle.std.proofs.Common.{◌≡◌, ◌≢◌, ℕ, ◌+◌, ◌<◌, ◌≤◌, length, refl, sym, ◌∙◌, ap, subst, arith}
+use Rattle.std.proofs.Common.{true, Option, Some, None, inl, inr}
 use Rattle.std.proofs.Math.Logic.{⊎_elim}
 use Rattle.std.proofs.lemmas.Bool.{cases_eq, cases_lt}
-use Rattle.std.proofs.lemmas.Bool.Decides.{nat_tests}
 use Rattle.std.proofs.lemmas.List.{get_or_past}
 use Rattle.std.proofs.lemmas.List.Sums.{get_or-le-sum_by}
 use Rattle.slab.specs.Slab.{Slab, get}
@@ -11,7 +10,7 @@ use Rattle.chpw_connections.specs.Stages.{Event, failed}
 use Rattle.chpw_connections.specs.Holding.{held_at, held_in}
 use Rattle.chpw_connections.specs.Sets.{Comes, Happens}
 use Rattle.chpw_connections.specs.Room.{gives_way_at, gives_way_since, IsLongestBesides, MakesRoom}
-use Rattle.chpw_connections.specs.Room.{held_besides, EndsLast, IsNeeded}
+use Rattle.chpw_connections.specs.Room.{held_besides, IsNeeded}
 use Rattle.chpw_connections.specs.declared.connection.Connection.{Connection}
 use Rattle.chpw_connections.specs.declared.room.EvictionRule.{EvictionRule}
 use Rattle.chpw_connections.proofs.HeldLemmas.{changed_sum}
