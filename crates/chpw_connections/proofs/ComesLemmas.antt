@@ -1,10 +1,10 @@
 -- Events that come to the same.
-use Rattle.std.proofs.Common.{◌≡◌, ℕ, List, take, refl, ◌∙◌, arith, Option, Some, None}
+use Rattle.std.proofs.Common.{◌≡◌, ℕ, List, take, refl, ◌∙◌, subst, arith, Option, Some, None, IfNone, inl, inr, ◌⊎◌}
 use Rattle.std.proofs.lemmas.List.{take_all, length-take}
 use Rattle.slab.specs.Slab.{Slab, get}
 use Rattle.chpw_connections.specs.Messages.{wanted_after}
 use Rattle.chpw_connections.specs.Stages.{Stage, reading, queued, answering, confirming, writing}
-use Rattle.chpw_connections.specs.Stages.{lingering, abandoned, ended, Event, came, after, count_after}
+use Rattle.chpw_connections.specs.Stages.{lingering, abandoned, ended, Event, came, failed, after, count_after}
 use Rattle.chpw_connections.specs.Stages.{since_after, stage, wanted_by, IsRoomFor, IsRoomBehind, Goes}
 use Rattle.chpw_connections.specs.Sets.{Comes, wanted_of}
 use Rattle.chpw_connections.specs.Room.{HappensWithRoom}
@@ -87,3 +87,12 @@ wanted_happens who now old new slot more happens = record {
   others = happens.others;
   order = happens.order;
 }
+
+pub read_happens : (who : EvictionRule) (now : ℕ) (old new : Slab Connection) (slot : ℕ) (more part : List ℕ) (r : Option ℕ)
+    → part ≡ wanted_of (get old slot) more
+    → IfNone r (HappensWithRoom who now old new slot (came part) ⊎ HappensWithRoom who 0 old new slot failed)
+    → IfNone r (HappensWithRoom who now old new slot (came more) ⊎ HappensWithRoom who 0 old new slot failed)
+read_happens who now old new slot more part (Some worker) same read = read
+read_happens who now old new slot more part None same (inl happens) =
+    inl (wanted_happens who now old new slot more (subst (λ (l : List ℕ). HappensWithRoom who now old new slot (came l)) same happens))
+read_happens who now old new slot more part None same (inr fails) = inr fails

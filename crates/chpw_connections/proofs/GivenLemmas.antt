@@ -133,7 +133,7 @@ module _ (who : EvictionRule) (mid new : Slab Connection) (slot other : ℕ) (is
   gives : gives_way_at who (get mid other) ≡ true
   gives = waits_from who (get mid other) is.0 (sym (besides_other mid who slot other apart) ∙ is.1)
 
-  held_less : held_in new + held_at (get mid other) ≡ held_in mid
+  pub held_less : held_in new + held_at (get mid other) ≡ held_in mid
   held_less =
       let gone = lets_go who (get mid other) (get new other) gives happens.here in
       omega (arith, changed_sum held_at None refl mid.slots new.slots other happens.others, gone.0)

@@ -1,11 +1,14 @@
 pub mod ComesLemmas
 pub mod ConfirmLemmas
 pub mod CountLemmas
+pub mod EndsLemmas
 pub mod ExpiryLemmas
 pub mod GivenLemmas
 pub mod HeldLemmas
 pub mod HoldsLemmas
 pub mod LifeLemmas
+pub mod NeedLemmas
+pub mod NoteLemmas
 pub mod OrderLemmas
 pub mod PassLemmas
 pub mod PieceLemmas

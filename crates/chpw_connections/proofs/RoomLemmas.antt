@@ -57,7 +57,7 @@ out_waits_not who (Some c) (Some d) is comes =
     ap (λ (b : Bool). b && (nat_lt 0 (held_by d.phase) && (not (is_held_back d) && is_among who d))) over
 
 -- who waits was not put out before
-was_before : (who : EvictionRule) (old mid : Option Connection) → PutsOut who old mid → gives_way_at who mid ≡ true → mid ≡ old
+pub was_before : (who : EvictionRule) (old mid : Option Connection) → PutsOut who old mid → gives_way_at who mid ≡ true → mid ≡ old
 was_before who old mid (inl same) is = same
 was_before who old mid (inr out) is = absurd (let not = out_waits_not who old mid out.0 out.1 in cc)
 

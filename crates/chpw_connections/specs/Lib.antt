@@ -5,6 +5,7 @@ pub mod Held
 pub mod Holding
 pub mod Lives
 pub mod Messages
+pub mod Noting
 pub mod Orders
 pub mod Queues
 pub mod Reading

@@ -1,9 +1,10 @@
 -- The queues of a set of connections: which messages wait for which worker, in the order in which they came.
-use Rattle.std.specs.Prelude.{◌≡◌, ℕ, true, List, ◌∷◌, length}
+use Rattle.std.specs.Prelude.{◌≡◌, ℕ, true, List, [], ◌∷◌, length}
 use Rattle.slab.specs.Slab.{get}
 use Rattle.chpw_connections.specs.Waiting.{lists_of, queue_in, times, times_for, waits_for}
 use Rattle.chpw_connections.specs.Held.{slots_of, bounds_of, expired_by}
 use Rattle.chpw_connections.specs.Expiry.{and_more}
+use Rattle.chpw_connections.specs.Noting.{noted_by, NotesEach}
 use Rattle.chpw_connections.specs.Stages.{failed}
 use Rattle.chpw_connections.specs.Sets.{Happens, is_late_in}
 use Rattle.chpw_connections.specs.declared.set.Connections.{Connections}
@@ -24,11 +25,12 @@ queue_of c worker = queue_in (queues_of c) worker
 abbrev pub EachWaits : Connections → Type 0
 EachWaits c = (worker slot : ℕ) → times slot (queue_of c worker) ≡ times_for worker (waits_for (workers_of c) (get (slots_of c) slot))
 
--- the first message of a worker's queue has waited too long: its connection ends, the queue loses exactly its slot, and
--- one more is counted
+-- the first message of a worker's queue has waited too long: its connection ends, the queue loses exactly its slot,
+-- which is noted, and one more is counted
 pub record DropsLate (now : ℕ) (old new : Connections) (worker : ℕ) : Type 0 where
   pub slot : ℕ
   pub first : queue_of old worker ≡ slot ∷ queue_of new worker
   pub late : is_late_in (bounds_of old) now (get (slots_of old) slot) ≡ true
   pub ends : Happens 0 (slots_of old) (slots_of new) slot failed
   pub counted : expired_by new ≡ and_more 1 (expired_by old)
+  pub noted : NotesEach (noted_by old) (noted_by new) (slot ∷ [])

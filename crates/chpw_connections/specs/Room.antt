@@ -1,8 +1,8 @@
 -- Who is ended to make room, when connections would hold too much.
-use Rattle.std.specs.Prelude.{◌≡◌, ◌≢◌, ℕ, ◌+◌, ◌-◌, ◌/◌, ◌≤◌, ◌==◌, Option, Some, None, Bool}
+use Rattle.std.specs.Prelude.{◌≡◌, ◌≢◌, ℕ, ◌+◌, ◌-◌, ◌/◌, ◌<◌, ◌≤◌, ◌==◌, Option, Some, None, Bool}
 use Rattle.std.specs.Prelude.{true, false, ◌&&◌, not, nat_lt, nat_le, if◌then◌else◌, ◌⊎◌, sum_by}
 use Rattle.slab.specs.Slab.{Slab, get}
-use Rattle.chpw_connections.specs.Holding.{held_by, held_in, size_by, growth_by, growth_at, begun_of}
+use Rattle.chpw_connections.specs.Holding.{held_by, held_at, held_in, size_by, growth_by, growth_at, begun_of}
 use Rattle.chpw_connections.specs.Stages.{Event, failed, stage}
 use Rattle.chpw_connections.specs.Sets.{waits, waits_since, Comes}
 use Rattle.chpw_connections.specs.declared.limits.ConnectionLimits.{ConnectionLimits}
@@ -80,6 +80,26 @@ pub record HappensWithRoom (who : EvictionRule) (now : ℕ) (old new : Slab Conn
   pub here : Comes now event (get old slot) (get new slot)
   pub others : (other : ℕ) → other ≢ slot → PutsOut who (get old other) (get new other)
   pub order : LongestFirst who old new slot
+
+-- how many bytes the others hold
+abbrev pub held_besides : Slab Connection → ℕ → ℕ
+held_besides slots slot = held_in slots - held_at (get slots slot)
+
+-- the last one that was ended to make this much more room within a bound: it had been under way for the shortest time of
+-- those that were ended, and as long as it held its bytes there was no room
+pub record EndsLast (most count : ℕ) (who : EvictionRule) (old new : Slab Connection) (slot : ℕ) : Type 0 where
+  pub last : ℕ
+  pub other : last ≢ slot
+  pub gave : gives_way_at who (get old last) ≡ true
+  pub ended : Comes 0 failed (get old last) (get new last)
+  pub latest : (gone since s : ℕ) → gone ≢ slot → get new gone ≢ get old gone
+      → gives_way_since who (get old gone) ≡ Some since → gives_way_since who (get old last) ≡ Some s → since ≤ s
+  pub short : most < held_besides new slot + held_at (get old last) + held_at (get old slot) + count
+
+-- no other one was ended, or no more than needed: without the last one there was no room
+abbrev pub IsNeeded : ℕ → ℕ → EvictionRule → Slab Connection → Slab Connection → ℕ → Type 0
+IsNeeded most count who old new slot =
+    ((other : ℕ) → other ≢ slot → get new other ≡ get old other) ⊎ EndsLast most count who old new slot
 
 -- A message of more than 4,096 bytes with its length is large. There is room for one as long as all connections hold no
 -- more than half of what they may, and for others as long as they hold no more than three quarters: a flood of large

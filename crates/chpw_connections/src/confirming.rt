@@ -1,13 +1,14 @@
 //! Replies that wait until their changes are confirmed.
-ghost use Rattle.std.specs.Prelude.{◌≡◌, ◌≢◌, ◌+◌, ◌≤◌, ◌<◌, ℕ, true, false, IfSome, IfNone, Some, None, ◌⊎◌, length};
+ghost use Rattle.std.specs.Prelude.{◌≡◌, ◌≢◌, ◌+◌, ◌≤◌, ◌<◌, ℕ, true, false, IfSome, IfNone, Some, None, ◌⊎◌, length, not, ◌&&◌, ◌∷◌, []};
 ghost use Rattle.slab.specs.Slab.{get};
 ghost use Rattle.chpw_connections.specs.Holding.{held_in};
 ghost use Rattle.chpw_connections.specs.Stages.{deferred, unanswered, released};
 ghost use Rattle.chpw_connections.specs.Sets.{Happens, is_answering_in};
-ghost use Rattle.chpw_connections.specs.Room.{HappensWithRoom, has_room_besides, for_reply};
+ghost use Rattle.chpw_connections.specs.Room.{HappensWithRoom, IsNeeded, has_room_besides, for_reply};
 ghost use Rattle.chpw_connections.specs.Queues.{queues_of};
 ghost use Rattle.chpw_connections.specs.Confirming.{is_confirmed_in, Confirms, overdue_in, ReleasesOverdue, NoneIsOverdue};
 ghost use Rattle.chpw_connections.specs.Held.{slots_of, accepted_by, removed_by, expired_by, bounds_of, Counts};
+ghost use Rattle.chpw_connections.specs.Noting.{noted_by, NotesEach, NotesEnds, IsFirstOverdue, slot_if, slots_where, is_with_worker_in};
 
 use crate::set::Connections;
 
@@ -36,10 +37,15 @@ impl Connections {
             → HappensWithRoom (for_reply now) now (slots_of self.old) (slots_of self.new) slot (deferred reply.items is_last mark) }
         ensures too_much { has_room_besides (bounds_of self.old).bytes (for_reply now) (slots_of self.old) slot (length reply.items) ≡ false
             → Happens now (slots_of self.old) (slots_of self.new) slot unanswered }
+        ensures needed { IsNeeded (bounds_of self.old).bytes (length reply.items) (for_reply now) (slots_of self.old) (slots_of self.new) slot }
         ensures unwanted { is_answering_in (get (slots_of self.old) slot) ≡ false → Happens now (slots_of self.old) (slots_of self.new) slot unanswered }
         ensures counts { Counts self.new (accepted_by self.old) (removed_by self.old) }
         ensures expired { expired_by self.new ≡ expired_by self.old }
         ensures bounds { bounds_of self.new ≡ bounds_of self.old }
+        ensures notes { NotesEnds (for_reply now) (slots_of self.old) (slots_of self.new) slot (noted_by self.old) (noted_by self.new)
+            (slot_if (not (is_answering_in (get (slots_of self.old) slot)
+            && has_room_besides (bounds_of self.old).bytes (for_reply now) (slots_of self.old) slot (length reply.items))
+            && is_with_worker_in (get (slots_of self.old) slot)) slot) }
         ensures queues { queues_of self.new ≡ queues_of self.old }
     {
         if self.find_room_to_reply(slot, reply.len(), now) {
@@ -56,6 +62,7 @@ impl Connections {
         ensures counts { Counts self.new (accepted_by self.old) (removed_by self.old) }
         ensures expired { expired_by self.new ≡ expired_by self.old }
         ensures bounds { bounds_of self.new ≡ bounds_of self.old }
+        ensures notes { NotesEach (noted_by self.old) (noted_by self.new) (slots_where (is_confirmed_in mark) (slots_of self.old)) }
         ensures queues { queues_of self.new ≡ queues_of self.old }
     {
         for slot in 0..self.slots.capacity() {
@@ -70,6 +77,7 @@ impl Connections {
         ensures counts { Counts self.new (accepted_by self.old) (removed_by self.old) }
         ensures expired { expired_by self.new ≡ expired_by self.old }
         ensures bounds { bounds_of self.new ≡ bounds_of self.old }
+        ensures notes { NotesEach (noted_by self.old) (noted_by self.new) (slot_if (is_confirmed_in mark (get (slots_of self.old) slot)) slot) }
         ensures queues { queues_of self.new ≡ queues_of self.old }
     {
         if self.is_confirmed(slot, mark) {
@@ -87,6 +95,8 @@ impl Connections {
         ensures counts { Counts self.new (accepted_by self.old) (removed_by self.old) }
         ensures expired { expired_by self.new ≡ expired_by self.old }
         ensures bounds { bounds_of self.new ≡ bounds_of self.old }
+        ensures notes { IfSome result (λ u. (slot : ℕ) × IsFirstOverdue wait now (slots_of self.old) u.mark slot
+            × NotesEach (noted_by self.old) (noted_by self.new) (slot ∷ [])) }
         ensures queues { queues_of self.new ≡ queues_of self.old }
     {
         let (slot, mark) = self.first_overdue(wait, now)?;
@@ -133,6 +143,7 @@ impl Connections {
         ensures counts { Counts self.new (accepted_by self.old) (removed_by self.old) }
         ensures expired { expired_by self.new ≡ expired_by self.old }
         ensures bounds { bounds_of self.new ≡ bounds_of self.old }
+        ensures notes { NotesEach (noted_by self.old) (noted_by self.new) (slot ∷ []) }
         ensures queues { queues_of self.new ≡ queues_of self.old }
     {
         self.slots.release(slot, now);

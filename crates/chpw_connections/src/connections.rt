@@ -1,5 +1,5 @@
 //! A set of connections, within bounds.
-ghost use Rattle.std.specs.Prelude.{MatchBool, ◌≡◌, ◌≢◌, ◌+◌, ◌<◌, ◌≤◌, ◌==◌, ℕ, not, nat_lt};
+ghost use Rattle.std.specs.Prelude.{MatchBool, ◌≡◌, ◌≢◌, ◌+◌, ◌<◌, ◌≤◌, ◌==◌, ◌&&◌, ℕ, not, nat_lt};
 ghost use Rattle.std.specs.Prelude.{true, false, IfSome, IfNone, IsSome, IfOk, Some, None, ◌⊎◌};
 ghost use Rattle.std.specs.Prelude.{◌∷◌, ◌++◌, [], ◌%◌, length, drop, if◌then◌else◌, is_some};
 ghost use Rattle.slab.specs.Slab.{get, slab_len, Updates};
@@ -8,13 +8,15 @@ ghost use Rattle.chpw_connections.specs.Stages.{came, taken, replied, unanswered
 ghost use Rattle.chpw_connections.specs.Sets.{Happens, wanted_at, left_at, queued_at};
 ghost use Rattle.chpw_connections.specs.Sets.{is_late_in, Passes, is_lingering_in, is_ended_in};
 ghost use Rattle.chpw_connections.specs.Sets.{is_reading_in, is_answering_in, wanted_of, IsNew};
-ghost use Rattle.chpw_connections.specs.Room.{HappensWithRoom, has_room_besides};
+ghost use Rattle.chpw_connections.specs.Room.{HappensWithRoom, IsNeeded, has_room_besides};
 ghost use Rattle.chpw_connections.specs.Room.{has_room_to_read as has_room_to_read_in};
 ghost use Rattle.chpw_connections.specs.Room.{read_within, for_message, for_reply, is_large_in};
 ghost use Rattle.chpw_connections.specs.Expiry.{one_more, is_dropped_in, dropped_in, and_more};
 ghost use Rattle.chpw_connections.specs.Queues.{queues_of, queue_of, workers_of, DropsLate};
 ghost use Rattle.chpw_connections.specs.Waiting.{waits_for, in_time, Becomes, Leaves};
-ghost use Rattle.chpw_connections.specs.Held.{slots_of, accepted_by, removed_by, expired_by, bounds_of, Counts};
+ghost use Rattle.chpw_connections.specs.Held.{slots_of, accepted_by, removed_by, expired_by, bounds_of, changed_of, Counts};
+ghost use Rattle.chpw_connections.specs.Noting.{noted_by, room_to_note, NotesEach, NotesEnds, slot_if, slots_where};
+ghost use Rattle.chpw_connections.specs.Noting.{is_gone_in, is_with_worker_in, ends_closed_in};
 
 use crate::connection::{Connection, Phase, at_most};
 use crate::limits::ConnectionLimits;
@@ -48,6 +50,8 @@ impl Connections {
         ensures bounds { IfOk result (λ c. bounds_of c ≡ bounds) }
         ensures workers { IfOk result (λ c. workers_of c ≡ (if workers == 0 then 1 else workers)) }
         ensures empty { IfOk result (λ c. (worker : ℕ) → queue_of c worker ≡ []) }
+        ensures noted { IfOk result (λ c. changed_of c ≡ []) }
+        ensures room { IfOk result (λ c. bounds.connections ≤ room_to_note c) }
     {
         Ok(Connections {
             alloc,
@@ -109,6 +113,7 @@ impl Connections {
         ensures expired { expired_by self.new ≡ expired_by self.old }
         ensures queues { queues_of self.new ≡ queues_of self.old }
         ensures bounds { bounds_of self.new ≡ bounds_of self.old }
+        ensures notes { noted_by self.new ≡ noted_by self.old }
         ensures unchanged { IfNone result (self.new ≡ self.old) }
     {
         if self.is_full() || self.accepted == u32::MAX {
@@ -152,10 +157,20 @@ impl Connections {
             → (other : ℕ) → other ≢ slot → get (slots_of self.new) other ≡ get (slots_of self.old) other }
         ensures too_many { has_room_to_read_in (bounds_of self.old) now (slots_of self.old) slot ≡ false
             → (other : ℕ) → other ≢ slot → get (slots_of self.new) other ≡ get (slots_of self.old) other }
+        ensures no_room { has_room_to_read_in (bounds_of self.old) now (slots_of self.old) slot ≡ false
+            → is_reading_in (get (slots_of self.old) slot) ≡ true → Happens 0 (slots_of self.old) (slots_of self.new) slot failed }
+        ensures fits { is_reading_in (get (slots_of self.old) slot) ≡ true → is_ended_in (get (slots_of self.new) slot) ≡ false
+            → held_in (slots_of self.new) ≤ read_within (bounds_of self.old) (is_large_in (get (slots_of self.old) slot)) }
+        ensures needed { IsNeeded (read_within (bounds_of self.old) (is_large_in (get (slots_of self.old) slot)))
+            (growth_at (get (slots_of self.old) slot)) (for_message (bounds_of self.old) now (get (slots_of self.old) slot))
+            (slots_of self.old) (slots_of self.new) slot }
         ensures workers { workers_of self.new ≡ workers_of self.old }
         ensures counts { Counts self.new (accepted_by self.old) (removed_by self.old) }
         ensures expired { expired_by self.new ≡ expired_by self.old }
         ensures bounds { bounds_of self.new ≡ bounds_of self.old }
+        ensures notes { NotesEnds (for_message (bounds_of self.old) now (get (slots_of self.old) slot)) (slots_of self.old) (slots_of self.new) slot
+            (noted_by self.old) (noted_by self.new)
+            (slot_if (is_reading_in (get (slots_of self.old) slot) && is_ended_in (get (slots_of self.new) slot)) slot) }
     {
         if !self.is_reading(slot) {
             return None;
@@ -167,6 +182,7 @@ impl Connections {
     // These bytes came, all of which are wanted.
     #[tactic(auto, using(crate::proofs::RoomLemmas::happens_with_room))]
     fn receive_wanted(&mut self, slot: usize, bytes: &[u8], now: u64) -> Option<usize>
+        requires reading { is_reading_in (get (slots_of self.old) slot) ≡ true }
         ensures queued { IfSome result (λ worker. HappensWithRoom (for_message (bounds_of self.old) now
             (get (slots_of self.old) slot)) now (slots_of self.old) (slots_of self.new) slot (came bytes.now)) }
         ensures joins { IfSome result (λ worker. Becomes (queues_of self.old) (queues_of self.new) worker (queue_of self.old worker ++ slot ∷ [])) }
@@ -182,10 +198,20 @@ impl Connections {
             → (other : ℕ) → other ≢ slot → get (slots_of self.new) other ≡ get (slots_of self.old) other }
         ensures too_many { has_room_to_read_in (bounds_of self.old) now (slots_of self.old) slot ≡ false
             → (other : ℕ) → other ≢ slot → get (slots_of self.new) other ≡ get (slots_of self.old) other }
+        ensures no_room { has_room_to_read_in (bounds_of self.old) now (slots_of self.old) slot ≡ false
+            → Happens 0 (slots_of self.old) (slots_of self.new) slot failed }
+        ensures fits { is_ended_in (get (slots_of self.new) slot) ≡ false
+            → held_in (slots_of self.new) ≤ read_within (bounds_of self.old) (is_large_in (get (slots_of self.old) slot)) }
+        ensures needed { IsNeeded (read_within (bounds_of self.old) (is_large_in (get (slots_of self.old) slot)))
+            (growth_at (get (slots_of self.old) slot)) (for_message (bounds_of self.old) now (get (slots_of self.old) slot))
+            (slots_of self.old) (slots_of self.new) slot }
         ensures workers { workers_of self.new ≡ workers_of self.old }
         ensures counts { Counts self.new (accepted_by self.old) (removed_by self.old) }
         ensures expired { expired_by self.new ≡ expired_by self.old }
         ensures bounds { bounds_of self.new ≡ bounds_of self.old }
+        ensures notes { NotesEnds (for_message (bounds_of self.old) now (get (slots_of self.old) slot)) (slots_of self.old) (slots_of self.new) slot
+            (noted_by self.old) (noted_by self.new)
+            (slot_if (is_reading_in (get (slots_of self.old) slot) && is_ended_in (get (slots_of self.new) slot)) slot) }
     {
         if !self.find_room_to_read(slot, now) {
             self.fail(slot);
@@ -217,6 +243,7 @@ impl Connections {
         ensures counts { Counts self.new (accepted_by self.old) (removed_by self.old) }
         ensures expired { expired_by self.new ≡ expired_by self.old }
         ensures bounds { bounds_of self.new ≡ bounds_of self.old }
+        ensures notes { NotesEach (noted_by self.old) (noted_by self.new) (slot_if (ends_closed_in (get (slots_of self.old) slot)) slot) }
         ensures queues { queues_of self.new ≡ queues_of self.old }
     {
         let can_end = self.is_reading(slot) || self.is_lingering(slot);
@@ -230,6 +257,7 @@ impl Connections {
         ensures counts { Counts self.new (accepted_by self.old) (removed_by self.old) }
         ensures expired { expired_by self.new ≡ expired_by self.old }
         ensures bounds { bounds_of self.new ≡ bounds_of self.old }
+        ensures notes { NotesEach (noted_by self.old) (noted_by self.new) (slot_if (not (is_gone_in (get (slots_of self.old) slot))) slot) }
         ensures leaves { Leaves (queues_of self.old) (queues_of self.new) slot }
         ensures same { queued_at (get (slots_of self.old) slot) ≡ None → queues_of self.new ≡ queues_of self.old }
     {
@@ -254,6 +282,7 @@ impl Connections {
         ensures counts { Counts self.new (accepted_by self.old) (removed_by self.old) }
         ensures expired { expired_by self.new ≡ expired_by self.old }
         ensures bounds { bounds_of self.new ≡ bounds_of self.old }
+        ensures notes { noted_by self.new ≡ noted_by self.old }
         ensures queues { queues_of self.new ≡ queues_of self.old }
     {
         self.slots.wrote(self.alloc, slot, count, now);
@@ -287,6 +316,7 @@ impl Connections {
         ensures removed { result ≡ true → Counts self.new (accepted_by self.old) (removed_by self.old + 1) }
         ensures expired { expired_by self.new ≡ expired_by self.old }
         ensures bounds { bounds_of self.new ≡ bounds_of self.old }
+        ensures notes { noted_by self.new ≡ noted_by self.old }
         ensures queues { queues_of self.new ≡ queues_of self.old }
         ensures unchanged { result ≡ false → self.new ≡ self.old }
     {
@@ -312,6 +342,7 @@ impl Connections {
         ensures counts { Counts self.new (accepted_by self.old) (removed_by self.old) }
         ensures expired { IfSome result (λ t. expired_by self.new ≡ expired_by self.old) }
         ensures bounds { bounds_of self.new ≡ bounds_of self.old }
+        ensures notes { IfSome result (λ t. noted_by self.new ≡ noted_by self.old) }
     {
         let slot = self.queues.first(worker)?;
         if self.is_late(slot, now) {
@@ -333,6 +364,7 @@ impl Connections {
         ensures counts { Counts self.new (accepted_by self.old) (removed_by self.old) }
         ensures expired { expired_by self.new ≡ expired_by self.old }
         ensures bounds { bounds_of self.new ≡ bounds_of self.old }
+        ensures notes { noted_by self.new ≡ noted_by self.old }
     {
         let peer = self.slots.peer(slot);
         let taken = self.slots.take(slot);
@@ -360,10 +392,15 @@ impl Connections {
             → HappensWithRoom (for_reply now) now (slots_of self.old) (slots_of self.new) slot (replied reply.items is_last) }
         ensures too_much { has_room_besides (bounds_of self.old).bytes (for_reply now) (slots_of self.old) slot (length reply.items) ≡ false
             → Happens now (slots_of self.old) (slots_of self.new) slot unanswered }
+        ensures needed { IsNeeded (bounds_of self.old).bytes (length reply.items) (for_reply now) (slots_of self.old) (slots_of self.new) slot }
         ensures unwanted { is_answering_in (get (slots_of self.old) slot) ≡ false → Happens now (slots_of self.old) (slots_of self.new) slot unanswered }
         ensures counts { Counts self.new (accepted_by self.old) (removed_by self.old) }
         ensures expired { expired_by self.new ≡ expired_by self.old }
         ensures bounds { bounds_of self.new ≡ bounds_of self.old }
+        ensures notes { NotesEnds (for_reply now) (slots_of self.old) (slots_of self.new) slot (noted_by self.old) (noted_by self.new)
+            (slot_if (not (is_answering_in (get (slots_of self.old) slot)
+            && has_room_besides (bounds_of self.old).bytes (for_reply now) (slots_of self.old) slot (length reply.items))
+            && is_with_worker_in (get (slots_of self.old) slot)) slot) }
         ensures queues { queues_of self.new ≡ queues_of self.old }
     {
         if self.find_room_to_reply(slot, reply.len(), now) {
@@ -380,6 +417,7 @@ impl Connections {
         ensures counts { Counts self.new (accepted_by self.old) (removed_by self.old) }
         ensures expired { expired_by self.new ≡ expired_by self.old }
         ensures bounds { bounds_of self.new ≡ bounds_of self.old }
+        ensures notes { NotesEach (noted_by self.old) (noted_by self.new) (slot_if (is_with_worker_in (get (slots_of self.old) slot)) slot) }
         ensures queues { queues_of self.new ≡ queues_of self.old }
     {
         let is_with_worker = self.is_with_worker(slot);
@@ -394,6 +432,7 @@ impl Connections {
         ensures counts { Counts self.new (accepted_by self.old) (removed_by self.old) }
         ensures expired { expired_by self.new ≡ and_more (dropped_in (bounds_of self.old) now (slots_of self.old)) (expired_by self.old) }
         ensures bounds { bounds_of self.new ≡ bounds_of self.old }
+        ensures notes { NotesEach (noted_by self.old) (noted_by self.new) (slots_where (is_late_in (bounds_of self.old) now) (slots_of self.old)) }
         ensures queues { (worker : ℕ) → queue_of self.new worker ≡ in_time (bounds_of self.old) now (slots_of self.old) (queue_of self.old worker) }
     {
         for slot in 0..self.slots.capacity() {
@@ -409,6 +448,7 @@ impl Connections {
         ensures counts { Counts self.new (accepted_by self.old) (removed_by self.old) }
         ensures expired { expired_by self.new ≡ one_more (is_dropped_in (bounds_of self.old) now (get (slots_of self.old) slot)) (expired_by self.old) }
         ensures bounds { bounds_of self.new ≡ bounds_of self.old }
+        ensures notes { NotesEach (noted_by self.old) (noted_by self.new) (slot_if (is_late_in (bounds_of self.old) now (get (slots_of self.old) slot)) slot) }
         ensures queues { MatchBool (is_late_in (bounds_of self.old) now (get (slots_of self.old) slot))
             (Leaves (queues_of self.old) (queues_of self.new) slot) (queues_of self.new ≡ queues_of self.old) }
     {
@@ -425,6 +465,7 @@ impl Connections {
         ensures queues { queues_of self.new ≡ queues_of self.old }
         ensures counts { Counts self.new (accepted_by self.old) (removed_by self.old) }
         ensures bounds { bounds_of self.new ≡ bounds_of self.old }
+        ensures notes { noted_by self.new ≡ noted_by self.old }
     {
         if self.is_waiting(slot) {
             self.expired = self.expired.saturating_add(1);

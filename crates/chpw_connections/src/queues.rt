@@ -2,6 +2,7 @@
 ghost use Rattle.std.specs.Prelude.{◌≡◌, ◌∷◌, [], nat_lt, length, IfSome, IfNone};
 ghost use Rattle.chpw_connections.specs.Held.{slots_of, accepted_by, removed_by, expired_by, bounds_of, changed_of, Counts, Notes};
 ghost use Rattle.chpw_connections.specs.Queues.{queues_of, queue_of, EachWaits};
+ghost use Rattle.chpw_connections.specs.Noting.{noted_by, room_to_note, NotesEach, slot_if};
 
 use crate::set::Connections;
 
@@ -17,6 +18,7 @@ impl Connections {
     // Notes a slot for the caller.
     pub(crate) fn note(&mut self, slot: usize)
         ensures notes { Notes self.old self.new slot }
+        ensures noted { NotesEach (noted_by self.old) (noted_by self.new) (slot ∷ []) }
         ensures slots { slots_of self.new ≡ slots_of self.old }
         ensures queues { queues_of self.new ≡ queues_of self.old }
         ensures counts { Counts self.new (accepted_by self.old) (removed_by self.old) }
@@ -28,6 +30,7 @@ impl Connections {
 
     // Notes a slot for the caller, if something changed for its connection.
     pub(crate) fn note_where(&mut self, is_changed: bool, slot: usize)
+        ensures notes { NotesEach (noted_by self.old) (noted_by self.new) (slot_if is_changed slot) }
         ensures slots { slots_of self.new ≡ slots_of self.old }
         ensures queues { queues_of self.new ≡ queues_of self.old }
         ensures counts { Counts self.new (accepted_by self.old) (removed_by self.old) }
@@ -46,7 +49,8 @@ impl Connections {
     /// Meanwhile the slot may be free, or another connection's: `todo` says what is to be done.
     pub fn take_changed(&mut self) -> Option<usize>
         ensures first { IfSome result (λ slot. changed_of self.old ≡ slot ∷ changed_of self.new) }
-        ensures none { IfNone result (changed_of self.old ≡ []) }
+        ensures none { IfNone result ((changed_of self.old ≡ []) × (changed_of self.new ≡ [])) }
+        ensures room { room_to_note self.new ≡ room_to_note self.old }
         ensures slots { slots_of self.new ≡ slots_of self.old }
         ensures queues { queues_of self.new ≡ queues_of self.old }
         ensures counts { Counts self.new (accepted_by self.old) (removed_by self.old) }
@@ -66,6 +70,7 @@ impl Connections {
     /// Notes a slot for whose connection more is to be done than was done for now.
     pub fn look_again(&mut self, slot: usize)
         ensures notes { Notes self.old self.new slot }
+        ensures noted { NotesEach (noted_by self.old) (noted_by self.new) (slot ∷ []) }
         ensures slots { slots_of self.new ≡ slots_of self.old }
         ensures queues { queues_of self.new ≡ queues_of self.old }
         ensures counts { Counts self.new (accepted_by self.old) (removed_by self.old) }

@@ -1,13 +1,14 @@
 //! How much room there is, and who is ended to make more.
-ghost use Rattle.std.specs.Prelude.{◌≡◌, ◌+◌, ◌≤◌, ◌<◌, ℕ, not, nat_lt, true, false, ◌^◌, ◌&&◌};
+ghost use Rattle.std.specs.Prelude.{◌≡◌, ◌+◌, ◌≤◌, ◌<◌, ℕ, not, nat_lt, true, false, ◌^◌, ◌&&◌, ◌∷◌, []};
 ghost use Rattle.chpw_connections.specs.Holding.{held_in, growth_at};
 ghost use Rattle.chpw_connections.specs.Stages.{failed};
 ghost use Rattle.chpw_connections.specs.Sets.{Happens, IsLongest, NobodyWaits, is_answering_in};
 ghost use Rattle.slab.specs.Slab.{get};
-ghost use Rattle.chpw_connections.specs.Room.{MakesRoom, is_large_in, read_within, for_message, for_reply};
+ghost use Rattle.chpw_connections.specs.Room.{MakesRoom, IsNeeded, is_large_in, read_within, for_message, for_reply};
 ghost use Rattle.chpw_connections.specs.Room.{has_room_besides, has_room_to_read as has_room_to_read_in};
 ghost use Rattle.chpw_connections.specs.Queues.{queues_of};
 ghost use Rattle.chpw_connections.specs.Held.{slots_of, accepted_by, removed_by, expired_by, bounds_of, Counts};
+ghost use Rattle.chpw_connections.specs.Noting.{noted_by, NotesEach, NotesEnds};
 
 use crate::set::Connections;
 
@@ -37,6 +38,10 @@ impl Connections {
         ensures ended { result ≡ true → (slot : ℕ) × IsLongest (slots_of self.old) slot
             × Happens 0 (slots_of self.old) (slots_of self.new) slot failed }
         ensures nobody { result ≡ false → NobodyWaits (slots_of self.old) × (slots_of self.new ≡ slots_of self.old) }
+        ensures noted { result ≡ true → (slot : ℕ) × IsLongest (slots_of self.old) slot
+            × Happens 0 (slots_of self.old) (slots_of self.new) slot failed
+            × NotesEach (noted_by self.old) (noted_by self.new) (slot ∷ []) }
+        ensures unnoted { result ≡ false → noted_by self.new ≡ noted_by self.old }
         ensures counts { Counts self.new (accepted_by self.old) (removed_by self.old) }
         ensures expired { expired_by self.new ≡ expired_by self.old }
         ensures bounds { bounds_of self.new ≡ bounds_of self.old }
@@ -97,9 +102,14 @@ impl Connections {
             ≤ read_within (bounds_of self.old) (is_large_in (get (slots_of self.old) slot))
             → slots_of self.new ≡ slots_of self.old }
         ensures none { result ≡ false → slots_of self.new ≡ slots_of self.old }
+        ensures needed { IsNeeded (read_within (bounds_of self.old) (is_large_in (get (slots_of self.old) slot)))
+            (growth_at (get (slots_of self.old) slot)) (for_message (bounds_of self.old) now (get (slots_of self.old) slot))
+            (slots_of self.old) (slots_of self.new) slot }
         ensures counts { Counts self.new (accepted_by self.old) (removed_by self.old) }
         ensures expired { expired_by self.new ≡ expired_by self.old }
         ensures bounds { bounds_of self.new ≡ bounds_of self.old }
+        ensures notes { NotesEnds (for_message (bounds_of self.old) now (get (slots_of self.old) slot)) (slots_of self.old) (slots_of self.new) slot
+            (noted_by self.old) (noted_by self.new) [] }
         ensures queues { queues_of self.new ≡ queues_of self.old }
     {
         let (most, who) = self.room_to_read(slot, now);
@@ -117,9 +127,11 @@ impl Connections {
         ensures enough { held_in (slots_of self.old) + count ≤ (bounds_of self.old).bytes
             → (result ≡ is_answering_in (get (slots_of self.old) slot)) × (slots_of self.new ≡ slots_of self.old) }
         ensures none { result ≡ false → slots_of self.new ≡ slots_of self.old }
+        ensures needed { IsNeeded (bounds_of self.old).bytes count (for_reply now) (slots_of self.old) (slots_of self.new) slot }
         ensures counts { Counts self.new (accepted_by self.old) (removed_by self.old) }
         ensures expired { expired_by self.new ≡ expired_by self.old }
         ensures bounds { bounds_of self.new ≡ bounds_of self.old }
+        ensures notes { NotesEnds (for_reply now) (slots_of self.old) (slots_of self.new) slot (noted_by self.old) (noted_by self.new) [] }
         ensures queues { queues_of self.new ≡ queues_of self.old }
     {
         let most = self.bounds.bytes;
@@ -156,9 +168,11 @@ impl Connections {
         ensures fits { result ≡ true → held_in (slots_of self.new) + count < 2 ^ 64 }
         ensures enough { held_in (slots_of self.old) + count ≤ most → (result ≡ true) × (slots_of self.new ≡ slots_of self.old) }
         ensures none { result ≡ false → slots_of self.new ≡ slots_of self.old }
+        ensures needed { IsNeeded most count who (slots_of self.old) (slots_of self.new) slot }
         ensures counts { Counts self.new (accepted_by self.old) (removed_by self.old) }
         ensures expired { expired_by self.new ≡ expired_by self.old }
         ensures bounds { bounds_of self.new ≡ bounds_of self.old }
+        ensures notes { NotesEnds who (slots_of self.old) (slots_of self.new) slot (noted_by self.old) (noted_by self.new) [] }
         ensures queues { queues_of self.new ≡ queues_of self.old }
     {
         if self.has_room_for(count, most) {
@@ -190,9 +204,11 @@ impl Connections {
         requires enough { has_room_besides most who (slots_of self.old) slot count ≡ true }
         ensures makes_room { MakesRoom who (slots_of self.old) (slots_of self.new) slot }
         ensures room { held_in (slots_of self.new) + count ≤ most }
+        ensures needed { IsNeeded most count who (slots_of self.old) (slots_of self.new) slot }
         ensures counts { Counts self.new (accepted_by self.old) (removed_by self.old) }
         ensures expired { expired_by self.new ≡ expired_by self.old }
         ensures bounds { bounds_of self.new ≡ bounds_of self.old }
+        ensures notes { NotesEnds who (slots_of self.old) (slots_of self.new) slot (noted_by self.old) (noted_by self.new) [] }
         ensures queues { queues_of self.new ≡ queues_of self.old }
     {
         while !self.has_room_for(count, most) {

@@ -1,14 +1,17 @@
-use Rattle.std.proofs.Common.{◌≡◌, true}
+use Rattle.std.proofs.Common.{◌≡◌, true, []}
 use Rattle.chpw_connections.specs.Held.{slots_of, bounds_of, accepted_by, removed_by, expired_by, Counts}
 use Rattle.chpw_connections.specs.Holding.{held_in}
 use Rattle.chpw_connections.specs.Queues.{queues_of}
-use Rattle.chpw_connections.specs.Room.{MakesRoom, has_room_besides}
+use Rattle.chpw_connections.specs.Room.{MakesRoom, IsNeeded, has_room_besides}
+use Rattle.chpw_connections.specs.Noting.{noted_by, NotesEnds}
 use Rattle.chpw_connections.proofs.set.Connections.put_out_for.Given as goal
 
 abbrev pub invariant-loop-who : goal.invariant-loop-who
 invariant-loop-who l = record {
   makes_room : MakesRoom l.who (slots_of l.fn.self) (slots_of l.self) l.slot;
+  needed : IsNeeded l.most l.count l.who (slots_of l.fn.self) (slots_of l.self) l.slot;
   enough : has_room_besides l.most l.who (slots_of l.self) l.slot l.count ≡ true;
+  notes : NotesEnds l.who (slots_of l.fn.self) (slots_of l.self) l.slot (noted_by l.fn.self) (noted_by l.self) [];
   counts : Counts l.self (accepted_by l.fn.self) (removed_by l.fn.self);
   expired : expired_by l.self ≡ expired_by l.fn.self;
   bounds : bounds_of l.self ≡ bounds_of l.fn.self;

@@ -6,7 +6,11 @@ use Rattle.chpw_connections.specs.Stages.{came, failed}
 use Rattle.chpw_connections.specs.Held.{slots_of, bounds_of}
 use Rattle.chpw_connections.specs.Sets.{Happens}
 use Rattle.slab.specs.Slab.{Slab, get}
-use Rattle.chpw_connections.specs.Room.{for_message}
+use Rattle.chpw_connections.specs.Room.{for_message, read_within, is_large_in}
+use Rattle.chpw_connections.specs.Holding.{growth_at}
+use Rattle.chpw_connections.specs.Noting.{noted_by}
+use Rattle.chpw_connections.proofs.NeedLemmas.{needed_still}
+use Rattle.chpw_connections.proofs.EndsLemmas.{ended_noted, failed_noted, read_noted}
 use Rattle.chpw_connections.specs.declared.connection.Connection.{Connection}
 use Rattle.chpw_connections.proofs.set.Connections.receive_wanted.Goals as goal
 
@@ -66,3 +70,89 @@ returns-in-Ok-true-clause-queued c =
     c.args.now (slots_of c.args.self.now)
     (slots_of c.find_room_to_read.new.self) c.receive.new.self.connections c.args.slot
     (came c.args.bytes.now) c.find_room_to_read.ensures.makes_room c.in-Ok-true.ensures.happens
+
+pub returns-then-not-find_room_to_read-clause-notes : goal.returns-then-not-find_room_to_read-clause-notes
+returns-then-not-find_room_to_read-clause-notes c =
+    let old = slots_of c.args.self.now in
+    let mid = slots_of c.find_room_to_read.new.self in
+    let who = for_message (bounds_of c.args.self.now) c.args.now (get old c.args.slot) in
+    failed_noted who old mid (slots_of c.fail.new.self) c.args.slot
+    (noted_by c.args.self.now) (noted_by c.find_room_to_read.new.self) (noted_by c.fail.new.self)
+    c.requires.reading c.find_room_to_read.ensures.makes_room c.find_room_to_read.ensures.notes
+    c.fail.ensures.happens c.fail.ensures.notes
+
+pub returns-then-not-reserve-clause-needed : goal.returns-then-not-reserve-clause-needed
+returns-then-not-reserve-clause-needed c =
+    let old = slots_of c.args.self.now in
+    let mid = slots_of c.find_room_to_read.new.self in
+    let who = for_message (bounds_of c.args.self.now) c.args.now (get old c.args.slot) in
+    needed_still (read_within (bounds_of c.args.self.now) (is_large_in (get old c.args.slot))) (growth_at (get old c.args.slot)) 0 who old mid
+    (slots_of c.fail-then-not-reserve.new.self) c.args.slot failed c.find_room_to_read.ensures.needed
+    c.fail-then-not-reserve.ensures.happens
+
+pub returns-then-not-reserve-clause-notes : goal.returns-then-not-reserve-clause-notes
+returns-then-not-reserve-clause-notes c =
+    let old = slots_of c.args.self.now in
+    let mid = slots_of c.find_room_to_read.new.self in
+    let who = for_message (bounds_of c.args.self.now) c.args.now (get old c.args.slot) in
+    failed_noted who old mid (slots_of c.fail-then-not-reserve.new.self) c.args.slot
+    (noted_by c.args.self.now) (noted_by c.find_room_to_read.new.self) (noted_by c.fail-then-not-reserve.new.self)
+    c.requires.reading c.find_room_to_read.ensures.makes_room c.find_room_to_read.ensures.notes
+    c.fail-then-not-reserve.ensures.happens c.fail-then-not-reserve.ensures.notes
+
+pub returns-in-Err-clause-needed : goal.returns-in-Err-clause-needed
+returns-in-Err-clause-needed c =
+    let old = slots_of c.args.self.now in
+    let mid = slots_of c.find_room_to_read.new.self in
+    let who = for_message (bounds_of c.args.self.now) c.args.now (get old c.args.slot) in
+    needed_still (read_within (bounds_of c.args.self.now) (is_large_in (get old c.args.slot))) (growth_at (get old c.args.slot)) 0 who old mid
+    (slots_of c.note.new.self) c.args.slot failed c.find_room_to_read.ensures.needed
+    (subst (λ (s : Slab Connection). Happens 0 mid s c.args.slot failed) (sym c.note.ensures.slots) c.in-Err.ensures.ended)
+
+pub returns-in-Err-clause-notes : goal.returns-in-Err-clause-notes
+returns-in-Err-clause-notes c =
+    let old = slots_of c.args.self.now in
+    let mid = slots_of c.find_room_to_read.new.self in
+    let who = for_message (bounds_of c.args.self.now) c.args.now (get old c.args.slot) in
+    ended_noted who old mid (slots_of c.note.new.self) c.args.slot
+    (noted_by c.args.self.now) (noted_by c.find_room_to_read.new.self) (noted_by c.note.new.self)
+    c.requires.reading c.find_room_to_read.ensures.makes_room c.find_room_to_read.ensures.notes
+    (subst (λ (s : Slab Connection). Happens 0 mid s c.args.slot failed) (sym c.note.ensures.slots) c.in-Err.ensures.ended) c.note.ensures.noted
+
+pub returns-in-Ok-true-clause-needed : goal.returns-in-Ok-true-clause-needed
+returns-in-Ok-true-clause-needed c =
+    let old = slots_of c.args.self.now in
+    let mid = slots_of c.find_room_to_read.new.self in
+    let who = for_message (bounds_of c.args.self.now) c.args.now (get old c.args.slot) in
+    needed_still (read_within (bounds_of c.args.self.now) (is_large_in (get old c.args.slot))) (growth_at (get old c.args.slot)) c.args.now who old mid
+    c.receive.new.self.connections c.args.slot (came c.args.bytes.now) c.find_room_to_read.ensures.needed
+    c.in-Ok-true.ensures.happens
+
+pub returns-in-Ok-true-clause-notes : goal.returns-in-Ok-true-clause-notes
+returns-in-Ok-true-clause-notes c =
+    let old = slots_of c.args.self.now in
+    let mid = slots_of c.find_room_to_read.new.self in
+    let who = for_message (bounds_of c.args.self.now) c.args.now (get old c.args.slot) in
+    read_noted who c.args.now c.args.bytes.now old mid c.receive.new.self.connections c.args.slot
+    (noted_by c.args.self.now) (noted_by c.find_room_to_read.new.self)
+    c.requires.reading c.find_room_to_read.ensures.makes_room c.find_room_to_read.ensures.notes
+    c.in-Ok-true.ensures.happens
+
+pub returns-in-Ok-false-clause-needed : goal.returns-in-Ok-false-clause-needed
+returns-in-Ok-false-clause-needed c =
+    let old = slots_of c.args.self.now in
+    let mid = slots_of c.find_room_to_read.new.self in
+    let who = for_message (bounds_of c.args.self.now) c.args.now (get old c.args.slot) in
+    needed_still (read_within (bounds_of c.args.self.now) (is_large_in (get old c.args.slot))) (growth_at (get old c.args.slot)) c.args.now who old mid
+    c.receive.new.self.connections c.args.slot (came c.args.bytes.now) c.find_room_to_read.ensures.needed
+    c.in-Ok-false.ensures.happens
+
+pub returns-in-Ok-false-clause-notes : goal.returns-in-Ok-false-clause-notes
+returns-in-Ok-false-clause-notes c =
+    let old = slots_of c.args.self.now in
+    let mid = slots_of c.find_room_to_read.new.self in
+    let who = for_message (bounds_of c.args.self.now) c.args.now (get old c.args.slot) in
+    read_noted who c.args.now c.args.bytes.now old mid c.receive.new.self.connections c.args.slot
+    (noted_by c.args.self.now) (noted_by c.find_room_to_read.new.self)
+    c.requires.reading c.find_room_to_read.ensures.makes_room c.find_room_to_read.ensures.notes
+    c.in-Ok-false.ensures.happens

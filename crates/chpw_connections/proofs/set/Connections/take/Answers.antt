@@ -1,4 +1,8 @@
-use Rattle.std.proofs.Common.{◌∙◌, sym, inr, rules}
+use Rattle.std.proofs.Common.{◌∙◌, sym, ap, inr, rules, Bool, not, [], ◌∷◌}
+use Rattle.slab.specs.Slab.{get}
+use Rattle.chpw_connections.specs.Held.{slots_of, bounds_of}
+use Rattle.chpw_connections.specs.Noting.{noted_by, slot_if, is_gone_in}
+use Rattle.chpw_connections.proofs.NoteLemmas.{notes_as, late_can_fail}
 use Rattle.chpw_connections.specs.Waiting.{lists_of}
 use Rattle.chpw_connections.specs.Queues.{queues_of}
 use Rattle.chpw_connections.proofs.HoldsLemmas.{front_leaves, others_stay}
@@ -20,4 +24,7 @@ returns-then-is_late-clause-none c =
       late = sym c.is_late.ensures.value ∙ c.if-is_late.true;
       ends = c.fail.ensures.happens;
       counted = search rules;
+      noted = notes_as (noted_by old) (noted_by c.fail.new.self) (slot_if (not (is_gone_in (get (slots_of old) c.in_ok-slot.slot))) c.in_ok-slot.slot)
+          (c.in_ok-slot.slot ∷ []) (ap (λ (t : Bool). slot_if (not t) c.in_ok-slot.slot) (late_can_fail (bounds_of old) c.args.now
+          (get (slots_of old) c.in_ok-slot.slot) (sym c.is_late.ensures.value ∙ c.if-is_late.true))) c.fail.ensures.notes;
     }
