@@ -41,6 +41,7 @@ impl Connections {
         ensures unwanted { is_answering_in (get (slots_of self.old) slot) ≡ false → Happens now (slots_of self.old) (slots_of self.new) slot unanswered }
         ensures counts { Counts self.new (accepted_by self.old) (removed_by self.old) }
         ensures expired { expired_by self.new ≡ expired_by self.old }
+        ensures held { held_in (slots_of self.new) ≤ held_in (slots_of self.old) + length reply.items }
         ensures bounds { bounds_of self.new ≡ bounds_of self.old }
         ensures notes { NotesEnds (for_reply now) (slots_of self.old) (slots_of self.new) slot (noted_by self.old) (noted_by self.new)
             (slot_if (not (is_answering_in (get (slots_of self.old) slot)
@@ -61,6 +62,7 @@ impl Connections {
         ensures confirmed { (slot : ℕ) → Confirms mark now (get (slots_of self.old) slot) (get (slots_of self.new) slot) }
         ensures counts { Counts self.new (accepted_by self.old) (removed_by self.old) }
         ensures expired { expired_by self.new ≡ expired_by self.old }
+        ensures held { held_in (slots_of self.new) ≤ held_in (slots_of self.old) }
         ensures bounds { bounds_of self.new ≡ bounds_of self.old }
         ensures notes { NotesEach (noted_by self.old) (noted_by self.new) (slots_where (is_confirmed_in mark) (slots_of self.old)) }
         ensures queues { queues_of self.new ≡ queues_of self.old }
@@ -76,6 +78,7 @@ impl Connections {
         ensures others { (other : ℕ) → other ≢ slot → get (slots_of self.new) other ≡ get (slots_of self.old) other }
         ensures counts { Counts self.new (accepted_by self.old) (removed_by self.old) }
         ensures expired { expired_by self.new ≡ expired_by self.old }
+        ensures held { held_in (slots_of self.new) ≤ held_in (slots_of self.old) }
         ensures bounds { bounds_of self.new ≡ bounds_of self.old }
         ensures notes { NotesEach (noted_by self.old) (noted_by self.new) (slot_if (is_confirmed_in mark (get (slots_of self.old) slot)) slot) }
         ensures queues { queues_of self.new ≡ queues_of self.old }
@@ -94,6 +97,7 @@ impl Connections {
         ensures unchanged { IfNone result (self.new ≡ self.old) }
         ensures counts { Counts self.new (accepted_by self.old) (removed_by self.old) }
         ensures expired { expired_by self.new ≡ expired_by self.old }
+        ensures held { held_in (slots_of self.new) ≤ held_in (slots_of self.old) }
         ensures bounds { bounds_of self.new ≡ bounds_of self.old }
         ensures notes { IfSome result (λ u. (slot : ℕ) × IsFirstOverdue wait now (slots_of self.old) u.mark slot
             × NotesEach (noted_by self.old) (noted_by self.new) (slot ∷ [])) }
@@ -142,6 +146,7 @@ impl Connections {
         ensures happens { Happens now (slots_of self.old) (slots_of self.new) slot released }
         ensures counts { Counts self.new (accepted_by self.old) (removed_by self.old) }
         ensures expired { expired_by self.new ≡ expired_by self.old }
+        ensures held { held_in (slots_of self.new) ≤ held_in (slots_of self.old) }
         ensures bounds { bounds_of self.new ≡ bounds_of self.old }
         ensures notes { NotesEach (noted_by self.old) (noted_by self.new) (slot ∷ []) }
         ensures queues { queues_of self.new ≡ queues_of self.old }

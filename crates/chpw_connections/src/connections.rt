@@ -18,7 +18,7 @@ ghost use Rattle.chpw_connections.specs.Held.{slots_of, accepted_by, removed_by,
 ghost use Rattle.chpw_connections.specs.Noting.{noted_by, room_to_note, NotesEach, NotesEnds, slot_if, slots_where};
 ghost use Rattle.chpw_connections.specs.Noting.{is_gone_in, is_with_worker_in, ends_closed_in};
 
-use crate::connection::{Connection, Phase, at_most};
+use crate::connection::{Connection, Phase};
 use crate::limits::ConnectionLimits;
 use crate::set::Connections;
 use crate::slots::Slots;
@@ -112,6 +112,7 @@ impl Connections {
         ensures counts { IfSome result (λ slot. Counts self.new (accepted_by self.old + 1) (removed_by self.old)) }
         ensures expired { expired_by self.new ≡ expired_by self.old }
         ensures queues { queues_of self.new ≡ queues_of self.old }
+        ensures held { held_in (slots_of self.new) ≤ held_in (slots_of self.old) }
         ensures bounds { bounds_of self.new ≡ bounds_of self.old }
         ensures notes { noted_by self.new ≡ noted_by self.old }
         ensures unchanged { IfNone result (self.new ≡ self.old) }
@@ -132,116 +133,13 @@ impl Connections {
         self.slots.bytes_to_read(slot)
     }
 
-    /// These bytes of a connection's message came, of which those count that are wanted. If the message is complete
-    /// with them, it waits at the end of its worker's queue, and the worker is returned: the connection's number modulo
-    /// the number of workers. If there is no room for them (`has_room_to_read`), others are ended that hold bytes and
-    /// have been under way for the bounds' grace, the longest first: for a large message only other large ones, and
-    /// nobody if that isn't enough. Without room or memory for them the connection is ended. Bytes for a free slot, and
-    /// for a connection that wants none now, change nothing.
-    #[tactic(auto, using(crate::proofs::ComesLemmas::wanted_happens, crate::proofs::ReadingLemmas::unwanted_unread))]
-    pub fn receive(&mut self, slot: usize, bytes: &[u8], now: u64) -> Option<usize>
-        ensures queued { IfSome result (λ worker. HappensWithRoom (for_message (bounds_of self.old) now
-            (get (slots_of self.old) slot)) now (slots_of self.old) (slots_of self.new) slot (came bytes.now)) }
-        ensures joins { IfSome result (λ worker. Becomes (queues_of self.old) (queues_of self.new) worker (queue_of self.old worker ++ slot ∷ [])) }
-        ensures worker { IfSome result (λ worker. IfSome (get (slots_of self.old) slot) (λ c. worker ≡ c.number % workers_of self.old)) }
-        ensures within { IfSome result (λ worker. worker < workers_of self.new) }
-        ensures waits { IfSome result (λ worker. waits_for (workers_of self.new) (get (slots_of self.new) slot) ≡ Some worker) }
-        ensures read { IfNone result (HappensWithRoom (for_message (bounds_of self.old) now
-            (get (slots_of self.old) slot)) now (slots_of self.old) (slots_of self.new) slot (came bytes.now)
-            ⊎ HappensWithRoom (for_message (bounds_of self.old) now (get (slots_of self.old) slot)) 0 (slots_of self.old) (slots_of self.new) slot failed) }
-        ensures stays { IfNone result ((queues_of self.new ≡ queues_of self.old) ⊎ Leaves (queues_of self.old) (queues_of self.new) slot) }
-        ensures unread { is_reading_in (get (slots_of self.old) slot) ≡ false → (result ≡ None) × (self.new ≡ self.old) }
-        ensures unwanted { wanted_at (get (slots_of self.old) slot) ≡ 0 → (result ≡ None) × (self.new ≡ self.old) }
-        ensures enough { held_in (slots_of self.old) + growth_at (get (slots_of self.old) slot)
-            ≤ read_within (bounds_of self.old) (is_large_in (get (slots_of self.old) slot))
-            → (other : ℕ) → other ≢ slot → get (slots_of self.new) other ≡ get (slots_of self.old) other }
-        ensures too_many { has_room_to_read_in (bounds_of self.old) now (slots_of self.old) slot ≡ false
-            → (other : ℕ) → other ≢ slot → get (slots_of self.new) other ≡ get (slots_of self.old) other }
-        ensures no_room { has_room_to_read_in (bounds_of self.old) now (slots_of self.old) slot ≡ false
-            → is_reading_in (get (slots_of self.old) slot) ≡ true → Happens 0 (slots_of self.old) (slots_of self.new) slot failed }
-        ensures fits { is_reading_in (get (slots_of self.old) slot) ≡ true → is_ended_in (get (slots_of self.new) slot) ≡ false
-            → held_in (slots_of self.new) ≤ read_within (bounds_of self.old) (is_large_in (get (slots_of self.old) slot)) }
-        ensures needed { IsNeeded (read_within (bounds_of self.old) (is_large_in (get (slots_of self.old) slot)))
-            (growth_at (get (slots_of self.old) slot)) (for_message (bounds_of self.old) now (get (slots_of self.old) slot))
-            (slots_of self.old) (slots_of self.new) slot }
-        ensures workers { workers_of self.new ≡ workers_of self.old }
-        ensures counts { Counts self.new (accepted_by self.old) (removed_by self.old) }
-        ensures expired { expired_by self.new ≡ expired_by self.old }
-        ensures bounds { bounds_of self.new ≡ bounds_of self.old }
-        ensures notes { NotesEnds (for_message (bounds_of self.old) now (get (slots_of self.old) slot)) (slots_of self.old) (slots_of self.new) slot
-            (noted_by self.old) (noted_by self.new)
-            (slot_if (is_reading_in (get (slots_of self.old) slot) && is_ended_in (get (slots_of self.new) slot)) slot) }
-    {
-        if !self.is_reading(slot) {
-            return None;
-        }
-        let wanted = at_most(bytes, self.slots.bytes_to_read(slot));
-        self.receive_wanted(slot, wanted, now)
-    }
-
-    // These bytes came, all of which are wanted.
-    #[tactic(auto, using(crate::proofs::RoomLemmas::happens_with_room))]
-    fn receive_wanted(&mut self, slot: usize, bytes: &[u8], now: u64) -> Option<usize>
-        requires reading { is_reading_in (get (slots_of self.old) slot) ≡ true }
-        ensures queued { IfSome result (λ worker. HappensWithRoom (for_message (bounds_of self.old) now
-            (get (slots_of self.old) slot)) now (slots_of self.old) (slots_of self.new) slot (came bytes.now)) }
-        ensures joins { IfSome result (λ worker. Becomes (queues_of self.old) (queues_of self.new) worker (queue_of self.old worker ++ slot ∷ [])) }
-        ensures worker { IfSome result (λ worker. IfSome (get (slots_of self.old) slot) (λ c. worker ≡ c.number % workers_of self.old)) }
-        ensures within { IfSome result (λ worker. worker < workers_of self.new) }
-        ensures waits { IfSome result (λ worker. waits_for (workers_of self.new) (get (slots_of self.new) slot) ≡ Some worker) }
-        ensures read { IfNone result (HappensWithRoom (for_message (bounds_of self.old) now
-            (get (slots_of self.old) slot)) now (slots_of self.old) (slots_of self.new) slot (came bytes.now)
-            ⊎ HappensWithRoom (for_message (bounds_of self.old) now (get (slots_of self.old) slot)) 0 (slots_of self.old) (slots_of self.new) slot failed) }
-        ensures stays { IfNone result ((queues_of self.new ≡ queues_of self.old) ⊎ Leaves (queues_of self.old) (queues_of self.new) slot) }
-        ensures enough { held_in (slots_of self.old) + growth_at (get (slots_of self.old) slot)
-            ≤ read_within (bounds_of self.old) (is_large_in (get (slots_of self.old) slot))
-            → (other : ℕ) → other ≢ slot → get (slots_of self.new) other ≡ get (slots_of self.old) other }
-        ensures too_many { has_room_to_read_in (bounds_of self.old) now (slots_of self.old) slot ≡ false
-            → (other : ℕ) → other ≢ slot → get (slots_of self.new) other ≡ get (slots_of self.old) other }
-        ensures no_room { has_room_to_read_in (bounds_of self.old) now (slots_of self.old) slot ≡ false
-            → Happens 0 (slots_of self.old) (slots_of self.new) slot failed }
-        ensures fits { is_ended_in (get (slots_of self.new) slot) ≡ false
-            → held_in (slots_of self.new) ≤ read_within (bounds_of self.old) (is_large_in (get (slots_of self.old) slot)) }
-        ensures needed { IsNeeded (read_within (bounds_of self.old) (is_large_in (get (slots_of self.old) slot)))
-            (growth_at (get (slots_of self.old) slot)) (for_message (bounds_of self.old) now (get (slots_of self.old) slot))
-            (slots_of self.old) (slots_of self.new) slot }
-        ensures workers { workers_of self.new ≡ workers_of self.old }
-        ensures counts { Counts self.new (accepted_by self.old) (removed_by self.old) }
-        ensures expired { expired_by self.new ≡ expired_by self.old }
-        ensures bounds { bounds_of self.new ≡ bounds_of self.old }
-        ensures notes { NotesEnds (for_message (bounds_of self.old) now (get (slots_of self.old) slot)) (slots_of self.old) (slots_of self.new) slot
-            (noted_by self.old) (noted_by self.new)
-            (slot_if (is_reading_in (get (slots_of self.old) slot) && is_ended_in (get (slots_of self.new) slot)) slot) }
-    {
-        if !self.find_room_to_read(slot, now) {
-            self.fail(slot);
-            return None;
-        }
-        let number = self.slots.number(slot)?;
-        let worker = self.queues.worker_of(number);
-        if !self.queues.reserve(worker) {
-            self.fail(slot);
-            return None;
-        }
-        match self.slots.receive(slot, bytes, now) {
-            Err(_) => {
-                self.note(slot);
-                None
-            }
-            Ok(false) => None,
-            Ok(true) => {
-                self.queues.put(worker, slot);
-                Some(worker)
-            }
-        }
-    }
-
     /// The client closed its writing side, and all that it wrote was read.
     #[tactic(auto, using(crate::proofs::HoldsLemmas::holds_quiet))]
     pub fn input_ended(&mut self, slot: usize)
         ensures happens { Happens 0 (slots_of self.old) (slots_of self.new) slot closed }
         ensures counts { Counts self.new (accepted_by self.old) (removed_by self.old) }
         ensures expired { expired_by self.new ≡ expired_by self.old }
+        ensures held { held_in (slots_of self.new) ≤ held_in (slots_of self.old) }
         ensures bounds { bounds_of self.new ≡ bounds_of self.old }
         ensures notes { NotesEach (noted_by self.old) (noted_by self.new) (slot_if (ends_closed_in (get (slots_of self.old) slot)) slot) }
         ensures queues { queues_of self.new ≡ queues_of self.old }
@@ -256,6 +154,7 @@ impl Connections {
         ensures happens { Happens 0 (slots_of self.old) (slots_of self.new) slot failed }
         ensures counts { Counts self.new (accepted_by self.old) (removed_by self.old) }
         ensures expired { expired_by self.new ≡ expired_by self.old }
+        ensures held { held_in (slots_of self.new) ≤ held_in (slots_of self.old) }
         ensures bounds { bounds_of self.new ≡ bounds_of self.old }
         ensures notes { NotesEach (noted_by self.old) (noted_by self.new) (slot_if (not (is_gone_in (get (slots_of self.old) slot))) slot) }
         ensures leaves { Leaves (queues_of self.old) (queues_of self.new) slot }
@@ -281,6 +180,7 @@ impl Connections {
         ensures happens { Happens now (slots_of self.old) (slots_of self.new) slot (wrote count) }
         ensures counts { Counts self.new (accepted_by self.old) (removed_by self.old) }
         ensures expired { expired_by self.new ≡ expired_by self.old }
+        ensures held { held_in (slots_of self.new) ≤ held_in (slots_of self.old) }
         ensures bounds { bounds_of self.new ≡ bounds_of self.old }
         ensures notes { noted_by self.new ≡ noted_by self.old }
         ensures queues { queues_of self.new ≡ queues_of self.old }
@@ -315,6 +215,7 @@ impl Connections {
         ensures freed { result ≡ true → Updates (slots_of self.old) (slots_of self.new) slot None }
         ensures removed { result ≡ true → Counts self.new (accepted_by self.old) (removed_by self.old + 1) }
         ensures expired { expired_by self.new ≡ expired_by self.old }
+        ensures held { held_in (slots_of self.new) ≤ held_in (slots_of self.old) }
         ensures bounds { bounds_of self.new ≡ bounds_of self.old }
         ensures notes { noted_by self.new ≡ noted_by self.old }
         ensures queues { queues_of self.new ≡ queues_of self.old }
@@ -341,6 +242,7 @@ impl Connections {
         ensures workers { workers_of self.new ≡ workers_of self.old }
         ensures counts { Counts self.new (accepted_by self.old) (removed_by self.old) }
         ensures expired { IfSome result (λ t. expired_by self.new ≡ expired_by self.old) }
+        ensures held { held_in (slots_of self.new) ≤ held_in (slots_of self.old) }
         ensures bounds { bounds_of self.new ≡ bounds_of self.old }
         ensures notes { IfSome result (λ t. noted_by self.new ≡ noted_by self.old) }
     {
@@ -363,6 +265,7 @@ impl Connections {
         ensures becomes { Becomes (queues_of self.old) (queues_of self.new) worker (drop 1 (queue_of self.old worker)) }
         ensures counts { Counts self.new (accepted_by self.old) (removed_by self.old) }
         ensures expired { expired_by self.new ≡ expired_by self.old }
+        ensures held { held_in (slots_of self.new) ≤ held_in (slots_of self.old) }
         ensures bounds { bounds_of self.new ≡ bounds_of self.old }
         ensures notes { noted_by self.new ≡ noted_by self.old }
     {
@@ -396,6 +299,7 @@ impl Connections {
         ensures unwanted { is_answering_in (get (slots_of self.old) slot) ≡ false → Happens now (slots_of self.old) (slots_of self.new) slot unanswered }
         ensures counts { Counts self.new (accepted_by self.old) (removed_by self.old) }
         ensures expired { expired_by self.new ≡ expired_by self.old }
+        ensures held { held_in (slots_of self.new) ≤ held_in (slots_of self.old) + length reply.items }
         ensures bounds { bounds_of self.new ≡ bounds_of self.old }
         ensures notes { NotesEnds (for_reply now) (slots_of self.old) (slots_of self.new) slot (noted_by self.old) (noted_by self.new)
             (slot_if (not (is_answering_in (get (slots_of self.old) slot)
@@ -416,6 +320,7 @@ impl Connections {
         ensures happens { Happens now (slots_of self.old) (slots_of self.new) slot unanswered }
         ensures counts { Counts self.new (accepted_by self.old) (removed_by self.old) }
         ensures expired { expired_by self.new ≡ expired_by self.old }
+        ensures held { held_in (slots_of self.new) ≤ held_in (slots_of self.old) }
         ensures bounds { bounds_of self.new ≡ bounds_of self.old }
         ensures notes { NotesEach (noted_by self.old) (noted_by self.new) (slot_if (is_with_worker_in (get (slots_of self.old) slot)) slot) }
         ensures queues { queues_of self.new ≡ queues_of self.old }
@@ -431,6 +336,7 @@ impl Connections {
         ensures workers { workers_of self.new ≡ workers_of self.old }
         ensures counts { Counts self.new (accepted_by self.old) (removed_by self.old) }
         ensures expired { expired_by self.new ≡ and_more (dropped_in (bounds_of self.old) now (slots_of self.old)) (expired_by self.old) }
+        ensures held { held_in (slots_of self.new) ≤ held_in (slots_of self.old) }
         ensures bounds { bounds_of self.new ≡ bounds_of self.old }
         ensures notes { NotesEach (noted_by self.old) (noted_by self.new) (slots_where (is_late_in (bounds_of self.old) now) (slots_of self.old)) }
         ensures queues { (worker : ℕ) → queue_of self.new worker ≡ in_time (bounds_of self.old) now (slots_of self.old) (queue_of self.old worker) }
@@ -447,6 +353,7 @@ impl Connections {
         ensures workers { workers_of self.new ≡ workers_of self.old }
         ensures counts { Counts self.new (accepted_by self.old) (removed_by self.old) }
         ensures expired { expired_by self.new ≡ one_more (is_dropped_in (bounds_of self.old) now (get (slots_of self.old) slot)) (expired_by self.old) }
+        ensures held { held_in (slots_of self.new) ≤ held_in (slots_of self.old) }
         ensures bounds { bounds_of self.new ≡ bounds_of self.old }
         ensures notes { NotesEach (noted_by self.old) (noted_by self.new) (slot_if (is_late_in (bounds_of self.old) now (get (slots_of self.old) slot)) slot) }
         ensures queues { MatchBool (is_late_in (bounds_of self.old) now (get (slots_of self.old) slot))

@@ -12,6 +12,7 @@ mod limits;
 mod longest;
 mod phases;
 mod queues;
+mod receiving;
 mod room;
 mod set;
 mod slots;

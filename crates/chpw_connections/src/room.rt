@@ -44,6 +44,7 @@ impl Connections {
         ensures unnoted { result ≡ false → noted_by self.new ≡ noted_by self.old }
         ensures counts { Counts self.new (accepted_by self.old) (removed_by self.old) }
         ensures expired { expired_by self.new ≡ expired_by self.old }
+        ensures held { held_in (slots_of self.new) ≤ held_in (slots_of self.old) }
         ensures bounds { bounds_of self.new ≡ bounds_of self.old }
         ensures queues { queues_of self.new ≡ queues_of self.old }
     {
@@ -107,6 +108,7 @@ impl Connections {
             (slots_of self.old) (slots_of self.new) slot }
         ensures counts { Counts self.new (accepted_by self.old) (removed_by self.old) }
         ensures expired { expired_by self.new ≡ expired_by self.old }
+        ensures held { held_in (slots_of self.new) ≤ held_in (slots_of self.old) }
         ensures bounds { bounds_of self.new ≡ bounds_of self.old }
         ensures notes { NotesEnds (for_message (bounds_of self.old) now (get (slots_of self.old) slot)) (slots_of self.old) (slots_of self.new) slot
             (noted_by self.old) (noted_by self.new) [] }
@@ -130,6 +132,7 @@ impl Connections {
         ensures needed { IsNeeded (bounds_of self.old).bytes count (for_reply now) (slots_of self.old) (slots_of self.new) slot }
         ensures counts { Counts self.new (accepted_by self.old) (removed_by self.old) }
         ensures expired { expired_by self.new ≡ expired_by self.old }
+        ensures held { held_in (slots_of self.new) ≤ held_in (slots_of self.old) }
         ensures bounds { bounds_of self.new ≡ bounds_of self.old }
         ensures notes { NotesEnds (for_reply now) (slots_of self.old) (slots_of self.new) slot (noted_by self.old) (noted_by self.new) [] }
         ensures queues { queues_of self.new ≡ queues_of self.old }
@@ -171,6 +174,7 @@ impl Connections {
         ensures needed { IsNeeded most count who (slots_of self.old) (slots_of self.new) slot }
         ensures counts { Counts self.new (accepted_by self.old) (removed_by self.old) }
         ensures expired { expired_by self.new ≡ expired_by self.old }
+        ensures held { held_in (slots_of self.new) ≤ held_in (slots_of self.old) }
         ensures bounds { bounds_of self.new ≡ bounds_of self.old }
         ensures notes { NotesEnds who (slots_of self.old) (slots_of self.new) slot (noted_by self.old) (noted_by self.new) [] }
         ensures queues { queues_of self.new ≡ queues_of self.old }
@@ -207,6 +211,7 @@ impl Connections {
         ensures needed { IsNeeded most count who (slots_of self.old) (slots_of self.new) slot }
         ensures counts { Counts self.new (accepted_by self.old) (removed_by self.old) }
         ensures expired { expired_by self.new ≡ expired_by self.old }
+        ensures held { held_in (slots_of self.new) ≤ held_in (slots_of self.old) }
         ensures bounds { bounds_of self.new ≡ bounds_of self.old }
         ensures notes { NotesEnds who (slots_of self.old) (slots_of self.new) slot (noted_by self.old) (noted_by self.new) [] }
         ensures queues { queues_of self.new ≡ queues_of self.old }

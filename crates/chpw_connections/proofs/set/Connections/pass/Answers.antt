@@ -14,6 +14,7 @@ loop-slot-init c = record {
   queues = λ worker. sym (left_first _ _);
   notes = notes_first (is_late_in (bounds_of c.args.self.now) c.args.now) (slots_of c.args.self.now) (noted_by c.args.self.now);
   workers = refl;
+  held = le_refl _;
   counts = search rules;
   expired = first_below (bounds_of c.args.self.now) c.args.now (slots_of c.args.self.now) (expired_by c.args.self.now) (omega arith);
   bounds = refl;
@@ -34,6 +35,7 @@ loop-slot-preserved c = record {
       (slots_of c.loop-slot.self) (noted_by c.loop-slot.self) (noted_by c.pass_slot.new.self) c.loop-slot.invariant.bounds
       (c.loop-slot.invariant.passed.above c.loop-slot.slot (le_refl _)) c.pass_slot.ensures.notes);
   workers = c.pass_slot.ensures.workers ∙ c.loop-slot.invariant.workers;
+  held = omega arith;
   counts = search rules;
   expired = next_below (bounds_of c.args.self.now) (bounds_of c.loop-slot.self) c.args.now c.loop-slot.slot (slots_of c.args.self.now)
       (slots_of c.loop-slot.self) (expired_by c.args.self.now) (expired_by c.loop-slot.self) (expired_by c.pass_slot.new.self)

@@ -1,6 +1,7 @@
-use Rattle.std.proofs.Common.{◌≡◌, ℕ}
+use Rattle.std.proofs.Common.{◌≡◌, ℕ, ◌≤◌}
 use Rattle.slab.specs.Slab.{get}
 use Rattle.chpw_connections.specs.Sets.{is_late_in}
+use Rattle.chpw_connections.specs.Holding.{held_in}
 use Rattle.chpw_connections.specs.Held.{slots_of, bounds_of, accepted_by, removed_by, expired_by, Counts}
 use Rattle.chpw_connections.specs.Queues.{queue_of, workers_of}
 use Rattle.chpw_connections.proofs.PassLemmas.{PassedBelow, left_below}
@@ -16,6 +17,7 @@ invariant-loop-slot l = record {
       ≡ left_below (λ slot. is_late_in (bounds_of l.fn.self) l.now (get (slots_of l.fn.self) slot)) l.slot (queue_of l.fn.self worker);
   notes : NotesEach (noted_by l.fn.self) (noted_by l.self) (slots_below (is_late_in (bounds_of l.fn.self) l.now) (slots_of l.fn.self) l.slot);
   workers : workers_of l.self ≡ workers_of l.fn.self;
+  held : held_in (slots_of l.self) ≤ held_in (slots_of l.fn.self);
   counts : Counts l.self (accepted_by l.fn.self) (removed_by l.fn.self);
   expired : expired_by l.self ≡ and_more (dropped_below (bounds_of l.fn.self) l.now (slots_of l.fn.self) l.slot) (expired_by l.fn.self);
   bounds : bounds_of l.self ≡ bounds_of l.fn.self;

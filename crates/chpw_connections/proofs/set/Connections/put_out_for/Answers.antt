@@ -1,4 +1,4 @@
-use Rattle.std.proofs.Common.{rules, arith, refl, ◌∙◌, ap, Bool, not, [], ◌∷◌}
+use Rattle.std.proofs.Common.{rules, arith, le_refl, refl, ◌∙◌, ap, Bool, not, [], ◌∷◌}
 use Rattle.std.proofs.lemmas.Bool.Decides.{nat_tests}
 use Rattle.chpw_connections.specs.Held.{slots_of}
 use Rattle.chpw_connections.proofs.HoldsLemmas.{longest_besides_not_queued}
@@ -17,6 +17,7 @@ loop-who-init c = record {
   needed = needed_none c.args.most c.args.count c.args.who (slots_of c.args.self.now) c.args.slot;
   enough = c.requires.enough;
   notes = ends_none c.args.who (slots_of c.args.self.now) c.args.slot (noted_by c.args.self.now);
+  held = le_refl _;
   counts = search rules;
   expired = refl;
   bounds = refl;
@@ -39,6 +40,8 @@ loop-who-preserved c = record {
       (ap (λ (t : Bool). slot_if (not t) c.in-Some.other) (can_fail c.args.who (slots_of c.args.self.now) (slots_of c.loop-who.self)
       (slots_of c.fail.new.self) c.args.slot c.in-Some.other c.loop-who.invariant.makes_room c.in-Some.ensures.found c.fail.ensures.happens))
       c.fail.ensures.notes);
+  held = let less = fewer_held c.args.who (slots_of c.loop-who.self) (slots_of c.fail.new.self) c.args.slot c.in-Some.other
+      c.in-Some.ensures.found c.fail.ensures.happens in omega arith;
   counts = search rules;
   expired = search rules;
   bounds = search rules;
