@@ -1,6 +1,6 @@
 -- Nobody is put out beyond need.
 use Rattle.std.proofs.Common.{◌≡◌, ◌≢◌, ℕ, ◌+◌, ◌<◌, ◌≤◌, length, refl, sym, ◌∙◌, ap, subst, arith}
-use Rattle.std.proofs.Common.{true, Option, Some, None, inl, inr}
+use Rattle.std.proofs.Common.{true, Option, Some, None}
 use Rattle.std.proofs.Math.Logic.{⊎_elim}
 use Rattle.std.proofs.lemmas.Bool.{cases_eq, cases_lt}
 use Rattle.std.proofs.lemmas.List.{get_or_past}
@@ -34,7 +34,7 @@ held_besides_same mid new slot others =
 
 -- nobody was put out yet
 pub needed_none : (most count : ℕ) (who : EvictionRule) (s : Slab Connection) (slot : ℕ) → IsNeeded most count who s s slot
-needed_none most count who s slot = inl (λ other differs. refl)
+needed_none most count who s slot = λ gone differs changed. absurd (changed refl)
 
 -- one more is put out, who has waited the longest, while there is no room
 module _ (most count : ℕ) (who : EvictionRule) (old mid new : Slab Connection) (slot other : ℕ) (made : MakesRoom who old mid slot)
@@ -68,7 +68,7 @@ module _ (most count : ℕ) (who : EvictionRule) (old mid new : Slab Connection)
       omega (arith, held_here_le new slot)
 
   pub needed_next : most < held_in mid + count → IsNeeded most count who old new slot
-  needed_next lack = inr record {
+  needed_next lack = λ gone differs changed. record {
     last = other;
     other = apart;
     gave = subst (λ (o : Option Connection). gives_way_at who o ≡ true) before gives;
@@ -80,13 +80,13 @@ module _ (most count : ℕ) (who : EvictionRule) (old mid new : Slab Connection)
 -- and then an event happens in the slot for which room was made
 pub needed_still : (most count now : ℕ) (who : EvictionRule) (old mid new : Slab Connection) (slot : ℕ) (event : Event)
     → IsNeeded most count who old mid slot → Happens now mid new slot event → IsNeeded most count who old new slot
-needed_still most count now who old mid new slot event (inl same) happens =
-    inl (λ other differs. happens.others other differs ∙ same other differs)
-needed_still most count now who old mid new slot event (inr ends) happens = inr record {
-  last = ends.last;
-  other = ends.other;
-  gave = ends.gave;
-  ended = subst (λ (o : Option Connection). Comes 0 failed (get old ends.last) o) (sym (happens.others ends.last ends.other)) ends.ended;
-  latest = λ gone since s g changed at still. ends.latest gone since s g (λ e. changed (happens.others gone g ∙ e)) at still;
-  short = let same = held_besides_same mid new slot happens.others in let before = ends.short in omega arith;
-}
+needed_still most count now who old mid new slot event needed happens = λ gone differs changed.
+    let ends = needed gone differs (λ e. changed (happens.others gone differs ∙ e)) in
+    record {
+      last = ends.last;
+      other = ends.other;
+      gave = ends.gave;
+      ended = subst (λ (o : Option Connection). Comes 0 failed (get old ends.last) o) (sym (happens.others ends.last ends.other)) ends.ended;
+      latest = λ k since s g changed_too at still. ends.latest k since s g (λ e. changed_too (happens.others k g ∙ e)) at still;
+      short = let same = held_besides_same mid new slot happens.others in let before = ends.short in omega arith;
+    }

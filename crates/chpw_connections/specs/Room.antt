@@ -96,10 +96,9 @@ pub record EndsLast (most count : ℕ) (who : EvictionRule) (old new : Slab Conn
       → gives_way_since who (get old gone) ≡ Some since → gives_way_since who (get old last) ≡ Some s → since ≤ s
   pub short : most < held_besides new slot + held_at (get old last) + held_at (get old slot) + count
 
--- no other one was ended, or no more than needed: without the last one there was no room
+-- if another one was ended, no more were than needed: without the last one there was no room
 abbrev pub IsNeeded : ℕ → ℕ → EvictionRule → Slab Connection → Slab Connection → ℕ → Type 0
-IsNeeded most count who old new slot =
-    ((other : ℕ) → other ≢ slot → get new other ≡ get old other) ⊎ EndsLast most count who old new slot
+IsNeeded most count who old new slot = (gone : ℕ) → gone ≢ slot → get new gone ≢ get old gone → EndsLast most count who old new slot
 
 -- A message of more than 4,096 bytes with its length is large. There is room for one as long as all connections hold no
 -- more than half of what they may, and for others as long as they hold no more than three quarters: a flood of large
