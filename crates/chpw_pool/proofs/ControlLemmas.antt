@@ -1,6 +1,6 @@
 -- Those at the control socket with their sockets.
 use Rattle.std.proofs.Common.{◌≡◌, ◌≢◌, ℕ, zero, suc, ◌+◌, ◌<◌, ◌≤◌, List, [], ◌∷◌, length, set}
-use Rattle.std.proofs.Common.{slice_get, sym, ◌∙◌, ap, subst, arith, true, Option, Some, None}
+use Rattle.std.proofs.Common.{sym, ◌∙◌, ap, subst, arith, true, Option, Some, None}
 use Rattle.std.proofs.Math.Logic.{⊎_elim}
 use Rattle.std.proofs.lemmas.Bool.{cases_eq}
 use Rattle.slab.specs.Slab.{Slab, get, slab_len, SameValues, Updates}
@@ -9,7 +9,7 @@ use Rattle.chpw_connections.specs.Counting.{count_in}
 use Rattle.chpw_connections.specs.declared.connection.Connection.{Connection}
 use Rattle.chpw_connections.specs.declared.counting.Counted.TheVariants as counted
 use Rattle.chpw_connections.proofs.CountLemmas.{counted_once}
-use Rattle.chpw_control.specs.Callers.{Stage, asking, failed, over}
+use Rattle.chpw_control.specs.Callers.{asking, failed}
 use Rattle.chpw_control.specs.Dialogs.{at_start}
 use Rattle.chpw_control.specs.Seats.{Comes, Happens, IsNew, is_over_at}
 use Rattle.chpw_control.specs.declared.callers.Seat.{Seat}

@@ -12,33 +12,37 @@ use Rattle.chpw_connections.proofs.PieceLemmas.{wanted_long, wanted_whole}
 use Rattle.chpw_connections.proofs.RoomLemmas.{and_left, ends_waiting}
 use Rattle.chpw_connections.specs.Holding.{held_by}
 use Rattle.chpw_connections.specs.Messages.{wanted_after}
-use Rattle.chpw_connections.specs.Room.{PutsOut, HappensWithRoom, for_message, gives_way_at, is_held_back, is_among}
-use Rattle.chpw_connections.specs.Sets.{Comes, Happens, IsNew, wanted_at, is_ended, is_ended_in, queued_at, queued_by, stage_at, waits}
+use Rattle.chpw_connections.specs.Room.{PutsOut, HappensWithRoom, for_message, gives_way_at, has_room_to_read, is_held_back, is_among}
+use Rattle.chpw_connections.specs.Sets.{Comes, Happens, IsNew, wanted_at, is_ended, is_ended_in, queued_at, queued_by, waits}
 use Rattle.chpw_connections.specs.Stages.{Stage, reading, queued, answering, confirming, writing, lingering}
 use Rattle.chpw_connections.specs.Stages.{abandoned, ended, came, failed, after, stage, read_to, received, wanted_by}
 use Rattle.chpw_connections.specs.Waiting.{waits_for}
 use Rattle.chpw_connections.specs.declared.connection.Connection.{Connection}
 use Rattle.chpw_connections.specs.declared.limits.ConnectionLimits.{ConnectionLimits}
-use Rattle.chpw_pool.specs.Datagrams.{TakesDatagram, length_before, StaysOrEnds, DropsDatagram, CameOrFailed, CameIfRead}
+use Rattle.chpw_pool.specs.Datagrams.{TakesDatagram, length_before, GaveWay, StaysOrGivesWay, DropsDatagram, BeginsAndDrops, EndsNoMore, CameOrFailed, CameIfRead}
 
--- who gives way to a message has ended
-out_ends : (b : ConnectionLimits) (now : ℕ) (o : Option Connection) (old new : Option Connection)
-    → gives_way_at (for_message b now o) old ≡ true → Comes 0 failed old new → stage_at new ≡ Some ended
-out_ends b now o None new is comes = absurd cc
-out_ends b now o (Some c) None is comes = absurd comes
-out_ends b now o (Some c) (Some d) is comes =
+-- who gave way gives way no more
+gave_way : (b d : ConnectionLimits) (now then : ℕ) (o p old mid : Option Connection)
+    → gives_way_at (for_message b now o) old ≡ true → Comes 0 failed old mid → gives_way_at (for_message d then p) mid ≡ false
+gave_way b d now then o p None mid is comes = absurd cc
+gave_way b d now then o p (Some c) None is comes = absurd comes
+gave_way b d now then o p (Some c) (Some e) is comes =
     let waited : waits (stage c) ≡ true = and_left (waits (stage c))
     (nat_lt 0 (held_by c.phase) && (not (is_held_back c) && is_among (for_message b now o) c)) is in
-    ap Some (comes.stage_is ∙ ends_waiting c.answered (stage c) waited)
+    let over : waits (stage e) ≡ false = ap waits (comes.stage_is ∙ ends_waiting c.answered (stage c) waited) in
+    ap (λ (t : Bool). t && (nat_lt 0 (held_by e.phase) && (not (is_held_back e) && is_among (for_message d then p) e))) over
 
-stays : (b : ConnectionLimits) (now : ℕ) (o : Option Connection) (old new : Option Connection) → PutsOut (for_message b now o) old new → StaysOrEnds old new
+stays : (b : ConnectionLimits) (now : ℕ) (o : Option Connection) (old new : Option Connection)
+    → PutsOut (for_message b now o) old new → StaysOrGivesWay old new
 stays b now o old new (inl same) = inl same
-stays b now o old new (inr out) = inr (out_ends b now o old new out.0 out.1)
+stays b now o old new (inr out) = inr (b, now, o, out.0, out.1)
 
-then_stays : (old mid new : Option Connection) → StaysOrEnds old mid → StaysOrEnds mid new → StaysOrEnds old new
-then_stays old mid new first (inr over) = inr over
+then_stays : (old mid new : Option Connection) → StaysOrGivesWay old mid → StaysOrGivesWay mid new → StaysOrGivesWay old new
 then_stays old mid new (inl same) (inl again) = inl (again ∙ same)
-then_stays old mid new (inr over) (inl again) = inr (ap stage_at again ∙ over)
+then_stays old mid new (inr gave) (inl again) = inr (subst (λ (o : Option Connection). GaveWay old o) (sym again) gave)
+then_stays old mid new (inl same) (inr gives) = inr (subst (λ (o : Option Connection). GaveWay o new) same gives)
+then_stays old mid new (inr gave) (inr gives) =
+    absurd (let no = gave_way gave.0 gives.0 gave.1 gives.1 gave.2 gives.2 old mid gave.3 gave.4 in let yes = gives.3 in cc)
 
 -- it ends at once where it can't go on
 abbrev EndsAtOnce : Option Connection → Type 0
@@ -83,7 +87,7 @@ new_ends peer now number old new slot is = by_place (get new slot) is.here
     by_place (Some c) here = subst (λ (s : Stage). after c.answered s failed ≡ ended) (sym here.0) refl
 
 came_others : (b : ConnectionLimits) (now : ℕ) (old new : Slab Connection) (slot : ℕ) (bytes : List ℕ) → CameOrFailed b now old new slot bytes
-    → (other : ℕ) → other ≢ slot → StaysOrEnds (get old other) (get new other)
+    → (other : ℕ) → other ≢ slot → StaysOrGivesWay (get old other) (get new other)
 came_others b now old new slot bytes (inl happens) other differs = stays b now (get old slot) (get old other) (get new other) (happens.others other differs)
 came_others b now old new slot bytes (inr happens) other differs = stays b now (get old slot) (get old other) (get new other) (happens.others other differs)
 
@@ -93,7 +97,7 @@ came_here b now old new slot bytes (inl happens) is = came_ends now bytes (get o
 came_here b now old new slot bytes (inr happens) is = failed_ends 0 (get old slot) (get new slot) is happens.here
 
 read_others : (b : ConnectionLimits) (now : ℕ) (old new : Slab Connection) (slot : ℕ) (bytes : List ℕ) → CameIfRead b now old new slot bytes
-    → (other : ℕ) → other ≢ slot → StaysOrEnds (get old other) (get new other)
+    → (other : ℕ) → other ≢ slot → StaysOrGivesWay (get old other) (get new other)
 read_others b now old new slot bytes (inl same) other differs = inl (ap (λ (s : Slab Connection). get s other) same)
 read_others b now old new slot bytes (inr comes) other differs = came_others b now old new slot bytes comes other differs
 
@@ -113,16 +117,39 @@ module _ (first second : ConnectionLimits) (now number slot : ℕ) (peer len byt
       (read_here second now begun whole slot bytes bytes_came
       (came_here first now accepted begun slot len length_came (new_ends peer now number old accepted slot is_new))) ends.here)
 
-  others : (other : ℕ) → other ≢ slot → StaysOrEnds (get old other) (get new other)
+  others : (other : ℕ) → other ≢ slot → StaysOrGivesWay (get old other) (get new other)
   others other differs =
       then_stays (get old other) (get accepted other) (get new other) (inl (is_new.others other differs))
       (then_stays (get accepted other) (get begun other) (get new other) (came_others first now accepted begun slot len length_came other differs)
       (then_stays (get begun other) (get whole other) (get new other) (read_others second now begun whole slot bytes bytes_came other differs)
       (inl (gone.others other differs ∙ ends.others other differs))))
 
+  pub begins : (b : ConnectionLimits) → first ≡ b → second ≡ b
+      → (has_room_to_read first now accepted slot ≡ false → (other : ℕ) → other ≢ slot → get begun other ≡ get accepted other)
+      → (has_room_to_read second now begun slot ≡ false → whole ≡ begun)
+      → EndsNoMore first now accepted begun slot → EndsNoMore second now begun whole slot
+      → len ≡ length_before bytes → BeginsAndDrops b now peer number bytes old new
+  begins b is_first is_second length_full message_full length_needed message_needed len_is = record {
+    slot = slot;
+    accepted = accepted;
+    begun = begun;
+    whole = whole;
+    is_new = is_new;
+    length_came = subst (λ (l : List ℕ). CameOrFailed b now accepted begun slot l) len_is
+        (subst (λ (x : ConnectionLimits). CameOrFailed x now accepted begun slot len) is_first length_came);
+    length_full = subst (λ (x : ConnectionLimits). has_room_to_read x now accepted slot ≡ false
+        → (other : ℕ) → other ≢ slot → get begun other ≡ get accepted other) is_first length_full;
+    message_came = subst (λ (x : ConnectionLimits). CameIfRead x now begun whole slot bytes) is_second bytes_came;
+    message_full = subst (λ (x : ConnectionLimits). has_room_to_read x now begun slot ≡ false → whole ≡ begun) is_second message_full;
+    length_needed = subst (λ (x : ConnectionLimits). EndsNoMore x now accepted begun slot) is_first length_needed;
+    message_needed = subst (λ (x : ConnectionLimits). EndsNoMore x now begun whole slot) is_second message_needed;
+    gone = gone.changed;
+    others = λ other differs. gone.others other differs ∙ ends.others other differs;
+  }
+
   pub drops : DropsDatagram old new
   drops other = ⊎_elim
-      (λ (same : other ≡ slot). subst (λ (k : ℕ). StaysOrEnds (get old k) (get new k)) (sym same) (inl (gone.changed ∙ sym is_new.free)))
+      (λ (same : other ≡ slot). subst (λ (k : ℕ). StaysOrGivesWay (get old k) (get new k)) (sym same) (inl (gone.changed ∙ sym is_new.free)))
       (λ (differs : other ≢ slot). others other differs)
       (cases_eq other slot)
 
@@ -194,7 +221,8 @@ module _ (b c d : ConnectionLimits) (now number slot worker workers : ℕ)
     (is_new : IsNew peer now number old accepted slot) (length_came : CameOrFailed c now accepted begun slot (length_before message))
     (some : wanted_at (get begun slot) ≢ 0)
     (message_came : HappensWithRoom (for_message d now (get begun slot)) now begun new slot (came message))
-    (is_for : waits_for workers (get new slot) ≡ Some worker) where
+    (is_for : waits_for workers (get new slot) ≡ Some worker)
+    (length_needed : EndsNoMore c now accepted begun slot) (message_needed : EndsNoMore d now begun new slot) where
   length_is : HappensWithRoom (for_message c now (get accepted slot)) now accepted begun slot (came (length_before message))
   length_is = ⊎_elim
       (λ (happens : HappensWithRoom (for_message c now (get accepted slot)) now accepted begun slot (came (length_before message))). happens)
@@ -213,6 +241,8 @@ module _ (b c d : ConnectionLimits) (now number slot worker workers : ℕ)
     message_came =
         subst (λ (x : ConnectionLimits). HappensWithRoom (for_message x now (get begun slot)) now begun new slot
         (came message)) (sym bounds) message_came;
+    length_needed = subst (λ (x : ConnectionLimits). EndsNoMore x now accepted begun slot) (sym (bounds ∙ same)) length_needed;
+    message_needed = subst (λ (x : ConnectionLimits). EndsNoMore x now begun new slot) (sym bounds) message_needed;
     waits = waits_here message peer now number workers worker (get accepted slot)
         (get begun slot) (get new slot) fits is_new.here length_is.here some message_came.here is_for;
     is_for = is_for;

@@ -1,16 +1,16 @@
 -- Which faults of an accept may pass: want of files or memory, or a connection that ended first. At any
 -- other the listener can't go on.
-use Rattle.std.specs.Prelude.{ℤ, ℕ, Bool, true, false, ◌||◌, ◌+◌, ◌-◌, ◌^◌, min, nat_le, if◌then◌else◌, Option, Some, None}
+use Rattle.std.specs.Prelude.{ℤ, pos, ℕ, Bool, true, false, ◌||◌, ◌+◌, ◌-◌, ◌^◌, min, nat_le, if◌then◌else◌, Option, Some, None}
 use Rattle.std.specs.Ordering.{int_eq}
 use Rattle.chpw_pool.specs.declared.accepting.Accepting.{Accepting}
 use Rattle.chpw_pool.specs.declared.accepting.Accepting.TheVariants.{Ready, Waiting, Paused, Failed}
-use Rattle.chpw_pool.specs.declared.accepting.TheConstants.{EINTR, ENOMEM, ENFILE, EMFILE, ECONNABORTED, ENOBUFS}
 
+-- EINTR, ENOMEM, ENFILE, EMFILE, ECONNABORTED and ENOBUFS of Linux
 abbrev pub is_passing : Option ℤ → Bool
 is_passing None = false
-is_passing (Some code) = int_eq code EINTR || int_eq code ENOMEM
-    || int_eq code ENFILE || int_eq code EMFILE
-    || int_eq code ECONNABORTED || int_eq code ENOBUFS
+is_passing (Some code) = int_eq code (pos 4) || int_eq code (pos 12)
+    || int_eq code (pos 23) || int_eq code (pos 24)
+    || int_eq code (pos 103) || int_eq code (pos 105)
 
 -- Whether a connection may be accepted: a listener that had none is asked again once it was reported, and one whose
 -- accept failed for the moment a tenth of a second later.

@@ -1,5 +1,5 @@
 -- The callers at the control socket with their sockets: how they come and go, and what a read or a write does.
-use Rattle.std.specs.Prelude.{◌≡◌, ◌≢◌, ℕ, ◌+◌, List, [], ◌∷◌, take, length, slice_get, Option, Some, None, IsSome, Bool, true, false, min, if◌then◌else◌, ◌⊎◌}
+use Rattle.std.specs.Prelude.{◌≡◌, ℕ, ◌+◌, List, [], ◌∷◌, take, slice_get, Option, Some, None, IsSome, Bool, true, false, min, if◌then◌else◌, ◌⊎◌}
 use Rattle.std.specs.Io.KnownBytes.{Appends, Consumes, Keeps}
 use Rattle.slab.specs.Slab.{Slab, get}
 use Rattle.mio.specs.declared.net.uds.stream.UnixStream.{UnixStream}

@@ -6,7 +6,9 @@ pub mod Datagrams
 pub mod Deciding
 pub mod Engines
 pub mod Following
+pub mod Newcomers
 pub mod Pools
+pub mod Reports
 pub mod Rounds
 pub mod Steps
 pub mod Tokens

@@ -1,5 +1,5 @@
 -- Which sockets the reactor handles, and when.
-use Rattle.std.specs.Prelude.{ℕ, Bool, true, false, not, ◌||◌, ◌&&◌, ◌==◌, nat_le, nat_lt, length, if◌then◌else◌}
+use Rattle.std.specs.Prelude.{ℕ, ◌+◌, ◌-◌, Bool, true, false, not, ◌||◌, ◌&&◌, ◌==◌, nat_le, nat_lt, length, if◌then◌else◌}
 use Rattle.slab.specs.Slab.{slab_len}
 use Rattle.chpw_connections.specs.Held.{slots_of, accepted_by, changed_of}
 use Rattle.chpw_connections.specs.declared.todo.Todo.{Todo}
@@ -17,6 +17,10 @@ is_looked_at reads todo.Write = true
 is_looked_at reads todo.Linger = true
 is_looked_at reads todo.Close = true
 is_looked_at reads todo.Wait = false
+
+-- in a round that begins at the first of these numbers, the slot at this turn: those from it on, and then those before it
+abbrev pub comes_at : ℕ → ℕ → ℕ → ℕ
+comes_at first slots turn = if nat_lt turn (slots - first) then first + turn else turn - (slots - first)
 
 abbrev pub has_none : State → Bool
 has_none s = slab_len (slots_of s.connections) == 0

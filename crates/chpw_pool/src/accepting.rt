@@ -1,9 +1,9 @@
 //! When connections are accepted, and which faults of an accept may pass.
-ghost use Rattle.std.specs.Prelude.{◌≡◌};
-ghost use Rattle.std.specs.IoError.{raw_os_error};
+ghost use Rattle.std.specs.Prelude.{◌≡◌, ◌≢◌, ◌+◌, ◌≤◌, ℕ, true, false};
+ghost use Rattle.std.specs.IoError.{error_kind, raw_os_error};
 ghost use Rattle.chpw_pool.specs.Accepting.{is_passing as passing};
 
-use std::io::Error;
+use std::io::{Error, ErrorKind};
 
 /// The milliseconds after which an accept that failed is tried again.
 pub(crate) const PAUSE: u64 = 100;
@@ -22,7 +22,8 @@ pub(crate) enum Accepting {
 }
 
 impl Accepting {
-    ghost use Rattle.chpw_pool.specs.Accepting.{reported, resumed, after_fault, is_waiting, has_failed};
+    ghost use Rattle.chpw_pool.specs.Accepting.{reported, resumed, after_fault, is_ready, is_waiting, has_failed};
+    ghost use Rattle.chpw_pool.specs.declared.accepting.Accepting.TheVariants as accepting;
 
     /// After the listener was reported.
     pub fn after_report(self) -> Accepting
@@ -44,9 +45,22 @@ impl Accepting {
         }
     }
 
-    /// After a fault of an accept, at this moment: one that would have blocked, one that may pass, or another one.
-    pub fn after_fault(would_wait: bool, may_pass: bool, now: u64) -> Accepting
+    /// After an accept that failed so, at this moment. None is tried before the listener is reported, or time has
+    /// passed.
+    pub fn after_error(error: &Error, now: u64) -> Accepting
+        ensures would_wait { error_kind error.now ≡ ErrorKind.WouldBlock → result ≡ accepting.Waiting }
+        ensures fault { error_kind error.now ≢ ErrorKind.WouldBlock → result ≡ after_fault false (passing (raw_os_error error.now)) now }
+        ensures not_at_once { is_ready result ≡ false }
+    {
+        let would_wait = matches!(error.kind(), ErrorKind::WouldBlock);
+        Accepting::after_fault(would_wait, is_passing(error), now)
+    }
+
+    // After a fault of an accept, at this moment: one that would have blocked, one that may pass, or another one.
+    fn after_fault(would_wait: bool, may_pass: bool, now: u64) -> Accepting
         ensures value { result ≡ after_fault would_wait may_pass now }
+        ensures not_at_once { is_ready result ≡ false }
+        ensures again { (later : ℕ) → would_wait ≡ false → may_pass ≡ true → now + 100 ≤ later → resumed later result ≡ accepting.Ready }
     {
         if would_wait {
             Accepting::Waiting

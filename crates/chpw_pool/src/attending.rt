@@ -1,5 +1,5 @@
 //! What the reactor does at the control socket.
-ghost use Rattle.std.specs.Prelude.{◌≡◌, ◌&&◌, is_some, false, true, None};
+ghost use Rattle.std.specs.Prelude.{◌≡◌, ◌≢◌, ◌&&◌, is_some, false, true, None};
 ghost use Rattle.chpw_pool.specs.Controlling.{patience_with};
 
 use crate::control::CALLERS;
@@ -145,31 +145,41 @@ impl<
             let question = self.engine.control.lock(self.rt).callers.next_question();
             match question {
                 None => return,
-                Some((slot, Command::Status)) => self.tell_status(slot),
-                Some(_) => self.stop(),
+                Some((slot, question)) => self.answer_question(slot, question),
             }
         }
     }
 
-    fn tell_status(&mut self, slot: usize) {
-        let mut standing = self.engine.hub.lock(self.rt).state.standing();
-        standing.is_behind = standing.is_behind || self.link.follower.is_behind();
+    // Answers `status`; at any other question it begins to stop.
+    fn answer_question(&mut self, slot: usize, question: Command)
+        ensures status { question ≡ Command.Status → (self.new.is_stopping ≡ self.old.is_stopping) × (self.new.entrance ≡ self.old.entrance) }
+        ensures stop { question ≢ Command.Status → (self.new.is_stopping ≡ true) × (self.new.entrance.pending ≡ None) }
+    {
+        match question {
+            Command::Status => self.tell_status(slot),
+            _ => self.stop(),
+        }
+    }
+
+    fn tell_status(&mut self, slot: usize)
+        ensures stopping { self.new.is_stopping ≡ self.old.is_stopping }
+        ensures entrance { self.new.entrance ≡ self.old.entrance }
+    {
+        let counts = self.engine.hub.lock(self.rt).state.standing();
+        let standing = counts.with_follower(self.link.follower.is_behind());
         let text = self.link.follower.status(self.engine.alloc, &standing);
         self.engine.control.lock(self.rt).callers.answer(slot, text);
     }
 
     // Accepts no more connections and datagrams. The caller that asked is answered at the end.
-    fn stop(&mut self) {
+    fn stop(&mut self)
+        ensures stopping { self.new.is_stopping ≡ true }
+        ensures nobody { self.new.entrance.pending ≡ None }
+    {
         self.is_stopping = true;
         self.engine.control.lock(self.rt).is_stopping = true;
-        self.connections = self
-            .engine
-            .hub
-            .lock(self.rt)
-            .state
-            .connections
-            .accepted_count();
-        self.drop_pending();
+        let accepted = self.engine.hub.lock(self.rt).state.close();
+        self.entrance.close(accepted);
     }
 
     // Ends the connections that would wait for their clients' next messages.

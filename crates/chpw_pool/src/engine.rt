@@ -1,5 +1,5 @@
 //! What the reactor and the workers share.
-ghost use Rattle.std.specs.Prelude.{◌≡◌, ◌<◌, ◌≤◌, ◌/◌, ◌^◌, vec_len, IfOk, IfErr, IfSome, true};
+ghost use Rattle.std.specs.Prelude.{◌≡◌, ◌<◌, ◌≤◌, ◌-◌, ◌/◌, ◌^◌, min, nat_lt, vec_len, IfOk, IfErr, IfSome, Some, None, true, if◌then◌else◌};
 ghost use Rattle.std.specs.Duration.{as_nanos};
 ghost use Rattle.chpw_control.specs.Seats.{is_order};
 ghost use Rattle.chpw_pool.specs.Engines.{workers_at};
@@ -8,10 +8,9 @@ ghost use Rattle.chpw_pool.specs.Pools.{Ends, IsUnmade};
 use crate::control::Control;
 use crate::hub::Hub;
 use crate::pool::{Pool, PoolFault};
-use crate::sockets::{Selector, Sockets};
-use crate::state::State;
+use crate::sockets::Selector;
 use crate::worker::Reply;
-use chpw_connections::{ConnectionLimits, Connections, TakenMessage};
+use chpw_connections::{ConnectionLimits, TakenMessage};
 use chpw_control::Command;
 use chpw_serve::WorkerWords;
 use mio::Waker;
@@ -65,9 +64,7 @@ impl<G: Drop> Engine<G> {
         ensures seed { IfOk result (λ engine. engine.seed ≡ seed) }
         ensures fault { IfErr result IsUnmade }
     {
-        let Ok(connections) = Connections::new(alloc, bounds, gates.len()) else {
-            return Err(PoolFault::Memory);
-        };
+        let count = gates.len();
         let Ok(workers) = worker_slots(alloc, gates) else {
             return Err(PoolFault::Memory);
         };
@@ -75,15 +72,12 @@ impl<G: Drop> Engine<G> {
             return Err(PoolFault::Memory);
         };
         let (selector, waker) = Selector::new(rt, alloc)?;
-        let sockets = Sockets::new(alloc, &selector, bounds.connections, datagrams)?;
+        let hub = Hub::new(alloc, &selector, bounds, count, datagrams)?;
         Ok(Engine {
             alloc,
             workers,
             seed,
-            hub: Mutex::new(Hub {
-                state: State::new(connections),
-                sockets,
-            }),
+            hub: Mutex::new(hub),
             selector: Mutex::new(selector),
             waker,
             control: Mutex::new(control),
@@ -116,7 +110,7 @@ pub(crate) fn milliseconds<R: Clock>(rt: &R) -> u64 {
 
 // How many whole milliseconds it has, up to the greatest number.
 fn whole_milliseconds(since: Duration) -> u64
-    ensures value { as_nanos since / 1000000 < 2 ^ 64 → result ≡ as_nanos since / 1000000 }
+    ensures value { result ≡ min (as_nanos since / 1000000) (2 ^ 64 - 1) }
 {
     u64::try_from(since.as_millis()).unwrap_or(u64::MAX)
 }
@@ -291,6 +285,7 @@ impl<G> Engine<G> {
 pub(crate) fn outcome_of(accepted: u32, wanted: u32) -> Pool
     ensures ends { Ends wanted result }
     ensures served { accepted ≤ wanted → result.served ≡ accepted }
+    ensures fault { result.fault ≡ (if nat_lt accepted wanted then Some PoolFault.Accept else None) }
 {
     if accepted < wanted {
         Pool {

@@ -1,6 +1,6 @@
 //! The connections with their sockets, which reactor and workers share under one lock.
-ghost use Rattle.slab.specs.Slab.{get};
-ghost use Rattle.std.specs.Prelude.{◌≡◌, ◌<◌, ◌⊎◌, ℕ, IfSome, length};
+ghost use Rattle.slab.specs.Slab.{get, slab_len};
+ghost use Rattle.std.specs.Prelude.{◌≡◌, ◌<◌, ◌==◌, ◌⊎◌, ℕ, IfSome, IfOk, IfErr, Err, is_err, false, nat_lt, length, if◌then◌else◌};
 ghost use Rattle.chpw_connections.specs.Held.{slots_of, bounds_of, accepted_by};
 ghost use Rattle.chpw_connections.specs.Queues.{workers_of};
 ghost use Rattle.chpw_connections.specs.Todos.{todo_in};
@@ -10,13 +10,18 @@ ghost use Rattle.chpw_pool.specs.Steps.{IsCalled, Steps, RunsTo, Answers};
 ghost use Rattle.chpw_pool.specs.Datagrams.{DropsDatagram};
 ghost use Rattle.chpw_pool.specs.Deciding.{AreElsewhere, IsFresh, Queues};
 ghost use Rattle.chpw_pool.specs.Following.{awaited};
+ghost use Rattle.chpw_pool.specs.Newcomers.{IsAdmitted, IsBegun};
+ghost use Rattle.chpw_pool.specs.Pools.{IsUnmade, peer_in};
 ghost use Rattle.chpw_pool.specs.declared.state.Progress.TheVariants as progress;
 
-use crate::sockets::Sockets;
+use crate::entrance::Newcomer;
+use crate::pool::PoolFault;
+use crate::sockets::{Selector, Sockets};
 use crate::state::{Progress, State};
-use crate::worker::Reply;
-use chpw_connections::Todo;
-use std::net::TcpStream;
+use crate::worker::{Reply, peer_of};
+use chpw_connections::{ConnectionLimits, Connections, Todo};
+use std::alloc::Global;
+use std::net::{TcpStream, UdpSocket};
 
 /// How many steps a connection makes before the others get their turn again.
 pub(crate) const STEPS: u32 = 64;
@@ -29,6 +34,53 @@ pub(crate) struct Hub {
 }
 
 impl Hub {
+    /// No connections yet, for this many workers, but at least one; within these bounds, and with a place for the socket
+    /// of each connection. With a socket for them, messages come as datagrams too. `Accept` if the system can't watch
+    /// that socket, `Memory` if a growth is refused.
+    pub fn new(
+        alloc: Global,
+        selector: &Selector,
+        bounds: ConnectionLimits,
+        workers: usize,
+        datagrams: Option<UdpSocket>,
+    ) -> Result<Hub, PoolFault>
+        ensures begun { IfOk result (λ hub. IsBegun hub.state) }
+        ensures bounds { IfOk result (λ hub. bounds_of hub.state.connections ≡ bounds) }
+        ensures workers { IfOk result (λ hub. workers_of hub.state.connections ≡ (if workers == 0 then 1 else workers)) }
+        ensures fault { IfErr result IsUnmade }
+    {
+        let Ok(connections) = Connections::new(alloc, bounds, workers) else {
+            return Err(PoolFault::Memory);
+        };
+        let sockets = Sockets::new(alloc, selector, bounds.connections, datagrams)?;
+        Ok(Hub {
+            state: State::new(connections),
+            sockets,
+        })
+    }
+
+    /// Admits a connection that has come: its slot. If there are as many as allowed, it is handed back, and a client
+    /// waits for room. One whose socket can't be watched ends.
+    pub fn admit(&mut self, newcomer: Newcomer, now: u64) -> Result<usize, Newcomer>
+        ensures admitted { IfOk result (λ slot. IsAdmitted (peer_in newcomer.address) now (accepted_by self.old.state.connections)
+            (slots_of self.old.state.connections) (slots_of self.new.state.connections) slot) }
+        ensures placed { IfOk result (λ slot. slot < length self.old.sockets.by_slot.items → IsFresh self.new.sockets.by_slot.items slot) }
+        ensures others { IfOk result (λ slot. AreElsewhere self.old.sockets.by_slot.items self.new.sockets.by_slot.items slot) }
+        ensures full { nat_lt (slab_len (slots_of self.old.state.connections)) (bounds_of self.old.state.connections).connections ≡ false
+            → result ≡ Err newcomer }
+        ensures kept { IfErr result (λ back. (back ≡ newcomer) × (self.new.state.connections ≡ self.old.state.connections)
+            × (self.new.sockets ≡ self.old.sockets)) }
+        ensures noted { self.new.state.has_newcomer ≡ is_err result }
+    {
+        match self.state.accept(peer_of(newcomer.address), now) {
+            None => Err(newcomer),
+            Some(slot) => {
+                self.put(slot, newcomer.stream);
+                Ok(slot)
+            }
+        }
+    }
+
     /// Does what is to be done for a connection, in one call of its socket.
     pub fn step(&mut self, slot: usize, now: u64) -> Progress
         ensures steps { Steps (bounds_of self.old.state.connections) now
@@ -41,12 +93,13 @@ impl Hub {
         self.sockets.step(&mut self.state, slot, now)
     }
 
-    /// Stores the socket of a connection that was just accepted. If it can't be watched, the connection ends.
-    pub fn put(&mut self, slot: usize, stream: TcpStream)
+    // Stores the socket of a connection that was just accepted. If it can't be watched, the connection ends.
+    fn put(&mut self, slot: usize, stream: TcpStream)
         ensures put { Happens 0 (slots_of self.old.state.connections) (slots_of self.new.state.connections) slot failed
             ⊎ (self.new.state ≡ self.old.state) }
         ensures placed { slot < length self.old.sockets.by_slot.items → IsFresh self.new.sockets.by_slot.items slot }
         ensures others { AreElsewhere self.old.sockets.by_slot.items self.new.sockets.by_slot.items slot }
+        ensures rest { self.new.state ≡ record self.old.state { connections = self.new.state.connections } }
     {
         if !self.sockets.put(slot, stream) {
             self.state.connections.fail(slot);
@@ -71,6 +124,8 @@ impl Hub {
     pub fn look_for_error(&mut self, slot: usize)
         ensures looked { Happens 0 (slots_of self.old.state.connections) (slots_of self.new.state.connections) slot failed
             ⊎ (self.new.state ≡ self.old.state) }
+        ensures sockets { self.new.sockets ≡ self.old.sockets }
+        ensures rest { self.new.state ≡ record self.old.state { connections = self.new.state.connections } }
     {
         if self.sockets.has_failed(slot) {
             self.state.connections.fail(slot);
@@ -83,6 +138,7 @@ impl Hub {
     pub fn answer(&mut self, slot: usize, reply: Option<Reply>, change: Option<u64>, now: u64)
         ensures answers { Answers (bounds_of self.old.state.connections) now (awaited self.old.state.asking change)
             reply (slots_of self.old.state.connections) (slots_of self.new.state.connections) slot }
+        ensures others { AreElsewhere self.old.sockets.by_slot.items self.new.sockets.by_slot.items slot }
     {
         self.state.answer(slot, reply, change, now);
         self.run(slot, now);
@@ -92,6 +148,7 @@ impl Hub {
     // waits for its worker. A connection that has ended is left to the reactor, which counts them.
     fn run(&mut self, slot: usize, now: u64)
         ensures runs { RunsTo (bounds_of self.old.state.connections) now slot (slots_of self.old.state.connections) (slots_of self.new.state.connections) }
+        ensures others { AreElsewhere self.old.sockets.by_slot.items self.new.sockets.by_slot.items slot }
     {
         for _ in 0..STEPS {
             if self.state.todo(slot) == Todo::Close {

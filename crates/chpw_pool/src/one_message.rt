@@ -1,13 +1,13 @@
 //! A datagram as a connection of one message.
-ghost use Rattle.std.specs.Prelude.{◌≡◌, ◌≢◌, ◌<◌, ◌^◌, IfSome, IfNone, Some, length};
-ghost use Rattle.slab.specs.Slab.{get};
+ghost use Rattle.std.specs.Prelude.{◌≡◌, ◌≢◌, ◌<◌, ◌^◌, ◌⊎◌, ℕ, nat_lt, false, IfSome, IfNone, Some, None, length};
+ghost use Rattle.slab.specs.Slab.{get, slab_len};
 ghost use Rattle.chpw_connections.specs.Held.{slots_of, bounds_of, accepted_by};
 ghost use Rattle.chpw_connections.specs.Queues.{workers_of};
-ghost use Rattle.chpw_connections.specs.Room.{HappensWithRoom, for_message};
+ghost use Rattle.chpw_connections.specs.Room.{HappensWithRoom, for_message, has_room_to_read};
 ghost use Rattle.chpw_connections.specs.Sets.{Happens, left_at, wanted_at};
 ghost use Rattle.chpw_connections.specs.Stages.{closed, came, wrote};
 ghost use Rattle.chpw_connections.specs.Waiting.{waits_for};
-ghost use Rattle.chpw_pool.specs.Datagrams.{TakesDatagram, DropsDatagram, CameOrFailed, CameIfRead, in_datagram, length_before};
+ghost use Rattle.chpw_pool.specs.Datagrams.{TakesDatagram, DropsDatagram, BeginsAndDrops, EndsNoMore, CameOrFailed, CameIfRead, in_datagram, length_before};
 ghost use Rattle.chpw_pool.specs.declared.state.Progress.TheVariants as progress;
 
 use crate::state::{Progress, State};
@@ -36,7 +36,7 @@ fn length_of(message: &[u8]) -> Option<[u8; 4]>
 impl State {
     /// A message came in a datagram. In a new connection it waits for its worker, as if it had come with its length
     /// over TCP. None if there are as many connections as allowed, or no room or memory for it: then no connection is
-    /// left of it. Others may have ended to make room, as for any message.
+    /// left of it. Others may have ended to make room, as for any message: those that gave way to it, in their turn.
     pub fn take_datagram(
         &mut self,
         peer: [u8; 4],
@@ -47,6 +47,12 @@ impl State {
         ensures taken { IfSome result (λ r. TakesDatagram (bounds_of self.old.connections) now peer (accepted_by self.old.connections) message.now
             (slots_of self.old.connections) (slots_of self.new.connections) r.0 r.1 (workers_of self.old.connections)) }
         ensures dropped { IfNone result (DropsDatagram (slots_of self.old.connections) (slots_of self.new.connections)) }
+        ensures in_turn { IfNone result ((self.new ≡ self.old)
+            ⊎ BeginsAndDrops (bounds_of self.old.connections) now peer (accepted_by self.old.connections) message.now
+            (slots_of self.old.connections) (slots_of self.new.connections)) }
+        ensures full { nat_lt (slab_len (slots_of self.old.connections)) (bounds_of self.old.connections).connections ≡ false
+            → (result ≡ None) × (self.new ≡ self.old) }
+        ensures rest { self.new ≡ record self.old { connections = self.new.connections } }
     {
         let length = length_of(message)?;
         let slot = self.connections.accept(peer, now)?;
@@ -64,8 +70,12 @@ impl State {
     // The length of a message came.
     fn length_came(&mut self, slot: usize, length: &[u8], now: u64)
         ensures happens { CameOrFailed (bounds_of self.old.connections) now (slots_of self.old.connections) (slots_of self.new.connections) slot length.now }
+        ensures needed { EndsNoMore (bounds_of self.old.connections) now (slots_of self.old.connections) (slots_of self.new.connections) slot }
+        ensures full { has_room_to_read (bounds_of self.old.connections) now (slots_of self.old.connections) slot ≡ false
+            → (other : ℕ) → other ≢ slot → get (slots_of self.new.connections) other ≡ get (slots_of self.old.connections) other }
         ensures bounds { bounds_of self.new.connections ≡ bounds_of self.old.connections }
         ensures workers { workers_of self.new.connections ≡ workers_of self.old.connections }
+        ensures rest { self.new ≡ record self.old { connections = self.new.connections } }
     {
         self.connections.receive(slot, length, now);
     }
@@ -78,7 +88,11 @@ impl State {
         ensures wanted { IfSome result (λ _. wanted_at (get (slots_of self.old.connections) slot) ≢ 0) }
         ensures none { IfNone result (CameIfRead (bounds_of self.old.connections) now
             (slots_of self.old.connections) (slots_of self.new.connections) slot message.now) }
+        ensures needed { EndsNoMore (bounds_of self.old.connections) now (slots_of self.old.connections) (slots_of self.new.connections) slot }
+        ensures full { has_room_to_read (bounds_of self.old.connections) now (slots_of self.old.connections) slot ≡ false
+            → (result ≡ None) × (self.new ≡ self.old) }
         ensures bounds { bounds_of self.new.connections ≡ bounds_of self.old.connections }
+        ensures rest { self.new ≡ record self.old { connections = self.new.connections } }
     {
         if self.connections.bytes_to_read(slot) == 0
             || !self.connections.has_room_to_read(slot, now)

@@ -1,5 +1,5 @@
 //! Workers at one desk.
-ghost use Rattle.std.specs.Prelude.{◌≡◌, ◌<◌, length, vec_len, IfOk, None, Some};
+ghost use Rattle.std.specs.Prelude.{◌≡◌, ◌≢◌, ◌<◌, length, vec_len, IfOk, None, Some};
 ghost use Rattle.rand_chacha.specs.ChaCha.{key_of};
 ghost use Rattle.chpw_serve.specs.WordStreams.{GivesFromTheFirst, stream_start};
 ghost use Rattle.chpw_pool.specs.Engines.{workers_at};
@@ -150,6 +150,7 @@ pub fn run_pool_by<
 // No connection was accepted.
 fn failed_pool(fault: PoolFault, connections: u32) -> Pool
     ensures ends { Ends connections result }
+    ensures fault { fault ≢ PoolFault.Accept → result ≡ record { served = 0; fault = Some fault } }
 {
     match fault {
         PoolFault::Accept => outcome_of(0, connections),

@@ -1,25 +1,25 @@
 //! The reactor: one thread that has the listener and waits for all sockets, and never for one of them alone. The
 //! sockets are under the lock that it shares with the workers.
 
-ghost use Rattle.std.specs.Prelude.{◌≡◌, ◌&&◌, is_none, nat_lt};
+ghost use Rattle.std.specs.Prelude.{◌≡◌, ◌&&◌, ◌||◌, is_some, nat_lt, true, false, Some};
 ghost use Rattle.chpw_pool.specs.Accepting.{is_ready};
+ghost use Rattle.chpw_pool.specs.Reports.{is_control, is_datagrams, is_follower, reported_at, source_of};
 
-use crate::accepting::{Accepting, is_passing};
 use crate::attending::ControlPort;
 use crate::engine::{Engine, milliseconds};
+use crate::entrance::{Entrance, Newcomer};
 use crate::follower::Follower;
 use crate::following::FollowerLink;
 use crate::hub::STEPS;
+use crate::rounds::{is_round_due, slot_at_turn};
 use crate::sockets::Selector;
-use crate::state::{Progress, Shortage, TICK};
+use crate::state::{Progress, Shortage};
 use crate::status_reporter::StatusReporter;
 use crate::tokens::{EventSource, LISTENER};
-use crate::worker::peer_of;
 use mio::event::Event;
 use mio::unix::SourceFd;
 use mio::{Events, Interest, Registry};
-use std::io::ErrorKind;
-use std::net::{OpenListener, SocketAddr, TcpStream};
+use std::net::{OpenListener, TcpStream};
 use std::os::fd::AsRawFd;
 use std::sync::{MutexGuard, Wait};
 use std::time::{Clock, Duration};
@@ -37,13 +37,9 @@ pub(crate) struct Reactor<'a, R, L, G, F> {
     pub engine: &'a Engine<G>,
     listener: &'a L,
     pub link: FollowerLink<F>,
-    /// How many connections it accepts.
-    pub connections: u32,
     /// How many there may be at a time: the slots are the numbers below.
     pub clients: usize,
-    accepting: Accepting,
-    /// A connection for which there is no room yet.
-    pending: Option<(TcpStream, SocketAddr)>,
+    pub entrance: Entrance,
     /// When connections whose time is up were last looked for.
     looked: u64,
     /// The slot at which the next round over all begins.
@@ -75,10 +71,8 @@ impl<G> Engine<G> {
             engine: self,
             listener,
             link: FollowerLink::new(follower),
-            connections,
             clients,
-            accepting: Accepting::Ready,
-            pending: None,
+            entrance: Entrance::new(connections),
             looked: milliseconds(rt),
             first: 0,
             has_datagrams: true,
@@ -107,7 +101,7 @@ impl<
                 .register(&mut SourceFd(&descriptor), LISTENER, Interest::READABLE)
                 .is_ok();
         if !is_watched {
-            self.accepting = Accepting::Failed;
+            self.entrance.fail();
         }
     }
 
@@ -139,33 +133,24 @@ impl<
         let has_orders = self.engine.control.lock(self.rt).has_orders();
         let hub = self.engine.hub.lock(self.rt);
         hub.state
-            .is_done(self.connections, self.accepting, has_orders)
+            .is_done(self.entrance.wanted, self.entrance.accepting, has_orders)
     }
 
     // How long to wait for the next event.
     fn patience(&self) -> u64 {
         let hub = self.engine.hub.lock(self.rt);
         let accepted = hub.state.connections.accepted_count();
-        let may_come = self.can_accept(accepted) || self.can_take_datagram(accepted);
-        let patience = hub.state.patience(may_come, self.accepting);
+        let may_come = self.entrance.can_accept(accepted) || self.can_take_datagram(accepted);
+        let patience = hub.state.patience(may_come, self.entrance.accepting);
         MutexGuard::unlock(hub);
         self.port_patience(patience)
     }
 
-    // Whether one more connection may be accepted, after this many.
-    fn can_accept(&self, accepted: u32) -> bool
-        ensures value { result ≡ (nat_lt accepted self.now.connections && (is_none self.now.pending && is_ready self.now.accepting)) }
-    {
-        accepted < self.connections
-            && self.pending.is_none()
-            && matches!(self.accepting, Accepting::Ready)
-    }
-
     /// Whether a datagram may have come, and may count as one more connection, after this many.
     pub fn can_take_datagram(&self, accepted: u32) -> bool
-        ensures value { result ≡ (self.now.has_datagrams && nat_lt accepted self.now.connections) }
+        ensures value { result ≡ (self.now.has_datagrams && nat_lt accepted self.now.entrance.wanted) }
     {
-        self.has_datagrams && accepted < self.connections
+        self.has_datagrams && self.entrance.wants_more(accepted)
     }
 
     // Handles each socket that was reported.
@@ -175,23 +160,41 @@ impl<
         }
     }
 
-    fn look_at(&mut self, event: &Event) {
-        match EventSource::of(event.token(), self.clients) {
-            EventSource::Listener => self.accepting = self.accepting.after_report(),
+    // Handles a connection's socket that was reported, and notes what else was.
+    fn look_at(&mut self, event: &Event)
+        ensures entrance { self.new.entrance ≡ reported_at (source_of event.now self.old.clients) self.old.entrance }
+        ensures follower { self.new.link.is_reported ≡ (is_follower (source_of event.now self.old.clients) || self.old.link.is_reported) }
+        ensures datagrams { self.new.has_datagrams ≡ (is_datagrams (source_of event.now self.old.clients) || self.old.has_datagrams) }
+        ensures control { self.new.port.is_due ≡ (is_control (source_of event.now self.old.clients) || self.old.port.is_due) }
+    {
+        let source = EventSource::of(event.token(), self.clients);
+        self.note(source);
+        if let EventSource::Connection(slot) = source {
+            if event.is_error() {
+                self.engine.hub.lock(self.rt).look_for_error(slot);
+            }
+            self.drive(slot);
+        }
+    }
+
+    // Notes what was reported, unless it is a connection's socket: it is handled after all that were reported.
+    fn note(&mut self, source: EventSource)
+        ensures entrance { self.new.entrance ≡ reported_at source self.old.entrance }
+        ensures follower { self.new.link.is_reported ≡ (is_follower source || self.old.link.is_reported) }
+        ensures datagrams { self.new.has_datagrams ≡ (is_datagrams source || self.old.has_datagrams) }
+        ensures control { self.new.port.is_due ≡ (is_control source || self.old.port.is_due) }
+    {
+        match source {
+            EventSource::Listener => self.entrance.report(),
             EventSource::Follower => self.link.is_reported = true,
             EventSource::Datagrams => self.has_datagrams = true,
             EventSource::Control => self.port.is_due = true,
-            EventSource::Connection(slot) => {
-                if event.is_error() {
-                    self.engine.hub.lock(self.rt).look_for_error(slot);
-                }
-                self.drive(slot);
-            }
+            EventSource::Connection(_) => {}
         }
     }
 
     // Handles the connections that ended, and those for which more is to be done.
-    fn look_at_changed(&mut self) {
+    fn look_at_changed(&self) {
         for _ in 0..self.clients {
             let changed = self
                 .engine
@@ -210,12 +213,12 @@ impl<
     // Ends the connections whose time is up, once a tick.
     fn look_for_late(&mut self, registry: &Registry) {
         let now = milliseconds(self.rt);
-        if now.saturating_sub(self.looked) < TICK {
+        if !is_round_due(self.looked, now) {
             return;
         }
         self.looked = now;
         self.port.is_due = true;
-        self.accepting = self.accepting.after_time(now);
+        self.entrance.pass(now);
         self.release_overdue();
         let had = self.pass(now);
         self.look_round(registry, had.is_any());
@@ -232,7 +235,8 @@ impl<
         let slots = self.clients;
         let first = self.first;
         let mut is_short = false;
-        for slot in (first..slots).chain(0..first.min(slots)) {
+        for turn in 0..slots {
+            let slot = slot_at_turn(first, slots, turn);
             if slot % BETWEEN == 0 {
                 self.attend(registry);
             }
@@ -255,7 +259,7 @@ impl<
     }
 
     /// Does what is to be done for a connection, as far as its socket allows without blocking.
-    pub fn drive(&mut self, slot: usize) {
+    pub fn drive(&self, slot: usize) {
         for _ in 0..STEPS {
             if self.step(slot) == Progress::None {
                 return;
@@ -289,13 +293,13 @@ impl<
                 .state
                 .connections
                 .accepted_count();
-            if self.pending.is_none() && self.can_accept(accepted) {
-                self.pending = self.next();
+            if self.entrance.can_accept(accepted) {
+                self.next();
             }
-            match self.pending.take() {
+            match self.entrance.take() {
                 None => return,
-                Some((stream, address)) => {
-                    if !self.admit(stream, address) {
+                Some(newcomer) => {
+                    if !self.admit(newcomer) {
                         return;
                     }
                 }
@@ -303,46 +307,36 @@ impl<
         }
     }
 
-    // The next connection of the listener.
-    fn next(&mut self) -> Option<(TcpStream, SocketAddr)> {
+    // Takes the next connection of the listener, if one has come. If none has, the listener isn't asked again before it
+    // is reported or time has passed.
+    fn next(&mut self)
+        ensures came { is_some self.new.entrance.pending ≡ false → is_ready self.new.entrance.accepting ≡ false }
+        ensures wanted { self.new.entrance.wanted ≡ self.old.entrance.wanted }
+    {
         match self.listener.accept() {
-            Ok(accepted) => Some(accepted),
-            Err(error) => {
-                let now = milliseconds(self.rt);
-                let would_wait = error.kind() == ErrorKind::WouldBlock;
-                self.accepting = Accepting::after_fault(would_wait, is_passing(&error), now);
-                None
-            }
+            Ok((stream, address)) => self.entrance.keep(Newcomer { stream, address }),
+            Err(error) => self.entrance.stumble(&error, milliseconds(self.rt)),
         }
     }
 
-    // Admits a connection. If there are as many as allowed, the one that has waited longest for its client ends to make
-    // room; if none waits for its client, the new one is kept until there is room.
-    fn admit(&mut self, stream: TcpStream, address: SocketAddr) -> bool {
+    // Admits a connection; whether there was room. If there are as many as allowed, the one that has waited longest for
+    // its client ends to make room; if none waits for its client, the new one is kept until there is room.
+    fn admit(&mut self, newcomer: Newcomer) -> bool
+        ensures kept { result ≡ false → self.new.entrance ≡ record self.old.entrance { pending = Some newcomer } }
+        ensures admitted { result ≡ true → self.new.entrance ≡ self.old.entrance }
+    {
         if self.make_room() {
             self.look_at_changed();
         }
         let now = milliseconds(self.rt);
-        let peer = peer_of(address);
-        let mut hub = self.engine.hub.lock(self.rt);
-        match hub.state.accept(peer, now) {
-            None => {
-                self.pending = Some((stream, address));
-                false
-            }
+        let admitted = self.engine.hub.lock(self.rt).admit(newcomer, now);
+        match self.entrance.settle(admitted) {
+            None => false,
             Some(slot) => {
-                hub.put(slot, stream);
-                MutexGuard::unlock(hub);
                 self.drive(slot);
                 true
             }
         }
-    }
-
-    /// Drops the connection for which there is no room yet.
-    pub fn drop_pending(&mut self) {
-        self.pending = None;
-        self.engine.hub.lock(self.rt).state.has_newcomer = false;
     }
 
     fn make_room(&self) -> bool {

@@ -144,10 +144,21 @@ impl State {
             (slots_of self.old.connections) (slots_of self.new.connections) slot) }
         ensures noted { self.new.has_newcomer ≡ is_none result }
         ensures unchanged { IfNone result (self.new.connections ≡ self.old.connections) }
+        ensures full { nat_lt (slab_len (slots_of self.old.connections)) (bounds_of self.old.connections).connections ≡ false → result ≡ None }
+        ensures rest { self.new ≡ record self.old { connections = self.new.connections; has_newcomer = self.new.has_newcomer } }
     {
         let slot = self.connections.accept(peer, now);
         self.has_newcomer = slot.is_none();
         slot
+    }
+
+    /// No more connections are accepted: how many were. No client waits for room any more.
+    pub fn close(&mut self) -> u32
+        ensures value { result ≡ accepted_by self.old.connections }
+        ensures closed { self.new ≡ record self.old { has_newcomer = false } }
+    {
+        self.has_newcomer = false;
+        self.connections.accepted_count()
     }
 
     /// If there are as many connections as allowed, ends the one that has waited longest for its client; whether one
@@ -159,6 +170,8 @@ impl State {
             × Happens 0 (slots_of self.old.connections) (slots_of self.new.connections) slot failed }
         ensures nobody { nat_lt (slab_len (slots_of self.old.connections)) (bounds_of self.old.connections).connections ≡ false
             → result ≡ false → NobodyWaits (slots_of self.old.connections) }
+        ensures unchanged { result ≡ false → slots_of self.new.connections ≡ slots_of self.old.connections }
+        ensures rest { self.new ≡ record self.old { connections = self.new.connections } }
     {
         self.connections.is_full() && self.connections.make_room()
     }
@@ -169,6 +182,7 @@ impl State {
             (get (slots_of self.old.connections) slot) (get (slots_of self.new.connections) slot) }
         ensures had { result ≡ self.old.shortage }
         ensures begun { self.new.shortage ≡ record { of_large = false; of_small = false } }
+        ensures rest { self.new ≡ record self.old { connections = self.new.connections; shortage = self.new.shortage } }
     {
         self.connections.pass(now);
         let had = self.shortage;
@@ -188,6 +202,7 @@ impl State {
         ensures none { self.old.is_stopped ≡ false → IfNone result
             (((queue_of self.old.connections worker ≡ []) × (self.new ≡ self.old))
             ⊎ DropsLate now self.old.connections self.new.connections worker) }
+        ensures rest { self.new ≡ record self.old { connections = self.new.connections } }
     {
         if self.is_stopped {
             return None;
@@ -203,6 +218,7 @@ impl State {
             (slots_of self.old.connections) (slots_of self.new.connections) slot }
         ensures asking { self.new.asking ≡ asking_after (awaited self.old.asking change) reply self.old.asking }
         ensures bounds { bounds_of self.new.connections ≡ bounds_of self.old.connections }
+        ensures rest { self.new ≡ record self.old { connections = self.new.connections; asking = self.new.asking } }
     {
         match (reply, self.length_awaited(change)) {
             (None, _) => self.connections.leave_unanswered(slot, now),
@@ -236,6 +252,7 @@ impl State {
         ensures lost { OnErr result (self.new.asking ≡ after_loss self.old.asking) }
         ensures same { OnErr result (self.new.connections ≡ self.old.connections) }
         ensures bounds { bounds_of self.new.connections ≡ bounds_of self.old.connections }
+        ensures rest { self.new ≡ record self.old { connections = self.new.connections; asking = self.new.asking } }
     {
         let confirmed = self.asking.hear(bytes)?;
         if let Some(mark) = confirmed {
@@ -258,6 +275,7 @@ impl State {
         ensures misspoken { OnErr result (after_bytes self.old.asking bytes.now ≡ None) }
         ensures lost { OnErr result (self.new.asking ≡ after_loss self.old.asking) }
         ensures same { OnErr result (self.new.connections ≡ self.old.connections) }
+        ensures rest { self.new ≡ record self.old { connections = self.new.connections; asking = self.new.asking } }
     {
         if self.is_of_former {
             return Ok(None);
@@ -270,6 +288,7 @@ impl State {
         ensures released { ReleasesOne wait now (slots_of self.old.connections) (slots_of self.new.connections) result }
         ensures unchanged { result ≡ None → self.new ≡ self.old }
         ensures asking { self.new.asking ≡ self.old.asking }
+        ensures rest { self.new ≡ record self.old { connections = self.new.connections } }
     {
         self.connections.overdue(wait, now)
     }
@@ -287,6 +306,7 @@ impl State {
         ensures due { result ≡ is_some self.old.asking.asked }
         ensures asking { self.new.asking ≡ (if result then after_loss self.old.asking else self.old.asking) }
         ensures same { self.new.connections ≡ self.old.connections }
+        ensures rest { self.new ≡ record self.old { asking = self.new.asking } }
     {
         let is_due = self.asking.is_asked();
         if is_due {
@@ -308,6 +328,7 @@ impl State {
         ensures asking { self.new.asking ≡ at_start }
         ensures of_former { self.new.is_of_former ≡ true }
         ensures same { self.new.connections ≡ self.old.connections }
+        ensures rest { self.new ≡ record self.old { asking = self.new.asking; is_of_former = true } }
     {
         self.asking = FollowerDialog::new();
         self.is_of_former = true;
@@ -321,6 +342,7 @@ impl State {
         ensures asking { self.new.asking ≡ after_ask self.old.asking }
         ensures of_present { self.new.is_of_former ≡ false }
         ensures same { self.new.connections ≡ self.old.connections }
+        ensures rest { self.new ≡ record self.old { asking = self.new.asking; is_of_former = false } }
     {
         let is_of_former = self.is_of_former;
         self.is_of_former = false;
@@ -347,6 +369,7 @@ impl State {
         ensures shortage { may_be_read now self.old slot ≡ true → self.new.shortage ≡ self.old.shortage }
         ensures queued { IsCalled (workers_of self.old.connections) (get (slots_of self.new.connections) slot) result }
         ensures bounds { bounds_of self.new.connections ≡ bounds_of self.old.connections }
+        ensures rest { self.new ≡ record self.old { connections = self.new.connections; shortage = self.new.shortage } }
     {
         let most = buffer.len().min(self.connections.bytes_to_read(slot));
         if most == 0 || !self.may_read(slot, now) {
@@ -369,6 +392,7 @@ impl State {
         ensures shortage { self.new.shortage ≡ (if result then self.old.shortage
             else short_of (is_large_in (get (slots_of self.old.connections) slot)) self.old.shortage) }
         ensures same { self.new.connections ≡ self.old.connections }
+        ensures rest { self.new ≡ record self.old { shortage = self.new.shortage } }
     {
         let is_large = self.connections.is_large(slot);
         let may_read = !self.shortage.is_for(is_large)
@@ -389,6 +413,7 @@ impl State {
         ensures queued { IsCalled (workers_of self.old.connections) (get (slots_of self.new.connections) slot) result }
         ensures shortage { self.new.shortage ≡ self.old.shortage }
         ensures bounds { bounds_of self.new.connections ≡ bounds_of self.old.connections }
+        ensures rest { self.new ≡ record self.old { connections = self.new.connections } }
     {
         match self.connections.receive(slot, bytes, now) {
             Some(worker) => Progress::Queued(worker),
@@ -404,6 +429,7 @@ impl State {
             (W.contents writer.old) (W.contents writer.new) }
         ensures queued { IsCalled (workers_of self.old.connections) (get (slots_of self.new.connections) slot) result }
         ensures bounds { bounds_of self.new.connections ≡ bounds_of self.old.connections }
+        ensures rest { self.new ≡ record self.old { connections = self.new.connections } }
     {
         let left = self.connections.pending_output(slot);
         if left.is_empty() {
@@ -431,6 +457,7 @@ impl State {
             ⊎ TakesNone (slots_of self.old.connections) (slots_of self.new.connections) slot
             (I.remaining reader.old) (I.remaining reader.new) }
         ensures bounds { bounds_of self.new.connections ≡ bounds_of self.old.connections }
+        ensures rest { self.new ≡ record self.old { connections = self.new.connections } }
     {
         match reader.read(buffer) {
             Ok(0) => {
@@ -455,6 +482,7 @@ impl State {
         ensures queued { IsCalled (workers_of self.old.connections) (get (slots_of self.new.connections) slot) result }
         ensures shortage { self.new.shortage ≡ self.old.shortage }
         ensures bounds { bounds_of self.new.connections ≡ bounds_of self.old.connections }
+        ensures rest { self.new ≡ record self.old { connections = self.new.connections } }
     {
         match kind {
             ErrorKind::WouldBlock => Progress::None,
@@ -514,6 +542,7 @@ impl State {
         ensures reading { is_reading (todo_in (get (slots_of self.old.connections) slot)) ≡ true
             → Happens 0 (slots_of self.old.connections) (slots_of self.new.connections) slot failed }
         ensures others { is_reading (todo_in (get (slots_of self.old.connections) slot)) ≡ false → self.new ≡ self.old }
+        ensures rest { self.new ≡ record self.old { connections = self.new.connections } }
     {
         if matches!(self.todo(slot), Todo::Read(_)) {
             self.connections.fail(slot);

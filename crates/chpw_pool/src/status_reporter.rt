@@ -1,5 +1,5 @@
 //! The service's side of its control socket.
-ghost use Rattle.std.specs.Prelude.{◌≡◌, ◌-◌, ◌^◌, min};
+ghost use Rattle.std.specs.Prelude.{◌≡◌, ◌-◌, ◌^◌, ◌||◌, min};
 ghost use Rattle.chpw_pool.specs.Controlling.{sum_of};
 
 use crate::follower::NoFollower;
@@ -40,6 +40,16 @@ impl ConnectionCounts {
             .saturating_add(self.writing)
             .saturating_add(self.ending);
         coming.saturating_add(going)
+    }
+
+    /// These, with the follower behind if it says so, or was already.
+    pub(crate) fn with_follower(self, is_behind: bool) -> ConnectionCounts
+        ensures value { result ≡ record self { is_behind = self.is_behind || is_behind } }
+    {
+        ConnectionCounts {
+            is_behind: self.is_behind || is_behind,
+            ..self
+        }
     }
 }
 

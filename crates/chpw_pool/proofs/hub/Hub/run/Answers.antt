@@ -5,13 +5,14 @@ use Rattle.chpw_pool.proofs.RunLemmas.{runs_on}
 use Rattle.chpw_pool.proofs.hub.Hub.run.Goals as goal
 
 pub loop-init : goal.loop-init
-loop-init c = record { bounds = refl; runs = stays }
+loop-init c = record { bounds = refl; runs = stays; others = λ other differs. refl }
 
 pub returns-in-Queued : goal.returns-in-Queued
 returns-in-Queued c = record {
   runs = runs_on (bounds_of c.args.self.now.state.connections) (bounds_of c.loop.self.state.connections) c.args.now c.args.slot
       (slots_of c.args.self.now.state.connections) (slots_of c.loop.self.state.connections) (slots_of c.step.new.self.state.connections)
       c.loop.invariant.bounds c.loop.invariant.runs c.step.ensures.steps;
+  others = λ other differs. c.step.ensures.others other differs ∙ c.loop.invariant.others other differs;
 }
 
 pub loop-preserved : goal.loop-preserved
@@ -20,4 +21,5 @@ loop-preserved c = record {
   runs = runs_on (bounds_of c.args.self.now.state.connections) (bounds_of c.loop.self.state.connections) c.args.now c.args.slot
       (slots_of c.args.self.now.state.connections) (slots_of c.loop.self.state.connections) (slots_of c.step.new.self.state.connections)
       c.loop.invariant.bounds c.loop.invariant.runs c.step.ensures.steps;
+  others = λ other differs. c.step.ensures.others other differs ∙ c.loop.invariant.others other differs;
 }
