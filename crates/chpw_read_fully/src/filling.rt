@@ -1,6 +1,7 @@
 //! A buffer filled from a reader, read by read.
-ghost use Rattle.std.specs.Prelude.{◌≡◌, ◌<◌, ◌≤◌, length};
+ghost use Rattle.std.specs.Prelude.{◌≡◌, ◌≢◌, ◌<◌, ◌≤◌, length};
 ghost use Rattle.chpw_read_fully.specs.Filling.{IsFill, IsRead, FillCounts};
+ghost use Rattle.chpw_read_fully.specs.declared.filling.Step.TheVariants as step;
 
 use std::io::{ErrorKind, Read};
 
@@ -60,12 +61,18 @@ fn read_once<R: Read>(reader: &mut R, buffer: &mut [u8]) -> Step
     match reader.read(buffer) {
         Ok(0) => Step::Ended,
         Ok(count) => Step::Read(count),
-        Err(error) => {
-            if error.kind() == ErrorKind::Interrupted {
-                Step::Read(0)
-            } else {
-                Step::Fault
-            }
-        }
+        Err(error) => step_after(error.kind()),
+    }
+}
+
+// What a failed read comes to: one that was interrupted read nothing.
+fn step_after(kind: ErrorKind) -> Step
+    ensures interrupted { kind ≡ ErrorKind.Interrupted → result ≡ step.Read 0 }
+    ensures fault { kind ≢ ErrorKind.Interrupted → result ≡ step.Fault }
+{
+    if kind == ErrorKind::Interrupted {
+        Step::Read(0)
+    } else {
+        Step::Fault
     }
 }
