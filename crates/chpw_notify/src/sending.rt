@@ -1,6 +1,6 @@
 //! The datagram.
-ghost use Rattle.std.specs.Prelude.{◌≡◌, ◌<ℤ◌, ◌≤ℤ◌, None, Some, IsErr, IsErrAnd, IsOk, option_map, pos};
-ghost use Rattle.std.specs.IoError.{error_kind};
+ghost use Rattle.std.specs.Prelude.{◌≡◌, ◌≢◌, ◌<ℤ◌, ◌≤ℤ◌, None, IfErr, IsErr, IsErrAnd, IsOk, IsSome, option_map, pos};
+ghost use Rattle.std.specs.IoError.{error_kind, raw_os_error};
 ghost use Rattle.chpw_notify.specs.Addresses as addresses;
 ghost use Rattle.chpw_notify.specs.Sending as specs_of;
 
@@ -22,10 +22,13 @@ struct Datagram<'a> {
 }
 
 /// Sends a text, such as `READY=1`, to the socket that the environment variable `NOTIFY_SOCKET` names: an absolute path, or
-/// `@` and a name in Linux's abstract namespace. A name that is neither, or has more than 107 bytes, is an invalid input.
+/// `@` and a name in Linux's abstract namespace. A name that is neither, or has more than 107 bytes, is an invalid input;
+/// any other error is the system's.
 pub fn notify<R: Net>(_rt: &R, socket: &str, text: &str) -> io::Result<()>
     ensures named { addresses.address_of socket.now ≡ None
         → IsErrAnd result (λ error. error_kind error ≡ ErrorKind.InvalidInput) }
+    ensures failed { addresses.address_of socket.now ≢ None
+        → IfErr result (λ error. IsSome (raw_os_error error)) }
 {
     match datagram_of(socket, text) {
         None => Err(io::Error::from(ErrorKind::InvalidInput)),
@@ -43,7 +46,9 @@ fn datagram_of<'a>(name: &str, text: &'a str) -> Option<Datagram<'a>>
 }
 
 // Sends it, unless the manager's queue stays full for as long as `PATIENCE`.
-fn send(datagram: &Datagram<'_>) -> io::Result<()> {
+fn send(datagram: &Datagram<'_>) -> io::Result<()>
+    ensures failed { IfErr result (λ error. IsSome (raw_os_error error)) }
+{
     let fd = unsafe { c::socket(c::AF_UNIX, c::SOCK_DGRAM | c::SOCK_CLOEXEC, 0) };
     ended(fd as i64)?;
     let socket = unsafe { OwnedFd::from_raw_fd(fd) };
@@ -68,6 +73,7 @@ fn patience() -> [u8; 16]
 fn ended(returned: i64) -> io::Result<()>
     ensures good { pos 0 ≤ℤ returned → IsOk result }
     ensures bad { returned <ℤ pos 0 → IsErr result }
+    ensures failed { IfErr result (λ error. IsSome (raw_os_error error)) }
 {
     if returned < 0 {
         return Err(io::Error::from_raw_os_error(os::errno()));
